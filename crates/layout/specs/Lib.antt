@@ -1,0 +1,3 @@
+pub mod Words
+pub mod Depths
+pub mod Answers

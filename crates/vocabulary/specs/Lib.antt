@@ -1,0 +1,5 @@
+pub mod Ranges
+pub mod Lists
+pub mod Tests
+pub mod Bytes
+pub mod Loop

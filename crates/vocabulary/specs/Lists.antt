@@ -1,0 +1,34 @@
+-- Words over a list: membership, the first place of a number, a repeat, and tests of the elements. Assumes nothing.
+use mathlib.Core.Bool.{Bool, true, false, _&&_, _||_, cond}
+use mathlib.Core.List.{List, [], _∷_}
+use Prim.Native.Nat.{ℕ, zero, suc}
+use lib.Dec.{eqb}
+
+-- x stands in the list
+unfoldable pub isIn : ℕ → List ℕ → Bool
+isIn x [] = false
+isIn x (y ∷ ys) = eqb x y || isIn x ys
+
+-- the first place of x, counted from 0; the length where x does not stand there
+unfoldable pub placeOf : ℕ → List ℕ → ℕ
+placeOf x [] = zero
+placeOf x (y ∷ ys) = cond (eqb x y) zero (suc (placeOf x ys))
+
+-- some number stands twice
+unfoldable pub repeats : List ℕ → Bool
+repeats [] = false
+repeats (x ∷ xs) = isIn x xs || repeats xs
+
+-- some element passes, all elements pass
+unfoldable pub someOf : {A : Type 0} → List A → (A → Bool) → Bool
+someOf [] p = false
+someOf (x ∷ xs) p = p x || someOf xs p
+
+unfoldable pub everyOf : {A : Type 0} → List A → (A → Bool) → Bool
+everyOf [] p = true
+everyOf (x ∷ xs) p = p x && everyOf xs p
+
+-- every element has the property
+abbrev pub All : {A : Type 0} → (A → Type 0) → List A → Type 0
+All P [] = Unit {0}
+All P (x ∷ xs) = P x × All P xs
