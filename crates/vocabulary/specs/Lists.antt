@@ -1,6 +1,6 @@
 -- Words over a list: membership, the first place of a number, a repeat, and tests of the elements. Assumes nothing.
 use mathlib.Core.Bool.{Bool, true, false, _&&_, _||_, cond}
-use mathlib.Core.List.{List, [], _∷_}
+use mathlib.Core.List.{List, [], _∷_, _++_}
 use Prim.Native.Nat.{ℕ, zero, suc}
 use lib.Dec.{eqb}
 
@@ -13,6 +13,11 @@ isIn x (y ∷ ys) = eqb x y || isIn x ys
 unfoldable pub placeOf : ℕ → List ℕ → ℕ
 placeOf x [] = zero
 placeOf x (y ∷ ys) = cond (eqb x y) zero (suc (placeOf x ys))
+
+-- the lists of a list, one after another
+unfoldable pub joined : {A : Type 0} → List (List A) → List A
+joined [] = []
+joined (x ∷ xs) = x ++ joined xs
 
 -- some number stands twice
 unfoldable pub repeats : List ℕ → Bool

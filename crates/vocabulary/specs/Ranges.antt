@@ -3,6 +3,11 @@
 use mathlib.Core.Bool.{Bool, true, false, _&&_, _||_, cond}
 use mathlib.Core.List.{List, [], _∷_, _++_}
 use Prim.Native.Nat.{ℕ, zero, suc, _+_}
+use lib.Dec.{leb}
+
+-- x is a number from 1 to n
+unfoldable pub isUpTo : ℕ → ℕ → Bool
+isUpTo n x = leb 1 x && leb x n
 
 -- those that pass, rising
 unfoldable pub picked : ℕ → ℕ → (ℕ → Bool) → List ℕ

@@ -1,0 +1,1 @@
+// The list program's text: its definition stands in specs/.

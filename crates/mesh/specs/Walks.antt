@@ -1,0 +1,63 @@
+-- Incidence, stencils, walks, layers and reaches, and the refusals 10 and 13. Assumes nothing.
+use mathlib.Core.Bool.{Bool, true, false, not, _&&_, _||_, cond}
+use mathlib.Core.List.{List, [], _∷_, map}
+use Prim.Native.Nat.{ℕ, zero, suc, _+_, _-_, _%_}
+use lib.Dec.{eqb, ltb, leb}
+use lib.ListN.{length, getD}
+use Rattle.vocabulary.specs.Ranges.{picked, every, total}
+use Rattle.vocabulary.specs.Lists.{isIn, someOf}
+use Rattle.vocabulary.specs.Bytes.{Bytes, byteAt}
+use Rattle.mesh.specs.Mesh.{top, counted, below, firstCell, cellCount, chain}
+
+-- "Two elements are incident if one is in the other's chain."
+unfoldable pub incident : Bytes → ℕ → ℕ → Bool
+incident m e f = isIn e (chain m f) || isIn f (chain m e)
+
+-- ---- stencils
+
+-- n, where the stencil is a0, .., an
+unfoldable pub steps : Bytes → ℕ
+steps st = length st - 1
+
+-- "A stencil is bytes a0, .., an, with n even, n at most 8, d at every even place and less than d at every odd place." A number for d
+-- and the stencil: 10.
+unfoldable pub bad10 : ℕ → Bytes → Bool
+bad10 d st =
+    not (eqb (length st % 2) 1)
+    || ltb 9 (length st)
+    || not (every 0 (length st) (λ k. cond (eqb (k % 2) 0) (eqb (byteAt st k) d) (ltb (byteAt st k) d)))
+
+-- ---- walks
+
+-- the elements of dimension a that are incident to one of es, rising
+unfoldable pub stepTo : Bytes → ℕ → List ℕ → List ℕ
+stepTo m a es = picked (below m a + 1) (counted m a) (λ x. someOf es (λ e. incident m e x))
+
+-- where the walks of k steps from cell c end, rising. "A walk of k steps goes from a cell through incident elements of dimensions a1, ..,
+-- ak; a walk of k steps is a walk of k−1 steps and one step more. It may return to an element it has visited": nothing is removed.
+unfoldable pub walked : Bytes → Bytes → ℕ → ℕ → List ℕ
+walked m st c zero = c ∷ []
+walked m st c (suc k) = stepTo m (byteAt st (suc k)) (walked m st c k)
+
+-- the numbers of steps, from 0 to n, by which cell x is walked to from cell c, rising
+unfoldable pub stepsTo : Bytes → Bytes → ℕ → ℕ → List ℕ
+stepsTo m st c x = picked 0 (steps st + 1) (λ k. isIn x (walked m st c k))
+
+-- "The layer of a cell is the least k by which it is walked to."
+unfoldable pub layer : Bytes → Bytes → ℕ → ℕ → ℕ
+layer m st c x = getD (stepsTo m st c x) 0 0
+
+-- a cell of a reach, with its layer
+pub record Near : Type 0 where
+  pub cell : ℕ
+  pub layer : ℕ
+
+-- "The reach of a cell is every cell walked to for some k from 0 to n", rising.
+unfoldable pub reach : Bytes → Bytes → ℕ → List Near
+reach m st c =
+    map (λ x. record { cell = x; layer = layer m st c x })
+    (picked (firstCell m) (cellCount m) (λ x. ltb 0 (length (stepsTo m st c x))))
+
+-- "Sizes of all cells' reaches together above 8,000."
+unfoldable pub bad13 : Bytes → Bytes → Bool
+bad13 m st = ltb 8000 (total (firstCell m) (cellCount m) (λ c. length (reach m st c)))

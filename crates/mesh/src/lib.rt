@@ -1,0 +1,1 @@
+// The mesh bytes, walks and reaches: their definitions stand in specs/.

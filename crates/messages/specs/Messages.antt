@@ -1,0 +1,49 @@
+-- Messages, and the refusal 15. Assumes nothing.
+--
+-- "A message is words from, to, round, count, then count depths of four bytes in export order, all high byte first."
+use mathlib.Core.Bool.{Bool, _||_, not, cond}
+use mathlib.Core.List.{List, [], _∷_, _++_}
+use Prim.Native.Nat.{ℕ, _+_, _*_}
+use lib.Dec.{eqb, ltb}
+use lib.ListN.{length}
+use Rattle.vocabulary.specs.Ranges.{every, listed}
+use Rattle.vocabulary.specs.Lists.{joined}
+use Rattle.vocabulary.specs.Bytes.{Bytes}
+use Rattle.layout.specs.Words.{wordAt, bytesOf}
+use Rattle.layout.specs.Depths.{four, depthFrom, inRange}
+
+-- a message, each depth as its four bytes; its count is the number of its depths
+pub record Message : Type 0 where
+  pub from : ℕ
+  pub to : ℕ
+  pub round : ℕ
+  pub depths : List Bytes
+
+unfoldable pub encode : Message → Bytes
+encode x = bytesOf (x .from ∷ x .to ∷ x .round ∷ length (x .depths) ∷ []) ++ joined (x .depths)
+
+-- the place of the depth of index t, from 0
+abbrev pub depthPlace : ℕ → ℕ
+depthPlace t = 8 + 4 * t
+
+-- "Message under 8 bytes, length not 8 + 4 × count, or a depth out of range."
+unfoldable pub bad15 : Bytes → Bool
+bad15 b =
+    ltb (length b) 8
+    || not (eqb (length b) (8 + 4 * wordAt b 3))
+    || not (every 0 (wordAt b 3) (λ t. inRange (depthFrom b (depthPlace t))))
+
+-- "What reading gives is either the message or a refusal."
+pub data Reading : Type 0 where
+  read : Message → Reading
+  refused : ℕ → Reading
+
+unfoldable pub reading : Bytes → Reading
+reading b =
+    cond (bad15 b) (refused 15)
+    (read (record {
+      from = wordAt b 0;
+      to = wordAt b 1;
+      round = wordAt b 2;
+      depths = listed 0 (wordAt b 3) (λ t. four b (depthPlace t));
+    }))

@@ -1,0 +1,1 @@
+// Messages: their definitions stand in specs/.

@@ -1,0 +1,155 @@
+-- What write, take, advance and collect answer and leave. Each is defined over the lists L of a state, the place d of what calls change and
+-- the state's bytes b, and then over the bytes alone. Assumes nothing.
+--
+-- "A call tries each number whose inputs it is given, in rising number, the first list first; only 16 comes last of all." "A refusal gives its
+-- number and zero for every count; all lent bytes stay."
+use mathlib.Core.Bool.{Bool, not, _&&_, _||_, cond}
+use mathlib.Core.List.{List, [], _∷_, _++_, map}
+use Prim.Native.Nat.{ℕ, zero, suc, _+_, _-_, _*_}
+use lib.Dec.{eqb, ltb, leb}
+use lib.ListN.{length, set, drop, replicate}
+use Rattle.vocabulary.specs.Ranges.{isUpTo, every, blocks}
+use Rattle.vocabulary.specs.Tests.{Test, refuse, firstOf}
+use Rattle.vocabulary.specs.Bytes.{Bytes, byteAt, over}
+use Rattle.layout.specs.Words.{wordAt, wordBytes}
+use Rattle.layout.specs.Depths.{four}
+use Rattle.mesh.specs.Walks.{Near}
+use Rattle.round.specs.Rules.{Old}
+use Rattle.messages.specs.Messages.{Message, encode, bad15}
+use Rattle.parts.specs.State.{Lists, listsOf, dynamic, bad20, roundAt, takenPlace, writtenPlace, depthPlace}
+
+-- the part imports from j, exports to j
+unfoldable pub importsFrom : Lists → ℕ → Bool
+importsFrom L j = isUpTo 16 j && ltb 0 (L .imported j)
+
+unfoldable pub exportsTo : Lists → ℕ → Bool
+exportsTo L j = isUpTo 16 j && ltb 0 (length (L .exports j))
+
+-- the depth of local cell l, as its four bytes
+abbrev pub depthAt : ℕ → Bytes → ℕ → Bytes
+depthAt d b l = four b (depthPlace d l)
+
+-- ---- write: "gives the message to one importer; it may be repeated"
+
+module _ (L : Lists) (d : ℕ) (b : Bytes) where
+  unfoldable pub messageTo : ℕ → Bytes
+  messageTo j = encode (record {
+    from = L .part;
+    to = j;
+    round = roundAt b d;
+    depths = map (depthAt d b) (L .exports j);
+  })
+
+  -- 27: "Write to a number that isn't a part importing from here."
+  unfoldable pub writeTestsIn : ℕ → Bytes → List Test
+  writeTestsIn j out =
+      refuse 20 (bad20 b)
+      ∷ refuse 27 (not (exportsTo L j))
+      ∷ refuse 16 (ltb (length out) (length (messageTo j)))
+      ∷ []
+
+  unfoldable pub writtenIn : ℕ → Bytes
+  writtenIn j = set b (writtenPlace d j) 1
+
+  -- ---- take: "accepts one message"
+
+  -- the message's words
+  abbrev pub fromOf : Bytes → ℕ
+  fromOf x = wordAt x 0
+
+  abbrev pub toOf : Bytes → ℕ
+  toOf x = wordAt x 1
+
+  abbrev pub roundOf : Bytes → ℕ
+  roundOf x = wordAt x 2
+
+  abbrev pub countOf : Bytes → ℕ
+  countOf x = wordAt x 3
+
+  -- 21: "To is not this part, or from is no part that this one imports from, or count is not the length of that import list." 22: "The
+  -- message's round is not the state's." 23: "Already taken this round."
+  unfoldable pub takeTestsIn : Bytes → List Test
+  takeTestsIn x =
+      refuse 15 (bad15 x)
+      ∷ refuse 20 (bad20 b)
+      ∷ refuse 21 (not (eqb (toOf x) (L .part)) || not (importsFrom L (fromOf x)) || not (eqb (countOf x) (L .imported (fromOf x))))
+      ∷ refuse 22 (not (eqb (roundOf x) (roundAt b d)))
+      ∷ refuse 23 (eqb (byteAt b (takenPlace d (fromOf x))) 1)
+      ∷ []
+
+  -- the flag is set, and the message's depths become those of the cells imported from there
+  unfoldable pub takenIn : Bytes → Bytes
+  takenIn x = over (set b (takenPlace d (fromOf x)) 1) (depthPlace d (L .before (fromOf x) + 1)) (drop 8 x)
+
+  -- ---- advance: "makes a round of the owned cells"
+
+  unfoldable pub allTaken : Bool
+  allTaken = every 1 16 (λ j. not (importsFrom L j) || eqb (byteAt b (takenPlace d j)) 1)
+
+  unfoldable pub allWritten : Bool
+  allWritten = every 1 16 (λ j. not (exportsTo L j) || eqb (byteAt b (writtenPlace d j)) 1)
+
+  -- 24: "Advance with an import not taken." 25: "Advance with an export not written." 26: "Advance at round 60,000."
+  unfoldable pub advanceTestsIn : List Test
+  advanceTestsIn =
+      refuse 20 (bad20 b)
+      ∷ refuse 24 (not allTaken)
+      ∷ refuse 25 (not allWritten)
+      ∷ refuse 26 (leb 60000 (roundAt b d))
+      ∷ []
+
+  -- the new depth of an owned cell: "All new depths come from old ones."
+  unfoldable pub newAt : ℕ → Bytes
+  newAt l = L .new (depthAt d b l) (map (λ e. record { layer = e .layer; depth = depthAt d b (e .cell) }) (L .reach l))
+
+  -- the next round, no flag set ("At each new round nothing is taken and nothing written"), the new depths; imported cells keep theirs
+  unfoldable pub advancedIn : Bytes
+  advancedIn = over b d (wordBytes (roundAt b d + 1) ++ (replicate 32 0 ++ blocks 1 (L .owned) newAt))
+
+  -- ---- collect: "puts the owned depths into a field and changes no other byte of it"
+
+  -- 28: "Collect for another round than the state's."
+  unfoldable pub collectTestsIn : ℕ → Bytes → List Test
+  collectTestsIn k f =
+      refuse 20 (bad20 b)
+      ∷ refuse 28 (not (eqb k (roundAt b d)))
+      ∷ refuse 16 (ltb (length f) (4 * L .cells))
+      ∷ []
+
+  -- the field f with the depths of the local cells 1 to n put at their places
+  unfoldable pub collectedIn : ℕ → Bytes → Bytes
+  collectedIn zero f = f
+  collectedIn (suc n) f = over (collectedIn n f) (4 * (L .global (suc n) - L .first)) (depthAt d b (suc n))
+
+-- ---- the calls over the bytes b of a state
+
+module _ (b : Bytes) where
+  unfoldable pub writeNumber : ℕ → Bytes → ℕ
+  writeNumber j out = firstOf (writeTestsIn (listsOf b) (dynamic b) b j out)
+
+  unfoldable pub message : ℕ → Bytes
+  message j = messageTo (listsOf b) (dynamic b) b j
+
+  unfoldable pub writeState : ℕ → Bytes → Bytes
+  writeState j out = cond (eqb (writeNumber j out) 0) (writtenIn (listsOf b) (dynamic b) b j) b
+
+  unfoldable pub writeOut : ℕ → Bytes → Bytes
+  writeOut j out = cond (eqb (writeNumber j out) 0) (over out 0 (message j)) out
+
+  unfoldable pub takeNumber : Bytes → ℕ
+  takeNumber x = firstOf (takeTestsIn (listsOf b) (dynamic b) b x)
+
+  unfoldable pub takeState : Bytes → Bytes
+  takeState x = cond (eqb (takeNumber x) 0) (takenIn (listsOf b) (dynamic b) b x) b
+
+  unfoldable pub advanceNumber : ℕ
+  advanceNumber = firstOf (advanceTestsIn (listsOf b) (dynamic b) b)
+
+  unfoldable pub advanceState : Bytes
+  advanceState = cond (eqb advanceNumber 0) (advancedIn (listsOf b) (dynamic b) b) b
+
+  unfoldable pub collectNumber : ℕ → Bytes → ℕ
+  collectNumber k f = firstOf (collectTestsIn (listsOf b) (dynamic b) b k f)
+
+  unfoldable pub collectOut : ℕ → Bytes → Bytes
+  collectOut k f = cond (eqb (collectNumber k f) 0) (collectedIn (listsOf b) (dynamic b) b (listsOf b .owned) f) f

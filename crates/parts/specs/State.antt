@@ -1,0 +1,196 @@
+-- The byte form of a part's state, and the refusal 20. docs/LAYOUTS.md has it as a table. Assumes nothing.
+--
+-- A state is first its lists, which start writes once, all words; and then, from the place d that word 0 gives, what calls change. Local
+-- numbers run from 1, and so do the numbers of parts, 1 to 16. A table of ends has at j how many entries belong to the numbers up to j, so
+-- those of j are the ones after end (j − 1), up to end j.
+use mathlib.Core.Bool.{Bool, true, false, not, _&&_, _||_}
+use mathlib.Core.List.{List, [], _∷_}
+use Prim.Native.Nat.{ℕ, _+_, _-_, _*_, _%_}
+use lib.Dec.{eqb, ltb, leb}
+use lib.ListN.{length, take, drop}
+use Rattle.vocabulary.specs.Ranges.{isUpTo, every, listed}
+use Rattle.vocabulary.specs.Lists.{someOf, everyOf}
+use Rattle.vocabulary.specs.Tests.{allOf}
+use Rattle.vocabulary.specs.Bytes.{Bytes, byteAt}
+use Rattle.layout.specs.Words.{word, wordAt, words}
+use Rattle.layout.specs.Depths.{depthFrom, inRange}
+use Rattle.mesh.specs.Walks.{Near}
+use Rattle.round.specs.Rules.{Old, newDepth, weightCount, bad11}
+
+-- ---- the lists, read from the bytes b of a state, or from its first d bytes
+
+module _ (b : Bytes) where
+  -- word 0: d, the length of the lists in bytes; 1: the part's number; 2: n of the stencil; 3: the rule's kind; 4 to 8: its weights
+  abbrev pub dynamic : ℕ
+  dynamic = wordAt b 0
+
+  abbrev pub partNumber : ℕ
+  partNumber = wordAt b 1
+
+  abbrev pub stepCount : ℕ
+  stepCount = wordAt b 2
+
+  abbrev pub ruleKind : ℕ
+  ruleKind = wordAt b 3
+
+  unfoldable pub weights : Bytes
+  weights = take (2 * weightCount ruleKind stepCount) (drop 8 b)
+
+  -- word 9: the number of the mesh's first cell; 10: how many cells the mesh has
+  abbrev pub firstOfMesh : ℕ
+  firstOfMesh = wordAt b 9
+
+  abbrev pub cellsOfMesh : ℕ
+  cellsOfMesh = wordAt b 10
+
+  -- words 11 to 27, for j from 0 to 16: how many held cells are owned or imported from the parts up to j
+  abbrev pub importEnd : ℕ → ℕ
+  importEnd j = wordAt b (11 + j)
+
+  abbrev pub ownedCount : ℕ
+  ownedCount = importEnd 0
+
+  abbrev pub heldCount : ℕ
+  heldCount = importEnd 16
+
+  -- words 28 to 44, for j from 0 to 16: how many exports go to the parts up to j
+  abbrev pub exportEnd : ℕ → ℕ
+  exportEnd j = wordAt b (28 + j)
+
+  abbrev pub exportCount : ℕ
+  exportCount = exportEnd 16
+
+  -- the global number of each held cell, in local order, from word 45 on
+  abbrev pub globalAt : ℕ → ℕ
+  globalAt l = wordAt b (44 + l)
+
+  -- for l from 0 to the owned count: how many entries the reaches of the local cells up to l have
+  abbrev pub reachEnd : ℕ → ℕ
+  reachEnd l = wordAt b (45 + heldCount + l)
+
+  abbrev pub reachCount : ℕ
+  reachCount = reachEnd ownedCount
+
+  -- the entries of the reaches, two words each, from t = 0 on: a local number and its layer
+  abbrev pub entryAt : ℕ → Near
+  entryAt t = record {
+    cell = wordAt b (46 + heldCount + ownedCount + 2 * t);
+    layer = wordAt b (47 + heldCount + ownedCount + 2 * t);
+  }
+
+  -- the local number of each exported cell, from t = 0 on
+  abbrev pub exportAt : ℕ → ℕ
+  exportAt t = wordAt b (46 + heldCount + ownedCount + 2 * reachCount + t)
+
+  -- the length in bytes that the counts give the lists
+  abbrev pub listsLength : ℕ
+  listsLength = 2 * (46 + heldCount + ownedCount + 2 * reachCount + exportCount)
+
+  -- the entries of the reach of an owned cell, by its local number
+  unfoldable pub localReach : ℕ → List Near
+  localReach l = listed (reachEnd (l - 1)) (reachEnd l - reachEnd (l - 1)) entryAt
+
+  -- the local numbers of the cells exported to part j, in export order
+  unfoldable pub localExports : ℕ → List ℕ
+  localExports j = listed (exportEnd (j - 1)) (exportEnd j - exportEnd (j - 1)) exportAt
+
+-- ---- what calls change, from d on: the round, a flag for each part taken from, a flag for each part written to, the depth of each held cell
+
+abbrev pub roundAt : Bytes → ℕ → ℕ
+roundAt b d = word b d
+
+abbrev pub takenPlace : ℕ → ℕ → ℕ
+takenPlace d j = d + 1 + j
+
+abbrev pub writtenPlace : ℕ → ℕ → ℕ
+writtenPlace d j = d + 17 + j
+
+abbrev pub depthPlace : ℕ → ℕ → ℕ
+depthPlace d l = d + 30 + 4 * l
+
+-- the length in bytes of a state that holds n cells
+abbrev pub stateLength : ℕ → ℕ → ℕ
+stateLength d n = d + 34 + 4 * n
+
+-- ---- the lists as a call follows them
+
+pub record Lists : Type 0 where
+  -- the part's number
+  pub part : ℕ
+  -- the mesh's first cell and how many cells it has
+  pub first : ℕ
+  pub cells : ℕ
+  -- the rule: the new depth of a cell from its own old depth and those of its reach
+  pub new : Bytes → List Old → Bytes
+  -- the local numbers up to `owned` are the owned cells', and those up to `held` the held ones'
+  pub owned : ℕ
+  pub held : ℕ
+  -- the global number of a local one
+  pub global : ℕ → ℕ
+  -- the reach of an owned cell, in local numbers
+  pub reach : ℕ → List Near
+  -- imports from part j are the local numbers after `before j`, `imported j` of them
+  pub before : ℕ → ℕ
+  pub imported : ℕ → ℕ
+  -- the local numbers of what is exported to part j
+  pub exports : ℕ → List ℕ
+
+-- the lists that stand in the first d bytes of a state
+unfoldable pub listsIn : Bytes → Lists
+listsIn b = record {
+  part = partNumber b;
+  first = firstOfMesh b;
+  cells = cellsOfMesh b;
+  new = newDepth (ruleKind b) (weights b);
+  owned = ownedCount b;
+  held = heldCount b;
+  global = globalAt b;
+  reach = localReach b;
+  before = λ j. importEnd b (j - 1);
+  imported = λ j. importEnd b j - importEnd b (j - 1);
+  exports = localExports b;
+}
+
+unfoldable pub listsOf : Bytes → Lists
+listsOf b = listsIn (take (dynamic b) b)
+
+-- ---- 20: "Not a part state by the form in docs/."
+
+-- the table of n + 1 ends begins with a and never falls
+unfoldable pub risesFrom : ℕ → ℕ → (ℕ → ℕ) → Bool
+risesFrom a n end = eqb (end 0) a && every 0 n (λ j. leb (end j) (end (j + 1)))
+
+-- tests of the lists b
+unfoldable pub listsTests : Bytes → List Bool
+listsTests b =
+    isUpTo 16 (partNumber b)
+    ∷ (eqb (stepCount b % 2) 0 && leb (stepCount b) 8)
+    ∷ not (bad11 (ruleKind b) (stepCount b) (weights b))
+    ∷ leb (heldCount b) 2000
+    ∷ risesFrom (ownedCount b) 16 (importEnd b)
+    ∷ risesFrom 0 16 (exportEnd b)
+    ∷ risesFrom 0 (ownedCount b) (reachEnd b)
+    ∷ every 1 (heldCount b) (λ l. leb (firstOfMesh b) (globalAt b l) && ltb (globalAt b l) (firstOfMesh b + cellsOfMesh b))
+    ∷ every 0 (reachCount b) (λ t. let e : Near = entryAt b t in isUpTo (heldCount b) (e .cell) && eqb (e .layer % 2) 0 && leb (e .layer) (stepCount b))
+    ∷ every 1 (ownedCount b) (λ l. someOf (localReach b l) (λ e. eqb (e .cell) l && eqb (e .layer) 0))
+    ∷ every 0 (exportCount b) (λ t. isUpTo (ownedCount b) (exportAt b t))
+    ∷ []
+
+-- tests of what calls change, in the state b whose lists end at d and hold n cells
+unfoldable pub dynamicTests : Bytes → ℕ → ℕ → List Bool
+dynamicTests b d n =
+    leb (stateLength d n) (length b)
+    ∷ leb (roundAt b d) 60000
+    ∷ every 1 16 (λ j. leb (byteAt b (takenPlace d j)) 1 && leb (byteAt b (writtenPlace d j)) 1)
+    ∷ every 1 n (λ l. inRange (depthFrom b (depthPlace d l)))
+    ∷ []
+
+-- a part state: the lists are as long as their counts say, and all tests hold
+unfoldable pub isState : Bytes → Bool
+isState b =
+    let d : ℕ = dynamic b in
+    let st : Bytes = take (dynamic b) b in
+    eqb d (listsLength st) && allOf (listsTests st) && allOf (dynamicTests b d (heldCount st))
+
+unfoldable pub bad20 : Bytes → Bool
+bad20 b = not (isState b)

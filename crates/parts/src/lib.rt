@@ -1,0 +1,1 @@
+// Part states, the five calls and runs: their definitions stand in specs/.

@@ -1,0 +1,78 @@
+-- Fields, the undivided round and what it makes in k rounds, and the refusal 14. It knows nothing of parts. Assumes nothing.
+use mathlib.Core.Bool.{Bool, _||_, not, cond}
+use mathlib.Core.List.{List, [], _∷_, _++_, map}
+use Prim.Native.Nat.{ℕ, zero, suc, _+_, _-_, _*_}
+use lib.Dec.{eqb, ltb}
+use lib.ListN.{length}
+use Rattle.vocabulary.specs.Ranges.{every, blocks}
+use Rattle.vocabulary.specs.Tests.{Test, refuse, firstOf}
+use Rattle.vocabulary.specs.Bytes.{Bytes, over}
+use Rattle.layout.specs.Depths.{four, depthFrom, inRange}
+use Rattle.mesh.specs.Mesh.{top, firstCell, cellCount, meshTests}
+use Rattle.mesh.specs.Walks.{Near, reach, steps, bad10, bad13}
+use Rattle.round.specs.Rules.{Old, newDepth, bad11}
+
+-- ---- fields: "A field is four bytes a cell", in rising number of the cells
+
+-- "Field length or a depth wrong", for a mesh of n cells
+unfoldable pub bad14 : ℕ → Bytes → Bool
+bad14 n f = not (eqb (length f) (4 * n)) || not (every 0 n (λ k. inRange (depthFrom f (4 * k))))
+
+-- ---- the undivided round
+
+-- what a mesh, a stencil and a rule come to, as far as a round goes by them: the cells are `first` and those after it, `cells` of them
+pub record Scheme : Type 0 where
+  pub first : ℕ
+  pub cells : ℕ
+  pub reach : ℕ → List Near
+  -- the new depth of a cell from its own old depth and those of its reach
+  pub new : Bytes → List Old → Bytes
+
+unfoldable pub schemeOf : Bytes → Bytes → ℕ → Bytes → Scheme
+schemeOf m st kind v = record {
+  first = firstCell m;
+  cells = cellCount m;
+  reach = reach m st;
+  new = newDepth kind v;
+}
+
+-- the depth of cell c in a field, as its four bytes
+unfoldable pub depthIn : Scheme → Bytes → ℕ → Bytes
+depthIn S f c = four f (4 * (c - S .first))
+
+-- the old depths of a reach
+unfoldable pub oldsIn : Scheme → Bytes → List Near → List Old
+oldsIn S f ns = map (λ e. record { layer = e .layer; depth = depthIn S f (e .cell) }) ns
+
+-- "All new depths come from old ones."
+unfoldable pub newIn : Scheme → Bytes → ℕ → Bytes
+newIn S f c = S .new (depthIn S f c) (oldsIn S f (S .reach c))
+
+-- what the rule makes of a field, at every cell of the mesh
+unfoldable pub round : Scheme → Bytes → Bytes
+round S f = blocks (S .first) (S .cells) (newIn S f)
+
+-- "The undivided field after 0 rounds is the starting field; after k rounds it is what the rule makes, at every cell of the mesh, of the
+-- one after k−1 rounds."
+unfoldable pub undivided : Scheme → Bytes → ℕ → Bytes
+undivided S f zero = f
+undivided S f (suc k) = round S (undivided S f k)
+
+-- ---- the call: mesh m, stencil st, rule kind and weights v, field f, output
+
+unfoldable pub roundTests : Bytes → Bytes → ℕ → Bytes → Bytes → Bytes → List Test
+roundTests m st kind v f out =
+    meshTests m
+    ++ (refuse 10 (bad10 (top m) st)
+    ∷ refuse 11 (bad11 kind (steps st) v)
+    ∷ refuse 13 (bad13 m st)
+    ∷ refuse 14 (bad14 (cellCount m) f)
+    ∷ refuse 16 (ltb (length out) (4 * cellCount m))
+    ∷ [])
+
+unfoldable pub roundNumber : Bytes → Bytes → ℕ → Bytes → Bytes → Bytes → ℕ
+roundNumber m st kind v f out = firstOf (roundTests m st kind v f out)
+
+-- what it leaves in the output: "Bytes past the need stay."
+unfoldable pub roundOut : Bytes → Bytes → ℕ → Bytes → Bytes → Bytes → Bytes
+roundOut m st kind v f out = cond (eqb (roundNumber m st kind v f out) 0) (over out 0 (round (schemeOf m st kind v) f)) out

@@ -1,0 +1,1 @@
+// Rules, fields and the undivided round: their definitions stand in specs/.

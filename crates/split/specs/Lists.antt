@@ -1,0 +1,90 @@
+-- The calls that give a part's lists, and the refusals 8, 9 and 12. Assumes nothing.
+use mathlib.Core.Bool.{Bool, not, _||_, cond}
+use mathlib.Core.List.{List, [], _∷_, _++_}
+use Prim.Native.Nat.{ℕ, _+_, _*_}
+use lib.Dec.{eqb, ltb}
+use lib.ListN.{length}
+use Rattle.vocabulary.specs.Ranges.{isUpTo, some, total}
+use Rattle.vocabulary.specs.Lists.{everyOf}
+use Rattle.vocabulary.specs.Tests.{Test, refuse, firstOf}
+use Rattle.vocabulary.specs.Bytes.{Bytes, over}
+use Rattle.layout.specs.Words.{bytesOf}
+use Rattle.mesh.specs.Mesh.{top, cellCount, meshTests}
+use Rattle.mesh.specs.Walks.{bad10, bad13}
+use Rattle.split.specs.Split.{Split, splitOf, owned, held, imports, exports, interior, halo, locals, isPrivate, isExposed, isShared, isCopied, range}
+
+-- "P, the part wanted, an owner or the map's length wrong." A call may name several parts.
+unfoldable pub bad8 : Bytes → ℕ → Bytes → List ℕ → Bool
+bad8 m parts owners named =
+    not (isUpTo 16 parts)
+    || not (everyOf named (isUpTo parts))
+    || not (eqb (length owners) (cellCount m))
+    || not (everyOf owners (isUpTo parts))
+
+-- "A part owning no cell."
+unfoldable pub bad9 : Split → Bool
+bad9 S = some 1 (S .parts) (λ i. eqb (length (owned S i)) 0)
+
+-- "Held cells over all parts above 4,096."
+unfoldable pub bad12 : Split → Bool
+bad12 S = ltb 4096 (total 1 (S .parts) (λ i. length (held S i)))
+
+-- what a call that is given a mesh, a part map, the numbers of some parts and a stencil tries first, and what it tries after 11
+unfoldable pub splitTests : Bytes → ℕ → Bytes → List ℕ → Bytes → List Test
+splitTests m parts owners named st =
+    meshTests m
+    ++ (refuse 8 (bad8 m parts owners named)
+    ∷ refuse 9 (bad9 (splitOf m parts owners st))
+    ∷ refuse 10 (bad10 (top m) st)
+    ∷ [])
+
+unfoldable pub sizeTests : Bytes → ℕ → Bytes → Bytes → List Test
+sizeTests m parts owners st = refuse 12 (bad12 (splitOf m parts owners st)) ∷ refuse 13 (bad13 m st) ∷ []
+
+-- the lists of a part that can be asked for: an import or export list names the other part, a range its dimension
+pub data Wanted : Type 0 where
+  interior-cells halo-cells local-order : Wanted
+  imports-from exports-to : ℕ → Wanted
+  private-range exposed-range shared-range copied-range : ℕ → Wanted
+
+-- the other part that it names
+unfoldable pub others : Wanted → List ℕ
+others interior-cells = []
+others halo-cells = []
+others local-order = []
+others (imports-from j) = j ∷ []
+others (exports-to j) = j ∷ []
+others (private-range k) = []
+others (exposed-range k) = []
+others (shared-range k) = []
+others (copied-range k) = []
+
+-- the list, for part i
+unfoldable pub listOf : Bytes → Split → ℕ → Wanted → List ℕ
+listOf m S i interior-cells = interior S i
+listOf m S i halo-cells = halo S i
+listOf m S i local-order = locals S i
+listOf m S i (imports-from j) = imports S i j
+listOf m S i (exports-to j) = exports S i j
+listOf m S i (private-range k) = range m k (isPrivate m S i)
+listOf m S i (exposed-range k) = range m k (isExposed m S i)
+listOf m S i (shared-range k) = range m k (isShared m S i)
+listOf m S i (copied-range k) = range m k (isCopied m S i)
+
+-- ---- the call: mesh m, P and owners, part i, stencil st, the list wanted, output
+
+module _ (m : Bytes) (parts : ℕ) (owners : Bytes) (i : ℕ) (st : Bytes) (w : Wanted) where
+  unfoldable pub listWords : List ℕ
+  listWords = listOf m (splitOf m parts owners st) i w
+
+  unfoldable pub listTests : Bytes → List Test
+  listTests out =
+      splitTests m parts owners (i ∷ others w) st
+      ++ (sizeTests m parts owners st ++ (refuse 16 (ltb (length out) (2 * length listWords)) ∷ []))
+
+  unfoldable pub listNumber : Bytes → ℕ
+  listNumber out = firstOf (listTests out)
+
+  -- what it leaves in the output: "a list given or taken is words in the order stated"
+  unfoldable pub listOut : Bytes → Bytes
+  listOut out = cond (eqb (listNumber out) 0) (over out 0 (bytesOf listWords)) out

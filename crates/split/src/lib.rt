@@ -1,0 +1,1 @@
+// Part maps and the lists of parts: their definitions stand in specs/.

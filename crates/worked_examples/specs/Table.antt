@@ -1,0 +1,292 @@
+-- The worked examples of document 01 that it marks (P), as entries of one table under one theorem, all by computation over the definitions.
+-- Assumes nothing.
+use mathlib.Core.Path.{_≡_, refl}
+use mathlib.Core.Bool.{Bool, true, false, cond}
+use mathlib.Core.List.{List, [], _∷_, _++_, map, List·Memᴰ, List·Memᴰ·head, List·Memᴰ·tail}
+use Prim.Native.Nat.{ℕ, zero, suc, _≤_}
+use Prim.Native.String.{String}
+use native.Mathlib.Omega.{arith}
+use lib.IntN.{ℤ, pos, negsuc}
+use lib.ListN.{length, take, replicate}
+use Rattle.vocabulary.specs.Bytes.{byteAt, Bytes, over}
+use Rattle.vocabulary.specs.Lists.{isIn, placeOf, joined, repeats, someOf, everyOf}
+use Rattle.vocabulary.specs.Ranges.{isUpTo, picked, every, some, listed, blocks, total}
+use Rattle.layout.specs.Answers.{answer}
+use Rattle.layout.specs.Depths.{depthOf, four, numberFrom, signed, unsigned, depthFrom, numberBytes, depthBytes, inRange}
+use Rattle.layout.specs.Words.{word, wordAt, words, wordBytes, bytesOf}
+use Rattle.mesh.specs.Mesh.{top, counted, below, elements, recordCount, firstCell, cellCount, dimension, headOf, elementIn, nextOf, follow, records, chain, allRecords, bad1, bad2, meshLength, bad3, bad4, wrongIn, bad5, bad6, bad7, meshTests, meshNumber}
+use Rattle.mesh.specs.Walks.{Near, incident, steps, bad10, stepTo, walked, stepsTo, layer, reach, bad13}
+use Rattle.round.specs.Rounds.{bad14, schemeOf, depthIn, oldsIn, newIn, round, undivided, roundTests, roundNumber, roundOut}
+use Rattle.round.specs.Rules.{weightCount, bad11, weight, depthSum, weightSum, quotient, least, newDepth}
+use Rattle.messages.specs.Messages.{encode, bad15, reading}
+use Rattle.split.specs.Lists.{copied-range, shared-range, exposed-range, private-range, exports-to, imports-from, local-order, halo-cells, interior-cells, Wanted, bad8, bad9, bad12, splitTests, sizeTests, others, listOf, listWords, listTests, listNumber, listOut}
+use Rattle.split.specs.Split.{splitOf, owns, owned, reaches, holds, held, imports, exports, inside, interior, halo, locals, localOf, globalOf, cellsAt, holdsLower, touches, another, isCopied, isShared, isExposed, isPrivate, range}
+use Rattle.parts.specs.Calls.{importsFrom, exportsTo, messageTo, writeTestsIn, writtenIn, takeTestsIn, takenIn, allTaken, allWritten, advanceTestsIn, newAt, advancedIn, collectTestsIn, collectedIn, writeNumber, message, writeState, writeOut, takeNumber, takeState, advanceNumber, advanceState, collectNumber, collectOut}
+use Rattle.parts.specs.Run.{schemeIn, collectsOf, Run, Inputs, World, Collected, collect, advance, take-in, write, Call, put, more, step, run, Fair, Honest, startNumberIn, startStateIn, begin}
+use Rattle.parts.specs.Start.{importEnds, exportEnds, reachEnds, reachWords, exportWords, listsBytes, listsWords, stateSize, sizeNumber, firstState, startTests, startNumber, startState}
+use Rattle.parts.specs.State.{weights, localReach, localExports, listsIn, listsOf, risesFrom, listsTests, dynamicTests, isState, bad20}
+use Rattle.listing.specs.Listing.{ascii, digits, decimal, spaced, line, lineUnlessEmpty, dimensionText, partText, splitText, meshPiece, mapPiece, partsPiece, ownersPiece, lastPiece, stencilPiece, listingNumber, listText}
+
+-- ---- the inputs
+
+-- "d = 1; counts 6, 5, 0, 0; R = 10. Heads: six zeros, then 1, 3, 5, 7, 9. Records: (1,2) (2,0) (2,4) (3,0) (3,6) (4,0) (4,8) (5,0) (5,10) (6,0)."
+unfoldable pub five : Bytes
+five =
+    bytesOf (
+    1 ∷ 6 ∷ 5 ∷ 0 ∷ 0 ∷ 10
+    ∷ 0 ∷ 0 ∷ 0 ∷ 0 ∷ 0 ∷ 0 ∷ 1 ∷ 3 ∷ 5 ∷ 7 ∷ 9
+    ∷ 1 ∷ 2 ∷ 2 ∷ 0 ∷ 2 ∷ 4 ∷ 3 ∷ 0 ∷ 3 ∷ 6 ∷ 4 ∷ 0 ∷ 4 ∷ 8 ∷ 5 ∷ 0 ∷ 5 ∷ 10 ∷ 6 ∷ 0
+    ∷ []
+    )
+
+-- "Triangles 15 (points 1 2 3), 16 (2 3 4), 17 (1 5 6), edges 7 to 14"
+unfoldable pub triangles : Bytes
+triangles =
+    bytesOf (
+    2 ∷ 6 ∷ 8 ∷ 3 ∷ 0 ∷ 34
+    ∷ 0 ∷ 0 ∷ 0 ∷ 0 ∷ 0 ∷ 0 ∷ 1 ∷ 3 ∷ 5 ∷ 7 ∷ 9 ∷ 11 ∷ 13 ∷ 15 ∷ 17 ∷ 23 ∷ 29
+    ∷ 1 ∷ 2 ∷ 2 ∷ 0
+    ∷ 2 ∷ 4 ∷ 3 ∷ 0
+    ∷ 1 ∷ 6 ∷ 3 ∷ 0
+    ∷ 2 ∷ 8 ∷ 4 ∷ 0
+    ∷ 3 ∷ 10 ∷ 4 ∷ 0
+    ∷ 1 ∷ 12 ∷ 5 ∷ 0
+    ∷ 5 ∷ 14 ∷ 6 ∷ 0
+    ∷ 1 ∷ 16 ∷ 6 ∷ 0
+    ∷ 1 ∷ 18 ∷ 2 ∷ 19 ∷ 3 ∷ 20 ∷ 7 ∷ 21 ∷ 8 ∷ 22 ∷ 9 ∷ 0
+    ∷ 2 ∷ 24 ∷ 3 ∷ 25 ∷ 4 ∷ 26 ∷ 8 ∷ 27 ∷ 10 ∷ 28 ∷ 11 ∷ 0
+    ∷ 1 ∷ 30 ∷ 5 ∷ 31 ∷ 6 ∷ 32 ∷ 12 ∷ 33 ∷ 13 ∷ 34 ∷ 14 ∷ 0
+    ∷ []
+    )
+
+abbrev at : ℕ → ℕ → Near
+at c l = record { cell = c; layer = l }
+
+-- the bytes of a field
+unfoldable pub field : List ℕ → Bytes
+field ds = joined (map (λ n. depthBytes (pos n)) ds)
+
+-- "P = 2, owners 1 1 1 2 2, stencil 1 0 1": what the list program reads
+unfoldable pub listInput : Bytes
+listInput = five ++ (2 ∷ 1 ∷ 1 ∷ 1 ∷ 2 ∷ 2 ∷ 3 ∷ 1 ∷ 0 ∷ 1 ∷ [])
+
+-- "Mean, weights 2 1, from 100 200 300 400 500"
+unfoldable pub fiveInputs : Inputs
+fiveInputs = record {
+  mesh = five;
+  parts = 2;
+  owners = 1 ∷ 1 ∷ 1 ∷ 2 ∷ 2 ∷ [];
+  stencil = 1 ∷ 0 ∷ 1 ∷ [];
+  kind = 1;
+  weights = bytesOf (2 ∷ 1 ∷ []);
+  field = field (100 ∷ 200 ∷ 300 ∷ 400 ∷ 500 ∷ []);
+}
+
+-- ---- a run of two rounds
+
+-- "Part 2 to part 1, round 0, in hexadecimal: 00 02 00 01 00 00 00 01 00 00 01 90", and what the parts write to each other at other rounds
+abbrev fromTwo : ℕ → ℕ → Bytes
+fromTwo round depth = 0 ∷ 2 ∷ 0 ∷ 1 ∷ 0 ∷ round ∷ 0 ∷ 1 ∷ 0 ∷ 0 ∷ 1 ∷ depth ∷ []
+
+abbrev fromOne : ℕ → Bytes
+fromOne round = 0 ∷ 1 ∷ 0 ∷ 2 ∷ 0 ∷ round ∷ 0 ∷ 1 ∷ 0 ∷ 0 ∷ 1 ∷ 44 ∷ []
+
+abbrev space : Bytes
+space = replicate 12 0
+
+abbrev empty : Bytes
+empty = replicate 20 0
+
+-- a buffer a little longer than each state
+unfoldable pub buffers : ℕ → Bytes
+buffers i = replicate 230 7
+
+-- part 1 runs ahead: refused are an advance with nothing taken, a second take, part 1's message of round 1 taken at round 0, a write into too
+-- short a buffer, an advance with nothing written and a collect of another round
+unfoldable pub calls : List Call
+calls =
+    write 2 1 space
+    ∷ write 1 2 space
+    ∷ advance 1
+    ∷ take-in 1 (fromTwo 0 144)
+    ∷ take-in 1 (fromTwo 0 144)
+    ∷ advance 1
+    ∷ write 1 2 (take 11 space)
+    ∷ write 1 2 space
+    ∷ take-in 2 (fromOne 1)
+    ∷ take-in 2 (fromOne 0)
+    ∷ collect 1 1 empty
+    ∷ advance 2
+    ∷ take-in 2 (fromOne 1)
+    ∷ advance 2
+    ∷ write 2 1 space
+    ∷ advance 2
+    ∷ collect 1 2 empty
+    ∷ take-in 1 (fromTwo 1 144)
+    ∷ advance 1
+    ∷ collect 1 2 empty
+    ∷ collect 2 2 empty
+    ∷ []
+
+-- the number that a call answers
+unfoldable pub numberAt : World → Call → ℕ
+numberAt w (write i j out) = writeNumber (w .states i) j out
+numberAt w (take-in i x) = takeNumber (w .states i) x
+numberAt w (advance i) = advanceNumber (w .states i)
+numberAt w (collect i k f) = collectNumber (w .states i) k f
+
+unfoldable pub numbers : World → List Call → List ℕ
+numbers w [] = []
+numbers w (c ∷ cs) = numberAt w c ∷ numbers (step w c) cs
+
+-- ---- the table
+
+-- the call of a list of the five cells, for P = 2
+abbrev listCall : Bytes → Bytes → ℕ → Wanted → ℕ
+listCall owners st i w = listNumber five 2 owners i st w (replicate 40 0)
+
+-- the start of part 1 of the five cells from another field
+abbrev startCall : List ℕ → ℕ
+startCall ds = startNumber five 2 (fiveInputs .owners) 1 (fiveInputs .stencil) 1 (fiveInputs .weights) (field ds) (buffers 1)
+
+-- an entry, by the definition that it is about
+pub data Example : Type 0 where
+  -- bytes and their length
+  long : Bytes → ℕ → Example
+  -- a mesh and its number
+  mesh : Bytes → ℕ → Example
+  -- the list program's input and what it prints
+  listing : Bytes → String → Example
+  -- owners, a stencil, a part, a list of it, the number of that call
+  list-number : Bytes → Bytes → ℕ → Wanted → ℕ → Example
+  -- a stencil, a part, a list of it and its words
+  list-words : Bytes → ℕ → Wanted → List ℕ → Example
+  -- a cell of the triangles and its reach under 2 1 2 0 2
+  reached : ℕ → List Near → Example
+  -- a number of rounds and the undivided field of the five cells
+  rounds : ℕ → List ℕ → Example
+  -- a sum, weights and their quotient
+  divided : ℤ → ℕ → ℤ → Example
+  -- a starting field and the number of start
+  start-number : List ℕ → ℕ → Example
+  -- a part, another, and the message between them at round 0
+  first-message : ℕ → ℕ → Bytes → Example
+  -- the numbers that the calls of the run answer
+  answers : List ℕ → Example
+  -- the fields of its accepted collects, the last one first
+  collects : List Bytes → Example
+
+-- what an entry claims
+abbrev pub Holds : Example → Type 0
+Holds (long b n) = length b ≡ n
+Holds (mesh b n) = meshNumber b ≡ n
+Holds (listing b t) = listText b ≡ ascii t
+Holds (list-number owners st i w n) = listCall owners st i w ≡ n
+Holds (list-words st i w ws) = listWords five 2 (fiveInputs .owners) i st w ≡ ws
+Holds (reached c r) = reach triangles (2 ∷ 1 ∷ 2 ∷ 0 ∷ 2 ∷ []) c ≡ r
+Holds (rounds k ds) = undivided (schemeIn fiveInputs) (fiveInputs .field) k ≡ field ds
+Holds (divided s w q) = quotient s w ≡ q
+Holds (start-number ds n) = startCall ds ≡ n
+Holds (first-message i j b) = message (begin fiveInputs buffers .states i) j ≡ b
+Holds (answers ns) = numbers (begin fiveInputs buffers) calls ≡ ns
+Holds (collects fs) = map (λ g. g .field) (run (begin fiveInputs buffers) calls .given) ≡ fs
+
+abbrev pub AllHold : List Example → Type 0
+AllHold [] = Unit {0}
+AllHold (e ∷ es) = Holds e × AllHold es
+
+abbrev pub table : List Example
+table =
+    long five 74
+    ∷ mesh five 0
+    ∷ listing listInput "parts 2\npart 1\ninterior 7 8\nhalo 9\nimport 2 10\nexport 2 9\ndim 0 private 1 2\ndim 0 exposed 3\ndim 0 shared 4\ndim 0 copied 5\npart 2\ninterior 11\nhalo 10\nimport 1 9\nexport 1 10\ndim 0 private 6\ndim 0 exposed 5\ndim 0 shared 4\ndim 0 copied 3\n"
+    -- "Mean, weights 2 1, from 100 200 300 400 500: 133 200 300 400 466, then 155 208 300 391 444."
+    ∷ rounds 1 (133 ∷ 200 ∷ 300 ∷ 400 ∷ 466 ∷ [])
+    ∷ rounds 2 (155 ∷ 208 ∷ 300 ∷ 391 ∷ 444 ∷ [])
+    -- "Part 2 to part 1, round 0, in hexadecimal: 00 02 00 01 00 00 00 01 00 00 01 90."
+    ∷ first-message 2 1 (0x00 ∷ 0x02 ∷ 0x00 ∷ 0x01 ∷ 0x00 ∷ 0x00 ∷ 0x00 ∷ 0x01 ∷ 0x00 ∷ 0x00 ∷ 0x01 ∷ 0x90 ∷ [])
+    -- "Sum −7, weights 4: −1."
+    ∷ divided (negsuc 6) 4 (negsuc 0)
+    -- "Triangles ..: reach of 15 is all, 17 at layer 4; 17 reaches 15 and itself only; 16 reaches 17."
+    ∷ mesh triangles 0
+    ∷ reached 15 (at 15 0 ∷ at 16 2 ∷ at 17 4 ∷ [])
+    ∷ reached 16 (at 15 2 ∷ at 16 0 ∷ at 17 4 ∷ [])
+    ∷ reached 17 (at 15 4 ∷ at 17 0 ∷ [])
+    -- "Stencil 1: no imports. Stencil of length 0, 2 or 11: 10."
+    ∷ list-words (1 ∷ []) 1 (imports-from 2) []
+    ∷ list-words (1 ∷ []) 2 (imports-from 1) []
+    ∷ list-number (fiveInputs .owners) (1 ∷ []) 1 (imports-from 2) 0
+    ∷ list-number (fiveInputs .owners) [] 1 interior-cells 10
+    ∷ list-number (fiveInputs .owners) (1 ∷ 0 ∷ []) 1 interior-cells 10
+    ∷ list-number (fiveInputs .owners) (1 ∷ 0 ∷ 1 ∷ 0 ∷ 1 ∷ 0 ∷ 1 ∷ 0 ∷ 1 ∷ 0 ∷ 1 ∷ []) 1 interior-cells 10
+    -- "73 bytes: 3. 11 bytes: 1." "Owners 1 1 1 1 1, P = 2: 9."
+    ∷ mesh (take 73 five) 3
+    ∷ mesh (take 11 five) 1
+    ∷ list-number (1 ∷ 1 ∷ 1 ∷ 1 ∷ 1 ∷ []) (1 ∷ 0 ∷ 1 ∷ []) 1 interior-cells 9
+    -- "Depth 1,200,000 accepted, 1,200,001: 14."
+    ∷ start-number (100 ∷ 200 ∷ 1200000 ∷ 400 ∷ 500 ∷ []) 0
+    ∷ start-number (100 ∷ 200 ∷ 1200001 ∷ 400 ∷ 500 ∷ []) 14
+    -- "Message for round 1 at round 0: 22; after advance, taken": the ninth call, and the thirteenth
+    ∷ answers (0 ∷ 0 ∷ 24 ∷ 0 ∷ 23 ∷ 0 ∷ 16 ∷ 0 ∷ 22 ∷ 0 ∷ 0 ∷ 0 ∷ 0 ∷ 25 ∷ 0 ∷ 0 ∷ 28 ∷ 0 ∷ 0 ∷ 0 ∷ 0 ∷ [])
+    ∷ collects (field (0 ∷ 0 ∷ 0 ∷ 391 ∷ 444 ∷ []) ∷ field (155 ∷ 208 ∷ 300 ∷ 0 ∷ 0 ∷ []) ∷ field (133 ∷ 200 ∷ 300 ∷ 0 ∷ 0 ∷ []) ∷ [])
+    ∷ []
+
+pub worked : AllHold table
+unfolding over isIn placeOf joined repeats someOf everyOf isUpTo picked every some listed blocks total answer four numberFrom signed unsigned depthFrom numberBytes depthBytes inRange word wordAt words wordBytes bytesOf top counted below elements recordCount firstCell cellCount dimension headOf elementIn nextOf follow records chain allRecords bad1 bad2 meshLength bad3 bad4 wrongIn bad5 bad6 bad7 meshTests meshNumber incident steps bad10 stepTo walked stepsTo layer reach bad13 bad14 schemeOf depthIn oldsIn newIn round undivided roundTests roundNumber roundOut weightCount bad11 weight depthSum weightSum quotient least newDepth encode bad15 reading bad8 bad9 bad12 splitTests sizeTests others listOf listWords listTests listNumber listOut splitOf owns owned reaches holds held imports exports inside interior halo locals localOf globalOf cellsAt holdsLower touches another isCopied isShared isExposed isPrivate range importsFrom exportsTo messageTo writeTestsIn writtenIn takeTestsIn takenIn allTaken allWritten advanceTestsIn newAt advancedIn collectTestsIn collectedIn writeNumber message writeState writeOut takeNumber takeState advanceNumber advanceState collectNumber collectOut put more step run Fair Honest startNumberIn startStateIn begin importEnds exportEnds reachEnds reachWords exportWords listsBytes listsWords stateSize sizeNumber firstState startTests startNumber startState weights localReach localExports listsIn listsOf risesFrom listsTests dynamicTests isState bad20 ascii digits decimal spaced line lineUnlessEmpty dimensionText partText splitText meshPiece mapPiece partsPiece ownersPiece lastPiece stencilPiece listingNumber listText buffers calls field five fiveInputs listInput numberAt numbers triangles
+worked = (refl, (refl, (refl, (refl, (refl, (refl, (refl, (refl, (refl, (refl, (refl, (refl, (refl, (refl, (refl, (refl, (refl, (refl, (refl, (refl, (refl, (refl, (refl, (refl, tt))))))))))))))))))))))))
+
+-- ---- the run is one of those that demand 3 is about
+
+started : (i : ℕ) → 1 ≤ i → i ≤ 2 → startNumberIn fiveInputs i (buffers i) ≡ 0
+unfolding over isIn placeOf joined repeats someOf everyOf isUpTo picked every some listed blocks total answer four numberFrom signed unsigned depthFrom numberBytes depthBytes inRange word wordAt words wordBytes bytesOf top counted below elements recordCount firstCell cellCount dimension headOf elementIn nextOf follow records chain allRecords bad1 bad2 meshLength bad3 bad4 wrongIn bad5 bad6 bad7 meshTests meshNumber incident steps bad10 stepTo walked stepsTo layer reach bad13 bad14 schemeOf depthIn oldsIn newIn round undivided roundTests roundNumber roundOut weightCount bad11 weight depthSum weightSum quotient least newDepth encode bad15 reading bad8 bad9 bad12 splitTests sizeTests others listOf listWords listTests listNumber listOut splitOf owns owned reaches holds held imports exports inside interior halo locals localOf globalOf cellsAt holdsLower touches another isCopied isShared isExposed isPrivate range importsFrom exportsTo messageTo writeTestsIn writtenIn takeTestsIn takenIn allTaken allWritten advanceTestsIn newAt advancedIn collectTestsIn collectedIn writeNumber message writeState writeOut takeNumber takeState advanceNumber advanceState collectNumber collectOut put more step run Fair Honest startNumberIn startStateIn begin importEnds exportEnds reachEnds reachWords exportWords listsBytes listsWords stateSize sizeNumber firstState startTests startNumber startState weights localReach localExports listsIn listsOf risesFrom listsTests dynamicTests isState bad20 ascii digits decimal spaced line lineUnlessEmpty dimensionText partText splitText meshPiece mapPiece partsPiece ownersPiece lastPiece stencilPiece listingNumber listText buffers calls field five fiveInputs listInput numberAt numbers triangles
+started zero h k = let z : ⊥ = omega arith in absurd z
+started (suc zero) h k = refl
+started (suc (suc zero)) h k = refl
+started (suc (suc (suc i))) h k = let z : ⊥ = omega arith in absurd z
+
+last : {x : Bytes} {xs : List Bytes} → List·Memᴰ x (x ∷ xs)
+last = List·Memᴰ·head refl
+
+last-but-one : {x y : Bytes} {xs : List Bytes} → List·Memᴰ x (y ∷ x ∷ xs)
+last-but-one = List·Memᴰ·tail (List·Memᴰ·head refl)
+
+honest : Honest (begin fiveInputs buffers) calls
+unfolding over isIn placeOf joined repeats someOf everyOf isUpTo picked every some listed blocks total answer four numberFrom signed unsigned depthFrom numberBytes depthBytes inRange word wordAt words wordBytes bytesOf top counted below elements recordCount firstCell cellCount dimension headOf elementIn nextOf follow records chain allRecords bad1 bad2 meshLength bad3 bad4 wrongIn bad5 bad6 bad7 meshTests meshNumber incident steps bad10 stepTo walked stepsTo layer reach bad13 bad14 schemeOf depthIn oldsIn newIn round undivided roundTests roundNumber roundOut weightCount bad11 weight depthSum weightSum quotient least newDepth encode bad15 reading bad8 bad9 bad12 splitTests sizeTests others listOf listWords listTests listNumber listOut splitOf owns owned reaches holds held imports exports inside interior halo locals localOf globalOf cellsAt holdsLower touches another isCopied isShared isExposed isPrivate range importsFrom exportsTo messageTo writeTestsIn writtenIn takeTestsIn takenIn allTaken allWritten advanceTestsIn newAt advancedIn collectTestsIn collectedIn writeNumber message writeState writeOut takeNumber takeState advanceNumber advanceState collectNumber collectOut put more step run Fair Honest startNumberIn startStateIn begin importEnds exportEnds reachEnds reachWords exportWords listsBytes listsWords stateSize sizeNumber firstState startTests startNumber startState weights localReach localExports listsIn listsOf risesFrom listsTests dynamicTests isState bad20 ascii digits decimal spaced line lineUnlessEmpty dimensionText partText splitText meshPiece mapPiece partsPiece ownersPiece lastPiece stencilPiece listingNumber listText buffers calls field five fiveInputs listInput numberAt numbers triangles
+honest = (
+  tt,
+  (
+    tt,
+    (
+      tt,
+      (
+        λ e. last-but-one,
+        (
+          λ e. last-but-one,
+          (
+            tt,
+            (
+              tt,
+              (
+                tt,
+                (
+                  λ e. last,
+                  (
+                    λ e. last-but-one,
+                    (
+                      tt,
+                      (tt, (λ e. last, (tt, (tt, (tt, (tt, (λ e. last, (tt, (tt, (tt, tt)))))))))),
+                    ),
+                  ),
+                ),
+              ),
+            ),
+          ),
+        ),
+      ),
+    ),
+  ),
+)
+
+pub twoRounds : Run fiveInputs
+unfolding fiveInputs
+twoRounds = record { buffers = buffers; started = started; calls = calls; honest = honest }
