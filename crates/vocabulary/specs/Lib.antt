@@ -5,3 +5,4 @@ pub mod Bytes
 pub mod Loop
 pub mod ListLaws
 pub mod RangeLaws
+pub mod ByteLaws
