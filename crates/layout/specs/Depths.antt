@@ -43,3 +43,7 @@ depthBytes z = numberBytes (unsigned z)
 -- "from −1,200,000 to 1,200,000"
 unfoldable pub inRange : ℤ → Bool
 inRange z = leb (natAbs z) 1200000
+
+-- of the depths that stand one after another from the place `at` on, the k-th is in range
+unfoldable pub rangedAt : Bytes → ℕ → ℕ → Bool
+rangedAt b at k = inRange (depthFrom b (at + 4 * k))

@@ -1,5 +1,47 @@
+// The layout of words, depths and answers. Here stand the functions that take any bytes; those that
+// suppose their bytes to be there are in `inner`.
+pub mod inner;
+
+ghost use mathlib.Core.Path.{_≡_};
+ghost use Prim.Native.Nat.{ℕ, _<_};
+ghost use Rattle.vocabulary.specs.Bytes.{byteAt};
+ghost use Rattle.layout.specs.Words.{wordAt};
+ghost use Rattle.layout.specs.Depths.{inRange};
+
 // What every call answers: how many words, bytes or cells it gave, or the number of its refusal.
 pub enum Answer {
     Done(u32),
     Refused(u32),
+}
+
+// A byte as a number, with its bound.
+fn wide(x: u8) -> usize
+    ensures { λ r. ⌜ (r ≡ x) × (r < 256) ⌝ }
+{
+    x as usize
+}
+
+// The byte at `i`, and 0 past the end.
+pub fn byte_at(b: &[u8], i: usize) -> u8
+    ensures { λ r. ⌜ r ≡ byteAt (now (b .entry)) i ⌝ }
+{
+    if i < b.len() { b[i] } else { 0 }
+}
+
+// The word of index `i`; a byte past the end counts 0.
+pub fn word_at(b: &[u8], i: usize) -> usize
+    ensures { λ r. ⌜ (r ≡ wordAt (now (b .entry)) i) × (r < 65536) ⌝ }
+{
+    if i < b.len() {
+        wide(byte_at(b, 2 * i)) * 256 + wide(byte_at(b, 2 * i + 1))
+    } else {
+        0
+    }
+}
+
+// Whether a depth is one that a field may hold.
+pub fn in_range(z: i32) -> bool
+    ensures { λ r. ⌜ r ≡ inRange z ⌝ }
+{
+    -1200000 <= z && z <= 1200000
 }

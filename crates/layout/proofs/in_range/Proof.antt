@@ -1,0 +1,12 @@
+-- `layout::in_range` meets its contract. Assumes nothing.
+use Rattle.layout.proofs.Laws.{in-above, in-below}
+use borrow.Author.Needs.{needs}
+use Rattle.layout.proofs.in_range.Statement.{statement}
+use Rattle.layout.proofs.in_range.Tie as tie
+
+pub in-range-spec : {M : Type 1} → statement M
+in-range-spec =
+    tie.close
+    (tie.spec
+    (λ c. search in-above)
+    (λ c. search in-below))

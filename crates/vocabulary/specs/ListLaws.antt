@@ -1,0 +1,289 @@
+-- Laws of the words over lists: tests joined by "and" and "or", places, properties of every element, tests of the elements, and maps.
+-- Assumes nothing.
+use mathlib.Core.Path.{_≡_, refl, sym, ap, ap₂, _∙_, subst}
+use mathlib.Core.Logic.{_⊎_, inl, inr, ⊎-elim, _≢_}
+use mathlib.Core.Bool.{Bool, true, false, _&&_, _||_, not, cond, true≢false, false≢true}
+use mathlib.Core.List.{List, [], _∷_, _++_, map}
+use Prim.Native.Nat.{ℕ, zero, suc, _+_, _-_, _<_, _≤_, suc-le-suc}
+use native.Mathlib.Nat.{not-suc-le-zero, le-of-suc-le-suc, zero-lt-suc}
+use native.Mathlib.Omega.{arith}
+use lib.ListN.{length, getD, length-append, List·getD-append}
+use lib.Seq.{getD-append-add}
+use lib.Dec.{eqb}
+use borrow.Author.Tests.{eqb-true, eqb-false, eq-eqb, ne-eqb}
+use Rattle.vocabulary.specs.Lists.{isIn, placeOf, repeats, someOf, everyOf, All}
+
+-- ---- tests
+
+pub and-true : (a b : Bool) → a && b ≡ true → (a ≡ true) × (b ≡ true)
+and-true true b e = (refl, e)
+and-true false b e = absurd (false≢true e)
+
+pub and-intro : (a b : Bool) → a ≡ true → b ≡ true → a && b ≡ true
+and-intro a b e f = ap₂ _&&_ e f
+
+-- one of two fails: their "and" does
+pub and-left : (a b : Bool) → a ≡ false → a && b ≡ false
+and-left a b e = ap (λ x. x && b) e
+
+pub and-right : (a b : Bool) → b ≡ false → a && b ≡ false
+and-right true b e = e
+and-right false b e = refl
+
+pub and-false : (a b : Bool) → a && b ≡ false → (a ≡ false) ⊎ (b ≡ false)
+and-false true b e = inr e
+and-false false b e = inl refl
+
+-- one of two passes: their "or" does
+pub or-left : (a b : Bool) → a ≡ true → a || b ≡ true
+or-left a b e = ap (λ x. x || b) e
+
+pub or-right : (a b : Bool) → b ≡ true → a || b ≡ true
+or-right true b e = refl
+or-right false b e = e
+
+pub or-true : (a b : Bool) → a || b ≡ true → (a ≡ true) ⊎ (b ≡ true)
+or-true true b e = inl refl
+or-true false b e = inr e
+
+pub or-none : (a b : Bool) → a ≡ false → b ≡ false → a || b ≡ false
+or-none a b e f = ap₂ _||_ e f
+
+pub or-false : (a b : Bool) → a || b ≡ false → (a ≡ false) × (b ≡ false)
+or-false true b e = absurd (true≢false e)
+or-false false b e = (refl, e)
+
+-- no test both passes and fails
+pub not-both : (b : Bool) → b ≡ true → b ≡ false → ⊥
+not-both b e f = true≢false (sym e ∙ f)
+
+-- two tests that pass in the same cases are one
+pub same-test : (a b : Bool) → (a ≡ true → b ≡ true) → (b ≡ true → a ≡ true) → a ≡ b
+same-test true b f g = sym (f refl)
+same-test false true f g = g refl
+same-test false false f g = refl
+
+-- a property of both branches holds of the choice
+pub cond-has : {A : Type 0} (P : A → Type 0) (b : Bool) (x y : A) → (b ≡ true → P x) → (b ≡ false → P y) → P (cond b x y)
+cond-has P true x y f g = f refl
+cond-has P false x y f g = g refl
+
+-- ---- every element has the property
+
+module _ {A : Type 0} where
+  pub All-map : {P Q : A → Type 0} (xs : List A) → ((x : A) → P x → Q x) → All P xs → All Q xs
+  All-map [] f t = tt
+  All-map (x ∷ xs) f t = (f x (t .0), All-map xs f (t .1))
+
+  pub All-append : (P : A → Type 0) (xs ys : List A) → All P xs → All P ys → All P (xs ++ ys)
+  All-append P [] ys a b = b
+  All-append P (x ∷ xs) ys a b = (a .0, All-append P xs ys (a .1) b)
+
+  pub All-split : (P : A → Type 0) (xs ys : List A) → All P (xs ++ ys) → All P xs × All P ys
+  All-split P [] ys a = (tt, a)
+  All-split P (x ∷ xs) ys a = let r = All-split P xs ys (a .1) in ((a .0, r .0), r .1)
+
+  pub All-getD : (P : A → Type 0) (xs : List A) (l : ℕ) (d : A) → All P xs → l < length xs → P (getD xs l d)
+  All-getD P [] l d a h = absurd (not-suc-le-zero h)
+  All-getD P (x ∷ xs) zero d a h = a .0
+  All-getD P (x ∷ xs) (suc l) d a h = All-getD P xs l d (a .1) (le-of-suc-le-suc h)
+
+  pub All-intro : (P : A → Type 0) (xs : List A) (d : A) → ((l : ℕ) → l < length xs → P (getD xs l d)) → All P xs
+  All-intro P [] d f = tt
+  All-intro P (x ∷ xs) d f = (f zero (zero-lt-suc (length xs)), All-intro P xs d (λ l h. f (suc l) (suc-le-suc h)))
+
+-- ---- maps
+
+module _ {A B : Type 0} where
+  pub map-cong : (f g : A → B) (xs : List A) → All (λ x. f x ≡ g x) xs → map f xs ≡ map g xs
+  map-cong f g [] t = refl
+  map-cong f g (x ∷ xs) t = ap₂ _∷_ (t .0) (map-cong f g xs (t .1))
+
+  pub map-map : {C : Type 0} (f : B → C) (g : A → B) (xs : List A) → map f (map g xs) ≡ map (λ x. f (g x)) xs
+  map-map f g [] = refl
+  map-map f g (x ∷ xs) = ap (λ r. f (g x) ∷ r) (map-map f g xs)
+
+  pub map-append : (f : A → B) (xs ys : List A) → map f (xs ++ ys) ≡ map f xs ++ map f ys
+  map-append f [] ys = refl
+  map-append f (x ∷ xs) ys = ap (λ r. f x ∷ r) (map-append f xs ys)
+
+  -- whatever is read past the end
+  pub getD-map-any : (f : A → B) (xs : List A) (n : ℕ) (d : A) (e : B) → n < length xs → getD (map f xs) n e ≡ f (getD xs n d)
+  getD-map-any f [] n d e h = absurd (not-suc-le-zero h)
+  getD-map-any f (x ∷ xs) zero d e h = refl
+  getD-map-any f (x ∷ xs) (suc n) d e h = getD-map-any f xs n d e (le-of-suc-le-suc h)
+
+-- ---- a number stands in a list
+
+pub record At (x : ℕ) (xs : List ℕ) : Type 0 where
+  pub place : ℕ
+  pub place-lt : place < length xs
+  pub place-is : getD xs place 0 ≡ x
+
+pub at-head : (x : ℕ) (xs : List ℕ) → At x (x ∷ xs)
+at-head x xs = record { place = zero; place-lt = zero-lt-suc (length xs); place-is = refl }
+
+pub at-left : (x : ℕ) (xs ys : List ℕ) → At x xs → At x (xs ++ ys)
+at-left x xs ys a = record {
+  place = a .place;
+  place-lt = simp length-append (omega (arith, a .place-lt));
+  place-is = List·getD-append xs ys 0 (a .place) (a .place-lt) ∙ a .place-is;
+}
+
+pub at-right : (x : ℕ) (xs ys : List ℕ) → At x ys → At x (xs ++ ys)
+at-right x xs ys a = record {
+  place = length xs + a .place;
+  place-lt = simp length-append (omega (arith, a .place-lt));
+  place-is = getD-append-add xs ys (a .place) 0 ∙ a .place-is;
+}
+
+pub at-tail : (x y : ℕ) (ys : List ℕ) → (x ≡ y → ⊥) → At x (y ∷ ys) → At x ys
+at-tail x y ys n a = go (a .place) (a .place-lt) (a .place-is)
+  where
+    go : (l : ℕ) → l < length (y ∷ ys) → getD (y ∷ ys) l 0 ≡ x → At x ys
+    go zero h e = absurd (n (sym e))
+    go (suc l) h e = record { place = l; place-lt = le-of-suc-le-suc h; place-is = e }
+
+pub at-cases : (x : ℕ) (xs ys : List ℕ) → At x (xs ++ ys) → At x xs ⊎ At x ys
+at-cases x [] ys a = inr a
+at-cases x (y ∷ xs) ys a = go (eqb x y) refl (λ r. at-cases x xs ys r)
+  where
+    go : (b : Bool) → eqb x y ≡ b → (At x (xs ++ ys) → At x xs ⊎ At x ys) → At x (y ∷ xs) ⊎ At x ys
+    go true e ih = inl (subst (λ z. At x (z ∷ xs)) (eqb-true x y e) (at-head x xs))
+    go false e ih = ⊎-elim (λ r. inl (at-right x (y ∷ []) xs r)) (λ r. inr r) (ih (at-tail x y (xs ++ ys) (eqb-false x y e) a))
+
+-- what every element has, one that stands there has
+pub at-all : (P : ℕ → Type 0) (x : ℕ) (xs : List ℕ) → All P xs → At x xs → P x
+at-all P x xs a p = subst P (p .place-is) (All-getD P xs (p .place) 0 a (p .place-lt))
+
+-- ---- isIn
+
+pub isIn-at : (x : ℕ) (xs : List ℕ) → isIn x xs ≡ true → At x xs
+unfolding isIn
+isIn-at x [] e = absurd (false≢true e)
+isIn-at x (y ∷ ys) e =
+    ⊎-elim
+    (λ q. subst (λ z. At x (z ∷ ys)) (eqb-true x y q) (at-head x ys))
+    (λ q. at-right x (y ∷ []) ys (isIn-at x ys q))
+    (or-true (eqb x y) (isIn x ys) e)
+
+pub at-isIn : (x : ℕ) (xs : List ℕ) → At x xs → isIn x xs ≡ true
+unfolding isIn
+at-isIn x [] a = absurd (not-suc-le-zero (a .place-lt))
+at-isIn x (y ∷ ys) a = go (eqb x y) refl (λ n. at-isIn x ys (at-tail x y ys n a))
+  where
+    go : (b : Bool) → eqb x y ≡ b → ((x ≡ y → ⊥) → isIn x ys ≡ true) → b || isIn x ys ≡ true
+    go true e ih = refl
+    go false e ih = ih (eqb-false x y e)
+
+pub isIn-not : (x : ℕ) (xs : List ℕ) → isIn x xs ≡ false → At x xs → ⊥
+isIn-not x xs e a = not-both (isIn x xs) (at-isIn x xs a) e
+
+pub not-isIn : (x : ℕ) (xs : List ℕ) → (At x xs → ⊥) → isIn x xs ≡ false
+not-isIn x xs n = go (isIn x xs) refl
+  where
+    go : (b : Bool) → isIn x xs ≡ b → isIn x xs ≡ false
+    go true e = absurd (n (isIn-at x xs e))
+    go false e = e
+
+-- ---- the first place
+
+pub placeOf-is : (x : ℕ) (xs : List ℕ) → At x xs → (placeOf x xs < length xs) × (getD xs (placeOf x xs) 0 ≡ x)
+unfolding placeOf
+placeOf-is x [] a = absurd (not-suc-le-zero (a .place-lt))
+placeOf-is x (y ∷ ys) a = go (eqb x y) refl (λ n. placeOf-is x ys (at-tail x y ys n a))
+  where
+    go : (b : Bool) → eqb x y ≡ b → ((x ≡ y → ⊥) → (placeOf x ys < length ys) × (getD ys (placeOf x ys) 0 ≡ x))
+        → (cond b zero (suc (placeOf x ys)) < length (y ∷ ys)) × (getD (y ∷ ys) (cond b zero (suc (placeOf x ys))) 0 ≡ x)
+    go true e ih = (zero-lt-suc (length ys), sym (eqb-true x y e))
+    go false e ih = let r = ih (eqb-false x y e) in (suc-le-suc (r .0), r .1)
+
+pub placeOf-left : (x : ℕ) (xs ys : List ℕ) → At x xs → placeOf x (xs ++ ys) ≡ placeOf x xs
+unfolding placeOf
+placeOf-left x [] ys a = absurd (not-suc-le-zero (a .place-lt))
+placeOf-left x (y ∷ xs) ys a = go (eqb x y) refl (λ n. placeOf-left x xs ys (at-tail x y xs n a))
+  where
+    go : (b : Bool) → eqb x y ≡ b → ((x ≡ y → ⊥) → placeOf x (xs ++ ys) ≡ placeOf x xs)
+        → cond b zero (suc (placeOf x (xs ++ ys))) ≡ cond b zero (suc (placeOf x xs))
+    go true e ih = refl
+    go false e ih = ap suc (ih (eqb-false x y e))
+
+-- ---- tests of the elements
+
+module _ {A : Type 0} (p : A → Bool) where
+  pub everyOf-true : (xs : List A) → everyOf xs p ≡ true → All (λ x. p x ≡ true) xs
+  unfolding everyOf
+  everyOf-true [] e = tt
+  everyOf-true (x ∷ xs) e = let r = and-true (p x) (everyOf xs p) e in (r .0, everyOf-true xs (r .1))
+
+  pub everyOf-intro : (xs : List A) → All (λ x. p x ≡ true) xs → everyOf xs p ≡ true
+  unfolding everyOf
+  everyOf-intro [] a = refl
+  everyOf-intro (x ∷ xs) a = and-intro (p x) (everyOf xs p) (a .0) (everyOf-intro xs (a .1))
+
+  pub everyOf-at : (xs : List A) (d : A) (l : ℕ) → everyOf xs p ≡ true → l < length xs → p (getD xs l d) ≡ true
+  everyOf-at xs d l e h = All-getD (λ x. p x ≡ true) xs l d (everyOf-true xs e) h
+
+  pub everyOf-fails : (xs : List A) (d : A) (l : ℕ) → l < length xs → p (getD xs l d) ≡ false → everyOf xs p ≡ false
+  everyOf-fails xs d l h f = go (everyOf xs p) refl
+    where
+      go : (b : Bool) → everyOf xs p ≡ b → everyOf xs p ≡ false
+      go true e = absurd (not-both (p (getD xs l d)) (everyOf-at xs d l e h) f)
+      go false e = e
+
+  pub someOf-has : (xs : List A) (d : A) (l : ℕ) → l < length xs → p (getD xs l d) ≡ true → someOf xs p ≡ true
+  unfolding someOf
+  someOf-has [] d l h e = absurd (not-suc-le-zero h)
+  someOf-has (x ∷ xs) d zero h e = or-left (p x) (someOf xs p) e
+  someOf-has (x ∷ xs) d (suc l) h e = or-right (p x) (someOf xs p) (someOf-has xs d l (le-of-suc-le-suc h) e)
+
+  pub someOf-none : (xs : List A) → All (λ x. p x ≡ false) xs → someOf xs p ≡ false
+  unfolding someOf
+  someOf-none [] a = refl
+  someOf-none (x ∷ xs) a = or-none (p x) (someOf xs p) (a .0) (someOf-none xs (a .1))
+
+  pub someOf-false : (xs : List A) → someOf xs p ≡ false → All (λ x. p x ≡ false) xs
+  unfolding someOf
+  someOf-false [] e = tt
+  someOf-false (x ∷ xs) e = let r = or-false (p x) (someOf xs p) e in (r .0, someOf-false xs (r .1))
+
+  pub someOf-witness : (xs : List A) (d : A) → someOf xs p ≡ true → (l : ℕ) × (l < length xs) × (p (getD xs l d) ≡ true)
+  unfolding someOf
+  someOf-witness [] d e = absurd (false≢true e)
+  someOf-witness (x ∷ xs) d e =
+      ⊎-elim
+      (λ q. (zero, zero-lt-suc (length xs), q))
+      (λ q. let r = someOf-witness xs d q in (suc (r .0), suc-le-suc (r .1), r .2))
+      (or-true (p x) (someOf xs p) e)
+
+-- ---- repeats
+
+-- where nothing repeats, two places with equal elements are one place
+pub repeats-once : (xs : List ℕ) (i j : ℕ) → repeats xs ≡ false → i < length xs → j < length xs → getD xs i 0 ≡ getD xs j 0 → i ≡ j
+unfolding repeats
+repeats-once [] i j e h k q = absurd (not-suc-le-zero h)
+repeats-once (x ∷ xs) zero zero e h k q = refl
+repeats-once (x ∷ xs) zero (suc j) e h k q =
+    absurd (isIn-not x xs (or-false (isIn x xs) (repeats xs) e .0) (record { place = j; place-lt = le-of-suc-le-suc k; place-is = sym q }))
+repeats-once (x ∷ xs) (suc i) zero e h k q =
+    absurd (isIn-not x xs (or-false (isIn x xs) (repeats xs) e .0) (record { place = i; place-lt = le-of-suc-le-suc h; place-is = q }))
+repeats-once (x ∷ xs) (suc i) (suc j) e h k q =
+    ap suc (repeats-once xs i j (or-false (isIn x xs) (repeats xs) e .1) (le-of-suc-le-suc h) (le-of-suc-le-suc k) q)
+
+-- where something repeats, two places have it
+pub repeats-twice : (xs : List ℕ) → repeats xs ≡ true → (i : ℕ) × (j : ℕ) × (i < j) × (j < length xs) × (getD xs i 0 ≡ getD xs j 0)
+unfolding repeats
+repeats-twice [] e = absurd (false≢true e)
+repeats-twice (x ∷ xs) e =
+    ⊎-elim
+    (λ q. let a = isIn-at x xs q in (zero, suc (a .place), zero-lt-suc (a .place), suc-le-suc (a .place-lt), sym (a .place-is)))
+    (λ q. let r = repeats-twice xs q in (suc (r .0), suc (r .1), suc-le-suc (r .2), suc-le-suc (r .3), r .4))
+    (or-true (isIn x xs) (repeats xs) e)
+
+-- all places different: nothing repeats
+pub repeats-none : (xs : List ℕ) → ((i j : ℕ) → i < j → j < length xs → getD xs i 0 ≡ getD xs j 0 → ⊥) → repeats xs ≡ false
+repeats-none xs f = go (repeats xs) refl
+  where
+    go : (b : Bool) → repeats xs ≡ b → repeats xs ≡ false
+    go true e = let r = repeats-twice xs e in absurd (f (r .0) (r .1) (r .2) (r .3) (r .4))
+    go false e = e

@@ -1,0 +1,365 @@
+-- Laws of the words over the numbers a, a + 1, .., of which there are n. Assumes nothing.
+use mathlib.Core.Path.{_≡_, refl, sym, ap, ap₂, _∙_, subst}
+use mathlib.Core.Logic.{_⊎_, inl, inr, ⊎-elim, _≢_}
+use mathlib.Core.Bool.{Bool, true, false, _&&_, _||_, cond, false≢true}
+use mathlib.Core.List.{List, [], _∷_, _++_, map, append-nil}
+use Prim.Native.Nat.{ℕ, zero, suc, _+_, _-_, _*_, _<_, _≤_}
+use native.Mathlib.Nat.{not-suc-le-zero, zero-add}
+use native.Mathlib.Numerals.{add-one}
+use native.Mathlib.Omega.{arith}
+use lib.ListN.{length, getD, length-append, List·getD-append}
+use lib.Seq.{getD-append-add, getD-append-seam, ext-getD}
+use lib.Dec.{eqb, ltb}
+use borrow.Author.Tests.{eqb-true, eqb-false, ltb-true, ltb-false}
+use Rattle.vocabulary.specs.Lists.{repeats, All}
+use Rattle.vocabulary.specs.ListLaws.{and-true, and-intro, and-false, or-left, or-right, or-true, or-none, not-both, All-append, All-getD, At, at-left, at-right, repeats-none, map-append}
+use Rattle.vocabulary.specs.Ranges.{picked, every, some, listed, blocks, total}
+
+-- a number below suc n is the last or comes before it
+pub last-or : (i n : ℕ) → i < suc n → (i < n) ⊎ (i ≡ n)
+last-or i n h = go (eqb i n) refl
+  where
+    go : (b : Bool) → eqb i n ≡ b → (i < n) ⊎ (i ≡ n)
+    go true e = inr (eqb-true i n e)
+    go false e = let ne : i ≢ n = eqb-false i n e in inl (omega arith)
+
+-- ---- every
+
+module _ (a : ℕ) (p : ℕ → Bool) where
+  pub every-none : every a 0 p ≡ true
+  unfolding every
+  every-none = refl
+
+  pub every-more : (n : ℕ) → every a n p ≡ true → p (a + n) ≡ true → every a (n + 1) p ≡ true
+  unfolding every
+  every-more n e f = rw add-one (and-intro (every a n p) (p (a + n)) e f)
+
+  pub every-at : (n i : ℕ) → every a n p ≡ true → i < n → p (a + i) ≡ true
+  unfolding every
+  every-at zero i e h = absurd (not-suc-le-zero h)
+  every-at (suc n) i e h =
+      let r = and-true (every a n p) (p (a + n)) e in
+      ⊎-elim (λ k. every-at n i (r .0) k) (λ q. ap (λ x. p (a + x)) q ∙ r .1) (last-or i n h)
+
+  pub every-in : (n x : ℕ) → every a n p ≡ true → a ≤ x → x < a + n → p x ≡ true
+  every-in n x e h k = let q : a + (x - a) ≡ x = omega arith in subst (λ y. p y ≡ true) q (every-at n (x - a) e (omega arith))
+
+  pub every-intro : (n : ℕ) → ((i : ℕ) → i < n → p (a + i) ≡ true) → every a n p ≡ true
+  unfolding every
+  every-intro zero f = refl
+  every-intro (suc n) f = and-intro (every a n p) (p (a + n)) (every-intro n (λ i h. f i (omega arith))) (f n (omega arith))
+
+  pub every-fails : (n i : ℕ) → i < n → p (a + i) ≡ false → every a n p ≡ false
+  every-fails n i h e = go (every a n p) refl
+    where
+      go : (b : Bool) → every a n p ≡ b → every a n p ≡ false
+      go true q = absurd (not-both (p (a + i)) (every-at n i q h) e)
+      go false q = q
+
+  pub every-witness : (n : ℕ) → every a n p ≡ false → (i : ℕ) × (i < n) × (p (a + i) ≡ false)
+  unfolding every
+  every-witness zero e = absurd (false≢true (sym e))
+  every-witness (suc n) e =
+      ⊎-elim
+      (λ q. let r = every-witness n q in (r .0, omega (arith, r .1), r .2))
+      (λ q. (n, omega arith, q))
+      (and-false (every a n p) (p (a + n)) e)
+
+-- ---- some
+
+module _ (a : ℕ) (p : ℕ → Bool) where
+  pub some-has : (n i : ℕ) → i < n → p (a + i) ≡ true → some a n p ≡ true
+  unfolding some
+  some-has zero i h e = absurd (not-suc-le-zero h)
+  some-has (suc n) i h e =
+      ⊎-elim
+      (λ k. or-left (some a n p) (p (a + n)) (some-has n i k e))
+      (λ q. or-right (some a n p) (p (a + n)) (ap (λ x. p (a + x)) (sym q) ∙ e))
+      (last-or i n h)
+
+  pub some-in : (n x : ℕ) → a ≤ x → x < a + n → p x ≡ true → some a n p ≡ true
+  some-in n x h k e = let q : x ≡ a + (x - a) = omega arith in some-has n (x - a) (omega arith) (subst (λ y. p y ≡ true) q e)
+
+  pub some-none : (n : ℕ) → ((i : ℕ) → i < n → p (a + i) ≡ false) → some a n p ≡ false
+  unfolding some
+  some-none zero f = refl
+  some-none (suc n) f = or-none (some a n p) (p (a + n)) (some-none n (λ i h. f i (omega arith))) (f n (omega arith))
+
+  pub some-more : (n : ℕ) → some a n p ≡ false → p (a + n) ≡ false → some a (n + 1) p ≡ false
+  unfolding some
+  some-more n e f = rw add-one (or-none (some a n p) (p (a + n)) e f)
+
+  pub some-witness : (n : ℕ) → some a n p ≡ true → (i : ℕ) × (i < n) × (p (a + i) ≡ true)
+  unfolding some
+  some-witness zero e = absurd (false≢true e)
+  some-witness (suc n) e =
+      ⊎-elim
+      (λ q. let r = some-witness n q in (r .0, omega (arith, r .1), r .2))
+      (λ q. (n, omega arith, q))
+      (or-true (some a n p) (p (a + n)) e)
+
+  -- none passes
+  pub some-at : (n i : ℕ) → some a n p ≡ false → i < n → p (a + i) ≡ false
+  some-at n i e h = go (p (a + i)) refl
+    where
+      go : (b : Bool) → p (a + i) ≡ b → p (a + i) ≡ false
+      go true q = absurd (not-both (some a n p) (some-has n i h q) e)
+      go false q = q
+
+-- ---- picked
+
+-- rising: each number is below every later one
+abbrev pub Rises : List ℕ → Type 0
+Rises xs = (i j : ℕ) → i < j → j < length xs → getD xs i 0 < getD xs j 0
+
+pub rises-snoc : (xs : List ℕ) (x : ℕ) → Rises xs → All (λ y. y < x) xs → Rises (xs ++ (x ∷ []))
+rises-snoc xs x r a i j h k = ⊎-elim early last (last-or j (length xs) (omega (arith, length-append xs (x ∷ []))))
+  where
+    early : j < length xs → getD (xs ++ (x ∷ [])) i 0 < getD (xs ++ (x ∷ [])) j 0
+    early l = omega (arith, List·getD-append xs (x ∷ []) 0 i (omega arith), List·getD-append xs (x ∷ []) 0 j l, r i j h l)
+
+    last : j ≡ length xs → getD (xs ++ (x ∷ [])) i 0 < getD (xs ++ (x ∷ [])) j 0
+    last q =
+        let l : i < length xs = omega arith in
+        let e : getD (xs ++ (x ∷ [])) j 0 ≡ x = ap (λ n. getD (xs ++ (x ∷ [])) n 0) q ∙ getD-append-seam xs x [] 0 in
+        omega (arith, List·getD-append xs (x ∷ []) 0 i l, All-getD (λ y. y < x) xs i 0 a l)
+
+-- in a rising list nothing repeats
+pub rises-once : (xs : List ℕ) → Rises xs → repeats xs ≡ false
+rises-once xs r = repeats-none xs (λ i j h k e. let z : ⊥ = omega (arith, r i j h k) in z)
+
+module _ (a : ℕ) (p : ℕ → Bool) where
+  pub picked-all : (P : ℕ → Type 0) (n : ℕ) → ((i : ℕ) → i < n → p (a + i) ≡ true → P (a + i)) → All P (picked a n p)
+  unfolding picked
+  picked-all P zero f = tt
+  picked-all P (suc n) f = All-append P (picked a n p) _ (picked-all P n (λ i h e. f i (omega arith) e)) (go (p (a + n)) refl)
+    where
+      go : (b : Bool) → p (a + n) ≡ b → All P (cond b ((a + n) ∷ []) [])
+      go true e = (f n (omega arith) e, tt)
+      go false e = tt
+
+  -- a number of the range that passes stands there
+  pub picked-at : (n i : ℕ) → i < n → p (a + i) ≡ true → At (a + i) (picked a n p)
+  unfolding picked
+  picked-at zero i h e = absurd (not-suc-le-zero h)
+  picked-at (suc n) i h e = ⊎-elim (λ k. at-left (a + i) (picked a n p) _ (picked-at n i k e)) last (last-or i n h)
+    where
+      last : i ≡ n → At (a + i) (picked a n p ++ cond (p (a + n)) ((a + n) ∷ []) [])
+      last q =
+          at-right (a + i) (picked a n p) (cond (p (a + n)) ((a + n) ∷ []) [])
+          (subst (λ b. At (a + i) (cond b ((a + n) ∷ []) [])) (sym (ap (λ x. p (a + x)) (sym q) ∙ e))
+          (record { place = 0; place-lt = omega arith; place-is = ap (λ x. a + x) (sym q) }))
+
+  pub picked-in : (n x : ℕ) → a ≤ x → x < a + n → p x ≡ true → At x (picked a n p)
+  picked-in n x h k e =
+      let q : a + (x - a) ≡ x = omega arith in
+      subst (λ y. At y (picked a n p)) q (picked-at n (x - a) (omega arith) (subst (λ y. p y ≡ true) (sym q) e))
+
+  -- what stands there is in the range and passes
+  pub picked-passes : (n x : ℕ) → At x (picked a n p) → (a ≤ x) × (x < a + n) × (p x ≡ true)
+  picked-passes n x t =
+      subst (λ y. (a ≤ y) × (y < a + n) × (p y ≡ true)) (t .place-is)
+      (All-getD (λ y. (a ≤ y) × (y < a + n) × (p y ≡ true)) (picked a n p) (t .place) 0
+      (picked-all (λ y. (a ≤ y) × (y < a + n) × (p y ≡ true)) n (λ i h e. (omega arith, omega arith, e))) (t .place-lt))
+
+  pub picked-none : (n : ℕ) → ((i : ℕ) → i < n → p (a + i) ≡ false) → picked a n p ≡ []
+  unfolding picked
+  picked-none zero f = refl
+  picked-none (suc n) f =
+      ap₂ (λ xs b. xs ++ cond b ((a + n) ∷ []) []) (picked-none n (λ i h. f i (omega arith))) (f n (omega arith))
+
+  pub picked-length-le : (n : ℕ) → length (picked a n p) ≤ n
+  unfolding picked
+  picked-length-le zero = omega arith
+  picked-length-le (suc n) =
+      omega (arith, length-append (picked a n p) (cond (p (a + n)) ((a + n) ∷ []) []), picked-length-le n, go (p (a + n)))
+    where
+      go : (b : Bool) → length (cond b ((a + n) ∷ []) []) ≤ 1
+      go true = omega arith
+      go false = omega arith
+
+  pub picked-rises : (n : ℕ) → Rises (picked a n p)
+  unfolding picked
+  picked-rises zero = λ i j h k. absurd (not-suc-le-zero k)
+  picked-rises (suc n) = go (p (a + n)) (picked-rises n)
+    where
+      go : (b : Bool) → Rises (picked a n p) → Rises (picked a n p ++ cond b ((a + n) ∷ []) [])
+      go true r = rises-snoc (picked a n p) (a + n) r (picked-all (λ y. y < a + n) n (λ i h e. omega arith))
+      go false r = subst Rises (sym (append-nil (picked a n p))) r
+
+-- ---- agreeing tests and functions
+
+module _ (a : ℕ) (p q : ℕ → Bool) where
+  pub every-cong : (n : ℕ) → ((i : ℕ) → i < n → p (a + i) ≡ q (a + i)) → every a n p ≡ every a n q
+  unfolding every
+  every-cong zero f = refl
+  every-cong (suc n) f = ap₂ _&&_ (every-cong n (λ i h. f i (omega arith))) (f n (omega arith))
+
+  pub some-cong : (n : ℕ) → ((i : ℕ) → i < n → p (a + i) ≡ q (a + i)) → some a n p ≡ some a n q
+  unfolding some
+  some-cong zero f = refl
+  some-cong (suc n) f = ap₂ _||_ (some-cong n (λ i h. f i (omega arith))) (f n (omega arith))
+
+  pub picked-cong : (n : ℕ) → ((i : ℕ) → i < n → p (a + i) ≡ q (a + i)) → picked a n p ≡ picked a n q
+  unfolding picked
+  picked-cong zero f = refl
+  picked-cong (suc n) f = ap₂ (λ xs b. xs ++ cond b ((a + n) ∷ []) []) (picked-cong n (λ i h. f i (omega arith))) (f n (omega arith))
+
+pub listed-cong : {A : Type 0} (a : ℕ) (f g : ℕ → A) (n : ℕ) → ((i : ℕ) → i < n → f (a + i) ≡ g (a + i)) → listed a n f ≡ listed a n g
+unfolding listed
+listed-cong a f g zero h = refl
+listed-cong a f g (suc n) h = ap₂ (λ xs x. xs ++ (x ∷ [])) (listed-cong a f g n (λ i k. h i (omega arith))) (h n (omega arith))
+
+pub blocks-cong : {A : Type 0} (a : ℕ) (f g : ℕ → List A) (n : ℕ) → ((i : ℕ) → i < n → f (a + i) ≡ g (a + i)) → blocks a n f ≡ blocks a n g
+unfolding blocks
+blocks-cong a f g zero h = refl
+blocks-cong a f g (suc n) h = ap₂ (λ xs ys. xs ++ ys) (blocks-cong a f g n (λ i k. h i (omega arith))) (h n (omega arith))
+
+pub total-cong : (a : ℕ) (f g : ℕ → ℕ) (n : ℕ) → ((i : ℕ) → i < n → f (a + i) ≡ g (a + i)) → total a n f ≡ total a n g
+unfolding total
+total-cong a f g zero h = refl
+total-cong a f g (suc n) h = ap₂ _+_ (total-cong a f g n (λ i k. h i (omega arith))) (h n (omega arith))
+
+-- ---- listed
+
+module _ {A : Type 0} (a : ℕ) (g : ℕ → A) where
+  pub listed-length : (n : ℕ) → length (listed a n g) ≡ n
+  unfolding listed
+  listed-length zero = refl
+  listed-length (suc n) = omega (arith, length-append (listed a n g) (g (a + n) ∷ []), listed-length n)
+
+  pub listed-at : (n i : ℕ) (d : A) → i < n → getD (listed a n g) i d ≡ g (a + i)
+  unfolding listed
+  listed-at zero i d h = absurd (not-suc-le-zero h)
+  listed-at (suc n) i d h =
+      ⊎-elim
+      (λ k. List·getD-append (listed a n g) (g (a + n) ∷ []) d i (omega (arith, listed-length n)) ∙ listed-at n i d k)
+      last
+      (last-or i n h)
+    where
+      last : i ≡ n → getD (listed a n g ++ (g (a + n) ∷ [])) i d ≡ g (a + i)
+      last q =
+          ap (λ x. getD (listed a n g ++ (g (a + n) ∷ [])) x d) (q ∙ sym (listed-length n))
+          ∙ getD-append-seam (listed a n g) (g (a + n)) [] d
+          ∙ ap (λ x. g (a + x)) (sym q)
+
+  -- a function that gives a list's elements gives the list back
+  pub listed-back : (xs : List A) (d : A) → ((i : ℕ) → i < length xs → g (a + i) ≡ getD xs i d) → listed a (length xs) g ≡ xs
+  listed-back xs d f =
+      ext-getD d (listed a (length xs) g) xs (listed-length (length xs))
+      (λ i k. let h : i < length xs = omega (arith, listed-length (length xs)) in listed-at (length xs) i d h ∙ f i h)
+
+pub listed-map : {A B : Type 0} (f : A → B) (a : ℕ) (g : ℕ → A) (n : ℕ) → map f (listed a n g) ≡ listed a n (λ x. f (g x))
+unfolding listed
+listed-map f a g zero = refl
+listed-map f a g (suc n) = map-append f (listed a n g) (g (a + n) ∷ []) ∙ ap (λ xs. xs ++ (f (g (a + n)) ∷ [])) (listed-map f a g n)
+
+-- ---- blocks
+
+module _ {A : Type 0} (a : ℕ) (g : ℕ → List A) where
+  -- a place in all the blocks is a place in one of them
+  pub blocks-cases : (n r : ℕ) → r < length (blocks a n g) → (j : ℕ) × (j < n) × ((t : ℕ) × (t < length (g (a + j))) × (r ≡ length (blocks a j g) + t))
+  unfolding blocks
+  blocks-cases zero r h = absurd (not-suc-le-zero h)
+  blocks-cases (suc n) r h = go (ltb r (length (blocks a n g))) refl (λ k. blocks-cases n r k)
+    where
+      go : (b : Bool) → ltb r (length (blocks a n g)) ≡ b
+          → (r < length (blocks a n g) → (j : ℕ) × (j < n) × ((t : ℕ) × (t < length (g (a + j))) × (r ≡ length (blocks a j g) + t)))
+          → (j : ℕ) × (j < suc n) × ((t : ℕ) × (t < length (g (a + j))) × (r ≡ length (blocks a j g) + t))
+      go true e ih = let v = ih (ltb-true _ _ e) in (v .0, omega (arith, v .1), v .2)
+      go false e ih =
+          let k : length (blocks a n g) ≤ r = ltb-false _ _ e in
+          (n, omega arith, (r - length (blocks a n g), omega (arith, h, length-append (blocks a n g) (g (a + n))), omega arith))
+
+  pub blocks-fit : (n j : ℕ) → j < n → length (blocks a j g) + length (g (a + j)) ≤ length (blocks a n g)
+  unfolding blocks
+  blocks-fit zero j h = absurd (not-suc-le-zero h)
+  blocks-fit (suc n) j h =
+      ⊎-elim
+      (λ k. omega (arith, length-append (blocks a n g) (g (a + n)), blocks-fit n j k))
+      (λ q. subst (λ x. length (blocks a x g) + length (g (a + x)) ≤ length (blocks a n g ++ g (a + n))) (sym q) (omega (arith, length-append (blocks a n g) (g (a + n)))))
+      (last-or j n h)
+
+  pub blocks-at : (n j t : ℕ) (d : A) → j < n → t < length (g (a + j)) → getD (blocks a n g) (length (blocks a j g) + t) d ≡ getD (g (a + j)) t d
+  unfolding blocks
+  blocks-at zero j t d h k = absurd (not-suc-le-zero h)
+  blocks-at (suc n) j t d h k =
+      ⊎-elim
+      (λ l. List·getD-append (blocks a n g) (g (a + n)) d _ (omega (arith, blocks-fit n j l)) ∙ blocks-at n j t d l k)
+      (λ q. subst (λ x. getD (blocks a n g ++ g (a + n)) (length (blocks a x g) + t) d ≡ getD (g (a + x)) t d) (sym q) (getD-append-add (blocks a n g) (g (a + n)) t d))
+      (last-or j n h)
+
+  pub blocks-all : (P : A → Type 0) (n : ℕ) → ((j : ℕ) → j < n → All P (g (a + j))) → All P (blocks a n g)
+  unfolding blocks
+  blocks-all P zero f = tt
+  blocks-all P (suc n) f = All-append P (blocks a n g) (g (a + n)) (blocks-all P n (λ j h. f j (omega arith))) (f n (omega arith))
+
+  pub blocks-length : (n : ℕ) → length (blocks a n g) ≡ total a n (λ x. length (g x))
+  unfolding blocks total
+  blocks-length zero = refl
+  blocks-length (suc n) = length-append (blocks a n g) (g (a + n)) ∙ ap (λ x. x + length (g (a + n))) (blocks-length n)
+
+  -- rows: blocks of w elements each
+  pub rows-length : (w n : ℕ) → ((j : ℕ) → j < n → length (g (a + j)) ≡ w) → length (blocks a n g) ≡ w * n
+  unfolding blocks
+  rows-length w zero f = omega arith
+  rows-length w (suc n) f = omega (arith, length-append (blocks a n g) (g (a + n)), rows-length w n (λ j h. f j (omega arith)), f n (omega arith))
+
+  pub rows-at : (w n j t : ℕ) (d : A) → ((j : ℕ) → j < n → length (g (a + j)) ≡ w) → j < n → t < w → getD (blocks a n g) (w * j + t) d ≡ getD (g (a + j)) t d
+  rows-at w n j t d f h k =
+      subst (λ x. getD (blocks a n g) (x + t) d ≡ getD (g (a + j)) t d) (rows-length w j (λ i l. f i (omega arith)))
+      (blocks-at n j t d h (omega (arith, f j h)))
+
+-- what stands in a block stands in all of them, and the other way round
+module _ (a : ℕ) (g : ℕ → List ℕ) where
+  pub blocks-have : (n j x : ℕ) → j < n → At x (g (a + j)) → At x (blocks a n g)
+  blocks-have n j x h t = record {
+    place = length (blocks a j g) + t .place;
+    place-lt = omega (arith, blocks-fit a g n j h, t .place-lt);
+    place-is = blocks-at a g n j (t .place) 0 h (t .place-lt) ∙ t .place-is;
+  }
+
+  pub blocks-from : (n x : ℕ) → At x (blocks a n g) → (j : ℕ) × (j < n) × At x (g (a + j))
+  blocks-from n x t =
+      let v = blocks-cases a g n (t .place) (t .place-lt) in (
+        v .0,
+        v .1,
+        record {
+          place = v .2 .0;
+          place-lt = v .2 .1;
+          place-is = sym (blocks-at a g n (v .0) (v .2 .0) 0 (v .1) (v .2 .1)) ∙ ap (λ y. getD (blocks a n g) y 0) (sym (v .2 .2)) ∙ t .place-is;
+        },
+      )
+
+-- ---- total
+
+module _ (a : ℕ) (g : ℕ → ℕ) where
+  -- a part of the sum and the summand after it
+  pub total-fit : (n j : ℕ) → j < n → total a j g + g (a + j) ≤ total a n g
+  unfolding total
+  total-fit zero j h = absurd (not-suc-le-zero h)
+  total-fit (suc n) j h =
+      ⊎-elim
+      (λ k. omega (arith, total-fit n j k))
+      (λ q. subst (λ x. total a x g + g (a + x) ≤ total a n g + g (a + n)) (sym q) (omega arith))
+      (last-or j n h)
+
+  pub total-has : (n j : ℕ) → j < n → g (a + j) ≤ total a n g
+  total-has n j h = omega (arith, total-fit n j h)
+
+  pub total-more : (m n : ℕ) → m ≤ n → total a m g ≤ total a n g
+  total-more m n h = go (eqb m n) refl
+    where
+      go : (b : Bool) → eqb m n ≡ b → total a m g ≤ total a n g
+      go true e = subst (λ x. total a m g ≤ total a x g) (eqb-true m n e) (omega arith)
+      go false e = let ne : m ≢ n = eqb-false m n e in omega (arith, total-fit n m (omega arith))
+
+  pub total-bound : (w n : ℕ) → ((i : ℕ) → i < n → g (a + i) ≤ w) → total a n g ≤ w * n
+  unfolding total
+  total-bound w zero f = omega arith
+  total-bound w (suc n) f = omega (arith, total-bound w n (λ i h. f i (omega arith)), f n (omega arith))
+
+pub total-mono : (a : ℕ) (f g : ℕ → ℕ) (n : ℕ) → ((i : ℕ) → i < n → f (a + i) ≤ g (a + i)) → total a n f ≤ total a n g
+unfolding total
+total-mono a f g zero h = omega arith
+total-mono a f g (suc n) h = omega (arith, total-mono a f g n (λ i k. h i (omega arith)), h n (omega arith))
