@@ -16,11 +16,11 @@ use Rattle.layout.specs.Words.{wordAt}
 -- ---- the head
 
 -- d, the dimension of the cells
-unfoldable pub top : Bytes → ℕ
+abbrev pub top : Bytes → ℕ
 top m = wordAt m 0
 
 -- how many elements have dimension k
-unfoldable pub counted : Bytes → ℕ → ℕ
+abbrev pub counted : Bytes → ℕ → ℕ
 counted m k = wordAt m (k + 1)
 
 -- how many elements have a dimension below k. "Elements bear global numbers from 1: all of dimension 0 first, then 1, up to d": those of
@@ -30,18 +30,18 @@ below m zero = 0
 below m (suc k) = below m k + counted m k
 
 -- N, the total
-unfoldable pub elements : Bytes → ℕ
+abbrev pub elements : Bytes → ℕ
 elements m = below m 4
 
 -- R
-unfoldable pub recordCount : Bytes → ℕ
+abbrev pub recordCount : Bytes → ℕ
 recordCount m = wordAt m 5
 
 -- the number of the first cell, and the count of cells
-unfoldable pub firstCell : Bytes → ℕ
+abbrev pub firstCell : Bytes → ℕ
 firstCell m = below m (top m) + 1
 
-unfoldable pub cellCount : Bytes → ℕ
+abbrev pub cellCount : Bytes → ℕ
 cellCount m = counted m (top m)
 
 -- the dimension of an element: how many dimensions below d have all their elements before it
@@ -50,7 +50,7 @@ dimension m e = length (picked 1 (top m) (λ k. ltb (below m k) e))
 
 -- ---- heads, records, chains
 
-unfoldable pub headOf : Bytes → ℕ → ℕ
+abbrev pub headOf : Bytes → ℕ → ℕ
 headOf m e = wordAt m (5 + e)
 
 -- "Records are indexed from 1"
@@ -84,11 +84,11 @@ unfoldable pub bad1 : Bytes → Bool
 bad1 m = ltb (length m) 12 || ltb (top m) 1 || ltb 3 (top m)
 
 -- "A count above d not zero; a count up to d zero; N over 2,000; R over 12,000."
+unfoldable pub wrongCount : Bytes → ℕ → Bool
+wrongCount m k = cond (leb k (top m)) (eqb (counted m k) 0) (ltb 0 (counted m k))
+
 unfoldable pub bad2 : Bytes → Bool
-bad2 m =
-    some 0 4 (λ k. cond (leb k (top m)) (eqb (counted m k) 0) (ltb 0 (counted m k)))
-    || ltb 2000 (elements m)
-    || ltb 12000 (recordCount m)
+bad2 m = some 0 4 (wrongCount m) || ltb 2000 (elements m) || ltb 12000 (recordCount m)
 
 -- "Mesh length not exactly 2 × (6 + N + 2R)."
 unfoldable pub meshLength : Bytes → ℕ
@@ -98,9 +98,12 @@ unfoldable pub bad3 : Bytes → Bool
 bad3 m = not (eqb (length m) (meshLength m))
 
 -- "Head or next above R, a point with a head, or a record met twice." Points are the elements 1 to `counted m 0`.
+unfoldable pub headed : Bytes → ℕ → Bool
+headed m e = ltb 0 (headOf m e)
+
 unfoldable pub bad4 : Bytes → Bool
 bad4 m =
-    some 1 (counted m 0) (λ e. ltb 0 (headOf m e))
+    some 1 (counted m 0) (headed m)
     || someOf (allRecords m) (ltb (recordCount m))
     || repeats (allRecords m)
 

@@ -1,1 +1,3 @@
-// The mesh bytes, walks and reaches: their definitions stand in specs/.
+// The mesh bytes, walks and reaches. Here stand the calls that take any bytes; what supposes an accepted mesh is in `inner`.
+mod check;
+pub mod inner;

@@ -5,4 +5,5 @@ pub mod Bytes
 pub mod Loop
 pub mod ListLaws
 pub mod RangeLaws
+pub mod Scans
 pub mod ByteLaws

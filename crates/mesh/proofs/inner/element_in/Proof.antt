@@ -1,0 +1,15 @@
+-- `mesh::inner::element_in` meets its contract. Assumes nothing.
+use Rattle.mesh.proofs.Readers.{reads-element}
+use borrow.Author.Needs.{needs}
+use Rattle.mesh.proofs.inner.element_in.Statement.{statement}
+use Rattle.mesh.proofs.inner.element_in.Tie as tie
+
+pub element-in-spec : {M : Type 1} → statement M
+element-in-spec =
+    tie.close
+    (tie.spec
+    (λ c. search needs)
+    (λ c. search needs)
+    (λ c. search needs)
+    (λ c κs. search needs)
+    (λ c. (search reads-element, search needs)))

@@ -1,0 +1,15 @@
+-- `mesh::inner::next_of` meets its contract. Assumes nothing.
+use Rattle.mesh.proofs.Readers.{reads-next}
+use borrow.Author.Needs.{needs}
+use Rattle.mesh.proofs.inner.next_of.Statement.{statement}
+use Rattle.mesh.proofs.inner.next_of.Tie as tie
+
+pub next-of-spec : {M : Type 1} → statement M
+next-of-spec =
+    tie.close
+    (tie.spec
+    (λ c. search needs)
+    (λ c. search needs)
+    (λ c. search needs)
+    (λ c κs. search needs)
+    (λ c. (search reads-next, search needs)))

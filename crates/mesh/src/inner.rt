@@ -1,0 +1,82 @@
+// Readers of the mesh bytes. A word past the end reads as 0, so none of them supposes that the mesh was accepted.
+use layout::word_at;
+ghost use mathlib.Core.Path.{_≡_};
+ghost use Prim.Native.Nat.{ℕ, _+_, _*_, _<_, _≤_};
+ghost use Rattle.mesh.specs.Mesh.{top, counted, below, elements, recordCount, firstCell, cellCount, headOf, elementIn, nextOf};
+
+// The dimension of the cells.
+pub fn top_of(m: &[u8]) -> usize
+    ensures { λ r. ⌜ (r ≡ top (now (m .entry))) × (r < 65536) ⌝ }
+{
+    word_at(m, 0)
+}
+
+// How many elements have dimension k.
+pub fn count_of(m: &[u8], k: usize) -> usize
+    requires { ⌜ k < 65536 ⌝ }
+    ensures { λ r. ⌜ (r ≡ counted (now (m .entry)) k) × (r < 65536) ⌝ }
+{
+    word_at(m, k + 1)
+}
+
+// How many elements have a dimension below k.
+pub fn below_of(m: &[u8], k: usize) -> usize
+    requires { ⌜ k < 65536 ⌝ }
+    ensures { λ r. ⌜ (r ≡ below (now (m .entry)) k) × (r ≤ 65536 * k) ⌝ }
+{
+    let mut sum = 0;
+    for j in 0..k {
+        sum += count_of(m, j);
+    }
+    sum
+}
+
+// The count of all elements.
+pub fn elements_of(m: &[u8]) -> usize
+    ensures { λ r. ⌜ (r ≡ elements (now (m .entry))) × (r ≤ 262144) ⌝ }
+{
+    below_of(m, 4)
+}
+
+// The count of records.
+pub fn record_count(m: &[u8]) -> usize
+    ensures { λ r. ⌜ (r ≡ recordCount (now (m .entry))) × (r < 65536) ⌝ }
+{
+    word_at(m, 5)
+}
+
+// The number of the first cell, and the count of cells.
+pub fn first_cell(m: &[u8]) -> usize
+    ensures { λ r. ⌜ r ≡ firstCell (now (m .entry)) ⌝ }
+{
+    below_of(m, top_of(m)) + 1
+}
+
+pub fn cell_count(m: &[u8]) -> usize
+    ensures { λ r. ⌜ (r ≡ cellCount (now (m .entry))) × (r < 65536) ⌝ }
+{
+    count_of(m, top_of(m))
+}
+
+// The head of element e.
+pub fn head_of(m: &[u8], e: usize) -> usize
+    requires { ⌜ e < 4294967296 ⌝ }
+    ensures { λ r. ⌜ (r ≡ headOf (now (m .entry)) e) × (r < 65536) ⌝ }
+{
+    word_at(m, 5 + e)
+}
+
+// The element of record i, and its next record, in a mesh of n elements.
+pub fn element_in(m: &[u8], n: usize, i: usize) -> usize
+    requires { ⌜ (n ≡ elements (now m)) × (n < 4294967296) × (i < 65536) ⌝ }
+    ensures { λ r. ⌜ (r ≡ elementIn (now (m .entry)) i) × (r < 65536) ⌝ }
+{
+    word_at(m, 4 + n + 2 * i)
+}
+
+pub fn next_of(m: &[u8], n: usize, i: usize) -> usize
+    requires { ⌜ (n ≡ elements (now m)) × (n < 4294967296) × (i < 65536) ⌝ }
+    ensures { λ r. ⌜ (r ≡ nextOf (now (m .entry)) i) × (r < 65536) ⌝ }
+{
+    word_at(m, 5 + n + 2 * i)
+}
