@@ -1,2 +1,3 @@
 pub mod Mesh
 pub mod Walks
+pub mod Meet

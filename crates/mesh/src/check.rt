@@ -7,9 +7,13 @@ use crate::inner::record_count;
 use crate::inner::top_of;
 ghost use mathlib.Core.Path.{_≡_};
 ghost use Prim.Native.Nat.{ℕ, _+_, _*_, _<_, _≤_};
+ghost use lib.Dec.{ltb};
 ghost use lib.ListN.{length};
 ghost use Rattle.vocabulary.specs.Ranges.{some};
-ghost use Rattle.mesh.specs.Mesh.{wrongCount, headed, bad1, bad2, bad3};
+ghost use mathlib.Core.Bool.{_||_};
+ghost use Rattle.vocabulary.specs.Lists.{repeats, someOf};
+ghost use Rattle.mesh.specs.Mesh.{elements, counted, recordCount, follow, allRecords, wrongCount, headed, bad1, bad2, bad3, bad4};
+ghost use Rattle.mesh.specs.Meet.{Met, meet};
 
 pub fn bad1(m: &[u8]) -> bool
     ensures { λ r. ⌜ r ≡ bad1 (now (m .entry)) ⌝ }
@@ -65,4 +69,66 @@ pub fn bad3(m: &[u8]) -> bool
     let n = elements_of(m);
     let r = record_count(m);
     m.len() != 2 * (6 + n + 2 * r)
+}
+
+fn point_headed(m: &[u8], points: usize) -> bool
+    requires { ⌜ points < 65536 ⌝ }
+    ensures { λ r. ⌜ r ≡ some 1 points (headed (now (m .entry))) ⌝ }
+{
+    for e in 1..1 + points {
+        if 0 < head_of(m, e) {
+            return true;
+        }
+    }
+    false
+}
+
+// Follows the chain from record h on and marks what it meets; true where it meets a record above r or a marked one.
+fn meet_chain(m: &[u8], n: usize, r: usize, h: usize, seen: &mut [u8; 12001]) -> bool
+    requires { ⌜ (n ≡ elements (now m)) × (n ≤ 2000) × (r ≤ 12000) × (h < 65536) ⌝ }
+    ensures { λ b. ⌜ Met.met b (now (seen .exit)) ≡ meet 1 r (now (seen .entry)) (follow (now (m .entry)) (r + 1) h) ⌝ }
+{
+    let mut i = h;
+    for _k in 0..r + 1 {
+        if i == 0 {
+            return false;
+        }
+        if r < i {
+            return true;
+        }
+        if seen[i] == 1 {
+            return true;
+        }
+        seen[i] = 1;
+        i = next_of(m, n, i);
+    }
+    false
+}
+
+// Whether some chain meets a record above r, or one that it or another chain met before.
+fn meet_all(m: &[u8], n: usize, r: usize) -> bool
+    requires { ⌜ (n ≡ elements (now m)) × (n ≤ 2000) × (r ≡ recordCount (now m)) × (r ≤ 12000) ⌝ }
+    ensures { λ b. ⌜ b ≡ someOf (allRecords (now (m .entry))) (ltb r) || repeats (allRecords (now (m .entry))) ⌝ }
+{
+    let mut seen = [0u8; 12001];
+    for e in 1..1 + n {
+        let h = head_of(m, e);
+        if meet_chain(m, n, r, h, &mut seen) {
+            return true;
+        }
+    }
+    false
+}
+
+pub fn bad4(m: &[u8]) -> bool
+    requires { ⌜ (elements (now m) ≤ 2000) × (recordCount (now m) ≤ 12000) ⌝ }
+    ensures { λ b. ⌜ b ≡ bad4 (now (m .entry)) ⌝ }
+{
+    let points = count_of(m, 0);
+    if point_headed(m, points) {
+        return true;
+    }
+    let n = elements_of(m);
+    let r = record_count(m);
+    meet_all(m, n, r)
 }
