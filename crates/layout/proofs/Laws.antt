@@ -1,35 +1,35 @@
 -- What the functions' needs ask: signed numbers of 32 bits and their registers, stored bytes, and the two loops. Assumes nothing.
 use mathlib.Core.Path.{_≡_, refl, sym, ap, _∙_}
-use mathlib.Core.Bool.{Bool, true, false, not, cond, true≢false}
-use mathlib.Core.List.{List, [], _∷_, _++_}
-use Prim.Native.Nat.{ℕ, zero, suc, _+_, _-_, _*_, _/_, _%_, _≤_, _<_}
+use mathlib.Core.Bool.{Bool, true, false, not, true≢false}
+use mathlib.Core.List.{[], _∷_, _++_}
+use Prim.Native.Nat.{ℕ, suc, _+_, _-_, _*_, _/_, _%_, _≤_, _<_}
 use native.Mathlib.Nat.{zero-add}
 use native.Mathlib.Numerals.{add-one}
 use native.Mathlib.Omega.{arith}
 use lib.IntN.{ℤ, pos, negsuc, natAbs, _+ℤ_, _-ℤ_}
 use lib.Signed.{mag, ltZ, leZ, nonNeg}
-use lib.Dec.{T, ltb}
+use lib.Dec.{T}
 use lib.ListN.{length, getD, set, take, drop, length-drop}
 use lib.Seq.{length-take-le, take-suc, getD-drop}
 use mir.Syntax.{w32, w64}
 use mir.Val.{Fits, SFits, toZ, ofZ}
 use mir.ValLaws.{toZ-pos, toZ-ofZ}
-use borrow.Author.Tests.{lt-ltb, le-ltb, ltb-true, ltb-false, leb-true, leb-false, le-leb, lt-leb, not-true, not-false}
+use borrow.Author.Tests.{lt-ltb, le-ltb, ltb-true, leb-true, leb-false, le-leb, lt-leb, not-true, not-false}
 use Rattle.vocabulary.specs.Bytes.{Bytes, byteAt, over}
-use Rattle.vocabulary.specs.ByteLaws.{byte-past, over-none, over-more, over-one, over-byte, over-length}
+use Rattle.vocabulary.specs.ByteLaws.{byte-past, over-none, over-more, over-one, over-byte}
 use Rattle.vocabulary.specs.Ranges.{every}
-use Rattle.vocabulary.specs.RangeLaws.{every-none, every-more, every-fails}
-use Rattle.layout.specs.Words.{word, wordAt, wordBytes}
-use Rattle.layout.specs.Depths.{numberFrom, numberBytes, signed, unsigned, depthFrom, depthBytes, inRange, rangedAt}
+use Rattle.vocabulary.specs.RangeLaws.{every-more, every-fails}
+use Rattle.layout.specs.Words.{wordAt, wordBytes}
+use Rattle.layout.specs.WordLaws.{wordAt-none}
+use Rattle.layout.specs.Depths.{numberBytes, signed, unsigned, depthFrom, depthBytes, inRange, rangedAt}
 
 -- ---- words
 
-pub past-end : (b : Bytes) (i : ℕ) → length b ≤ i → 0 ≡ byteAt b i
-past-end b i h = sym (byte-past b i h)
+pub byte-end : (b : Bytes) (i : ℕ) → length b ≤ i → 0 ≡ byteAt b i
+byte-end b i h = sym (byte-past b i h)
 
-pub word-past : (b : Bytes) (i : ℕ) → length b ≤ i → 0 ≡ wordAt b i
-unfolding wordAt word
-word-past b i h = omega (arith, byte-past b (2 * i) (omega arith), byte-past b (2 * i + 1) (omega arith))
+pub word-end : (b : Bytes) (i : ℕ) → length b ≤ i → 0 ≡ wordAt b i
+word-end b i h = sym (wordAt-none b i (omega arith))
 
 -- two stores are one replacement
 pub word-stores : (b : Bytes) (o v : ℕ) → o + 1 < length b → set (set b o (v / 256)) (o + 1) (v % 256) ≡ over b o (wordBytes v)
