@@ -14,8 +14,8 @@ use borrow.Author.Tests.{lt-ltb, le-ltb, leb-true, le-leb}
 use Rattle.vocabulary.specs.Bytes.{Bytes, byteAt, over}
 use Rattle.vocabulary.specs.Lists.{All}
 use Rattle.vocabulary.specs.Ranges.{every, blocks}
-use Rattle.vocabulary.specs.RangeLaws.{every-at, rows-length, rows-at}
-use Rattle.vocabulary.specs.ByteLaws.{over-in, over-before, over-after}
+use Rattle.vocabulary.specs.RangeLaws.{every-at, rows-length, rows-at, blocks-turn}
+use Rattle.vocabulary.specs.ByteLaws.{over-in, over-before, over-after, over-more}
 use Rattle.layout.specs.Words.{word}
 use Rattle.layout.specs.WordLaws.{word-same}
 use Rattle.layout.specs.Depths.{four, numberFrom, signed, unsigned, depthFrom, depthOf, numberBytes, depthBytes, inRange, rangedAt}
@@ -100,6 +100,13 @@ module _ (a n : ℕ) (g : ℕ → Bytes) (l : (j : ℕ) → j < n → length (g 
   fours-at t h =
       four-same (blocks a n g) (g (a + t)) (4 * t) 0 (λ k q. rows-at a g 4 n t k 0 l h q ∙ ap (λ i. byteAt (g (a + t)) i) (sym (zero-add k)))
       ∙ four-whole (g (a + t)) (l t h)
+
+  -- one more stored after them
+  pub fours-store : (b : Bytes) (at : ℕ) → at + 4 * n ≤ length b → over (over b at (blocks a n g)) (at + 4 * n) (g (a + n)) ≡ over b at (blocks a (n + 1) g)
+  fours-store b at h =
+      rw blocks-turn
+      (subst (λ m. over (over b at (blocks a n g)) (at + m) (g (a + n)) ≡ over b at (blocks a n g ++ g (a + n))) fours-length
+      (over-more b at (blocks a n g) (omega (arith, fours-length)) (g (a + n))))
 
 -- the fours of a part are the part
 pub fours-of : (b : Bytes) (at n : ℕ) → at + 4 * n ≤ length b → blocks 0 n (λ k. four b (at + 4 * k)) ≡ take (4 * n) (drop at b)

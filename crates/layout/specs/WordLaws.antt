@@ -1,5 +1,5 @@
 -- Laws of words in bytes: words written and read back, both ways, and words after a replacement. Assumes nothing.
-use mathlib.Core.Path.{_≡_, refl, sym, ap, ap₂, _∙_}
+use mathlib.Core.Path.{_≡_, refl, sym, ap, ap₂, _∙_, subst}
 use mathlib.Core.List.{List, [], _∷_, _++_}
 use Prim.Native.Nat.{ℕ, zero, suc, _+_, _*_, _/_, _%_, _<_, _≤_}
 use native.Mathlib.Nat.{not-suc-le-zero, le-of-suc-le-suc, div-add-mod', add-zero, zero-add}
@@ -8,9 +8,10 @@ use lib.ListN.{length, getD, set, List·getD-append}
 use lib.Seq.{getD-append-add, getD-set-other, ext-getD}
 use Rattle.vocabulary.specs.Bytes.{Bytes, byteAt, over}
 use Rattle.vocabulary.specs.Lists.{All}
+use Rattle.vocabulary.specs.Ranges.{listed, blocks}
 use Rattle.vocabulary.specs.ListLaws.{All-getD}
 use Rattle.vocabulary.specs.RangeLaws.{listed-length, listed-at, listed-back}
-use Rattle.vocabulary.specs.ByteLaws.{byte-past, over-in, over-before, over-after}
+use Rattle.vocabulary.specs.ByteLaws.{byte-past, over-in, over-before, over-after, over-more}
 use Rattle.layout.specs.Words.{word, wordAt, words, wordBytes, bytesOf}
 
 -- ---- one word
@@ -98,6 +99,12 @@ unfolding bytesOf
 bytesOf-append [] ws = refl
 bytesOf-append (v ∷ vs) ws = ap (λ r. v / 256 ∷ v % 256 ∷ r) (bytesOf-append vs ws)
 
+-- the words of a range, one after another
+pub bytesOf-listed : (a n : ℕ) (g : ℕ → ℕ) → bytesOf (listed a n g) ≡ blocks a n (λ x. wordBytes (g x))
+unfolding listed blocks bytesOf wordBytes
+bytesOf-listed a zero g = refl
+bytesOf-listed a (suc n) g = bytesOf-append (listed a n g) (g (a + n) ∷ []) ∙ ap (λ r. r ++ wordBytes (g (a + n))) (bytesOf-listed a n g)
+
 -- every word is two bytes
 pub bytesOf-bytes : (ws : List ℕ) → All (λ v. v < 65536) ws → All (λ x. x < 256) (bytesOf ws)
 unfolding bytesOf
@@ -113,6 +120,14 @@ wordAt-bytesOf (v ∷ vs) (suc i) h =
     let e : 2 * suc i ≡ suc (suc (2 * i)) = omega arith in
     let f : 2 * suc i + 1 ≡ suc (suc (2 * i + 1)) = omega arith in
     ap₂ (λ a b. byteAt (bytesOf (v ∷ vs)) a * 256 + byteAt (bytesOf (v ∷ vs)) b) e f ∙ wordAt-bytesOf vs i (le-of-suc-le-suc h)
+
+-- one more word stored after a list of them
+pub bytesOf-store : (b : Bytes) (at : ℕ) (ws : List ℕ) (v : ℕ) → at + 2 * length ws ≤ length b
+    → over (over b at (bytesOf ws)) (at + 2 * length ws) (wordBytes v) ≡ over b at (bytesOf (ws ++ (v ∷ [])))
+unfolding bytesOf wordBytes
+bytesOf-store b at ws v h =
+    let l : length (bytesOf ws) ≡ 2 * length ws = length-bytesOf ws in
+    rw (bytesOf-append ws (v ∷ [])) (subst (λ n. over (over b at (bytesOf ws)) (at + n) (wordBytes v) ≡ over b at (bytesOf ws ++ wordBytes v)) l (over-more b at (bytesOf ws) (omega arith) (wordBytes v)))
 
 -- with more bytes after them
 pub wordAt-first : (ws : List ℕ) (r : Bytes) (i : ℕ) → i < length ws → wordAt (bytesOf ws ++ r) i ≡ getD ws i 0

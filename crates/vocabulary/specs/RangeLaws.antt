@@ -347,8 +347,8 @@ module _ (a : ℕ) (g : ℕ → ℕ) where
   pub total-has : (n j : ℕ) → j < n → g (a + j) ≤ total a n g
   total-has n j h = omega (arith, total-fit n j h)
 
-  pub total-more : (m n : ℕ) → m ≤ n → total a m g ≤ total a n g
-  total-more m n h = go (eqb m n) refl
+  pub total-grows : (m n : ℕ) → m ≤ n → total a m g ≤ total a n g
+  total-grows m n h = go (eqb m n) refl
     where
       go : (b : Bool) → eqb m n ≡ b → total a m g ≤ total a n g
       go true e = subst (λ x. total a m g ≤ total a x g) (eqb-true m n e) (omega arith)
@@ -363,3 +363,48 @@ pub total-mono : (a : ℕ) (f g : ℕ → ℕ) (n : ℕ) → ((i : ℕ) → i < 
 unfolding total
 total-mono a f g zero h = omega arith
 total-mono a f g (suc n) h = omega (arith, total-mono a f g n (λ i k. h i (omega arith)), h n (omega arith))
+
+-- ---- a loop that goes up: where it starts, and what a turn adds
+
+module _ (a : ℕ) (p : ℕ → Bool) where
+  pub some-start : some a 0 p ≡ false
+  unfolding some
+  some-start = refl
+
+  pub picked-start : picked a 0 p ≡ []
+  unfolding picked
+  picked-start = refl
+
+  pub picked-yes : (n : ℕ) → p (a + n) ≡ true → picked a (n + 1) p ≡ picked a n p ++ ((a + n) ∷ [])
+  unfolding picked
+  picked-yes n e = rw add-one (ap (λ b. picked a n p ++ cond b ((a + n) ∷ []) []) e)
+
+  pub picked-no : (n : ℕ) → p (a + n) ≡ false → picked a (n + 1) p ≡ picked a n p
+  unfolding picked
+  picked-no n e = rw add-one (ap (λ b. picked a n p ++ cond b ((a + n) ∷ []) []) e ∙ append-nil (picked a n p))
+
+module _ {A : Type 0} (a : ℕ) where
+  pub listed-start : (g : ℕ → A) → listed a 0 g ≡ []
+  unfolding listed
+  listed-start g = refl
+
+  pub listed-turn : (g : ℕ → A) (n : ℕ) → listed a (n + 1) g ≡ listed a n g ++ (g (a + n) ∷ [])
+  unfolding listed
+  listed-turn g n = rw add-one refl
+
+  pub blocks-start : (g : ℕ → List A) → blocks a 0 g ≡ []
+  unfolding blocks
+  blocks-start g = refl
+
+  pub blocks-turn : (g : ℕ → List A) (n : ℕ) → blocks a (n + 1) g ≡ blocks a n g ++ g (a + n)
+  unfolding blocks
+  blocks-turn g n = rw add-one refl
+
+module _ (a : ℕ) (g : ℕ → ℕ) where
+  pub total-start : total a 0 g ≡ 0
+  unfolding total
+  total-start = refl
+
+  pub total-turn : (n : ℕ) → total a (n + 1) g ≡ total a n g + g (a + n)
+  unfolding total
+  total-turn n = rw add-one refl
