@@ -1,16 +1,16 @@
 -- Laws of the words over the numbers a, a + 1, .., of which there are n. Assumes nothing.
 use mathlib.Core.Path.{_≡_, refl, sym, ap, ap₂, _∙_, subst}
 use mathlib.Core.Logic.{_⊎_, inl, inr, ⊎-elim, _≢_}
-use mathlib.Core.Bool.{Bool, true, false, _&&_, _||_, cond, false≢true}
+use mathlib.Core.Bool.{Bool, true, false, _&&_, _||_, not, cond, false≢true}
 use mathlib.Core.List.{List, [], _∷_, _++_, map, append-nil}
 use Prim.Native.Nat.{ℕ, zero, suc, _+_, _-_, _*_, _<_, _≤_}
-use native.Mathlib.Nat.{not-suc-le-zero}
+use native.Mathlib.Nat.{not-suc-le-zero, zero-add}
 use native.Mathlib.Numerals.{add-one}
 use native.Mathlib.Omega.{arith}
 use lib.ListN.{length, getD, length-append, List·getD-append}
 use lib.Seq.{getD-append-add, getD-append-seam, ext-getD}
 use lib.Dec.{eqb, ltb}
-use borrow.Author.Tests.{eqb-true, eqb-false, ltb-true, ltb-false}
+use borrow.Author.Tests.{eqb-true, eqb-false, ltb-true, ltb-false, not-true, not-false}
 use Rattle.vocabulary.specs.Lists.{repeats, All}
 use Rattle.vocabulary.specs.ListLaws.{and-true, and-intro, and-false, or-left, or-right, or-true, or-none, not-both, All-append, All-getD, At, at-left, at-right, repeats-none, map-append}
 use Rattle.vocabulary.specs.Ranges.{picked, every, some, listed, blocks, total}
@@ -408,3 +408,26 @@ module _ (a : ℕ) (g : ℕ → ℕ) where
   pub total-turn : (n : ℕ) → total a (n + 1) g ≡ total a n g + g (a + n)
   unfolding total
   total-turn n = rw add-one refl
+
+-- `for k in 0..n`, which asks a test t of each k and leaves at the first that fails, or at the first that passes
+module _ (p : ℕ → Bool) (n k : ℕ) where
+  at-zero : (t b : Bool) → t ≡ p k → t ≡ b → p (0 + k) ≡ b
+  at-zero t b e f = rw zero-add (sym e ∙ f)
+
+  pub every-stop : (t : Bool) → k < n → t ≡ p k → not t ≡ true → false ≡ every 0 n p
+  every-stop t h e f = sym (every-fails 0 p n k h (at-zero t false e (not-true t f)))
+
+  pub every-turn : (t : Bool) → every 0 k p ≡ true → t ≡ p k → not t ≡ false → every 0 (k + 1) p ≡ true
+  every-turn t i e f = every-more 0 p k i (at-zero t true e (not-false t f))
+
+  pub every-end : k ≤ n → n ≤ k → every 0 k p ≡ true → true ≡ every 0 n p
+  every-end g h i = let q : k ≡ n = omega arith in sym (rw q at i)
+
+  pub some-stop : (t : Bool) → k < n → t ≡ p k → t ≡ true → true ≡ some 0 n p
+  some-stop t h e f = sym (some-has 0 p n k h (at-zero t true e f))
+
+  pub some-turn : (t : Bool) → some 0 k p ≡ false → t ≡ p k → t ≡ false → some 0 (k + 1) p ≡ false
+  some-turn t i e f = some-more 0 p k i (at-zero t false e f)
+
+  pub some-end : k ≤ n → n ≤ k → some 0 k p ≡ false → false ≡ some 0 n p
+  some-end g h i = let q : k ≡ n = omega arith in sym (rw q at i)
