@@ -1,35 +1,32 @@
 -- What the functions' needs ask: signed numbers of 32 bits and their registers, stored bytes, and the two loops. Assumes nothing.
 use mathlib.Core.Path.{_≡_, refl, sym, ap, _∙_}
-use mathlib.Core.Bool.{Bool, true, false, not, cond, true≢false}
-use mathlib.Core.List.{List, [], _∷_, _++_}
-use Prim.Native.Nat.{ℕ, zero, suc, _+_, _-_, _*_, _/_, _%_, _≤_, _<_}
-use native.Mathlib.Nat.{zero-add}
+use mathlib.Core.Bool.{Bool, true, false, true≢false}
+use mathlib.Core.List.{[], _∷_, _++_}
+use Prim.Native.Nat.{ℕ, suc, _+_, _-_, _*_, _/_, _%_, _≤_, _<_}
 use native.Mathlib.Numerals.{add-one}
 use native.Mathlib.Omega.{arith}
 use lib.IntN.{ℤ, pos, negsuc, natAbs, _+ℤ_, _-ℤ_}
 use lib.Signed.{mag, ltZ, leZ, nonNeg}
-use lib.Dec.{T, ltb}
+use lib.Dec.{T}
 use lib.ListN.{length, getD, set, take, drop, length-drop}
 use lib.Seq.{length-take-le, take-suc, getD-drop}
 use mir.Syntax.{w32, w64}
 use mir.Val.{Fits, SFits, toZ, ofZ}
 use mir.ValLaws.{toZ-pos, toZ-ofZ}
-use borrow.Author.Tests.{lt-ltb, le-ltb, ltb-true, ltb-false, leb-true, leb-false, le-leb, lt-leb, not-true, not-false}
+use borrow.Author.Tests.{lt-ltb, le-ltb, ltb-true, leb-true, leb-false, le-leb, lt-leb}
 use Rattle.vocabulary.specs.Bytes.{Bytes, byteAt, over}
-use Rattle.vocabulary.specs.ByteLaws.{byte-past, over-none, over-more, over-one, over-byte, over-length}
-use Rattle.vocabulary.specs.Ranges.{every}
-use Rattle.vocabulary.specs.RangeLaws.{every-none, every-more, every-fails}
-use Rattle.layout.specs.Words.{word, wordAt, wordBytes}
-use Rattle.layout.specs.Depths.{numberFrom, numberBytes, signed, unsigned, depthFrom, depthBytes, inRange, rangedAt}
+use Rattle.vocabulary.specs.ByteLaws.{byte-past, over-none, over-more, over-one, over-byte}
+use Rattle.layout.specs.Words.{wordAt, wordBytes}
+use Rattle.layout.specs.WordLaws.{wordAt-none}
+use Rattle.layout.specs.Depths.{numberBytes, signed, unsigned, depthFrom, depthBytes, inRange, rangedAt}
 
 -- ---- words
 
-pub past-end : (b : Bytes) (i : ℕ) → length b ≤ i → 0 ≡ byteAt b i
-past-end b i h = sym (byte-past b i h)
+pub byte-end : (b : Bytes) (i : ℕ) → length b ≤ i → 0 ≡ byteAt b i
+byte-end b i h = sym (byte-past b i h)
 
-pub word-past : (b : Bytes) (i : ℕ) → length b ≤ i → 0 ≡ wordAt b i
-unfolding wordAt word
-word-past b i h = omega (arith, byte-past b (2 * i) (omega arith), byte-past b (2 * i + 1) (omega arith))
+pub word-end : (b : Bytes) (i : ℕ) → length b ≤ i → 0 ≡ wordAt b i
+word-end b i h = sym (wordAt-none b i (omega arith))
 
 -- two stores are one replacement
 pub word-stores : (b : Bytes) (o v : ℕ) → o + 1 < length b → set (set b o (v / 256)) (o + 1) (v % 256) ≡ over b o (wordBytes v)
@@ -155,17 +152,7 @@ module _ (z : ℤ) (f : SFits w32 z) where
       go (pos n) s = absurd (true≢false s)
       go (negsuc n) s = s ∙ sym (lt-leb (suc n) 1200000 (omega (arith, leb-false n 1199999 s)))
 
-pub ranged-end : (b : Bytes) (at n k : ℕ) → k ≤ n → n ≤ k → every 0 k (rangedAt b at) ≡ true → true ≡ every 0 n (rangedAt b at)
-ranged-end b at n k g h e = let q : k ≡ n = omega arith in sym (rw q at e)
-
-module _ (b : Bytes) (at n k : ℕ) (z : ℤ) (e : z ≡ depthFrom b (at + 4 * k)) (f : mag z < 2147483648) (t : Bool) (g : t ≡ inRange (toZ w32 (ofZ w32 z))) where
-  -- the test's answer is about the k-th depth
-  told : (x : Bool) → t ≡ x → rangedAt b at (0 + k) ≡ x
-  unfolding rangedAt
-  told x h = rw (zero-add, ← e) (rw (toZ-ofZ w32 z (record { sfits = f })) at (sym g ∙ h))
-
-  pub ranged-fails : k < n → not t ≡ true → false ≡ every 0 n (rangedAt b at)
-  ranged-fails l h = sym (every-fails 0 (rangedAt b at) n k l (told false (not-true t h)))
-
-  pub ranged-more : every 0 k (rangedAt b at) ≡ true → not t ≡ false → every 0 (k + 1) (rangedAt b at) ≡ true
-  ranged-more i h = every-more 0 (rangedAt b at) k i (told true (not-false t h))
+-- the test's answer is about the k-th depth
+pub ranged-told : (b : Bytes) (at k : ℕ) (z : ℤ) (t : Bool) → z ≡ depthFrom b (at + 4 * k) → mag z < 2147483648 → t ≡ inRange (toZ w32 (ofZ w32 z)) → t ≡ rangedAt b at k
+unfolding rangedAt
+ranged-told b at k z t e f g = rw (← e) (rw (toZ-ofZ w32 z (record { sfits = f })) at g)

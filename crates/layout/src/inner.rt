@@ -14,7 +14,9 @@ pub fn word_in(b: &[u8], o: usize) -> usize
     requires { ⌜ o + 1 < length (now b) ⌝ }
     ensures { λ r. ⌜ (r ≡ word (now (b .entry)) o) × (r < 65536) ⌝ }
 {
-    wide(b[o]) * 256 + wide(b[o + 1])
+    let high = wide(b[o]);
+    let low = wide(b[o + 1]);
+    high * 256 + low
 }
 
 // Stores the word `v` with its high byte at `o`.

@@ -33,7 +33,9 @@ pub fn word_at(b: &[u8], i: usize) -> usize
     ensures { λ r. ⌜ (r ≡ wordAt (now (b .entry)) i) × (r < 65536) ⌝ }
 {
     if i < b.len() {
-        wide(byte_at(b, 2 * i)) * 256 + wide(byte_at(b, 2 * i + 1))
+        let high = wide(byte_at(b, 2 * i));
+        let low = wide(byte_at(b, 2 * i + 1));
+        high * 256 + low
     } else {
         0
     }

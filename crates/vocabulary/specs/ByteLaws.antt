@@ -1,12 +1,12 @@
 -- Laws of a buffer with a part replaced: what stands where afterwards, and pieces put one after another. Assumes nothing.
 use mathlib.Core.Path.{_≡_, refl, sym, ap, _∙_, subst}
 use mathlib.Core.Bool.{Bool, true, false}
-use mathlib.Core.List.{List, [], _∷_, _++_, append-assoc, append-nil}
-use Prim.Native.Nat.{ℕ, suc, _+_, _-_, _<_, _≤_}
+use mathlib.Core.List.{[], _∷_, _++_, append-assoc, append-nil}
+use Prim.Native.Nat.{ℕ, _+_, _-_, _<_, _≤_}
 use native.Mathlib.Nat.{add-zero, zero-add}
 use native.Mathlib.Numerals.{add-one}
 use native.Mathlib.Omega.{arith}
-use lib.ListN.{length, getD, set, take, drop, length-append, length-drop, take-append-drop, List·getD-append, List·getD-eq-default}
+use lib.ListN.{length, set, take, drop, length-append, length-drop, take-append-drop, List·getD-append, List·getD-eq-default}
 use lib.Seq.{getD-append-add, getD-drop, getD-take, length-take-le, take-at, drop-at, drop-drop, drop-append-add, drop-length, set-split}
 use lib.Dec.{ltb}
 use borrow.Author.Tests.{ltb-true, ltb-false}

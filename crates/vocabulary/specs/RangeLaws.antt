@@ -1,7 +1,7 @@
 -- Laws of the words over the numbers a, a + 1, .., of which there are n. Assumes nothing.
 use mathlib.Core.Path.{_≡_, refl, sym, ap, ap₂, _∙_, subst}
 use mathlib.Core.Logic.{_⊎_, inl, inr, ⊎-elim, _≢_}
-use mathlib.Core.Bool.{Bool, true, false, _&&_, _||_, cond, false≢true}
+use mathlib.Core.Bool.{Bool, true, false, _&&_, _||_, not, cond, false≢true}
 use mathlib.Core.List.{List, [], _∷_, _++_, map, append-nil}
 use Prim.Native.Nat.{ℕ, zero, suc, _+_, _-_, _*_, _<_, _≤_}
 use native.Mathlib.Nat.{not-suc-le-zero, zero-add}
@@ -10,7 +10,7 @@ use native.Mathlib.Omega.{arith}
 use lib.ListN.{length, getD, length-append, List·getD-append}
 use lib.Seq.{getD-append-add, getD-append-seam, ext-getD}
 use lib.Dec.{eqb, ltb}
-use borrow.Author.Tests.{eqb-true, eqb-false, ltb-true, ltb-false}
+use borrow.Author.Tests.{eqb-true, eqb-false, ltb-true, ltb-false, not-true, not-false}
 use Rattle.vocabulary.specs.Lists.{repeats, All}
 use Rattle.vocabulary.specs.ListLaws.{and-true, and-intro, and-false, or-left, or-right, or-true, or-none, not-both, All-append, All-getD, At, at-left, at-right, repeats-none, map-append}
 use Rattle.vocabulary.specs.Ranges.{picked, every, some, listed, blocks, total}
@@ -347,8 +347,8 @@ module _ (a : ℕ) (g : ℕ → ℕ) where
   pub total-has : (n j : ℕ) → j < n → g (a + j) ≤ total a n g
   total-has n j h = omega (arith, total-fit n j h)
 
-  pub total-more : (m n : ℕ) → m ≤ n → total a m g ≤ total a n g
-  total-more m n h = go (eqb m n) refl
+  pub total-grows : (m n : ℕ) → m ≤ n → total a m g ≤ total a n g
+  total-grows m n h = go (eqb m n) refl
     where
       go : (b : Bool) → eqb m n ≡ b → total a m g ≤ total a n g
       go true e = subst (λ x. total a m g ≤ total a x g) (eqb-true m n e) (omega arith)
@@ -363,3 +363,71 @@ pub total-mono : (a : ℕ) (f g : ℕ → ℕ) (n : ℕ) → ((i : ℕ) → i < 
 unfolding total
 total-mono a f g zero h = omega arith
 total-mono a f g (suc n) h = omega (arith, total-mono a f g n (λ i k. h i (omega arith)), h n (omega arith))
+
+-- ---- a loop that goes up: where it starts, and what a turn adds
+
+module _ (a : ℕ) (p : ℕ → Bool) where
+  pub some-start : some a 0 p ≡ false
+  unfolding some
+  some-start = refl
+
+  pub picked-start : picked a 0 p ≡ []
+  unfolding picked
+  picked-start = refl
+
+  pub picked-yes : (n : ℕ) → p (a + n) ≡ true → picked a (n + 1) p ≡ picked a n p ++ ((a + n) ∷ [])
+  unfolding picked
+  picked-yes n e = rw add-one (ap (λ b. picked a n p ++ cond b ((a + n) ∷ []) []) e)
+
+  pub picked-no : (n : ℕ) → p (a + n) ≡ false → picked a (n + 1) p ≡ picked a n p
+  unfolding picked
+  picked-no n e = rw add-one (ap (λ b. picked a n p ++ cond b ((a + n) ∷ []) []) e ∙ append-nil (picked a n p))
+
+module _ {A : Type 0} (a : ℕ) where
+  pub listed-start : (g : ℕ → A) → listed a 0 g ≡ []
+  unfolding listed
+  listed-start g = refl
+
+  pub listed-turn : (g : ℕ → A) (n : ℕ) → listed a (n + 1) g ≡ listed a n g ++ (g (a + n) ∷ [])
+  unfolding listed
+  listed-turn g n = rw add-one refl
+
+  pub blocks-start : (g : ℕ → List A) → blocks a 0 g ≡ []
+  unfolding blocks
+  blocks-start g = refl
+
+  pub blocks-turn : (g : ℕ → List A) (n : ℕ) → blocks a (n + 1) g ≡ blocks a n g ++ g (a + n)
+  unfolding blocks
+  blocks-turn g n = rw add-one refl
+
+module _ (a : ℕ) (g : ℕ → ℕ) where
+  pub total-start : total a 0 g ≡ 0
+  unfolding total
+  total-start = refl
+
+  pub total-turn : (n : ℕ) → total a (n + 1) g ≡ total a n g + g (a + n)
+  unfolding total
+  total-turn n = rw add-one refl
+
+-- `for k in 0..n`, which asks a test t of each k and leaves at the first that fails, or at the first that passes
+module _ (p : ℕ → Bool) (n k : ℕ) where
+  at-zero : (t b : Bool) → t ≡ p k → t ≡ b → p (0 + k) ≡ b
+  at-zero t b e f = rw zero-add (sym e ∙ f)
+
+  pub every-stop : (t : Bool) → k < n → t ≡ p k → not t ≡ true → false ≡ every 0 n p
+  every-stop t h e f = sym (every-fails 0 p n k h (at-zero t false e (not-true t f)))
+
+  pub every-turn : (t : Bool) → every 0 k p ≡ true → t ≡ p k → not t ≡ false → every 0 (k + 1) p ≡ true
+  every-turn t i e f = every-more 0 p k i (at-zero t true e (not-false t f))
+
+  pub every-end : k ≤ n → n ≤ k → every 0 k p ≡ true → true ≡ every 0 n p
+  every-end g h i = let q : k ≡ n = omega arith in sym (rw q at i)
+
+  pub some-stop : (t : Bool) → k < n → t ≡ p k → t ≡ true → true ≡ some 0 n p
+  some-stop t h e f = sym (some-has 0 p n k h (at-zero t true e f))
+
+  pub some-turn : (t : Bool) → some 0 k p ≡ false → t ≡ p k → t ≡ false → some 0 (k + 1) p ≡ false
+  some-turn t i e f = some-more 0 p k i (at-zero t false e f)
+
+  pub some-end : k ≤ n → n ≤ k → some 0 k p ≡ false → false ≡ some 0 n p
+  some-end g h i = let q : k ≡ n = omega arith in sym (rw q at i)

@@ -1,5 +1,5 @@
 -- `layout::byte_at` meets its contract. Assumes nothing.
-use Rattle.layout.proofs.Laws.{past-end}
+use Rattle.layout.proofs.Laws.{byte-end}
 use borrow.Author.Needs.{needs}
 use Rattle.layout.proofs.byte_at.Statement.{statement}
 use Rattle.layout.proofs.byte_at.Tie as tie
@@ -10,4 +10,4 @@ byte-at-spec =
     (tie.spec
     (λ c. search needs)
     (λ c. search needs)
-    (λ c. search past-end))
+    (λ c. search byte-end))

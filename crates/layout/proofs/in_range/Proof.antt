@@ -1,6 +1,5 @@
 -- `layout::in_range` meets its contract. Assumes nothing.
 use Rattle.layout.proofs.Laws.{in-above, in-below}
-use borrow.Author.Needs.{needs}
 use Rattle.layout.proofs.in_range.Statement.{statement}
 use Rattle.layout.proofs.in_range.Tie as tie
 

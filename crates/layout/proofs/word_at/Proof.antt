@@ -1,6 +1,6 @@
 -- `layout::word_at` meets its contract. Assumes nothing.
 use Rattle.layout.specs.Words.{word, wordAt}
-use Rattle.layout.proofs.Laws.{word-past}
+use Rattle.layout.proofs.Laws.{word-end}
 use borrow.Author.Needs.{needs}
 use Rattle.layout.proofs.word_at.Statement.{statement}
 use Rattle.layout.proofs.word_at.Tie as tie
@@ -18,9 +18,9 @@ word-at-spec =
     (λ c κs. search needs)
     (λ c. search needs)
     (λ c. search needs)
+    (λ c κs. search needs)
+    (λ c κs. search needs)
     (λ c. search needs)
-    (λ c κs. search needs)
-    (λ c κs. search needs)
     (λ c. search needs)
     returns
-    (λ c. (search word-past, search needs)))
+    (λ c. (search word-end, search needs)))

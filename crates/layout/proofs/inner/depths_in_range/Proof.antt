@@ -3,9 +3,9 @@ use mathlib.Core.Path.{_≡_}
 use mathlib.Core.Bool.{true}
 use Prim.Native.Nat.{_-_, _≤_}
 use Rattle.vocabulary.specs.Ranges.{every}
-use Rattle.vocabulary.specs.RangeLaws.{every-none}
+use Rattle.vocabulary.specs.RangeLaws.{every-none, every-stop, every-turn, every-end}
 use Rattle.layout.specs.Depths.{rangedAt}
-use Rattle.layout.proofs.Laws.{ranged-fails, ranged-more, ranged-end}
+use Rattle.layout.proofs.Laws.{ranged-told}
 use borrow.Author.Needs.{needs}
 use Rattle.layout.proofs.inner.depths_in_range.Statement.{statement}
 use Rattle.layout.proofs.inner.depths_in_range.Tie as tie
@@ -27,8 +27,8 @@ depths-in-range-spec =
     (λ c. search needs)
     (λ c κs. search needs)
     (λ c κs. search needs)
-    (λ c. search ranged-fails)
+    (λ c. search (every-stop, ranged-told))
     (λ c. search needs)
     (λ c. search needs)
-    (λ c. (search needs, search ranged-more))
-    (λ c. search ranged-end))
+    (λ c. (search needs, search (every-turn, ranged-told)))
+    (λ c. search every-end))
