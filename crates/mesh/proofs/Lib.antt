@@ -1,2 +1,3 @@
 pub mod Readers
 pub mod Heads
+pub mod Chains

@@ -1,46 +1,20 @@
+-- `mesh::check::point_headed` meets its contract. The invariant: no point so far has a head. Assumes nothing.
+use mathlib.Core.Path.{_≡_}
+use mathlib.Core.Bool.{false}
+use Prim.Native.Nat.{_+_, _-_, _≤_}
+use Rattle.vocabulary.specs.Ranges.{some}
+use Rattle.vocabulary.specs.Scans.{some-start-from, some-stop-from, some-turn-from, some-end-from}
+use Rattle.mesh.specs.Mesh.{headed}
+use Rattle.mesh.proofs.Chains.{head-found, head-turn}
+use borrow.Author.Needs.{needs}
 use Rattle.mesh.proofs.check.point_headed.Statement.{statement}
 use Rattle.mesh.proofs.check.point_headed.Tie as tie
-use Rattle.mesh.proofs.check.point_headed.Reads as reads
-use Rattle.mesh.proofs.check.point_headed.Lts as lts
-use Rattle.mesh.proofs.inner.head_of.Reads as head-of-reads
 
 abbrev Inv-loop : tie.InvT-loop
-Inv-loop m points e₀ e-end e = ?
+Inv-loop m points e₀ e-end e = (1 ≤ e) × (e ≤ 1 + points) × (some 1 (e - 1) (headed m) ≡ false)
 
 abbrev μ-loop : tie.MeasureT-loop
-μ-loop m points e₀ e-end e = ?
-
--- src/check.rt:78:17
-add-e-end : tie.Need-add-e-end Inv-loop μ-loop
-add-e-end c = ?
-
--- src/check.rt:78:5
-loop-holds : tie.Need-loop-holds Inv-loop μ-loop
-loop-holds c = ?
-
--- src/check.rt:79:16
-head-of-requires : tie.Need-head-of-requires Inv-loop μ-loop
-head-of-requires c κs = ?
-
--- src/check.rt:80:13
-returns : tie.Need-returns Inv-loop μ-loop
-returns c = ?
-
--- src/check.rt:78:9
-add-e : tie.Need-add-e Inv-loop μ-loop
-add-e c = ?
-
--- src/check.rt:78:5
-loop-less : tie.Need-loop-less Inv-loop μ-loop
-loop-less c = ?
-
--- src/check.rt:78:5
-loop-again : tie.Need-loop-again Inv-loop μ-loop
-loop-again c = ?
-
--- src/check.rt:74:1
-returns-2 : tie.Need-returns-2 Inv-loop μ-loop
-returns-2 c = ?
+μ-loop m points e₀ e-end e = 1 + points - e
 
 pub point-headed-spec : {M : Type 1} → statement M
 point-headed-spec =
@@ -48,11 +22,11 @@ point-headed-spec =
     (tie.spec
     Inv-loop
     μ-loop
-    add-e-end
-    loop-holds
-    head-of-requires
-    returns
-    add-e
-    loop-less
-    loop-again
-    returns-2)
+    (λ c. search needs)
+    (λ c. (search needs, search needs, search some-start-from))
+    (λ c κs. search needs)
+    (λ c. search head-found)
+    (λ c. search needs)
+    (λ c. search needs)
+    (λ c. (search needs, search needs, search head-turn))
+    (λ c. search some-end-from))

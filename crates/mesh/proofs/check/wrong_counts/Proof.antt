@@ -3,7 +3,7 @@ use mathlib.Core.Path.{_≡_}
 use mathlib.Core.Bool.{false}
 use Prim.Native.Nat.{_-_, _≤_}
 use Rattle.vocabulary.specs.Ranges.{some}
-use Rattle.vocabulary.specs.Scans.{some-start0, some-found0, some-turn0, some-end0}
+use Rattle.vocabulary.specs.RangeLaws.{some-start, some-stop, some-turn, some-end}
 use Rattle.mesh.specs.Mesh.{wrongCount}
 use borrow.Author.Needs.{needs}
 use Rattle.mesh.proofs.check.wrong_counts.Statement.{statement}
@@ -21,10 +21,10 @@ wrong-counts-spec =
     (tie.spec
     Inv-loop
     μ-loop
-    (λ c. (search needs, search some-start0))
+    (λ c. (search needs, search some-start))
     (λ c κs. search needs)
-    (λ c. search some-found0)
+    (λ c. search some-stop)
     (λ c. search needs)
     (λ c. search needs)
-    (λ c. (search needs, search some-turn0))
-    (λ c. search some-end0))
+    (λ c. (search needs, search some-turn))
+    (λ c. search some-end))
