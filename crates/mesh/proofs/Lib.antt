@@ -1,3 +1,5 @@
 pub mod Readers
 pub mod Heads
 pub mod Chains
+pub mod Meeting
+pub mod Records

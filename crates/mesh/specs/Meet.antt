@@ -16,5 +16,6 @@ unfoldable pub meet : ℕ → ℕ → List ℕ → List ℕ → Met
 meet v r s [] = met false s
 meet v r s (i ∷ is) =
     elim (isUpTo r i) [
-      true ↦ elim (eqb (getD s i 0) v) [ true ↦ met true s | false ↦ meet v r (set s i v) is ]
-    | false ↦ met true s ]
+      | true ↦ elim (eqb (getD s i 0) v) [ true ↦ met true s | false ↦ meet v r (set s i v) is ]
+      | false ↦ met true s
+    ]

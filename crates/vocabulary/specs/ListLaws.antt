@@ -256,6 +256,11 @@ module _ {A : Type 0} (p : A → Bool) where
       (λ q. let r = someOf-witness xs d q in (suc (r .0), suc-le-suc (r .1), r .2))
       (or-true (p x) (someOf xs p) e)
 
+pub someOf-cong : {A : Type 0} (p q : A → Bool) (xs : List A) → All (λ x. p x ≡ q x) xs → someOf xs p ≡ someOf xs q
+unfolding someOf
+someOf-cong p q [] a = refl
+someOf-cong p q (x ∷ xs) a = ap₂ _||_ (a .0) (someOf-cong p q xs (a .1))
+
 -- ---- repeats
 
 -- where nothing repeats, two places with equal elements are one place

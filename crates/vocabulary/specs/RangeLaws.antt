@@ -2,7 +2,7 @@
 use mathlib.Core.Path.{_≡_, refl, sym, ap, ap₂, _∙_, subst}
 use mathlib.Core.Logic.{_⊎_, inl, inr, ⊎-elim, _≢_}
 use mathlib.Core.Bool.{Bool, true, false, _&&_, _||_, not, cond, false≢true}
-use mathlib.Core.List.{List, [], _∷_, _++_, map, append-nil}
+use mathlib.Core.List.{List, [], _∷_, _++_, map, append-nil, append-assoc}
 use Prim.Native.Nat.{ℕ, zero, suc, _+_, _-_, _*_, _<_, _≤_}
 use native.Mathlib.Nat.{not-suc-le-zero, zero-add}
 use native.Mathlib.Numerals.{add-one}
@@ -255,6 +255,15 @@ listed-map f a g zero = refl
 listed-map f a g (suc n) = map-append f (listed a n g) (g (a + n) ∷ []) ∙ ap (λ xs. xs ++ (f (g (a + n)) ∷ [])) (listed-map f a g n)
 
 -- ---- blocks
+
+-- the blocks of the first k numbers, then those of j more
+pub blocks-split : {A : Type 0} (a : ℕ) (g : ℕ → List A) (k j : ℕ) → blocks a (k + j) g ≡ blocks a k g ++ blocks (a + k) j g
+unfolding blocks
+blocks-split a g k zero = let e : k + 0 ≡ k = omega arith in rw e (sym (append-nil (blocks a k g)))
+blocks-split a g k (suc j) =
+    let e : k + suc j ≡ suc (k + j) = omega arith in
+    let f : a + (k + j) ≡ a + k + j = omega arith in
+    rw e (ap₂ _++_ (blocks-split a g k j) (ap g f) ∙ append-assoc (blocks a k g) (blocks (a + k) j g) (g (a + k + j)))
 
 module _ {A : Type 0} (a : ℕ) (g : ℕ → List A) where
   -- a place in all the blocks is a place in one of them
