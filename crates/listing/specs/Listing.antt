@@ -96,7 +96,8 @@ module _ (b : Bytes) where
   unfoldable pub stencilPiece : Bytes
   stencilPiece = cond (eqb (length (drop 1 lastPiece)) (byteAt lastPiece 0)) (drop 1 lastPiece) []
 
-  -- "input cut short is 1, 3, 8 or 10 by the first piece that isn't whole, unless a smaller number holds; bytes after the stencil are 10": a
+  -- "input cut short is 1, 3, 8 or 10 by the first piece that isn't whole (P and the owners 8, the length byte and the stencil 10), unless a
+  -- smaller number holds; bytes after the stencil are 10": a
   -- mesh cut short is 1 or 3 by its length, a missing P is 0 and owners cut short are too few
   unfoldable pub listingNumber : ℕ
   listingNumber =

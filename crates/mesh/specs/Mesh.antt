@@ -12,6 +12,8 @@ use Rattle.vocabulary.specs.Lists.{isIn, repeats, someOf}
 use Rattle.vocabulary.specs.Tests.{Test, refuse, firstOf}
 use Rattle.vocabulary.specs.Bytes.{Bytes}
 use Rattle.layout.specs.Words.{wordAt}
+use Rattle.layout.specs.Answers.{answer}
+use Rattle.layout.specs.declared.Answer.{Answer}
 
 -- ---- the head
 
@@ -23,7 +25,7 @@ top m = wordAt m 0
 abbrev pub counted : Bytes → ℕ → ℕ
 counted m k = wordAt m (k + 1)
 
--- how many elements have a dimension below k. "Elements bear global numbers from 1: all of dimension 0 first, then 1, up to d": those of
+-- how many elements have a dimension below k. "They bear global numbers from 1: all of dimension 0 first, then 1, up to d": those of
 -- dimension k have the numbers after `below m k`, up to `below m (suc k)`.
 unfoldable pub below : Bytes → ℕ → ℕ
 below m zero = 0
@@ -83,10 +85,11 @@ allRecords m = blocks 1 (elements m) (records m)
 unfoldable pub bad1 : Bytes → Bool
 bad1 m = ltb (length m) 12 || ltb (top m) 1 || ltb 3 (top m)
 
--- "A count above d not zero; a count up to d zero; N over 2,000; R over 12,000."
+-- the count of dimension k is above d and not zero, or up to d and zero
 unfoldable pub wrongCount : Bytes → ℕ → Bool
 wrongCount m k = cond (leb k (top m)) (eqb (counted m k) 0) (ltb 0 (counted m k))
 
+-- "A count above d not zero; a count up to d zero; N over 2,000; R over 12,000."
 unfoldable pub bad2 : Bytes → Bool
 bad2 m = some 0 4 (wrongCount m) || ltb 2000 (elements m) || ltb 12000 (recordCount m)
 
@@ -97,20 +100,22 @@ meshLength m = 2 * (6 + elements m + 2 * recordCount m)
 unfoldable pub bad3 : Bytes → Bool
 bad3 m = not (eqb (length m) (meshLength m))
 
--- "Head or next above R, a point with a head, or a record met twice." Points are the elements 1 to `counted m 0`.
+-- the element has a head
 unfoldable pub headed : Bytes → ℕ → Bool
 headed m e = ltb 0 (headOf m e)
 
+-- "Head or next above R, a point with a head, or a record met twice." Points are the elements 1 to `counted m 0`.
 unfoldable pub bad4 : Bytes → Bool
 bad4 m =
     some 1 (counted m 0) (headed m)
     || someOf (allRecords m) (ltb (recordCount m))
     || repeats (allRecords m)
 
--- "A chain's element 0, above N, not of lower dimension, or twice in the chain."
+-- g may not stand in the chain of e
 unfoldable pub wrongIn : Bytes → ℕ → ℕ → Bool
 wrongIn m e g = eqb g 0 || ltb (elements m) g || leb (dimension m e) (dimension m g)
 
+-- "A chain's element 0, above N, not of lower dimension, or twice in the chain."
 unfoldable pub bad5 : Bytes → Bool
 bad5 m = some 1 (elements m) (λ e. someOf (chain m e) (wrongIn m e) || repeats (chain m e))
 
@@ -136,3 +141,7 @@ meshTests m =
 
 unfoldable pub meshNumber : Bytes → ℕ
 meshNumber m = firstOf (meshTests m)
+
+-- the call that checks a mesh: it gives the count of cells
+unfoldable pub checkAnswer : Bytes → Answer
+checkAnswer m = answer (meshNumber m) (cellCount m)

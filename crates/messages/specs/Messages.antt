@@ -10,7 +10,7 @@ use Rattle.vocabulary.specs.Ranges.{every, listed}
 use Rattle.vocabulary.specs.Lists.{joined}
 use Rattle.vocabulary.specs.Bytes.{Bytes}
 use Rattle.layout.specs.Words.{wordAt, bytesOf}
-use Rattle.layout.specs.Depths.{four, depthFrom, inRange}
+use Rattle.layout.specs.Depths.{four, rangedAt}
 
 -- a message, each depth as its four bytes; its count is the number of its depths
 pub record Message : Type 0 where
@@ -22,16 +22,25 @@ pub record Message : Type 0 where
 unfoldable pub encode : Message → Bytes
 encode x = bytesOf (x .from ∷ x .to ∷ x .round ∷ length (x .depths) ∷ []) ++ joined (x .depths)
 
--- the place of the depth of index t, from 0
-abbrev pub depthPlace : ℕ → ℕ
-depthPlace t = 8 + 4 * t
+-- the words of a message's bytes; its depths stand from byte 8 on
+abbrev pub fromIn : Bytes → ℕ
+fromIn b = wordAt b 0
+
+abbrev pub toIn : Bytes → ℕ
+toIn b = wordAt b 1
+
+abbrev pub roundIn : Bytes → ℕ
+roundIn b = wordAt b 2
+
+abbrev pub countIn : Bytes → ℕ
+countIn b = wordAt b 3
 
 -- "Message under 8 bytes, length not 8 + 4 × count, or a depth out of range."
 unfoldable pub bad15 : Bytes → Bool
 bad15 b =
     ltb (length b) 8
-    || not (eqb (length b) (8 + 4 * wordAt b 3))
-    || not (every 0 (wordAt b 3) (λ t. inRange (depthFrom b (depthPlace t))))
+    || not (eqb (length b) (8 + 4 * countIn b))
+    || not (every 0 (countIn b) (rangedAt b 8))
 
 -- "What reading gives is either the message or a refusal."
 pub data Reading : Type 0 where
@@ -42,8 +51,8 @@ unfoldable pub reading : Bytes → Reading
 reading b =
     cond (bad15 b) (refused 15)
     (read (record {
-      from = wordAt b 0;
-      to = wordAt b 1;
-      round = wordAt b 2;
-      depths = listed 0 (wordAt b 3) (λ t. four b (depthPlace t));
+      from = fromIn b;
+      to = toIn b;
+      round = roundIn b;
+      depths = listed 0 (countIn b) (λ t. four b (8 + 4 * t));
     }))

@@ -11,11 +11,11 @@ use lib.ListN.{length, set, drop, replicate}
 use Rattle.vocabulary.specs.Ranges.{isUpTo, every, blocks}
 use Rattle.vocabulary.specs.Tests.{Test, refuse, firstOf}
 use Rattle.vocabulary.specs.Bytes.{Bytes, byteAt, over}
-use Rattle.layout.specs.Words.{wordAt, wordBytes}
+use Rattle.layout.specs.Words.{wordBytes}
+use Rattle.layout.specs.Answers.{answer}
+use Rattle.layout.specs.declared.Answer.{Answer}
 use Rattle.layout.specs.Depths.{four}
-use Rattle.mesh.specs.Walks.{Near}
-use Rattle.round.specs.Rules.{Old}
-use Rattle.messages.specs.Messages.{Message, encode, bad15}
+use Rattle.messages.specs.Messages.{encode, fromIn, toIn, roundIn, countIn, bad15}
 use Rattle.parts.specs.State.{Lists, listsOf, dynamic, bad20, roundAt, takenPlace, writtenPlace, depthPlace}
 
 -- the part imports from j, exports to j
@@ -53,33 +53,20 @@ module _ (L : Lists) (d : ℕ) (b : Bytes) where
 
   -- ---- take: "accepts one message"
 
-  -- the message's words
-  abbrev pub fromOf : Bytes → ℕ
-  fromOf x = wordAt x 0
-
-  abbrev pub toOf : Bytes → ℕ
-  toOf x = wordAt x 1
-
-  abbrev pub roundOf : Bytes → ℕ
-  roundOf x = wordAt x 2
-
-  abbrev pub countOf : Bytes → ℕ
-  countOf x = wordAt x 3
-
   -- 21: "To is not this part, or from is no part that this one imports from, or count is not the length of that import list." 22: "The
   -- message's round is not the state's." 23: "Already taken this round."
   unfoldable pub takeTestsIn : Bytes → List Test
   takeTestsIn x =
       refuse 15 (bad15 x)
       ∷ refuse 20 (bad20 b)
-      ∷ refuse 21 (not (eqb (toOf x) (L .part)) || not (importsFrom L (fromOf x)) || not (eqb (countOf x) (L .imported (fromOf x))))
-      ∷ refuse 22 (not (eqb (roundOf x) (roundAt b d)))
-      ∷ refuse 23 (eqb (byteAt b (takenPlace d (fromOf x))) 1)
+      ∷ refuse 21 (not (eqb (toIn x) (L .part)) || not (importsFrom L (fromIn x)) || not (eqb (countIn x) (L .imported (fromIn x))))
+      ∷ refuse 22 (not (eqb (roundIn x) (roundAt b d)))
+      ∷ refuse 23 (eqb (byteAt b (takenPlace d (fromIn x))) 1)
       ∷ []
 
   -- the flag is set, and the message's depths become those of the cells imported from there
   unfoldable pub takenIn : Bytes → Bytes
-  takenIn x = over (set b (takenPlace d (fromOf x)) 1) (depthPlace d (L .before (fromOf x) + 1)) (drop 8 x)
+  takenIn x = over (set b (takenPlace d (fromIn x)) 1) (depthPlace d (L .before (fromIn x) + 1)) (drop 8 x)
 
   -- ---- advance: "makes a round of the owned cells"
 
@@ -100,7 +87,7 @@ module _ (L : Lists) (d : ℕ) (b : Bytes) where
 
   -- the new depth of an owned cell: "All new depths come from old ones."
   unfoldable pub newAt : ℕ → Bytes
-  newAt l = L .new (depthAt d b l) (map (λ e. record { layer = e .layer; depth = depthAt d b (e .cell) }) (L .reach l))
+  newAt l = L .new (depthAt d b l) (map (λ e. record { layer = e .layer; depth = depthAt d b (e .local) }) (L .reach l))
 
   -- the next round, no flag set ("At each new round nothing is taken and nothing written"), the new depths; imported cells keep theirs
   unfoldable pub advancedIn : Bytes
@@ -130,6 +117,10 @@ module _ (b : Bytes) where
   unfoldable pub message : ℕ → Bytes
   message j = messageTo (listsOf b) (dynamic b) b j
 
+  -- it gives the length of the message
+  unfoldable pub writeAnswer : ℕ → Bytes → Answer
+  writeAnswer j out = answer (writeNumber j out) (length (message j))
+
   unfoldable pub writeState : ℕ → Bytes → Bytes
   writeState j out = cond (eqb (writeNumber j out) 0) (writtenIn (listsOf b) (dynamic b) b j) b
 
@@ -139,17 +130,27 @@ module _ (b : Bytes) where
   unfoldable pub takeNumber : Bytes → ℕ
   takeNumber x = firstOf (takeTestsIn (listsOf b) (dynamic b) b x)
 
+  unfoldable pub takeAnswer : Bytes → Answer
+  takeAnswer x = answer (takeNumber x) 0
+
   unfoldable pub takeState : Bytes → Bytes
   takeState x = cond (eqb (takeNumber x) 0) (takenIn (listsOf b) (dynamic b) b x) b
 
   unfoldable pub advanceNumber : ℕ
   advanceNumber = firstOf (advanceTestsIn (listsOf b) (dynamic b) b)
 
+  unfoldable pub advanceAnswer : Answer
+  advanceAnswer = answer advanceNumber 0
+
   unfoldable pub advanceState : Bytes
   advanceState = cond (eqb advanceNumber 0) (advancedIn (listsOf b) (dynamic b) b) b
 
   unfoldable pub collectNumber : ℕ → Bytes → ℕ
   collectNumber k f = firstOf (collectTestsIn (listsOf b) (dynamic b) b k f)
+
+  -- it gives how many depths it put
+  unfoldable pub collectAnswer : ℕ → Bytes → Answer
+  collectAnswer k f = answer (collectNumber k f) (listsOf b .owned)
 
   unfoldable pub collectOut : ℕ → Bytes → Bytes
   collectOut k f = cond (eqb (collectNumber k f) 0) (collectedIn (listsOf b) (dynamic b) b (listsOf b .owned) f) f

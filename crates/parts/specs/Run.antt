@@ -6,14 +6,16 @@ use mathlib.Core.List.{List, [], _∷_, List·Memᴰ}
 use Prim.Native.Nat.{ℕ, zero, suc, _+_, _-_, _*_, _/_, _<_, _≤_}
 use lib.Dec.{eqb}
 use lib.ListN.{length, take}
-use Rattle.vocabulary.specs.Ranges.{isUpTo}
+use Rattle.vocabulary.specs.Ranges.{isUpTo, total}
 use Rattle.vocabulary.specs.Lists.{All}
 use Rattle.vocabulary.specs.Bytes.{Bytes, byteAt}
 use Rattle.layout.specs.Depths.{four}
 use Rattle.mesh.specs.Mesh.{firstCell, cellCount}
 use Rattle.round.specs.Rounds.{Scheme, schemeOf, undivided}
+use Rattle.split.specs.Split.{Split, splitOf, ownerAt, owned, held, exports, locals, globalOf}
+use Rattle.parts.specs.State.{isState}
 use Rattle.parts.specs.Calls.{writeNumber, message, writeState, writeOut, takeNumber, takeState, advanceNumber, advanceState, collectNumber, collectOut}
-use Rattle.parts.specs.Start.{startNumber, startState}
+use Rattle.parts.specs.Start.{startNumber, startState, sizeNumber, stateSize}
 
 -- "Each call is on one part, and gets that part's state." The first number is the part; a write is lent an output, a take is handed any bytes,
 -- a collect names a round and is lent a field.
@@ -104,8 +106,9 @@ pub record Inputs : Type 0 where
 abbrev pub schemeIn : Inputs → Scheme
 schemeIn I = schemeOf (I .mesh) (I .stencil) (I .kind) (I .weights)
 
+-- the owner of the cell of index k, from 0
 abbrev pub ownerIn : Inputs → ℕ → ℕ
-ownerIn I k = byteAt (I .owners) k
+ownerIn I k = ownerAt (I .owners) k
 
 unfoldable pub startNumberIn : Inputs → ℕ → Bytes → ℕ
 startNumberIn I i buffer = startNumber (I .mesh) (I .parts) (I .owners) i (I .stencil) (I .kind) (I .weights) (I .field) buffer
@@ -113,7 +116,8 @@ startNumberIn I i buffer = startNumber (I .mesh) (I .parts) (I .owners) i (I .st
 unfoldable pub startStateIn : Inputs → ℕ → Bytes → Bytes
 startStateIn I i buffer = startState (I .mesh) (I .parts) (I .owners) i (I .stencil) (I .kind) (I .weights) (I .field) buffer
 
--- "Each state is at first as its part's one accepted start left it" in the buffer it was lent. A number that is no part has no state.
+-- "Each state is at first as its part's one accepted start left it" in the buffer it was lent. A start reads no other part's state, so all of them
+-- may come first as well as "just before that part's first call". A number that is no part has no state.
 unfoldable pub begin : Inputs → (ℕ → Bytes) → World
 begin I buffers = record {
   states = λ i. cond (isUpTo (I .parts) i) (startStateIn I i (buffers i)) [];
@@ -122,8 +126,9 @@ begin I buffers = record {
   given = [];
 }
 
--- a run: all parts started, and an honest list of calls
+-- a run: all parts started, of which there is one at least, and an honest list of calls
 pub record Run (I : Inputs) : Type 0 where
+  pub some-part : 1 ≤ I .parts
   pub buffers : ℕ → Bytes
   pub started : (i : ℕ) → 1 ≤ i → i ≤ I .parts → startNumberIn I i (buffers i) ≡ 0
   pub calls : List Call
@@ -150,7 +155,7 @@ pub record Gathered (I : Inputs) (gs : List Collected) (k : ℕ) (G : Bytes) : T
   pub collected : (c : ℕ) → c < cellCount (I .mesh)
       → (g : Collected) × List·Memᴰ g gs × (g .part ≡ ownerIn I c) × (g .round ≡ k) × (four G (4 * c) ≡ four (g .field) (4 * c))
 
--- "any order of calls on the boards gives the field that one undivided computation gives": each accepted collect is right; a gathered field is
+-- any order of calls on the boards gives the field that one undivided computation gives: each accepted collect is right; a gathered field is
 -- the whole undivided field; and two runs on the same mesh, stencil and rule, under any two part maps, gather equal fields after k rounds
 -- exactly where the undivided rule takes their starting fields to equal fields in k rounds
 pub record RunTheorem : Type 0 where
@@ -159,3 +164,19 @@ pub record RunTheorem : Type 0 where
   pub two-runs : (I J : Inputs) → I .mesh ≡ J .mesh → I .stencil ≡ J .stencil → I .kind ≡ J .kind → I .weights ≡ J .weights
       → (r : Run I) (s : Run J) (k : ℕ) (G H : Bytes) → Gathered I (collectsOf r) k G → Gathered J (collectsOf s) k H
       → (G ≡ H) ↔ (undivided (schemeIn I) (I .field) k ≡ undivided (schemeIn J) (J .field) k)
+
+-- ---- 20: "Start and accepted calls always leave one." A refused call leaves the state as it was.
+
+pub record StatesKept : Type 0 where
+  pub started : (I : Inputs) (i : ℕ) (buffer : Bytes) → startNumberIn I i buffer ≡ 0 → isState (startStateIn I i buffer) ≡ true
+  pub written : (b out : Bytes) (j : ℕ) → isState b ≡ true → isState (writeState b j out) ≡ true
+  pub taken : (b x : Bytes) → isState b ≡ true → isState (takeState b x) ≡ true
+  pub advanced : (b : Bytes) → isState b ≡ true → isState (advanceState b) ≡ true
+
+-- "A state needs at most 200 + 40 × (held cells + reach sizes of owned cells + export entries) bytes."
+unfoldable pub StateBound : Type 0
+StateBound =
+    (m owners st : Bytes) (parts i : ℕ) → sizeNumber m parts owners i st ≡ 0
+    → let S : Split = splitOf m parts owners st in
+    stateSize m parts owners i st
+    ≤ 200 + 40 * (length (held S i) + total 1 (length (owned S i)) (λ l. length (S .reach (globalOf (locals S i) l))) + total 1 parts (λ j. length (exports S i j)))

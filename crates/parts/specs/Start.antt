@@ -11,6 +11,8 @@ use Rattle.vocabulary.specs.Lists.{joined}
 use Rattle.vocabulary.specs.Tests.{Test, refuse, firstOf}
 use Rattle.vocabulary.specs.Bytes.{Bytes, over}
 use Rattle.layout.specs.Words.{wordAt, bytesOf}
+use Rattle.layout.specs.Answers.{answer}
+use Rattle.layout.specs.declared.Answer.{Answer}
 use Rattle.mesh.specs.Mesh.{cellCount}
 use Rattle.mesh.specs.Walks.{Near, steps}
 use Rattle.round.specs.Rules.{bad11}
@@ -21,19 +23,19 @@ use Rattle.parts.specs.State.{stateLength}
 
 -- ---- the lists of a part as the words of its state
 
+-- how many cells part i owns
+abbrev pub ownedIn : Split → ℕ → ℕ
+ownedIn S i = length (owned S i)
+
 -- of part i, whose held cells in local order are `order`
 module _ (S : Split) (i : ℕ) (order : List ℕ) where
-  -- how many cells it owns
-  abbrev pub ownedIn : ℕ
-  ownedIn = length (owned S i)
-
   -- the reach of its local cell l
   abbrev pub reachOf : ℕ → List Near
   reachOf l = S .reach (globalOf order l)
 
   -- how many held cells are owned or imported from the parts up to j, exports go to the parts up to j, entries the reaches up to l have
   unfoldable pub importEnds : ℕ → ℕ
-  importEnds j = ownedIn + total 1 j (λ k. length (imports S i k))
+  importEnds j = ownedIn S i + total 1 j (λ k. length (imports S i k))
 
   unfoldable pub exportEnds : ℕ → ℕ
   exportEnds j = total 1 j (λ k. length (exports S i k))
@@ -49,21 +51,21 @@ module _ (S : Split) (i : ℕ) (order : List ℕ) where
   unfoldable pub exportWords : ℕ → List ℕ
   exportWords j = map (localOf order) (exports S i j)
 
-  -- the length of the lists in bytes
-  unfoldable pub listsBytes : ℕ
-  listsBytes = 2 * (46 + length order + ownedIn + 2 * reachEnds ownedIn + exportEnds 16)
+  -- the length of the lists in words
+  unfoldable pub listsLong : ℕ
+  listsLong = 46 + length order + ownedIn S i + 2 * reachEnds (ownedIn S i) + exportEnds 16
 
   -- the words, for a stencil of n steps and a rule
   unfoldable pub listsWords : ℕ → ℕ → Bytes → List ℕ
   listsWords n kind v =
-      (listsBytes ∷ i ∷ n ∷ kind ∷ [])
+      (listsLong ∷ i ∷ n ∷ kind ∷ [])
       ++ (listed 0 5 (wordAt v)
       ++ ((S .first ∷ S .cells ∷ [])
       ++ (listed 0 17 importEnds
       ++ (listed 0 17 exportEnds
       ++ (order
-      ++ (listed 0 (ownedIn + 1) reachEnds
-      ++ (blocks 1 ownedIn reachWords
+      ++ (listed 0 (ownedIn S i + 1) reachEnds
+      ++ (blocks 1 (ownedIn S i) reachWords
       ++ blocks 1 16 exportWords)))))))
 
 -- ---- the calls: mesh m, P and owners, part i, stencil st, and for start rule kind and weights v, field f, state
@@ -74,10 +76,13 @@ module _ (m : Bytes) (parts : ℕ) (owners : Bytes) (i : ℕ) (st : Bytes) where
 
   -- the bytes that start needs
   unfoldable pub stateSize : ℕ
-  stateSize = stateLength (listsBytes (splitOf m parts owners st) i orderOf) (length orderOf)
+  stateSize = stateLength (2 * listsLong (splitOf m parts owners st) i orderOf) (length orderOf)
 
   unfoldable pub sizeNumber : ℕ
   sizeNumber = firstOf (splitTests m parts owners (i ∷ []) st ++ sizeTests m parts owners st)
+
+  unfoldable pub sizeAnswer : Answer
+  sizeAnswer = answer sizeNumber stateSize
 
   module _ (kind : ℕ) (v f : Bytes) where
     -- the state of the part at round 0: "nothing is taken and nothing written"
@@ -99,6 +104,10 @@ module _ (m : Bytes) (parts : ℕ) (owners : Bytes) (i : ℕ) (st : Bytes) where
 
     unfoldable pub startNumber : Bytes → ℕ
     startNumber state = firstOf (startTests state)
+
+    -- it gives the length of the state
+    unfoldable pub startAnswer : Bytes → Answer
+    startAnswer state = answer (startNumber state) stateSize
 
     unfoldable pub startState : Bytes → Bytes
     startState state = cond (eqb (startNumber state) 0) (over state 0 firstState) state

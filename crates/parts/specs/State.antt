@@ -1,6 +1,7 @@
 -- The byte form of a part's state, and the refusal 20. docs/LAYOUTS.md has it as a table. Assumes nothing.
 --
--- A state is first its lists, which start writes once, all words; and then, from the place d that word 0 gives, what calls change. Local
+-- A state is first its lists, which start writes once, all words; and then, from the place d on, what calls change; word 0 has how many words
+-- come before d. Local
 -- numbers run from 1, and so do the numbers of parts, 1 to 16. A table of ends has at j how many entries belong to the numbers up to j, so
 -- those of j are the ones after end (j − 1), up to end j.
 use mathlib.Core.Bool.{Bool, true, false, not, _&&_, _||_}
@@ -13,16 +14,20 @@ use Rattle.vocabulary.specs.Lists.{someOf, everyOf}
 use Rattle.vocabulary.specs.Tests.{allOf}
 use Rattle.vocabulary.specs.Bytes.{Bytes, byteAt}
 use Rattle.layout.specs.Words.{word, wordAt, words}
-use Rattle.layout.specs.Depths.{depthFrom, inRange}
-use Rattle.mesh.specs.Walks.{Near}
+use Rattle.layout.specs.Depths.{rangedAt}
 use Rattle.round.specs.Rules.{Old, newDepth, weightCount, bad11}
+
+-- a cell of a reach by its local number, with its layer
+pub record LocalNear : Type 0 where
+  pub local : ℕ
+  pub layer : ℕ
 
 -- ---- the lists, read from the bytes b of a state, or from its first d bytes
 
 module _ (b : Bytes) where
-  -- word 0: d, the length of the lists in bytes; 1: the part's number; 2: n of the stencil; 3: the rule's kind; 4 to 8: its weights
+  -- word 0: the length of the lists in words; 1: the part's number; 2: n of the stencil; 3: the rule's kind; 4 to 8: its weights
   abbrev pub dynamic : ℕ
-  dynamic = wordAt b 0
+  dynamic = 2 * wordAt b 0
 
   abbrev pub partNumber : ℕ
   partNumber = wordAt b 1
@@ -72,9 +77,9 @@ module _ (b : Bytes) where
   reachCount = reachEnd ownedCount
 
   -- the entries of the reaches, two words each, from t = 0 on: a local number and its layer
-  abbrev pub entryAt : ℕ → Near
+  abbrev pub entryAt : ℕ → LocalNear
   entryAt t = record {
-    cell = wordAt b (46 + heldCount + ownedCount + 2 * t);
+    local = wordAt b (46 + heldCount + ownedCount + 2 * t);
     layer = wordAt b (47 + heldCount + ownedCount + 2 * t);
   }
 
@@ -87,7 +92,7 @@ module _ (b : Bytes) where
   listsLength = 2 * (46 + heldCount + ownedCount + 2 * reachCount + exportCount)
 
   -- the entries of the reach of an owned cell, by its local number
-  unfoldable pub localReach : ℕ → List Near
+  unfoldable pub localReach : ℕ → List LocalNear
   localReach l = listed (reachEnd (l - 1)) (reachEnd l - reachEnd (l - 1)) entryAt
 
   -- the local numbers of the cells exported to part j, in export order
@@ -128,7 +133,7 @@ pub record Lists : Type 0 where
   -- the global number of a local one
   pub global : ℕ → ℕ
   -- the reach of an owned cell, in local numbers
-  pub reach : ℕ → List Near
+  pub reach : ℕ → List LocalNear
   -- imports from part j are the local numbers after `before j`, `imported j` of them
   pub before : ℕ → ℕ
   pub imported : ℕ → ℕ
@@ -156,9 +161,9 @@ listsOf b = listsIn (take (dynamic b) b)
 
 -- ---- 20: "Not a part state by the form in docs/."
 
--- the table of n + 1 ends begins with a and never falls
-unfoldable pub risesFrom : ℕ → ℕ → (ℕ → ℕ) → Bool
-risesFrom a n end = eqb (end 0) a && every 0 n (λ j. leb (end j) (end (j + 1)))
+-- a table of n + 1 ends never falls
+unfoldable pub rises : ℕ → (ℕ → ℕ) → Bool
+rises n end = every 0 n (λ j. leb (end j) (end (j + 1)))
 
 -- tests of the lists b
 unfoldable pub listsTests : Bytes → List Bool
@@ -167,12 +172,12 @@ listsTests b =
     ∷ (eqb (stepCount b % 2) 0 && leb (stepCount b) 8)
     ∷ not (bad11 (ruleKind b) (stepCount b) (weights b))
     ∷ leb (heldCount b) 2000
-    ∷ risesFrom (ownedCount b) 16 (importEnd b)
-    ∷ risesFrom 0 16 (exportEnd b)
-    ∷ risesFrom 0 (ownedCount b) (reachEnd b)
+    ∷ rises 16 (importEnd b)
+    ∷ (eqb (exportEnd b 0) 0 && rises 16 (exportEnd b))
+    ∷ (eqb (reachEnd b 0) 0 && rises (ownedCount b) (reachEnd b))
     ∷ every 1 (heldCount b) (λ l. leb (firstOfMesh b) (globalAt b l) && ltb (globalAt b l) (firstOfMesh b + cellsOfMesh b))
-    ∷ every 0 (reachCount b) (λ t. let e : Near = entryAt b t in isUpTo (heldCount b) (e .cell) && eqb (e .layer % 2) 0 && leb (e .layer) (stepCount b))
-    ∷ every 1 (ownedCount b) (λ l. someOf (localReach b l) (λ e. eqb (e .cell) l && eqb (e .layer) 0))
+    ∷ every 0 (reachCount b) (λ t. let e : LocalNear = entryAt b t in isUpTo (heldCount b) (e .local) && eqb (e .layer % 2) 0 && leb (e .layer) (stepCount b))
+    ∷ every 1 (ownedCount b) (λ l. someOf (localReach b l) (λ e. eqb (e .local) l && eqb (e .layer) 0))
     ∷ every 0 (exportCount b) (λ t. isUpTo (ownedCount b) (exportAt b t))
     ∷ []
 
@@ -182,7 +187,7 @@ dynamicTests b d n =
     leb (stateLength d n) (length b)
     ∷ leb (roundAt b d) 60000
     ∷ every 1 16 (λ j. leb (byteAt b (takenPlace d j)) 1 && leb (byteAt b (writtenPlace d j)) 1)
-    ∷ every 1 n (λ l. inRange (depthFrom b (depthPlace d l)))
+    ∷ every 0 n (rangedAt b (d + 34))
     ∷ []
 
 -- a part state: the lists are as long as their counts say, and all tests hold

@@ -9,6 +9,8 @@ use Rattle.vocabulary.specs.Lists.{everyOf}
 use Rattle.vocabulary.specs.Tests.{Test, refuse, firstOf}
 use Rattle.vocabulary.specs.Bytes.{Bytes, over}
 use Rattle.layout.specs.Words.{bytesOf}
+use Rattle.layout.specs.Answers.{answer}
+use Rattle.layout.specs.declared.Answer.{Answer}
 use Rattle.mesh.specs.Mesh.{top, cellCount, meshTests}
 use Rattle.mesh.specs.Walks.{bad10, bad13}
 use Rattle.split.specs.Split.{Split, splitOf, owned, held, imports, exports, interior, halo, locals, isPrivate, isExposed, isShared, isCopied, range}
@@ -84,6 +86,10 @@ module _ (m : Bytes) (parts : ℕ) (owners : Bytes) (i : ℕ) (st : Bytes) (w : 
 
   unfoldable pub listNumber : Bytes → ℕ
   listNumber out = firstOf (listTests out)
+
+  -- it gives the count of words
+  unfoldable pub listAnswer : Bytes → Answer
+  listAnswer out = answer (listNumber out) (length listWords)
 
   -- what it leaves in the output: "a list given or taken is words in the order stated"
   unfoldable pub listOut : Bytes → Bytes

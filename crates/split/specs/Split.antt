@@ -19,13 +19,17 @@ pub record Split : Type 0 where
   pub owner : ℕ → ℕ
   pub parts : ℕ
 
+-- the owner of the cell of index k, from 0, in a part map
+unfoldable pub ownerAt : Bytes → ℕ → ℕ
+ownerAt owners k = byteAt owners k
+
 -- "A part map gives P from 1 to 16, and one byte a cell in rising number: its owner, from 1 to P."
 unfoldable pub splitOf : Bytes → ℕ → Bytes → Bytes → Split
 splitOf m parts owners st = record {
   first = firstCell m;
   cells = cellCount m;
   reach = reach m st;
-  owner = λ c. byteAt owners (c - firstCell m);
+  owner = λ c. ownerAt owners (c - firstCell m);
   parts = parts;
 }
 
