@@ -2,11 +2,10 @@
 -- cell, two's complement, high byte first." In fields, messages and states a depth stays its four bytes; only a rule reads them as a
 -- number. Assumes nothing.
 use mathlib.Core.Bool.{Bool, cond}
-use mathlib.Core.List.{List, [], _∷_}
+use mathlib.Core.List.{[], _∷_}
 use Prim.Native.Nat.{ℕ, _+_, _-_, _*_, _/_, _%_}
 use lib.Dec.{ltb, leb}
 use lib.IntN.{ℤ, pos, negsuc, natAbs}
-use lib.ListN.{getD}
 use Rattle.vocabulary.specs.Bytes.{Bytes, byteAt}
 use Rattle.layout.specs.Words.{word}
 

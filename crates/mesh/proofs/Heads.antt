@@ -1,11 +1,10 @@
 -- What the tests 1 to 3 answer, by the tests that the code makes one after the other. Assumes nothing.
-use mathlib.Core.Path.{_≡_, refl, sym, ap, _∙_}
-use mathlib.Core.Bool.{Bool, true, false, not, _||_}
+use mathlib.Core.Path.{_≡_, sym}
+use mathlib.Core.Bool.{Bool, true, false, not}
 use Prim.Native.Nat.{ℕ, _+_, _*_, _≤_, _<_}
-use native.Mathlib.Omega.{arith}
-use lib.Dec.{ltb, leb, eqb}
+use lib.Dec.{ltb, eqb}
 use lib.ListN.{length}
-use borrow.Author.Tests.{le-leb, lt-leb, lt-ltb, le-ltb, eq-eqb, ne-eqb}
+use borrow.Author.Tests.{le-leb, lt-leb, lt-ltb, le-ltb}
 use Rattle.vocabulary.specs.Bytes.{Bytes}
 use Rattle.vocabulary.specs.Ranges.{some}
 use Rattle.mesh.specs.Mesh.{top, counted, elements, recordCount, meshLength, wrongCount, bad1, bad2, bad3}

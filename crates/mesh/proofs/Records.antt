@@ -1,19 +1,19 @@
 -- The chains of all elements met one after another: test 4. Assumes nothing.
-use mathlib.Core.Path.{_≡_, refl, sym, ap, ap₂, _∙_}
+use mathlib.Core.Path.{_≡_, refl, sym, ap, _∙_}
 use mathlib.Core.Bool.{Bool, true, false, not, _||_, _&&_}
-use mathlib.Core.List.{List, [], _∷_, _++_, append-assoc}
+use mathlib.Core.List.{List, [], _∷_}
 use Prim.Native.Nat.{ℕ, zero, suc, _+_, _-_, _≤_, _<_}
 use native.Mathlib.Omega.{arith}
 use lib.Dec.{eqb, ltb, leb}
-use lib.ListN.{length, getD, replicate, length-replicate, getD-replicate, List·getD-eq-default}
-use borrow.Author.Tests.{eqb-true, eqb-false, le-leb, lt-leb, lt-ltb, le-ltb, leb-true, leb-false, ltb-true, ltb-false}
+use lib.ListN.{getD, replicate, length-replicate, getD-replicate, List·getD-eq-default}
+use borrow.Author.Tests.{eqb-false, le-leb, lt-leb, ltb-true, ltb-false}
 use Rattle.vocabulary.specs.Bytes.{Bytes}
 use Rattle.vocabulary.specs.Ranges.{isUpTo, some, blocks}
-use Rattle.vocabulary.specs.RangeLaws.{blocks-split, blocks-all, blocks-turn, blocks-start}
+use Rattle.vocabulary.specs.RangeLaws.{blocks-split, blocks-all, blocks-turn}
 use Rattle.vocabulary.specs.Lists.{repeats, someOf, All}
 use Rattle.vocabulary.specs.ListLaws.{someOf-cong, All-map}
 use Rattle.mesh.specs.Mesh.{elements, counted, recordCount, nextOf, headOf, follow, records, allRecords, headed, bad4}
-use Rattle.mesh.specs.Meet.{Met, met, meet}
+use Rattle.mesh.specs.Meet.{met, meet}
 use Rattle.mesh.proofs.Meeting.{outside, fresh-tells, meet-on, meet-stays}
 
 -- a record that is followed is not 0

@@ -2,12 +2,12 @@
 --
 -- "Word 0: d, from 1 to 3. Words 1 to 4: the counts for dimensions 0 to 3. Word 5: R, the count of records. Then N heads, one an element.
 -- Then R records of two words: an element, and the index of the next record."
-use mathlib.Core.Bool.{Bool, true, false, not, _&&_, _||_, cond}
+use mathlib.Core.Bool.{Bool, true, false, not, _||_, cond}
 use mathlib.Core.List.{List, [], _∷_, map}
 use Prim.Native.Nat.{ℕ, zero, suc, _+_, _*_}
 use lib.Dec.{eqb, ltb, leb}
 use lib.ListN.{length}
-use Rattle.vocabulary.specs.Ranges.{picked, every, some, blocks}
+use Rattle.vocabulary.specs.Ranges.{picked, some, blocks}
 use Rattle.vocabulary.specs.Lists.{isIn, repeats, someOf}
 use Rattle.vocabulary.specs.Tests.{Test, refuse, firstOf}
 use Rattle.vocabulary.specs.Bytes.{Bytes}

@@ -1,13 +1,13 @@
 -- Incidence, stencils, walks, layers and reaches, and the refusals 10 and 13. Assumes nothing.
-use mathlib.Core.Bool.{Bool, true, false, not, _&&_, _||_, cond}
+use mathlib.Core.Bool.{Bool, not, _||_, cond}
 use mathlib.Core.List.{List, [], _∷_, map}
 use Prim.Native.Nat.{ℕ, zero, suc, _+_, _-_, _%_}
-use lib.Dec.{eqb, ltb, leb}
+use lib.Dec.{eqb, ltb}
 use lib.ListN.{length, getD}
 use Rattle.vocabulary.specs.Ranges.{picked, every, total}
 use Rattle.vocabulary.specs.Lists.{isIn, someOf}
 use Rattle.vocabulary.specs.Bytes.{Bytes, byteAt}
-use Rattle.mesh.specs.Mesh.{top, counted, below, firstCell, cellCount, chain}
+use Rattle.mesh.specs.Mesh.{counted, below, firstCell, cellCount, chain}
 
 -- "Two elements are incident if one is in the other's chain."
 unfoldable pub incident : Bytes → ℕ → ℕ → Bool

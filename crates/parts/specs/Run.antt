@@ -1,16 +1,16 @@
 -- Runs: lists of calls on the states of all parts, what they gather, and the statement of demand 3. Assumes nothing.
 use mathlib.Core.Path.{_≡_}
 use mathlib.Core.Logic.{_↔_}
-use mathlib.Core.Bool.{Bool, true, false, cond}
+use mathlib.Core.Bool.{true, cond}
 use mathlib.Core.List.{List, [], _∷_, List·Memᴰ}
-use Prim.Native.Nat.{ℕ, zero, suc, _+_, _-_, _*_, _/_, _<_, _≤_}
+use Prim.Native.Nat.{ℕ, suc, _+_, _*_, _/_, _<_, _≤_}
 use lib.Dec.{eqb}
 use lib.ListN.{length, take}
 use Rattle.vocabulary.specs.Ranges.{isUpTo, total}
 use Rattle.vocabulary.specs.Lists.{All}
 use Rattle.vocabulary.specs.Bytes.{Bytes, byteAt}
 use Rattle.layout.specs.Depths.{four}
-use Rattle.mesh.specs.Mesh.{firstCell, cellCount}
+use Rattle.mesh.specs.Mesh.{cellCount}
 use Rattle.round.specs.Rounds.{Scheme, schemeOf, undivided}
 use Rattle.split.specs.Split.{Split, splitOf, ownerAt, owned, held, exports, locals, globalOf}
 use Rattle.parts.specs.State.{isState}

@@ -1,7 +1,7 @@
 -- Start and the size of a state. Assumes nothing.
 --
 -- "Start takes a mesh, a part map, a part's number, a stencil, a rule and a field, and makes a state at round 0."
-use mathlib.Core.Bool.{Bool, cond}
+use mathlib.Core.Bool.{cond}
 use mathlib.Core.List.{List, [], _∷_, _++_, map}
 use Prim.Native.Nat.{ℕ, _+_, _*_}
 use lib.Dec.{eqb, ltb}
@@ -16,8 +16,8 @@ use Rattle.layout.specs.declared.Answer.{Answer}
 use Rattle.mesh.specs.Mesh.{cellCount}
 use Rattle.mesh.specs.Walks.{Near, steps}
 use Rattle.round.specs.Rules.{bad11}
-use Rattle.round.specs.Rounds.{Scheme, schemeOf, depthIn, bad14}
-use Rattle.split.specs.Split.{Split, splitOf, owned, imports, exports, interior, halo, locals, localOf, globalOf}
+use Rattle.round.specs.Rounds.{schemeOf, depthIn, bad14}
+use Rattle.split.specs.Split.{Split, splitOf, owned, imports, exports, locals, localOf, globalOf}
 use Rattle.split.specs.Lists.{splitTests, sizeTests}
 use Rattle.parts.specs.State.{stateLength}
 

@@ -4,16 +4,16 @@
 -- come before d. Local
 -- numbers run from 1, and so do the numbers of parts, 1 to 16. A table of ends has at j how many entries belong to the numbers up to j, so
 -- those of j are the ones after end (j − 1), up to end j.
-use mathlib.Core.Bool.{Bool, true, false, not, _&&_, _||_}
+use mathlib.Core.Bool.{Bool, not, _&&_}
 use mathlib.Core.List.{List, [], _∷_}
 use Prim.Native.Nat.{ℕ, _+_, _-_, _*_, _%_}
 use lib.Dec.{eqb, ltb, leb}
 use lib.ListN.{length, take, drop}
 use Rattle.vocabulary.specs.Ranges.{isUpTo, every, listed}
-use Rattle.vocabulary.specs.Lists.{someOf, everyOf}
+use Rattle.vocabulary.specs.Lists.{someOf}
 use Rattle.vocabulary.specs.Tests.{allOf}
 use Rattle.vocabulary.specs.Bytes.{Bytes, byteAt}
-use Rattle.layout.specs.Words.{word, wordAt, words}
+use Rattle.layout.specs.Words.{word, wordAt}
 use Rattle.layout.specs.Depths.{rangedAt}
 use Rattle.round.specs.Rules.{Old, newDepth, weightCount, bad11}
 

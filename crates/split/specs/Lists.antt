@@ -1,7 +1,7 @@
 -- The calls that give a part's lists, and the refusals 8, 9 and 12. Assumes nothing.
 use mathlib.Core.Bool.{Bool, not, _||_, cond}
 use mathlib.Core.List.{List, [], _∷_, _++_}
-use Prim.Native.Nat.{ℕ, _+_, _*_}
+use Prim.Native.Nat.{ℕ, _*_}
 use lib.Dec.{eqb, ltb}
 use lib.ListN.{length}
 use Rattle.vocabulary.specs.Ranges.{isUpTo, some, total}

@@ -1,9 +1,9 @@
 -- Part maps, and what each part owns, holds, imports and exports, its local numbers and its ranges. Assumes nothing.
-use mathlib.Core.Bool.{Bool, true, false, not, _&&_, _||_, cond}
-use mathlib.Core.List.{List, [], _∷_, _++_}
+use mathlib.Core.Bool.{Bool, not, _&&_, cond}
+use mathlib.Core.List.{List, [], _++_}
 use Prim.Native.Nat.{ℕ, _+_, _-_}
 use lib.Dec.{eqb, ltb}
-use lib.ListN.{length, getD}
+use lib.ListN.{getD}
 use Rattle.vocabulary.specs.Ranges.{picked, some, blocks}
 use Rattle.vocabulary.specs.Lists.{placeOf, someOf, everyOf}
 use Rattle.vocabulary.specs.Bytes.{Bytes, byteAt}

@@ -1,8 +1,6 @@
 -- Words over bytes and buffers: the byte at a place, and a buffer with a part replaced. Assumes nothing.
-use mathlib.Core.List.{List, [], _∷_, _++_}
+use mathlib.Core.List.{List, _++_}
 use Prim.Native.Nat.{ℕ, _+_}
-use Prim.Native.Char.{code}
-use Prim.Native.String.{String, [] as nil, _∷_ as cons}
 use lib.ListN.{length, getD, take, drop}
 
 abbrev pub Bytes : Type 0

@@ -2,8 +2,7 @@ pub mod Ranges
 pub mod Lists
 pub mod Tests
 pub mod Bytes
-pub mod Loop
 pub mod ListLaws
 pub mod RangeLaws
-pub mod Scans
+pub mod ScanLaws
 pub mod ByteLaws

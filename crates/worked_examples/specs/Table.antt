@@ -1,9 +1,9 @@
 -- The worked examples of document 01 that it marks (P), as entries of one table under one theorem, all by computation over the definitions.
 -- Assumes nothing.
-use mathlib.Core.Path.{_≡_, refl}
+use mathlib.Core.Path.{_≡_, refl, sym, subst}
 use mathlib.Core.Bool.{Bool, true, false, cond}
 use mathlib.Core.List.{List, [], _∷_, _++_, map, List·Memᴰ, List·Memᴰ·head, List·Memᴰ·tail}
-use Prim.Native.Nat.{ℕ, zero, suc, _≤_}
+use Prim.Native.Nat.{ℕ, zero, suc, _*_, _<_, _≤_}
 use Prim.Native.String.{String}
 use native.Mathlib.Omega.{arith}
 use lib.IntN.{ℤ, pos, negsuc}
@@ -12,19 +12,20 @@ use Rattle.vocabulary.specs.Bytes.{byteAt, Bytes, over}
 use Rattle.vocabulary.specs.Lists.{isIn, placeOf, joined, repeats, someOf, everyOf}
 use Rattle.vocabulary.specs.Ranges.{isUpTo, picked, every, some, listed, blocks, total}
 use Rattle.layout.specs.Answers.{answer}
-use Rattle.layout.specs.Depths.{depthOf, four, numberFrom, signed, unsigned, depthFrom, numberBytes, depthBytes, inRange}
+use Rattle.layout.specs.Depths.{depthOf, four, numberFrom, signed, unsigned, depthFrom, numberBytes, depthBytes, inRange, rangedAt}
 use Rattle.layout.specs.Words.{word, wordAt, words, wordBytes, bytesOf}
-use Rattle.mesh.specs.Mesh.{top, counted, below, elements, recordCount, firstCell, cellCount, dimension, headOf, elementIn, nextOf, follow, records, chain, allRecords, bad1, bad2, meshLength, bad3, bad4, wrongIn, bad5, bad6, bad7, meshTests, meshNumber}
+use Rattle.mesh.specs.Meet.{meet}
+use Rattle.mesh.specs.Mesh.{below, dimension, elementIn, nextOf, follow, records, chain, allRecords, bad1, wrongCount, bad2, meshLength, bad3, headed, bad4, wrongIn, bad5, bad6, bad7, meshTests, meshNumber, checkAnswer}
 use Rattle.mesh.specs.Walks.{Near, incident, steps, bad10, stepTo, walked, stepsTo, layer, reach, bad13}
 use Rattle.round.specs.Rounds.{bad14, schemeOf, depthIn, oldsIn, newIn, round, undivided, roundTests, roundNumber, roundOut}
 use Rattle.round.specs.Rules.{weightCount, bad11, weight, depthSum, weightSum, quotient, least, newDepth}
 use Rattle.messages.specs.Messages.{encode, bad15, reading}
-use Rattle.split.specs.Lists.{copied-range, shared-range, exposed-range, private-range, exports-to, imports-from, local-order, halo-cells, interior-cells, Wanted, bad8, bad9, bad12, splitTests, sizeTests, others, listOf, listWords, listTests, listNumber, listOut}
-use Rattle.split.specs.Split.{splitOf, owns, owned, reaches, holds, held, imports, exports, inside, interior, halo, locals, localOf, globalOf, cellsAt, holdsLower, touches, another, isCopied, isShared, isExposed, isPrivate, range}
-use Rattle.parts.specs.Calls.{importsFrom, exportsTo, messageTo, writeTestsIn, writtenIn, takeTestsIn, takenIn, allTaken, allWritten, advanceTestsIn, newAt, advancedIn, collectTestsIn, collectedIn, writeNumber, message, writeState, writeOut, takeNumber, takeState, advanceNumber, advanceState, collectNumber, collectOut}
-use Rattle.parts.specs.Run.{schemeIn, collectsOf, Run, Inputs, World, Collected, collect, advance, take-in, write, Call, put, more, step, run, Fair, Honest, startNumberIn, startStateIn, begin}
-use Rattle.parts.specs.Start.{importEnds, exportEnds, reachEnds, reachWords, exportWords, listsBytes, listsWords, stateSize, sizeNumber, firstState, startTests, startNumber, startState}
-use Rattle.parts.specs.State.{weights, localReach, localExports, listsIn, listsOf, risesFrom, listsTests, dynamicTests, isState, bad20}
+use Rattle.split.specs.Lists.{copied-range, shared-range, exposed-range, private-range, exports-to, imports-from, local-order, halo-cells, interior-cells, Wanted, bad8, bad9, bad12, splitTests, sizeTests, others, listOf, listWords, listTests, listNumber, listAnswer, listOut}
+use Rattle.split.specs.Split.{ownerAt, splitOf, owns, owned, reaches, holds, held, imports, exports, inside, interior, halo, locals, localOf, globalOf, cellsAt, holdsLower, touches, another, isCopied, isShared, isExposed, isPrivate, range}
+use Rattle.parts.specs.Calls.{importsFrom, exportsTo, messageTo, writeTestsIn, writtenIn, takeTestsIn, takenIn, allTaken, allWritten, advanceTestsIn, newAt, advancedIn, collectTestsIn, collectedIn, writeNumber, message, writeAnswer, writeState, writeOut, takeNumber, takeAnswer, takeState, advanceNumber, advanceAnswer, advanceState, collectNumber, collectAnswer, collectOut}
+use Rattle.parts.specs.Run.{ownerIn, Gathered, schemeIn, collectsOf, Run, Inputs, World, Collected, collect, advance, take-in, write, Call, put, more, step, run, Fair, Honest, startNumberIn, startStateIn, begin, StateBound}
+use Rattle.parts.specs.Start.{importEnds, exportEnds, reachEnds, reachWords, exportWords, listsLong, listsWords, stateSize, sizeNumber, sizeAnswer, firstState, startTests, startNumber, startAnswer, startState}
+use Rattle.parts.specs.State.{weights, localReach, localExports, listsIn, listsOf, rises, listsTests, dynamicTests, isState, bad20}
 use Rattle.listing.specs.Listing.{ascii, digits, decimal, spaced, line, lineUnlessEmpty, dimensionText, partText, splitText, meshPiece, mapPiece, partsPiece, ownersPiece, lastPiece, stencilPiece, listingNumber, listText}
 
 -- ---- the inputs
@@ -149,6 +150,21 @@ listCall owners st i w = listNumber five 2 owners i st w (replicate 40 0)
 abbrev startCall : List ℕ → ℕ
 startCall ds = startNumber five 2 (fiveInputs .owners) 1 (fiveInputs .stencil) 1 (fiveInputs .weights) (field ds) (buffers 1)
 
+-- an accepted collect of the run, into a field of zeros
+abbrev collected : ℕ → ℕ → List ℕ → Collected
+collected i k ds = record { part = i; round = k; made = k; before = empty; field = field ds }
+
+-- the accepted collects of the run
+abbrev allCollected : List Collected
+allCollected = collected 2 2 (0 ∷ 0 ∷ 0 ∷ 391 ∷ 444 ∷ []) ∷ collected 1 2 (155 ∷ 208 ∷ 300 ∷ 0 ∷ 0 ∷ []) ∷ collected 1 1 (133 ∷ 200 ∷ 300 ∷ 0 ∷ 0 ∷ []) ∷ []
+
+-- where the message of an accepted take stands among those written
+last : {x : Bytes} {xs : List Bytes} → List·Memᴰ x (x ∷ xs)
+last = List·Memᴰ·head refl
+
+last-but-one : {x y : Bytes} {xs : List Bytes} → List·Memᴰ x (y ∷ x ∷ xs)
+last-but-one = List·Memᴰ·tail (List·Memᴰ·head refl)
+
 -- an entry, by the definition that it is about
 pub data Example : Type 0 where
   -- bytes and their length
@@ -173,8 +189,12 @@ pub data Example : Type 0 where
   first-message : ℕ → ℕ → Bytes → Example
   -- the numbers that the calls of the run answer
   answers : List ℕ → Example
-  -- the fields of its accepted collects, the last one first
-  collects : List Bytes → Example
+  -- its accepted collects, the last one first
+  collects : List Collected → Example
+  -- a part of the run is started
+  begins : ℕ → Example
+  -- what its accepted takes are handed was written before
+  fair : Example
 
 -- what an entry claims
 abbrev pub Holds : Example → Type 0
@@ -189,7 +209,9 @@ Holds (divided s w q) = quotient s w ≡ q
 Holds (start-number ds n) = startCall ds ≡ n
 Holds (first-message i j b) = message (begin fiveInputs buffers .states i) j ≡ b
 Holds (answers ns) = numbers (begin fiveInputs buffers) calls ≡ ns
-Holds (collects fs) = map (λ g. g .field) (run (begin fiveInputs buffers) calls .given) ≡ fs
+Holds (collects gs) = run (begin fiveInputs buffers) calls .given ≡ gs
+Holds (begins i) = startNumberIn fiveInputs i (buffers i) ≡ 0
+Holds fair = Honest (begin fiveInputs buffers) calls
 
 abbrev pub AllHold : List Example → Type 0
 AllHold [] = Unit {0}
@@ -228,53 +250,43 @@ table =
     ∷ start-number (100 ∷ 200 ∷ 1200001 ∷ 400 ∷ 500 ∷ []) 14
     -- "Message for round 1 at round 0: 22; after advance, taken": the ninth call, and the thirteenth
     ∷ answers (0 ∷ 0 ∷ 24 ∷ 0 ∷ 23 ∷ 0 ∷ 16 ∷ 0 ∷ 22 ∷ 0 ∷ 0 ∷ 0 ∷ 0 ∷ 25 ∷ 0 ∷ 0 ∷ 28 ∷ 0 ∷ 0 ∷ 0 ∷ 0 ∷ [])
-    ∷ collects (field (0 ∷ 0 ∷ 0 ∷ 391 ∷ 444 ∷ []) ∷ field (155 ∷ 208 ∷ 300 ∷ 0 ∷ 0 ∷ []) ∷ field (133 ∷ 200 ∷ 300 ∷ 0 ∷ 0 ∷ []) ∷ [])
+    -- a run of two rounds, out of order
+    ∷ begins 1
+    ∷ begins 2
+    ∷ fair
+    ∷ collects allCollected
     ∷ []
 
 pub worked : AllHold table
-unfolding over isIn placeOf joined repeats someOf everyOf isUpTo picked every some listed blocks total answer four numberFrom signed unsigned depthFrom numberBytes depthBytes inRange word wordAt words wordBytes bytesOf top counted below elements recordCount firstCell cellCount dimension headOf elementIn nextOf follow records chain allRecords bad1 bad2 meshLength bad3 bad4 wrongIn bad5 bad6 bad7 meshTests meshNumber incident steps bad10 stepTo walked stepsTo layer reach bad13 bad14 schemeOf depthIn oldsIn newIn round undivided roundTests roundNumber roundOut weightCount bad11 weight depthSum weightSum quotient least newDepth encode bad15 reading bad8 bad9 bad12 splitTests sizeTests others listOf listWords listTests listNumber listOut splitOf owns owned reaches holds held imports exports inside interior halo locals localOf globalOf cellsAt holdsLower touches another isCopied isShared isExposed isPrivate range importsFrom exportsTo messageTo writeTestsIn writtenIn takeTestsIn takenIn allTaken allWritten advanceTestsIn newAt advancedIn collectTestsIn collectedIn writeNumber message writeState writeOut takeNumber takeState advanceNumber advanceState collectNumber collectOut put more step run Fair Honest startNumberIn startStateIn begin importEnds exportEnds reachEnds reachWords exportWords listsBytes listsWords stateSize sizeNumber firstState startTests startNumber startState weights localReach localExports listsIn listsOf risesFrom listsTests dynamicTests isState bad20 ascii digits decimal spaced line lineUnlessEmpty dimensionText partText splitText meshPiece mapPiece partsPiece ownersPiece lastPiece stencilPiece listingNumber listText buffers calls field five fiveInputs listInput numberAt numbers triangles
-worked = (refl, (refl, (refl, (refl, (refl, (refl, (refl, (refl, (refl, (refl, (refl, (refl, (refl, (refl, (refl, (refl, (refl, (refl, (refl, (refl, (refl, (refl, (refl, (refl, tt))))))))))))))))))))))))
-
--- ---- the run is one of those that demand 3 is about
-
-started : (i : ℕ) → 1 ≤ i → i ≤ 2 → startNumberIn fiveInputs i (buffers i) ≡ 0
-unfolding over isIn placeOf joined repeats someOf everyOf isUpTo picked every some listed blocks total answer four numberFrom signed unsigned depthFrom numberBytes depthBytes inRange word wordAt words wordBytes bytesOf top counted below elements recordCount firstCell cellCount dimension headOf elementIn nextOf follow records chain allRecords bad1 bad2 meshLength bad3 bad4 wrongIn bad5 bad6 bad7 meshTests meshNumber incident steps bad10 stepTo walked stepsTo layer reach bad13 bad14 schemeOf depthIn oldsIn newIn round undivided roundTests roundNumber roundOut weightCount bad11 weight depthSum weightSum quotient least newDepth encode bad15 reading bad8 bad9 bad12 splitTests sizeTests others listOf listWords listTests listNumber listOut splitOf owns owned reaches holds held imports exports inside interior halo locals localOf globalOf cellsAt holdsLower touches another isCopied isShared isExposed isPrivate range importsFrom exportsTo messageTo writeTestsIn writtenIn takeTestsIn takenIn allTaken allWritten advanceTestsIn newAt advancedIn collectTestsIn collectedIn writeNumber message writeState writeOut takeNumber takeState advanceNumber advanceState collectNumber collectOut put more step run Fair Honest startNumberIn startStateIn begin importEnds exportEnds reachEnds reachWords exportWords listsBytes listsWords stateSize sizeNumber firstState startTests startNumber startState weights localReach localExports listsIn listsOf risesFrom listsTests dynamicTests isState bad20 ascii digits decimal spaced line lineUnlessEmpty dimensionText partText splitText meshPiece mapPiece partsPiece ownersPiece lastPiece stencilPiece listingNumber listText buffers calls field five fiveInputs listInput numberAt numbers triangles
-started zero h k = let z : ⊥ = omega arith in absurd z
-started (suc zero) h k = refl
-started (suc (suc zero)) h k = refl
-started (suc (suc (suc i))) h k = let z : ⊥ = omega arith in absurd z
-
-last : {x : Bytes} {xs : List Bytes} → List·Memᴰ x (x ∷ xs)
-last = List·Memᴰ·head refl
-
-last-but-one : {x y : Bytes} {xs : List Bytes} → List·Memᴰ x (y ∷ x ∷ xs)
-last-but-one = List·Memᴰ·tail (List·Memᴰ·head refl)
-
-honest : Honest (begin fiveInputs buffers) calls
-unfolding over isIn placeOf joined repeats someOf everyOf isUpTo picked every some listed blocks total answer four numberFrom signed unsigned depthFrom numberBytes depthBytes inRange word wordAt words wordBytes bytesOf top counted below elements recordCount firstCell cellCount dimension headOf elementIn nextOf follow records chain allRecords bad1 bad2 meshLength bad3 bad4 wrongIn bad5 bad6 bad7 meshTests meshNumber incident steps bad10 stepTo walked stepsTo layer reach bad13 bad14 schemeOf depthIn oldsIn newIn round undivided roundTests roundNumber roundOut weightCount bad11 weight depthSum weightSum quotient least newDepth encode bad15 reading bad8 bad9 bad12 splitTests sizeTests others listOf listWords listTests listNumber listOut splitOf owns owned reaches holds held imports exports inside interior halo locals localOf globalOf cellsAt holdsLower touches another isCopied isShared isExposed isPrivate range importsFrom exportsTo messageTo writeTestsIn writtenIn takeTestsIn takenIn allTaken allWritten advanceTestsIn newAt advancedIn collectTestsIn collectedIn writeNumber message writeState writeOut takeNumber takeState advanceNumber advanceState collectNumber collectOut put more step run Fair Honest startNumberIn startStateIn begin importEnds exportEnds reachEnds reachWords exportWords listsBytes listsWords stateSize sizeNumber firstState startTests startNumber startState weights localReach localExports listsIn listsOf risesFrom listsTests dynamicTests isState bad20 ascii digits decimal spaced line lineUnlessEmpty dimensionText partText splitText meshPiece mapPiece partsPiece ownersPiece lastPiece stencilPiece listingNumber listText buffers calls field five fiveInputs listInput numberAt numbers triangles
-honest = (
-  tt,
-  (
-    tt,
-    (
+unfolding over isIn placeOf joined repeats someOf everyOf isUpTo picked every some listed blocks total answer four numberFrom signed unsigned depthFrom numberBytes depthBytes inRange rangedAt word wordAt words wordBytes bytesOf meet below dimension elementIn nextOf follow records chain allRecords bad1 wrongCount bad2 meshLength bad3 headed bad4 wrongIn bad5 bad6 bad7 meshTests meshNumber checkAnswer incident steps bad10 stepTo walked stepsTo layer reach bad13 bad14 schemeOf depthIn oldsIn newIn round undivided roundTests roundNumber roundOut weightCount bad11 weight depthSum weightSum quotient least newDepth encode bad15 reading bad8 bad9 bad12 splitTests sizeTests others listOf listWords listTests listNumber listAnswer listOut ownerAt splitOf owns owned reaches holds held imports exports inside interior halo locals localOf globalOf cellsAt holdsLower touches another isCopied isShared isExposed isPrivate range importsFrom exportsTo messageTo writeTestsIn writtenIn takeTestsIn takenIn allTaken allWritten advanceTestsIn newAt advancedIn collectTestsIn collectedIn writeNumber message writeAnswer writeState writeOut takeNumber takeAnswer takeState advanceNumber advanceAnswer advanceState collectNumber collectAnswer collectOut put more step run Fair Honest startNumberIn startStateIn begin StateBound importEnds exportEnds reachEnds reachWords exportWords listsLong listsWords stateSize sizeNumber sizeAnswer firstState startTests startNumber startAnswer startState weights localReach localExports listsIn listsOf rises listsTests dynamicTests isState bad20 ascii digits decimal spaced line lineUnlessEmpty dimensionText partText splitText meshPiece mapPiece partsPiece ownersPiece lastPiece stencilPiece listingNumber listText buffers calls field five fiveInputs listInput numberAt numbers triangles
+worked = (refl, (refl, (refl, (refl, (refl, (refl, (refl, (refl, (refl, (refl, (refl, (refl, (refl, (refl, (refl, (refl, (refl, (refl, (refl, (refl, (refl, (refl, (refl, (refl, (refl, (honest, (refl, tt)))))))))))))))))))))))))))
+  where
+    honest : Honest (begin fiveInputs buffers) calls
+    honest = (
       tt,
       (
-        λ e. last-but-one,
+        tt,
         (
-          λ e. last-but-one,
+          tt,
           (
-            tt,
+            λ e. last-but-one,
             (
-              tt,
+              λ e. last-but-one,
               (
                 tt,
                 (
-                  λ e. last,
+                  tt,
                   (
-                    λ e. last-but-one,
+                    tt,
                     (
-                      tt,
-                      (tt, (λ e. last, (tt, (tt, (tt, (tt, (λ e. last, (tt, (tt, (tt, tt)))))))))),
+                      λ e. last,
+                      (
+                        λ e. last-but-one,
+                        (
+                          tt,
+                          (tt, (λ e. last, (tt, (tt, (tt, (tt, (λ e. last, (tt, (tt, (tt, tt)))))))))),
+                        ),
+                      ),
                     ),
                   ),
                 ),
@@ -283,10 +295,40 @@ honest = (
           ),
         ),
       ),
-    ),
-  ),
-)
+    )
+
+-- ---- the run is one of those that demand 3 is about, and it gathers a field
+
+abbrev results : Holds (begins 1) × Holds (begins 2) × Holds fair × Holds (collects allCollected)
+results = (worked .1 .1 .1 .1 .1 .1 .1 .1 .1 .1 .1 .1 .1 .1 .1 .1 .1 .1 .1 .1 .1 .1 .1 .0, worked .1 .1 .1 .1 .1 .1 .1 .1 .1 .1 .1 .1 .1 .1 .1 .1 .1 .1 .1 .1 .1 .1 .1 .1 .0, worked .1 .1 .1 .1 .1 .1 .1 .1 .1 .1 .1 .1 .1 .1 .1 .1 .1 .1 .1 .1 .1 .1 .1 .1 .1 .0, worked .1 .1 .1 .1 .1 .1 .1 .1 .1 .1 .1 .1 .1 .1 .1 .1 .1 .1 .1 .1 .1 .1 .1 .1 .1 .1 .0)
 
 pub twoRounds : Run fiveInputs
 unfolding fiveInputs
-twoRounds = record { buffers = buffers; started = started; calls = calls; honest = honest }
+twoRounds = record { some-part = omega arith; buffers = buffers; started = started; calls = calls; honest = results .2 }
+  where
+    started : (i : ℕ) → 1 ≤ i → i ≤ 2 → startNumberIn fiveInputs i (buffers i) ≡ 0
+    started zero h k = let z : ⊥ = omega arith in absurd z
+    started (suc zero) h k = results .0
+    started (suc (suc zero)) h k = results .1
+    started (suc (suc (suc i))) h k = let z : ⊥ = omega arith in absurd z
+
+-- all parts collected at round 2, so the run gathers the whole field after two rounds
+pub afterTwo : Gathered fiveInputs (collectsOf twoRounds) 2 (field (155 ∷ 208 ∷ 300 ∷ 391 ∷ 444 ∷ []))
+unfolding twoRounds fiveInputs five field joined four depthBytes numberBytes unsigned bytesOf wordAt word ownerAt
+afterTwo = subst (λ gs. Gathered fiveInputs gs 2 (field (155 ∷ 208 ∷ 300 ∷ 391 ∷ 444 ∷ []))) (sym (results .3)) (record { long = refl; collected = at-cell })
+  where
+    by-two : List·Memᴰ (collected 2 2 (0 ∷ 0 ∷ 0 ∷ 391 ∷ 444 ∷ [])) allCollected
+    by-two = List·Memᴰ·head refl
+
+    by-one : List·Memᴰ (collected 1 2 (155 ∷ 208 ∷ 300 ∷ 0 ∷ 0 ∷ [])) allCollected
+    by-one = List·Memᴰ·tail (List·Memᴰ·head refl)
+
+    at-cell : (c : ℕ) → c < 5
+        → (g : Collected) × List·Memᴰ g allCollected × (g .part ≡ ownerIn fiveInputs c) × (g .round ≡ 2)
+        × (four (field (155 ∷ 208 ∷ 300 ∷ 391 ∷ 444 ∷ [])) (4 * c) ≡ four (g .field) (4 * c))
+    at-cell zero h = (collected 1 2 (155 ∷ 208 ∷ 300 ∷ 0 ∷ 0 ∷ []), by-one, refl, refl, refl)
+    at-cell (suc zero) h = (collected 1 2 (155 ∷ 208 ∷ 300 ∷ 0 ∷ 0 ∷ []), by-one, refl, refl, refl)
+    at-cell (suc (suc zero)) h = (collected 1 2 (155 ∷ 208 ∷ 300 ∷ 0 ∷ 0 ∷ []), by-one, refl, refl, refl)
+    at-cell (suc (suc (suc zero))) h = (collected 2 2 (0 ∷ 0 ∷ 0 ∷ 391 ∷ 444 ∷ []), by-two, refl, refl, refl)
+    at-cell (suc (suc (suc (suc zero)))) h = (collected 2 2 (0 ∷ 0 ∷ 0 ∷ 391 ∷ 444 ∷ []), by-two, refl, refl, refl)
+    at-cell (suc (suc (suc (suc (suc c))))) h = let z : ⊥ = omega arith in absurd z

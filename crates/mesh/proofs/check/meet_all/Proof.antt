@@ -1,7 +1,7 @@
 -- `mesh::check::meet_all` meets its contract. The invariant: nothing amiss was met in the chains so far. Assumes nothing.
 use mathlib.Core.Path.{_≡_, refl}
 use mathlib.Core.Bool.{false}
-use Prim.Native.Nat.{_+_, _-_, _≤_, _<_}
+use Prim.Native.Nat.{_+_, _-_, _≤_}
 use Rattle.vocabulary.specs.Ranges.{blocks}
 use Rattle.mesh.specs.Mesh.{records}
 use Rattle.mesh.specs.Meet.{met, meet}

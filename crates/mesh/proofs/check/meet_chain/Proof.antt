@@ -1,6 +1,6 @@
 -- `mesh::check::meet_chain` meets its contract. The invariant: meeting what is left gives what meeting the whole chain gives. Assumes nothing.
 use mathlib.Core.Path.{_≡_, refl}
-use Prim.Native.Nat.{_+_, _-_, _≤_, _<_}
+use Prim.Native.Nat.{_+_, _-_, _<_}
 use native.Mathlib.Nat.{sub-zero}
 use Rattle.mesh.specs.Mesh.{follow}
 use Rattle.mesh.specs.Meet.{meet}

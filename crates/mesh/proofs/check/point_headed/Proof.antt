@@ -3,7 +3,7 @@ use mathlib.Core.Path.{_≡_}
 use mathlib.Core.Bool.{false}
 use Prim.Native.Nat.{_+_, _-_, _≤_}
 use Rattle.vocabulary.specs.Ranges.{some}
-use Rattle.vocabulary.specs.Scans.{some-start-from, some-stop-from, some-turn-from, some-end-from}
+use Rattle.vocabulary.specs.ScanLaws.{some-start-from, some-end-from}
 use Rattle.mesh.specs.Mesh.{headed}
 use Rattle.mesh.proofs.Chains.{head-found, head-turn}
 use borrow.Author.Needs.{needs}

@@ -1,8 +1,8 @@
 -- Laws for a loop that tries the numbers x from a on, n of them, and stops at the first that tells: `some` and `every` as its turns make
 -- them. The answer t of a test stands in for the test, as a call gives it. RangeLaws has the same for a loop from 0 on. Assumes nothing.
-use mathlib.Core.Path.{_≡_, refl, sym, ap, _∙_}
+use mathlib.Core.Path.{_≡_, sym, ap, _∙_}
 use mathlib.Core.Bool.{Bool, true, false, not}
-use Prim.Native.Nat.{ℕ, zero, suc, _+_, _-_, _≤_, _<_}
+use Prim.Native.Nat.{ℕ, _+_, _-_, _≤_, _<_}
 use native.Mathlib.Omega.{arith}
 use borrow.Author.Tests.{not-true, not-false}
 use Rattle.vocabulary.specs.Ranges.{every, some}
