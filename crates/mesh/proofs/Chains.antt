@@ -1,14 +1,15 @@
 -- Following a chain one record at a time, and what the code has met on the way. Assumes nothing.
 use mathlib.Core.Path.{_≡_, refl, sym}
 use mathlib.Core.Bool.{true, false}
-use mathlib.Core.List.{List, [], _∷_}
+use mathlib.Core.List.{List, [], _∷_, map}
 use Prim.Native.Nat.{ℕ, zero, suc, _+_, _-_, _≤_, _<_}
 use native.Mathlib.Omega.{arith}
-use lib.Dec.{eqb}
+use lib.Dec.{eqb, leb}
 use lib.ListN.{getD, set}
 use borrow.Author.Tests.{le-leb, lt-leb, lt-ltb, le-ltb, eq-eqb, ne-eqb}
 use Rattle.vocabulary.specs.Bytes.{Bytes}
 use Rattle.vocabulary.specs.Ranges.{isUpTo, some}
+use Rattle.vocabulary.specs.ListLaws.{and-right}
 use Rattle.vocabulary.specs.ScanLaws.{some-stop-from, some-turn-from}
 use Rattle.mesh.specs.Mesh.{nextOf, headOf, follow, headed}
 use Rattle.mesh.specs.Meet.{Met, met, meet}
@@ -26,52 +27,56 @@ module _ (m : Bytes) (e h : ℕ) (q : h ≡ headOf m e) (low : 1 ≤ e) where
 
 -- ---- the chain that is left after k of its turns
 
-pub follow-ended : (m : Bytes) (n i : ℕ) → i ≡ 0 → follow m n i ≡ []
+follow-ended : (m : Bytes) (n i : ℕ) → i < 1 → follow m n i ≡ []
 unfolding follow
 follow-ended m zero i e = refl
-follow-ended m (suc n) i e = simp (eq-eqb _ _ e, follow)
+follow-ended m (suc n) i e = simp (eq-eqb i 0 (omega arith), follow)
 
-pub follow-spent : (m : Bytes) (i : ℕ) → follow m 0 i ≡ []
+follow-more : (m : Bytes) (n i : ℕ) → 1 ≤ i → follow m (suc n) i ≡ i ∷ follow m n (nextOf m i)
 unfolding follow
-follow-spent m i = refl
-
-pub follow-more : (m : Bytes) (n i : ℕ) → (i ≡ 0 → ⊥) → follow m (suc n) i ≡ i ∷ follow m n (nextOf m i)
-unfolding follow
-follow-more m n i z = simp (ne-eqb _ _ z, follow)
+follow-more m n i z = simp (ne-eqb i 0 (omega arith), follow)
 
 module _ (m : Bytes) (n k i : ℕ) where
-  pub none-left : n ≤ k → follow m (n - k) i ≡ []
-  none-left h = let z : n - k ≡ 0 = omega arith in rw z (follow-spent m i)
+  pub chain-ended : i < 1 → follow m (n - k) i ≡ []
+  chain-ended e = follow-ended m (n - k) i e
 
-  pub one-more : k < n → (i ≡ 0 → ⊥) → follow m (n - k) i ≡ i ∷ follow m (n - (k + 1)) (nextOf m i)
-  one-more h z = let q : n - k ≡ suc (n - (k + 1)) = omega arith in rw q (follow-more m (n - (k + 1)) i z)
+  pub chain-spent : n ≤ k → follow m (n - k) i ≡ []
+  unfolding follow
+  chain-spent h = let z : n - k ≡ 0 = omega arith in rw z
 
--- ---- the loop of `meet_chain`: w is what meeting the whole chain gives
+  pub chain-more : k < n → 1 ≤ i → follow m (n - k) i ≡ i ∷ follow m (n - (k + 1)) (nextOf m i)
+  chain-more h z = let q : n - k ≡ suc (n - (k + 1)) = omega arith in rw q (follow-more m (n - (k + 1)) i z)
 
-module _ (m : Bytes) (v r n k i : ℕ) (s : List ℕ) (w : Met) (inv : meet v r s (follow m (n - k) i) ≡ w) where
-  pub meet-ended : i ≡ 0 → met false s ≡ w
+-- ---- a loop that meets what f makes of each record: w is what meeting the whole chain gives
+
+module _ (m : Bytes) (f : ℕ → ℕ) (v r n k i : ℕ) (s : List ℕ) (w : Met) (inv : meet v r s (map f (follow m (n - k) i)) ≡ w) where
+  pub meet-ended : i < 1 → met false s ≡ w
   unfolding meet
-  meet-ended e = rw (follow-ended m (n - k) i e) at inv
+  meet-ended e = rw (chain-ended m n k i e) at inv
 
   pub meet-spent : n ≤ k → met false s ≡ w
   unfolding meet
-  meet-spent h = rw (none-left m n k i h) at inv
+  meet-spent h = rw (chain-spent m n k i h) at inv
 
-  module _ (h : k < n) (z : i ≡ 0 → ⊥) where
-    opened : meet v r s (i ∷ follow m (n - (k + 1)) (nextOf m i)) ≡ w
-    opened = rw (one-more m n k i h z) at inv
+  module _ (h : k < n) (z : 1 ≤ i) (g : ℕ) (e : g ≡ f i) where
+    opened : meet v r s (g ∷ map f (follow m (n - (k + 1)) (nextOf m i))) ≡ w
+    opened = rw e (rw (chain-more m n k i h z) at inv)
 
-    pub meet-above : r < i → met true s ≡ w
+    pub meet-zero : g < 1 → met true s ≡ w
     unfolding meet isUpTo
-    meet-above g = simp (le-leb 1 i (omega arith), lt-leb _ _ g, meet) at opened
+    meet-zero a = simp (lt-leb 1 g a, meet) at opened
 
-    module _ (g : i ≤ r) where
-      inside : elim (eqb (getD s i 0) v) as (λ _. Met) [ true ↦ met true s | false ↦ meet v r (set s i v) (follow m (n - (k + 1)) (nextOf m i)) ] ≡ w
+    pub meet-above : r < g → met true s ≡ w
+    unfolding meet isUpTo
+    meet-above a = simp (and-right (leb 1 g) (leb g r) (lt-leb g r a), meet) at opened
+
+    module _ (a : 1 ≤ g) (b : g ≤ r) where
+      inside : elim (eqb (getD s g 0) v) as (λ _. Met) [ true ↦ met true s | false ↦ meet v r (set s g v) (map f (follow m (n - (k + 1)) (nextOf m i))) ] ≡ w
       unfolding meet isUpTo
-      inside = simp (le-leb 1 i (omega arith), le-leb _ _ g, meet) at opened
+      inside = simp (le-leb _ _ a, le-leb _ _ b, meet) at opened
 
-      pub meet-again : getD s i 0 ≡ v → met true s ≡ w
-      meet-again q = rw (eq-eqb (getD s i 0) v q) at inside
+      pub meet-again : getD s g 0 ≡ v → met true s ≡ w
+      meet-again q = rw (eq-eqb (getD s g 0) v q) at inside
 
-      pub meet-turn : (x : ℕ) → (getD s i 0 ≡ v → ⊥) → x ≡ nextOf m i → meet v r (set s i v) (follow m (n - (k + 1)) x) ≡ w
-      meet-turn x q e = rw e (rw (ne-eqb (getD s i 0) v q) at inside)
+      pub meet-turn : (x : ℕ) → (getD s g 0 ≡ v → ⊥) → x ≡ nextOf m i → meet v r (set s g v) (map f (follow m (n - (k + 1)) x)) ≡ w
+      meet-turn x q y = rw y (rw (ne-eqb (getD s g 0) v q) at inside)

@@ -1,7 +1,7 @@
 -- The chains of all elements met one after another: test 4. Assumes nothing.
 use mathlib.Core.Path.{_≡_, refl, sym, ap, _∙_}
 use mathlib.Core.Bool.{Bool, true, false, not, _||_, _&&_}
-use mathlib.Core.List.{List, [], _∷_}
+use mathlib.Core.List.{List, [], _∷_, map}
 use Prim.Native.Nat.{ℕ, zero, suc, _+_, _-_, _≤_, _<_}
 use native.Mathlib.Omega.{arith}
 use lib.Dec.{eqb, ltb, leb}
@@ -13,8 +13,12 @@ use Rattle.vocabulary.specs.RangeLaws.{blocks-split, blocks-all, blocks-turn}
 use Rattle.vocabulary.specs.Lists.{repeats, someOf, All}
 use Rattle.vocabulary.specs.ListLaws.{someOf-cong, All-map}
 use Rattle.mesh.specs.Mesh.{elements, counted, recordCount, nextOf, headOf, follow, records, allRecords, headed, bad4}
-use Rattle.mesh.specs.Meet.{met, meet}
+use Rattle.mesh.specs.Meet.{met, meet, itself}
 use Rattle.mesh.proofs.Meeting.{outside, fresh-tells, meet-on, meet-stays}
+
+map-itself : (xs : List ℕ) → map itself xs ≡ xs
+map-itself [] = refl
+map-itself (x ∷ xs) = ap (λ r. x ∷ r) (map-itself xs)
 
 -- a record that is followed is not 0
 follow-positive : (m : Bytes) (n i : ℕ) → All (λ x. 1 ≤ x) (follow m n i)
@@ -63,17 +67,17 @@ module _ (m : Bytes) (r : ℕ) (small : r ≤ 12000) where
 
   module _ (re : r ≡ recordCount m) (e h : ℕ) (he : h ≡ headOf m e) (low : 1 ≤ e) (s t : List ℕ)
       (inv : met false s ≡ meet 1 r unmarked (blocks 1 (e - 1) (records m))) where
-    here : follow m (r + 1) h ≡ records m (1 + (e - 1))
+    here : map itself (follow m (r + 1) h) ≡ records m (1 + (e - 1))
     unfolding records
-    here = let q : 1 + (e - 1) ≡ e = omega arith in rw (q, ← re, ← he)
+    here = let q : 1 + (e - 1) ≡ e = omega arith in map-itself (follow m (r + 1) h) ∙ rw (q, ← re, ← he)
 
-    pub all-turn : (b : Bool) → met b t ≡ meet 1 r s (follow m (r + 1) h) → b ≡ false → met false t ≡ meet 1 r unmarked (blocks 1 (e + 1 - 1) (records m))
+    pub all-turn : (b : Bool) → met b t ≡ meet 1 r s (map itself (follow m (r + 1) h)) → b ≡ false → met false t ≡ meet 1 r unmarked (blocks 1 (e + 1 - 1) (records m))
     all-turn b f z =
         let q : e + 1 - 1 ≡ e - 1 + 1 = omega arith in
         rw (q, blocks-turn 1 (records m) (e - 1), ← here)
-        (ap (λ x. met x t) (sym z) ∙ f ∙ sym (meet-on 1 r unmarked (blocks 1 (e - 1) (records m)) s (follow m (r + 1) h) inv))
+        (ap (λ x. met x t) (sym z) ∙ f ∙ sym (meet-on 1 r unmarked (blocks 1 (e - 1) (records m)) s (map itself (follow m (r + 1) h)) inv))
 
-    pub all-found : (b : Bool) (n : ℕ) → n ≡ elements m → e < 1 + n → met b t ≡ meet 1 r s (follow m (r + 1) h) → b ≡ true
+    pub all-found : (b : Bool) (n : ℕ) → n ≡ elements m → e < 1 + n → met b t ≡ meet 1 r s (map itself (follow m (r + 1) h)) → b ≡ true
         → true ≡ someOf (allRecords m) (ltb r) || repeats (allRecords m)
     unfolding allRecords
     all-found b n ne g f z = all-told true t (sym split)
@@ -81,7 +85,7 @@ module _ (m : Bytes) (r : ℕ) (small : r ≤ 12000) where
         so-far : met true t ≡ meet 1 r unmarked (blocks 1 (e - 1 + 1) (records m))
         so-far =
             rw (blocks-turn 1 (records m) (e - 1), ← here)
-            (ap (λ x. met x t) (sym z) ∙ f ∙ sym (meet-on 1 r unmarked (blocks 1 (e - 1) (records m)) s (follow m (r + 1) h) inv))
+            (ap (λ x. met x t) (sym z) ∙ f ∙ sym (meet-on 1 r unmarked (blocks 1 (e - 1) (records m)) s (map itself (follow m (r + 1) h)) inv))
 
         split : meet 1 r unmarked (allRecords m) ≡ met true t
         split =

@@ -2,10 +2,31 @@
 -- proofs/ tie it to the definitions. Assumes nothing.
 use mathlib.Core.Bool.{Bool, true, false}
 use mathlib.Core.List.{List, [], _∷_}
-use Prim.Native.Nat.{ℕ}
+use mathlib.Core.Path.{_≡_}
+use Prim.Native.Nat.{ℕ, _≤_, _<_}
 use lib.Dec.{eqb}
-use lib.ListN.{getD, set}
+use lib.ListN.{length, getD, set}
 use Rattle.vocabulary.specs.Ranges.{isUpTo}
+use Rattle.vocabulary.specs.Bytes.{Bytes}
+use Rattle.mesh.specs.Mesh.{top, elements, recordCount}
+
+-- what the tests 1 to 3 leave of a mesh's sizes: d, N and R
+pub record Sizes (m : Bytes) (d n r : ℕ) : Type 0 where
+  pub d-is : d ≡ top m
+  pub d-high : d ≤ 3
+  pub n-is : n ≡ elements m
+  pub n-high : n ≤ 2000
+  pub r-is : r ≡ recordCount m
+  pub r-high : r ≤ 12000
+
+-- the marks of the elements, each below e
+pub record Under (e : ℕ) (s : List ℕ) : Type 0 where
+  pub size : length s ≡ 2001
+  pub each : (i : ℕ) → getD s i 0 < e
+
+-- the number that is met at a record, where that is the record itself
+abbrev pub itself : ℕ → ℕ
+itself i = i
 
 -- whether something was amiss, and the marks then
 pub data Met : Type 0 where

@@ -115,17 +115,33 @@ bad4 m =
 unfoldable pub wrongIn : Bytes → ℕ → ℕ → Bool
 wrongIn m e g = eqb g 0 || ltb (elements m) g || leb (dimension m e) (dimension m g)
 
+-- something is wrong in the chain of e
+unfoldable pub wrongAt : Bytes → ℕ → Bool
+wrongAt m e = someOf (chain m e) (wrongIn m e) || repeats (chain m e)
+
 -- "A chain's element 0, above N, not of lower dimension, or twice in the chain."
 unfoldable pub bad5 : Bytes → Bool
-bad5 m = some 1 (elements m) (λ e. someOf (chain m e) (wrongIn m e) || repeats (chain m e))
+bad5 m = some 1 (elements m) (wrongAt m)
+
+-- some g in the chain of f is not in that of e
+unfoldable pub leaves : Bytes → ℕ → ℕ → Bool
+leaves m e f = someOf (chain m f) (λ g. not (isIn g (chain m e)))
+
+-- the chain of e is not closed
+unfoldable pub unclosed : Bytes → ℕ → Bool
+unclosed m e = someOf (chain m e) (leaves m e)
 
 -- "g in f's chain, f in e's, g not in e's."
 unfoldable pub bad6 : Bytes → Bool
-bad6 m = some 1 (elements m) (λ e. someOf (chain m e) (λ f. someOf (chain m f) (λ g. not (isIn g (chain m e)))))
+bad6 m = some 1 (elements m) (unclosed m)
+
+-- g is in no cell's chain
+unfoldable pub bare : Bytes → ℕ → Bool
+bare m g = not (some (firstCell m) (cellCount m) (λ c. isIn g (chain m c)))
 
 -- "A lower element in no cell's chain."
 unfoldable pub bad7 : Bytes → Bool
-bad7 m = some 1 (below m (top m)) (λ g. not (some (firstCell m) (cellCount m) (λ c. isIn g (chain m c))))
+bad7 m = some 1 (below m (top m)) (bare m)
 
 -- what every call that is given a mesh tries first
 unfoldable pub meshTests : Bytes → List Test

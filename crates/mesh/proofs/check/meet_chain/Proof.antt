@@ -1,16 +1,17 @@
 -- `mesh::check::meet_chain` meets its contract. The invariant: meeting what is left gives what meeting the whole chain gives. Assumes nothing.
 use mathlib.Core.Path.{_≡_, refl}
+use mathlib.Core.List.{map}
 use Prim.Native.Nat.{_+_, _-_, _<_}
 use native.Mathlib.Nat.{sub-zero}
 use Rattle.mesh.specs.Mesh.{follow}
-use Rattle.mesh.specs.Meet.{meet}
+use Rattle.mesh.specs.Meet.{meet, itself}
 use Rattle.mesh.proofs.Chains.{meet-ended, meet-spent, meet-above, meet-again, meet-turn}
 use borrow.Author.Needs.{needs}
 use Rattle.mesh.proofs.check.meet_chain.Statement.{statement}
 use Rattle.mesh.proofs.check.meet_chain.Tie as tie
 
 abbrev Inv-loop : tie.InvT-loop
-Inv-loop m n r h seen₀ i₀ -k₀ -k-end seen i -k = (-k-end ≡ r + 1) × (i < 65536) × (meet 1 r seen (follow m (-k-end - -k) i) ≡ meet 1 r seen₀ (follow m (r + 1) h))
+Inv-loop m n r h seen₀ i₀ -k₀ -k-end seen i -k = (-k-end ≡ r + 1) × (i < 65536) × (meet 1 r seen (map itself (follow m (-k-end - -k) i)) ≡ meet 1 r seen₀ (map itself (follow m (r + 1) h)))
 
 abbrev μ-loop : tie.MeasureT-loop
 μ-loop m n r h seen₀ i₀ -k₀ -k-end seen i -k = -k-end - -k
