@@ -1,7 +1,9 @@
-pub mod Readers
-pub mod Heads
-pub mod Chains
-pub mod Meeting
-pub mod Records
-pub mod Dimensions
-pub mod Elements
+pub mod ReaderLaws
+pub mod HeadLaws
+pub mod FollowLaws
+pub mod MeetLaws
+pub mod RecordLaws
+pub mod DimensionLaws
+pub mod ElementLaws
+pub mod ClosureLaws
+pub mod NumberLaws

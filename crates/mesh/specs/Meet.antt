@@ -1,6 +1,6 @@
 -- How the code finds a number that is met twice: it marks in an array what it has met. No public contract rests on this page; the laws in
 -- proofs/ tie it to the definitions. Assumes nothing.
-use mathlib.Core.Bool.{Bool, true, false}
+use mathlib.Core.Bool.{Bool, true, false, not}
 use mathlib.Core.List.{List, [], _∷_}
 use mathlib.Core.Path.{_≡_}
 use Prim.Native.Nat.{ℕ, _≤_, _<_}
@@ -8,7 +8,8 @@ use lib.Dec.{eqb}
 use lib.ListN.{length, getD, set}
 use Rattle.vocabulary.specs.Ranges.{isUpTo}
 use Rattle.vocabulary.specs.Bytes.{Bytes}
-use Rattle.mesh.specs.Mesh.{top, elements, recordCount}
+use Rattle.vocabulary.specs.Lists.{someOf}
+use Rattle.mesh.specs.Mesh.{top, elements, recordCount, chain}
 
 -- what the tests 1 to 3 leave of a mesh's sizes: d, N and R
 pub record Sizes (m : Bytes) (d n r : ℕ) : Type 0 where
@@ -40,3 +41,16 @@ meet v r s (i ∷ is) =
       | true ↦ elim (eqb (getD s i 0) v) [ true ↦ met true s | false ↦ meet v r (set s i v) is ]
       | false ↦ met true s
     ]
+
+-- marks each number of the list with v
+unfoldable pub stamp : ℕ → List ℕ → List ℕ → List ℕ
+stamp v s [] = s
+stamp v s (g ∷ gs) = stamp v (set s g v) gs
+
+-- g does not bear the mark v
+unfoldable pub unlike : ℕ → List ℕ → ℕ → Bool
+unlike v s g = not (eqb (getD s g 0) v)
+
+-- some element of the chain of f does not bear the mark v
+unfoldable pub leavesBy : Bytes → ℕ → List ℕ → ℕ → Bool
+leavesBy m v s f = someOf (chain m f) (unlike v s)

@@ -2,7 +2,7 @@
 use mathlib.Core.Path.{_≡_}
 use Prim.Native.Nat.{_-_, _*_, _≤_}
 use Rattle.mesh.specs.Mesh.{below}
-use Rattle.mesh.proofs.Readers.{below-start, below-turn, below-end}
+use Rattle.mesh.proofs.ReaderLaws.{below-start, below-turn, below-end}
 use borrow.Author.Needs.{needs}
 use Rattle.mesh.proofs.inner.below_of.Statement.{statement}
 use Rattle.mesh.proofs.inner.below_of.Tie as tie

@@ -1,5 +1,5 @@
 -- `mesh::inner::cell_count` meets its contract. Assumes nothing.
-use Rattle.mesh.proofs.Readers.{counts-cells}
+use Rattle.mesh.proofs.ReaderLaws.{counts-cells}
 use borrow.Author.Needs.{needs}
 use Rattle.mesh.proofs.inner.cell_count.Statement.{statement}
 use Rattle.mesh.proofs.inner.cell_count.Tie as tie

@@ -1,5 +1,5 @@
 -- `mesh::inner::element_in` meets its contract. Assumes nothing.
-use Rattle.mesh.proofs.Readers.{reads-element}
+use Rattle.mesh.proofs.ReaderLaws.{reads-element}
 use borrow.Author.Needs.{needs}
 use Rattle.mesh.proofs.inner.element_in.Statement.{statement}
 use Rattle.mesh.proofs.inner.element_in.Tie as tie

@@ -1,5 +1,5 @@
 -- `mesh::inner::first_cell` meets its contract. Assumes nothing.
-use Rattle.mesh.proofs.Readers.{reads-first}
+use Rattle.mesh.proofs.ReaderLaws.{reads-first}
 use borrow.Author.Needs.{needs}
 use Rattle.mesh.proofs.inner.first_cell.Statement.{statement}
 use Rattle.mesh.proofs.inner.first_cell.Tie as tie

@@ -1,5 +1,5 @@
 -- `mesh::inner::next_of` meets its contract. Assumes nothing.
-use Rattle.mesh.proofs.Readers.{reads-next}
+use Rattle.mesh.proofs.ReaderLaws.{reads-next}
 use borrow.Author.Needs.{needs}
 use Rattle.mesh.proofs.inner.next_of.Statement.{statement}
 use Rattle.mesh.proofs.inner.next_of.Tie as tie

@@ -1,0 +1,85 @@
+-- The number of a mesh, by the tests that the code makes one after the other. Assumes nothing.
+use mathlib.Core.Path.{_≡_, refl, sym, ap, _∙_}
+use mathlib.Core.Bool.{Bool, true, false, not, _||_}
+use Prim.Native.Nat.{ℕ, _+_, _≤_, _<_}
+use native.Mathlib.Omega.{arith}
+use lib.Dec.{eqb, ltb}
+use lib.ListN.{length}
+use Rattle.vocabulary.specs.Ranges.{some}
+use borrow.Author.Tests.{ltb-false, eq-eqb, ne-eqb}
+use Rattle.vocabulary.specs.Bytes.{Bytes}
+use Rattle.vocabulary.specs.ListLaws.{or-false}
+use Rattle.layout.specs.Answers.{answer}
+use Rattle.layout.specs.declared.Answer.the-variants.{Done, Refused}
+use Rattle.mesh.specs.Mesh.{top, elements, recordCount, cellCount, wrongCount, bad1, bad2, bad3, bad4, bad5, bad6, bad7, meshTests, meshNumber, checkAnswer}
+use Rattle.mesh.specs.Meet.{Sizes}
+
+-- what the tests 1 and 2 leave
+pub sized : (m : Bytes) (a b : Bool) (d n r : ℕ) → a ≡ bad1 m → a ≡ false → b ≡ bad2 m → b ≡ false → d ≡ top m → n ≡ elements m → r ≡ recordCount m → Sizes m d n r
+unfolding bad1 bad2
+sized m a b d n r e f g h p q t =
+    let x = or-false (ltb (length m) 12 || ltb (top m) 1) (ltb 3 (top m)) (sym e ∙ f) in
+    let y = or-false (some 0 4 (wrongCount m) || ltb 2000 (elements m)) (ltb 12000 (recordCount m)) (sym g ∙ h) in
+    let w = or-false (some 0 4 (wrongCount m)) (ltb 2000 (elements m)) (y .0) in
+    record {
+      d-is = p;
+      d-high = omega (arith, ltb-false 3 (top m) (x .1));
+      n-is = q;
+      n-high = omega (arith, ltb-false 2000 (elements m) (w .1));
+      r-is = t;
+      r-high = omega (arith, ltb-false 12000 (recordCount m) (y .1));
+    }
+
+module _ (m : Bytes) (a : Bool) (ae : a ≡ bad1 m) where
+  pub told1 : a ≡ true → 1 ≡ meshNumber m
+  unfolding meshNumber meshTests
+  told1 t = simp (sym ae, t)
+
+  module _ (af : a ≡ false) where
+    module _ (b : Bool) (be : b ≡ bad2 m) where
+      pub told2 : b ≡ true → 2 ≡ meshNumber m
+      unfolding meshNumber meshTests
+      told2 t = simp (sym ae, af, sym be, t)
+
+      module _ (bf : b ≡ false) where
+        module _ (c : Bool) (ce : c ≡ bad3 m) where
+          pub told3 : c ≡ true → 3 ≡ meshNumber m
+          unfolding meshNumber meshTests
+          told3 t = simp (sym ae, af, sym be, bf, sym ce, t)
+
+          module _ (cf : c ≡ false) where
+            module _ (d : Bool) (de : d ≡ bad4 m) where
+              pub told4 : d ≡ true → 4 ≡ meshNumber m
+              unfolding meshNumber meshTests
+              told4 t = simp (sym ae, af, sym be, bf, sym ce, cf, sym de, t)
+
+              module _ (df : d ≡ false) where
+                module _ (e : Bool) (ee : e ≡ bad5 m) where
+                  pub told5 : e ≡ true → 5 ≡ meshNumber m
+                  unfolding meshNumber meshTests
+                  told5 t = simp (sym ae, af, sym be, bf, sym ce, cf, sym de, df, sym ee, t)
+
+                  module _ (ef : e ≡ false) where
+                    module _ (f : Bool) (fe : f ≡ bad6 m) where
+                      pub told6 : f ≡ true → 6 ≡ meshNumber m
+                      unfolding meshNumber meshTests
+                      told6 t = simp (sym ae, af, sym be, bf, sym ce, cf, sym de, df, sym ee, ef, sym fe, t)
+
+                      module _ (ff : f ≡ false) where
+                        module _ (g : Bool) (ge : g ≡ bad7 m) where
+                          pub told7 : g ≡ true → 7 ≡ meshNumber m
+                          unfolding meshNumber meshTests
+                          told7 t = simp (sym ae, af, sym be, bf, sym ce, cf, sym de, df, sym ee, ef, sym fe, ff, sym ge, t)
+
+                          pub accepted : g ≡ false → 0 ≡ meshNumber m
+                          unfolding meshNumber meshTests
+                          accepted t = simp (sym ae, af, sym be, bf, sym ce, cf, sym de, df, sym ee, ef, sym fe, ff, sym ge, t)
+
+-- the answer of the call
+pub answered : (m : Bytes) (n c : ℕ) → n ≡ meshNumber m → n ≡ 0 → c ≡ cellCount m → Done c ≡ checkAnswer m
+unfolding checkAnswer answer
+answered m n c e z f = simp (sym e, z, sym f)
+
+pub refused : (m : Bytes) (n : ℕ) → n ≡ meshNumber m → (n ≡ 0 → ⊥) → Refused n ≡ checkAnswer m
+unfolding checkAnswer answer
+refused m n e z = simp (sym e, ne-eqb n 0 z)

@@ -1,0 +1,14 @@
+-- `mesh::closure::unmarked` meets its contract. Assumes nothing.
+use Rattle.mesh.proofs.ClosureLaws.{mark-read, mark-none}
+use borrow.Author.Needs.{needs}
+use Rattle.mesh.proofs.closure.unmarked.Statement.{statement}
+use Rattle.mesh.proofs.closure.unmarked.Tie as tie
+
+pub unmarked-spec : {M : Type 1} → statement M
+unmarked-spec =
+    tie.close
+    (tie.spec
+    (λ c. search needs)
+    (λ c. search needs)
+    (λ c. search mark-read)
+    (λ c. search mark-none))
