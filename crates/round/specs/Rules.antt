@@ -19,11 +19,14 @@ unfoldable pub weightCount : ℕ → ℕ → ℕ
 weightCount kind n = cond (eqb kind 1) (n / 2 + 1) 0
 
 -- "Unknown rule, or weights wrong in number or range": "each 0 to 15, v0 at least 1". Weights are given as words.
+unfoldable pub tooHeavy : Bytes → ℕ → Bool
+tooHeavy v k = ltb 15 (wordAt v k)
+
 unfoldable pub bad11 : ℕ → ℕ → Bytes → Bool
 bad11 kind n v =
     ltb 2 kind
     || not (eqb (length v) (2 * weightCount kind n))
-    || some 0 (weightCount kind n) (λ k. ltb 15 (wordAt v k))
+    || some 0 (weightCount kind n) (tooHeavy v)
     || (eqb kind 1 && eqb (wordAt v 0) 0)
 
 -- an old depth of a reach, as its four bytes, and the layer it is met at
