@@ -1,2 +1,5 @@
 pub mod Rules
+pub mod RuleLaws
 pub mod Rounds
+pub mod Update
+pub mod UpdateLaws

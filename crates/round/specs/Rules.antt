@@ -51,10 +51,14 @@ weightSum v (o ∷ os) = weight v o + weightSum v os
 unfoldable pub quotient : ℤ → ℕ → ℤ
 quotient sum weights = quotZ sum (pos weights)
 
+-- the lesser of two depths
+abbrev pub lesser : ℤ → ℤ → ℤ
+lesser y z = cond (ltZ y z) y z
+
 -- the least of z and the old depths: "Shoalest is the least old depth in the reach", where z is the cell's own
 unfoldable pub least : ℤ → List Old → ℤ
 least z [] = z
-least z (o ∷ os) = least (cond (ltZ (depthOf (o .depth)) z) (depthOf (o .depth)) z) os
+least z (o ∷ os) = least (lesser (depthOf (o .depth)) z) os
 
 -- the new depth of a cell, from its own old depth and those of its reach in rising order of the cells, itself among them
 unfoldable pub newDepth : ℕ → Bytes → Bytes → List Old → Bytes

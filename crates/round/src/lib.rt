@@ -1,4 +1,6 @@
 // Rules, fields and the undivided round. Here stand the functions that take any bytes; those that suppose something are in `inner`.
+pub mod inner;
+
 use layout::inner::depths_in_range;
 use layout::word_at;
 ghost use mathlib.Core.Path.{_≡_};
