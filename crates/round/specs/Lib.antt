@@ -3,3 +3,4 @@ pub mod RuleLaws
 pub mod Rounds
 pub mod Update
 pub mod UpdateLaws
+pub mod RoundLaws

@@ -1,6 +1,7 @@
--- Laws of the table of a reach: one more entry, the sizes of the old depths, and the sum of the weights. Assumes nothing.
+-- Laws of the table of a reach: one more entry, the sizes of the old depths, the sum of the weights, and how the update is made ready. Assumes nothing.
 use mathlib.Core.Path.{_≡_, refl, sym, ap, _∙_, subst}
 use mathlib.Core.Logic.{⊎-elim}
+use mathlib.Core.Bool.{true, false}
 use mathlib.Core.List.{List, [], _∷_, _++_, map}
 use Prim.Native.Nat.{ℕ, zero, suc, _+_, _*_, _/_, _<_, _≤_}
 use native.Mathlib.Nat.{zero-add, not-suc-le-zero}
@@ -11,15 +12,15 @@ use lib.ListN.{length}
 use Rattle.vocabulary.specs.Bytes.{Bytes}
 use Rattle.vocabulary.specs.Lists.{All}
 use Rattle.vocabulary.specs.ListLaws.{All-append, map-append}
-use Rattle.vocabulary.specs.Ranges.{listed}
+use Rattle.vocabulary.specs.Ranges.{listed, every}
 use Rattle.vocabulary.specs.RangeLaws.{listed-turn, last-or}
 use Rattle.layout.specs.Words.{word, wordAt}
-use Rattle.layout.specs.Depths.{four, depthFrom}
-use Rattle.layout.specs.DepthLaws.{depth-four}
+use Rattle.layout.specs.Depths.{depthFrom, rangedAt}
+use Rattle.layout.specs.DepthLaws.{depth-four, ranged-size}
 use Rattle.mesh.specs.Walks.{Near}
-use Rattle.round.specs.Rules.{Old, weight, depthSum, weightSum, lesser, least}
-use Rattle.round.specs.RuleLaws.{Small, depthSum-snoc, weightSum-snoc, least-snoc}
-use Rattle.round.specs.Update.{entryAt, entries, oldAt, oldsAt}
+use Rattle.round.specs.Rules.{Old, bad11, weight, depthSum, weightSum, lesser, least}
+use Rattle.round.specs.RuleLaws.{Small, rule-light, rule-first, depthSum-snoc, weightSum-snoc, least-snoc}
+use Rattle.round.specs.Update.{entryAt, entries, oldAt, oldsAt, Ready}
 
 module _ (b : Bytes) (at : ℕ) (f : Bytes) (base : ℕ) where
   -- the first k entries and the one after them
@@ -72,3 +73,22 @@ module _ (b : Bytes) (at : ℕ) (f : Bytes) (base : ℕ) where
   pub weightSum-own : (v : Bytes) (n t : ℕ) → t < n → word b (at + 4 * t + 2) ≡ 0 → 1 ≤ wordAt v 0 → 1 ≤ weightSum v (oldsAt f base (entries b at n))
   weightSum-own v n t h e k =
       let q : wordAt v (word b (at + 4 * t + 2) / 2) ≡ wordAt v 0 = ap (λ y. wordAt v (y / 2)) e in omega (arith, weightSum-has v n t h)
+
+-- what a caller has at hand makes the update ready: an accepted rule, a field of `cells` depths in range, a table of places in it and of
+-- layers up to the steps, and in it an entry of layer 0, which is the cell itself
+pub ready-from : (kind : ℕ) (v b : Bytes) (at n : ℕ) (f : Bytes) (base own cells steps : ℕ) → bad11 kind steps v ≡ false → n ≤ 65535 → at + 4 * n ≤ length b
+    → base + 4 * cells ≤ length f → every 0 cells (rangedAt f base) ≡ true → own < cells → ((t : ℕ) → t < n → word b (at + 4 * t) < cells)
+    → ((t : ℕ) → t < n → word b (at + 4 * t + 2) ≤ steps) → (t₀ : ℕ) → t₀ < n → word b (at + 4 * t₀ + 2) ≡ 0 → Ready kind v b at n f base own
+ready-from kind v b at n f base own cells steps rule few room there ranged mine near low t₀ lt itself = record {
+  reached = record {
+    few = few;
+    listed-there = room;
+    there = λ t h. omega (arith, near t h);
+    ranged = λ t h. ranged-size f base cells (word b (at + 4 * t)) ranged (near t h);
+  };
+  own-there = omega arith;
+  own-ranged = ranged-size f base cells own ranged mine;
+  weighed = λ e.
+      let r : bad11 1 steps v ≡ false = rw e at rule in
+      record { light = λ t h. rule-light steps v r (word b (at + 4 * t + 2)) (low t h); heavy = weightSum-own b at f base v n t₀ lt itself (rule-first steps v r) };
+}
