@@ -1,26 +1,25 @@
 -- Laws of fields and of the undivided round: an accepted field, a table of a reach by places in the field, and that every round leaves an
 -- accepted field again. Assumes nothing.
-use mathlib.Core.Path.{_≡_, refl, sym, ap, _∙_, subst}
-use mathlib.Core.Bool.{Bool, true, false, not, _||_}
+use mathlib.Core.Path.{_≡_, refl, sym, ap, _∙_}
+use mathlib.Core.Bool.{Bool, true, false, not}
 use mathlib.Core.List.{List, [], _∷_, map}
-use Prim.Native.Nat.{ℕ, zero, suc, _+_, _-_, _*_, _<_, _≤_}
+use Prim.Native.Nat.{ℕ, zero, suc, _+_, _-_, _*_, _≤_}
 use native.Mathlib.Nat.{zero-add}
 use native.Mathlib.Omega.{arith}
 use lib.Dec.{eqb, ltb}
-use lib.IntN.{ℤ, natAbs}
+use lib.IntN.{natAbs}
 use lib.ListN.{length}
 use borrow.Author.Tests.{not-false, eqb-true, eq-eqb, ltb-true, ltb-false}
-use Rattle.vocabulary.specs.Bytes.{Bytes, byteAt}
+use Rattle.vocabulary.specs.Bytes.{Bytes}
 use Rattle.vocabulary.specs.ByteLaws.{byte-past}
 use Rattle.vocabulary.specs.Lists.{All}
-use Rattle.vocabulary.specs.ListLaws.{or-false, map-map, map-cong}
+use Rattle.vocabulary.specs.ListLaws.{or-false}
 use Rattle.vocabulary.specs.Ranges.{every, blocks}
 use Rattle.vocabulary.specs.RangeLaws.{every-intro}
 use Rattle.layout.specs.Words.{word}
 use Rattle.layout.specs.Depths.{four, numberFrom, signed, depthFrom, depthOf, rangedAt}
 use Rattle.layout.specs.DepthLaws.{length-four, four-same, depth-same, depth-four, fours-length, fours-at, range-intro, ranged-size}
 use Rattle.mesh.specs.Walks.{Near}
-use Rattle.round.specs.Rules.{Old, newDepth}
 use Rattle.round.specs.RuleLaws.{Small, new-small, new-length}
 use Rattle.round.specs.Rounds.{bad14, Scheme, schemeOf, depthIn, oldsIn, newIn, round, undivided}
 use Rattle.round.specs.Update.{oldsAt}

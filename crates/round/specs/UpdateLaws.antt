@@ -1,8 +1,8 @@
 -- Laws of the table of a reach: one more entry, the sizes of the old depths, the sum of the weights, and how the update is made ready. Assumes nothing.
-use mathlib.Core.Path.{_≡_, refl, sym, ap, _∙_, subst}
+use mathlib.Core.Path.{_≡_, refl, ap, _∙_}
 use mathlib.Core.Logic.{⊎-elim}
 use mathlib.Core.Bool.{true, false}
-use mathlib.Core.List.{List, [], _∷_, _++_, map}
+use mathlib.Core.List.{[], _∷_, _++_, map}
 use Prim.Native.Nat.{ℕ, zero, suc, _+_, _*_, _/_, _<_, _≤_}
 use native.Mathlib.Nat.{zero-add, not-suc-le-zero}
 use native.Mathlib.Numerals.{add-one}
@@ -17,8 +17,7 @@ use Rattle.vocabulary.specs.RangeLaws.{listed-turn, last-or}
 use Rattle.layout.specs.Words.{word, wordAt}
 use Rattle.layout.specs.Depths.{depthFrom, rangedAt}
 use Rattle.layout.specs.DepthLaws.{depth-four, ranged-size}
-use Rattle.mesh.specs.Walks.{Near}
-use Rattle.round.specs.Rules.{Old, bad11, weight, depthSum, weightSum, lesser, least}
+use Rattle.round.specs.Rules.{bad11, weight, depthSum, weightSum, lesser, least}
 use Rattle.round.specs.RuleLaws.{Small, rule-light, rule-first, depthSum-snoc, weightSum-snoc, least-snoc}
 use Rattle.round.specs.Update.{entryAt, entries, oldAt, oldsAt, Ready}
 

@@ -1,6 +1,5 @@
 -- `round::inner::lesser` meets its contract. Assumes nothing.
 use Rattle.round.proofs.Registers.{lesser-first, lesser-second}
-use borrow.Author.Needs.{needs}
 use Rattle.round.proofs.inner.lesser.Statement.{statement}
 use Rattle.round.proofs.inner.lesser.Tie as tie
 
