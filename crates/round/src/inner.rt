@@ -51,6 +51,7 @@ fn quotient(sum: i64, w: usize) -> i32
     (sum / (w as i64)) as i32
 }
 
+// The mean over the n entries at `at` in b.
 fn mean_of(v: &[u8], b: &[u8], at: usize, n: usize, f: &[u8], base: usize) -> i32
     requires { ⌜ Reached (now b) at n (now f) base × Weighed (now v) (now b) at n (now f) base ⌝ }
     ensures { λ r. ⌜ r ≡ quotient (depthSum (now (v .entry)) (oldsAt (now (f .entry)) base (entries (now (b .entry)) at n))) (weightSum (now (v .entry)) (oldsAt (now (f .entry)) base (entries (now (b .entry)) at n))) ⌝ }
@@ -66,12 +67,14 @@ fn mean_of(v: &[u8], b: &[u8], at: usize, n: usize, f: &[u8], base: usize) -> i3
     quotient(sum, weights)
 }
 
+// The lesser of two depths.
 fn lesser(y: i32, z: i32) -> i32
     ensures { λ r. ⌜ r ≡ lesser y z ⌝ }
 {
     if y < z { y } else { z }
 }
 
+// The least of the cell's own depth and those of the n entries.
 fn least_of(b: &[u8], at: usize, n: usize, f: &[u8], base: usize, own: usize) -> i32
     requires { ⌜ Reached (now b) at n (now f) base × (base + 4 * own + 3 < length (now f)) ⌝ }
     ensures { λ r. ⌜ r ≡ least (depthFrom (now (f .entry)) (base + 4 * own)) (oldsAt (now (f .entry)) base (entries (now (b .entry)) at n)) ⌝ }
@@ -100,6 +103,7 @@ pub fn new_depth(
     match kind {
         0 => depth_of(f, base, own),
         1 => mean_of(v, b, at, n, f, base),
+        // 2, since a rule above it is refused
         _ => least_of(b, at, n, f, base, own),
     }
 }
