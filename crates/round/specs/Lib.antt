@@ -1,2 +1,6 @@
 pub mod Rules
+pub mod RuleLaws
 pub mod Rounds
+pub mod Update
+pub mod UpdateLaws
+pub mod RoundLaws

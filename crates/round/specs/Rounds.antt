@@ -7,7 +7,7 @@ use lib.ListN.{length}
 use Rattle.vocabulary.specs.Ranges.{every, blocks}
 use Rattle.vocabulary.specs.Tests.{Test, refuse, firstOf}
 use Rattle.vocabulary.specs.Bytes.{Bytes, over}
-use Rattle.layout.specs.Depths.{four, depthFrom, inRange}
+use Rattle.layout.specs.Depths.{four, rangedAt}
 use Rattle.mesh.specs.Mesh.{top, firstCell, cellCount, meshTests}
 use Rattle.mesh.specs.Walks.{Near, reach, steps, bad10, bad13}
 use Rattle.round.specs.Rules.{Old, newDepth, bad11}
@@ -16,7 +16,7 @@ use Rattle.round.specs.Rules.{Old, newDepth, bad11}
 
 -- "Field length or a depth wrong", for a mesh of n cells
 unfoldable pub bad14 : ℕ → Bytes → Bool
-bad14 n f = not (eqb (length f) (4 * n)) || not (every 0 n (λ k. inRange (depthFrom f (4 * k))))
+bad14 n f = not (eqb (length f) (4 * n)) || not (every 0 n (rangedAt f 0))
 
 -- ---- the undivided round
 

@@ -19,11 +19,14 @@ unfoldable pub weightCount : ℕ → ℕ → ℕ
 weightCount kind n = cond (eqb kind 1) (n / 2 + 1) 0
 
 -- "Unknown rule, or weights wrong in number or range": "each 0 to 15, v0 at least 1". Weights are given as words.
+unfoldable pub tooHeavy : Bytes → ℕ → Bool
+tooHeavy v k = ltb 15 (wordAt v k)
+
 unfoldable pub bad11 : ℕ → ℕ → Bytes → Bool
 bad11 kind n v =
     ltb 2 kind
     || not (eqb (length v) (2 * weightCount kind n))
-    || some 0 (weightCount kind n) (λ k. ltb 15 (wordAt v k))
+    || some 0 (weightCount kind n) (tooHeavy v)
     || (eqb kind 1 && eqb (wordAt v 0) 0)
 
 -- an old depth of a reach, as its four bytes, and the layer it is met at
@@ -48,10 +51,14 @@ weightSum v (o ∷ os) = weight v o + weightSum v os
 unfoldable pub quotient : ℤ → ℕ → ℤ
 quotient sum weights = quotZ sum (pos weights)
 
+-- the lesser of two depths
+abbrev pub lesser : ℤ → ℤ → ℤ
+lesser y z = cond (ltZ y z) y z
+
 -- the least of z and the old depths: "Shoalest is the least old depth in the reach", where z is the cell's own
 unfoldable pub least : ℤ → List Old → ℤ
 least z [] = z
-least z (o ∷ os) = least (cond (ltZ (depthOf (o .depth)) z) (depthOf (o .depth)) z) os
+least z (o ∷ os) = least (lesser (depthOf (o .depth)) z) os
 
 -- the new depth of a cell, from its own old depth and those of its reach in rising order of the cells, itself among them
 unfoldable pub newDepth : ℕ → Bytes → Bytes → List Old → Bytes

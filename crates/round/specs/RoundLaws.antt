@@ -1,0 +1,109 @@
+-- Laws of fields and of the undivided round: an accepted field, a table of a reach by places in the field, and that every round leaves an
+-- accepted field again. Assumes nothing.
+use mathlib.Core.Path.{_≡_, refl, sym, ap, _∙_}
+use mathlib.Core.Bool.{Bool, true, false, not}
+use mathlib.Core.List.{List, [], _∷_, map}
+use Prim.Native.Nat.{ℕ, zero, suc, _+_, _-_, _*_, _≤_}
+use native.Mathlib.Nat.{zero-add}
+use native.Mathlib.Omega.{arith}
+use lib.Dec.{eqb, ltb}
+use lib.IntN.{natAbs}
+use lib.ListN.{length}
+use borrow.Author.Tests.{not-false, eqb-true, eq-eqb, ltb-true, ltb-false}
+use Rattle.vocabulary.specs.Bytes.{Bytes}
+use Rattle.vocabulary.specs.ByteLaws.{byte-past}
+use Rattle.vocabulary.specs.Lists.{All}
+use Rattle.vocabulary.specs.ListLaws.{or-false}
+use Rattle.vocabulary.specs.Ranges.{every, blocks}
+use Rattle.vocabulary.specs.RangeLaws.{every-intro}
+use Rattle.layout.specs.Words.{word}
+use Rattle.layout.specs.Depths.{four, numberFrom, signed, depthFrom, depthOf, rangedAt}
+use Rattle.layout.specs.DepthLaws.{length-four, four-same, depth-same, depth-four, fours-length, fours-at, range-intro, ranged-size}
+use Rattle.mesh.specs.Walks.{Near}
+use Rattle.round.specs.RuleLaws.{Small, new-small, new-length}
+use Rattle.round.specs.Rounds.{bad14, Scheme, schemeOf, depthIn, oldsIn, newIn, round, undivided}
+use Rattle.round.specs.Update.{oldsAt}
+
+-- ---- an accepted field of n cells
+
+none-small : natAbs (depthFrom [] 0) ≤ 1200000
+unfolding depthFrom signed numberFrom word
+none-small = omega arith
+
+module _ (n : ℕ) (f : Bytes) where
+  pub field-good : length f ≡ 4 * n → every 0 n (rangedAt f 0) ≡ true → bad14 n f ≡ false
+  unfolding bad14
+  field-good l e = simp (eq-eqb _ _ l, e)
+
+  module _ (e : bad14 n f ≡ false) where
+    pub field-length : length f ≡ 4 * n
+    unfolding bad14
+    field-length = eqb-true _ _ (not-false (eqb (length f) (4 * n)) (or-false (not (eqb (length f) (4 * n))) (not (every 0 n (rangedAt f 0))) e .0))
+
+    pub field-ranged : every 0 n (rangedAt f 0) ≡ true
+    unfolding bad14
+    field-ranged = not-false (every 0 n (rangedAt f 0)) (or-false (not (eqb (length f) (4 * n))) (not (every 0 n (rangedAt f 0))) e .1)
+
+    -- past the end every byte counts 0, so no depth is out of range
+    pub field-depth : (j : ℕ) → natAbs (depthFrom f (4 * j)) ≤ 1200000
+    field-depth j = go (ltb j n) refl
+      where
+        go : (b : Bool) → ltb j n ≡ b → natAbs (depthFrom f (4 * j)) ≤ 1200000
+        go true h = rw zero-add at (ranged-size f 0 n j field-ranged (ltb-true j n h))
+        go false h =
+            let k : n ≤ j = ltb-false j n h in
+            let l : length f ≡ 4 * n = field-length in
+            let z : depthFrom f (4 * j) ≡ depthFrom [] 0 =
+            depth-same f [] (4 * j) 0 (four-same f [] (4 * j) 0 (λ i q. byte-past f (4 * j + i) (omega arith) ∙ sym (byte-past [] (0 + i) (omega arith)))) in
+            rw z none-small
+
+-- ---- the reach of a cell by places in the field: place 0 is the first cell's
+
+abbrev pub placed : ℕ → Near → Near
+placed first e = record { cell = e .cell - first; layer = e .layer }
+
+pub olds-placed : (S : Scheme) (f : Bytes) (ns : List Near) → oldsAt f 0 (map (placed (S .first)) ns) ≡ oldsIn S f ns
+unfolding oldsAt oldsIn depthIn
+olds-placed S f [] = refl
+olds-placed S f (e ∷ ns) =
+    λ i. record { layer = e .layer; depth = four f (zero-add (4 * (e .cell - S .first)) i) } ∷ olds-placed S f ns i
+
+pub own-placed : (S : Scheme) (f : Bytes) (c : ℕ) → four f (0 + 4 * (c - S .first)) ≡ depthIn S f c
+unfolding depthIn
+own-placed S f c = ap (λ o. four f o) (zero-add (4 * (c - S .first)))
+
+-- ---- a round leaves an accepted field
+
+module _ (m st : Bytes) (kind : ℕ) (v f : Bytes) where
+  new-four : (c : ℕ) → length (newIn (schemeOf m st kind v) f c) ≡ 4
+  unfolding newIn schemeOf depthIn
+  new-four c = new-length kind v _ _ (length-four f _)
+
+  olds-small : (e : bad14 (schemeOf m st kind v .cells) f ≡ false) (ns : List Near) → All (Small 1200000) (oldsIn (schemeOf m st kind v) f ns)
+  unfolding oldsIn depthIn
+  olds-small e [] = tt
+  olds-small e (x ∷ ns) = (rw depth-four (field-depth _ f e _), olds-small e ns)
+
+  new-ranged : bad14 (schemeOf m st kind v .cells) f ≡ false → (c : ℕ) → natAbs (depthOf (newIn (schemeOf m st kind v) f c)) ≤ 1200000
+  unfolding newIn schemeOf depthIn
+  new-ranged e c = new-small v 1200000 kind _ _ (omega arith) (rw depth-four (field-depth _ f e _)) (olds-small e _)
+
+  pub round-good : bad14 (schemeOf m st kind v .cells) f ≡ false → bad14 (schemeOf m st kind v .cells) (round (schemeOf m st kind v) f) ≡ false
+  unfolding round rangedAt
+  round-good e =
+      let S : Scheme = schemeOf m st kind v in
+      let n : ℕ = S .cells in
+      let g : Bytes = blocks (S .first) n (newIn S f) in
+      field-good n g
+      (fours-length (S .first) n (newIn S f) (λ j h. new-four (S .first + j)))
+      (every-intro 0 (rangedAt g 0) n
+      (λ i h.
+      let q : 0 + 4 * (0 + i) ≡ 4 * i = omega arith in
+      range-intro _
+      (rw (q, ← depth-four, fours-at (S .first) n (newIn S f) (λ j k. new-four (S .first + j)) i h) (new-ranged e (S .first + i)))))
+
+pub undivided-good : (m st : Bytes) (kind : ℕ) (v f : Bytes) (k : ℕ) → bad14 (schemeOf m st kind v .cells) f ≡ false
+    → bad14 (schemeOf m st kind v .cells) (undivided (schemeOf m st kind v) f k) ≡ false
+unfolding undivided
+undivided-good m st kind v f zero e = e
+undivided-good m st kind v f (suc k) e = round-good m st kind v (undivided (schemeOf m st kind v) f k) (undivided-good m st kind v f k e)
