@@ -8,6 +8,8 @@ use Rattle.vocabulary.specs.Ranges.{every, blocks}
 use Rattle.vocabulary.specs.Tests.{Test, refuse, firstOf}
 use Rattle.vocabulary.specs.Bytes.{Bytes, over}
 use Rattle.layout.specs.Depths.{four, rangedAt}
+use Rattle.layout.specs.Answers.{answer}
+use Rattle.layout.specs.declared.Answer.{Answer}
 use Rattle.mesh.specs.Mesh.{top, firstCell, cellCount, meshTests}
 use Rattle.mesh.specs.Walks.{Near, reach, steps, bad10, bad13}
 use Rattle.round.specs.Rules.{Old, newDepth, bad11}
@@ -72,6 +74,10 @@ roundTests m st kind v f out =
 
 unfoldable pub roundNumber : Bytes → Bytes → ℕ → Bytes → Bytes → Bytes → ℕ
 roundNumber m st kind v f out = firstOf (roundTests m st kind v f out)
+
+-- it gives the count of depths
+unfoldable pub roundAnswer : Bytes → Bytes → ℕ → Bytes → Bytes → Bytes → Answer
+roundAnswer m st kind v f out = answer (roundNumber m st kind v f out) (cellCount m)
 
 -- what it leaves in the output: "Bytes past the need stay."
 unfoldable pub roundOut : Bytes → Bytes → ℕ → Bytes → Bytes → Bytes → Bytes
