@@ -6,7 +6,7 @@ use Prim.Native.Nat.{ℕ, zero, suc, _+_, _-_, _≤_, _<_}
 use native.Mathlib.Nat.{sub-zero}
 use native.Mathlib.Numerals.{add-one}
 use native.Mathlib.Omega.{arith}
-use lib.Dec.{eqb, ltb, leb}
+use lib.Dec.{eqb, leb}
 use lib.ListN.{length, getD, set, replicate, length-set, List·getD-eq-default}
 use lib.Seq.{getD-set-same, getD-set-other, set-out}
 use borrow.Author.Tests.{eqb-true, eqb-false, eq-eqb, ne-eqb, leb-true, not-false}
@@ -16,7 +16,7 @@ use Rattle.vocabulary.specs.RangeLaws.{some-at, blocks-turn, blocks-all}
 use Rattle.vocabulary.specs.ScanLaws.{some-stop-from, some-turn-from, some-end-from}
 use Rattle.vocabulary.specs.Lists.{isIn, someOf, All}
 use Rattle.vocabulary.specs.ListLaws.{someOf-cong, someOf-false, All-intro, All-map, or-false, and-true}
-use Rattle.mesh.specs.Mesh.{top, counted, elements, recordCount, below, dimension, headOf, elementIn, follow, records, chain, wrongIn, wrongAt, leaves, unclosed, bare, bad5, bad6, bad7}
+use Rattle.mesh.specs.Mesh.{counted, elements, recordCount, below, dimension, headOf, elementIn, follow, records, chain, wrongIn, wrongAt, leaves, unclosed, bare, bad5, bad6, bad7}
 use Rattle.mesh.specs.Meet.{Sizes, Under, stamp, unlike, leavesBy}
 use Rattle.mesh.proofs.MeetLaws.{outside}
 use Rattle.mesh.proofs.DimensionLaws.{below-more, below-rises, lower-right, lower-small, dimension-le}

@@ -340,6 +340,15 @@ module _ (a : ℕ) (g : ℕ → List ℕ) where
         },
       )
 
+-- what holds of all the blocks holds of each
+pub blocks-each : {A : Type 0} (P : List A → Type 0) → ((xs ys : List A) → P (xs ++ ys) → P xs × P ys) → (a : ℕ) (g : ℕ → List A) (n j : ℕ) → j < n
+    → P (blocks a n g) → P (g (a + j))
+unfolding blocks
+blocks-each P f a g zero j h q = absurd (not-suc-le-zero h)
+blocks-each P f a g (suc n) j h q =
+    let r = f (blocks a n g) (g (a + n)) q in
+    ⊎-elim (λ k. blocks-each P f a g n j k (r .0)) (λ e. subst (λ x. P (g (a + x))) (sym e) (r .1)) (last-or j n h)
+
 -- ---- total
 
 module _ (a : ℕ) (g : ℕ → ℕ) where
