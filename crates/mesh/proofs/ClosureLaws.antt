@@ -24,16 +24,9 @@ use Rattle.mesh.proofs.ElementLaws.{set-under, under-none}
 
 -- ---- one mark
 
-pub mark-out : (s : List ℕ) (g v : ℕ) → length s ≤ g → s ≡ set s g v
-mark-out s g v h = sym (set-out s g v h)
-
-pub mark-read : (s : List ℕ) (g v : ℕ) → not (eqb (getD s g 0) v) ≡ unlike v s g
+pub mark-told : (s : List ℕ) (g v x : ℕ) → x ≡ getD s g 0 → not (eqb x v) ≡ unlike v s g
 unfolding unlike
-mark-read s g v = refl
-
-pub mark-none : (s : List ℕ) (g v : ℕ) → length s ≤ g → not (eqb 0 v) ≡ unlike v s g
-unfolding unlike
-mark-none s g v h = ap (λ x. not (eqb x v)) (sym (List·getD-eq-default s 0 {n = g} h))
+mark-told s g v x e = ap (λ y. not (eqb y v)) e
 
 -- ---- all marks of a list
 

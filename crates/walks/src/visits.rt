@@ -1,0 +1,1 @@
+// Elements gathered in a step of a walk.
