@@ -1,5 +1,5 @@
 -- A mesh that no test refuses has what `Accepted` says. Assumes nothing.
-use mathlib.Core.Path.{_≡_, refl, sym, _∙_, subst}
+use mathlib.Core.Path.{ap, _≡_, refl, sym, _∙_, subst}
 use mathlib.Core.Bool.{Bool, true, false, not, _||_}
 use mathlib.Core.List.{[], map}
 use Prim.Native.Nat.{ℕ, zero, suc, _+_, _-_, _≤_, _<_}
@@ -9,7 +9,7 @@ use lib.ListN.{length}
 use borrow.Author.Tests.{ltb-false, leb-true, le-leb, lt-leb, eqb-true, eqb-false, not-false}
 use Rattle.vocabulary.specs.Bytes.{Bytes}
 use Rattle.vocabulary.specs.Ranges.{isUpTo, some}
-use Rattle.vocabulary.specs.RangeLaws.{some-at, some-witness, blocks-each}
+use Rattle.vocabulary.specs.RangeLaws.{some-at, some-witness, blocks-each, blocks-all}
 use Rattle.vocabulary.specs.Lists.{isIn, repeats, someOf, All}
 use Rattle.vocabulary.specs.ListLaws.{or-false, and-true, All-map, All-split, All-both, All-getD, someOf-false, isIn-at, once-few, repeats-parts}
 use Rattle.vocabulary.specs.Tests.{passed}
@@ -17,7 +17,7 @@ use Rattle.mesh.specs.Mesh.{top, counted, below, elements, recordCount, 
 use Rattle.mesh.specs.Meet.{Sizes}
 use Rattle.mesh.specs.Accepted.{Element, Cell, Accepted}
 use Rattle.mesh.proofs.MeetLaws.{outside}
-use Rattle.mesh.proofs.DimensionLaws.{lower-right}
+use Rattle.mesh.proofs.DimensionLaws.{lower-right, below-more}
 use Rattle.mesh.proofs.RecordLaws.{follow-positive}
 use Rattle.mesh.proofs.NumberLaws.{sized}
 
@@ -115,6 +115,27 @@ module _ (m : Bytes) (p : Passed m) where
       once-few (recordCount m) (records m e) (fine-records e x)
       (rw q at (blocks-each (λ xs. repeats xs ≡ false) repeats-parts 1 (records m) (elements m) (e - 1) (omega (arith, x .low, x .high)) (parts4 .1)))
 
+  few-records : length (allRecords m) ≤ recordCount m
+  unfolding allRecords
+  few-records =
+      once-few (recordCount m) (allRecords m)
+      (blocks-all 1 (records m) (λ i. (1 ≤ i) × (i ≤ recordCount m)) (elements m) (λ j h. fine-records (1 + j) (record { low = omega arith; high = omega arith })))
+      (parts4 .1)
+
+  -- no element is of a dimension above that of the cells
+  none-above : (j k : ℕ) → k + j ≡ 4 → top m < k → below m k ≡ below m 4
+  none-above zero k e h = ap (below m) (omega arith)
+  none-above (suc j) k e h =
+      let z : counted m k ≡ 0 = no-counts k h (omega arith) in
+      let s : below m (suc k) ≡ below m k = (let y : below m (suc k) ≡ below m k + counted m k = below-more m k in omega arith) in
+      sym s ∙ none-above j (suc k) (omega arith) (omega arith)
+
+  last-cells : firstCell m + cellCount m ≡ elements m + 1
+  last-cells =
+      let q : below m (suc (top m)) ≡ below m 4 = none-above (3 - top m) (suc (top m)) (omega (arith, fine-sizes .d-high)) (omega arith) in
+      let y : below m (suc (top m)) ≡ below m (top m) + counted m (top m) = below-more m (top m) in
+      omega arith
+
   -- 5
   right-chain : (e : ℕ) → Element m e → (someOf (chain m e) (wrongIn m e) ≡ false) × (repeats (chain m e) ≡ false)
   unfolding bad5 wrongAt
@@ -158,9 +179,11 @@ accepted-mesh m e =
       some-counted = counts m p;
       none-counted = no-counts m p;
       length-is = long m p;
+      cells-in = last-cells m p;
       point-bare = bare-point m p;
       records-in = fine-records m p;
       chains-end = fine-end m p;
+      records-few = few-records m p;
       chain-lower = lower-chain m p;
       chain-once = λ x h. right-chain m p x h .1;
       chain-closed = closed-chain m p;

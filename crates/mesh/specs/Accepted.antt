@@ -6,7 +6,7 @@ use Prim.Native.Nat.{ℕ, _+_, _≤_, _<_}
 use lib.ListN.{length}
 use Rattle.vocabulary.specs.Bytes.{Bytes}
 use Rattle.vocabulary.specs.Lists.{isIn, repeats, All}
-use Rattle.mesh.specs.Mesh.{top, counted, below, elements, recordCount, firstCell, cellCount, dimension, records, chain, meshLength}
+use Rattle.mesh.specs.Mesh.{top, counted, below, elements, recordCount, firstCell, cellCount, dimension, records, chain, allRecords, meshLength}
 use Rattle.mesh.specs.Meet.{Sizes}
 
 -- e is an element of the mesh
@@ -26,10 +26,13 @@ pub record Accepted (m : Bytes) : Type 0 where
   pub some-counted : (k : ℕ) → k ≤ top m → 1 ≤ counted m k
   pub none-counted : (k : ℕ) → top m < k → k < 4 → counted m k ≡ 0
   pub length-is : length m ≡ meshLength m
-  -- 4: a point's chain is empty; every record of a chain is there, and a chain ends
+  -- the cells are the last elements
+  pub cells-in : firstCell m + cellCount m ≡ elements m + 1
+  -- 4: a point's chain is empty; every record of a chain is there, a chain ends, and all chains together have no more records than there are
   pub point-bare : (e : ℕ) → 1 ≤ e → e ≤ counted m 0 → chain m e ≡ []
   pub records-in : (e : ℕ) → Element m e → All (λ i. (1 ≤ i) × (i ≤ recordCount m)) (records m e)
   pub chains-end : (e : ℕ) → Element m e → length (records m e) ≤ recordCount m
+  pub records-few : length (allRecords m) ≤ recordCount m
   -- 5: every element of a chain is of lower dimension, and stands there once
   pub chain-lower : (e : ℕ) → Element m e → All (λ g. (1 ≤ g) × (g ≤ below m (dimension m e))) (chain m e)
   pub chain-once : (e : ℕ) → Element m e → repeats (chain m e) ≡ false

@@ -265,6 +265,19 @@ blocks-split a g k (suc j) =
     let f : a + (k + j) ≡ a + k + j = omega arith in
     rw e (ap₂ _++_ (blocks-split a g k j) (ap g f) ∙ append-assoc (blocks a k g) (blocks (a + k) j g) (g (a + k + j)))
 
+-- some of the blocks are not longer than all of them
+pub blocks-inner : {A : Type 0} (a : ℕ) (g : ℕ → List A) (j k n : ℕ) → j + k ≤ n → length (blocks (a + j) k g) ≤ length (blocks a n g)
+blocks-inner a g j k n h =
+    let q : n ≡ j + k + (n - (j + k)) = omega arith in
+    omega (
+      arith,
+      ap (λ x. length (blocks a x g)) q,
+      ap length (blocks-split a g (j + k) (n - (j + k))),
+      ap length (blocks-split a g j k),
+      length-append (blocks a (j + k) g) (blocks (a + (j + k)) (n - (j + k)) g),
+      length-append (blocks a j g) (blocks (a + j) k g),
+    )
+
 module _ {A : Type 0} (a : ℕ) (g : ℕ → List A) where
   -- a place in all the blocks is a place in one of them
   pub blocks-cases : (n r : ℕ) → r < length (blocks a n g) → (j : ℕ) × (j < n) × ((t : ℕ) × (t < length (g (a + j))) × (r ≡ length (blocks a j g) + t))
