@@ -15,7 +15,7 @@ use Rattle.vocabulary.specs.Ranges.{isUpTo, some, blocks}
 use Rattle.vocabulary.specs.RangeLaws.{some-at, blocks-turn, blocks-all}
 use Rattle.vocabulary.specs.ScanLaws.{some-stop-from, some-turn-from, some-end-from}
 use Rattle.vocabulary.specs.Lists.{isIn, someOf, All}
-use Rattle.vocabulary.specs.ListLaws.{someOf-cong, someOf-false, All-intro, All-map, or-false, and-true}
+use Rattle.vocabulary.specs.ListLaws.{isIn-append, someOf-cong, someOf-false, All-intro, All-map, or-false, and-true}
 use Rattle.mesh.specs.Mesh.{counted, elements, recordCount, below, dimension, headOf, elementIn, follow, records, chain, wrongIn, wrongAt, leaves, unclosed, bare, bad5, bad6, bad7}
 use Rattle.mesh.specs.Meet.{Sizes, Under, stamp, unlike, leavesBy}
 use Rattle.mesh.proofs.MeetLaws.{outside}
@@ -149,15 +149,6 @@ cells-turn m r first e h v s₀ s t re he l f g =
 pub cells-end : (m : Bytes) (first cells e v : ℕ) (s₀ s : List ℕ) → s ≡ stamp v s₀ (blocks first (e - first) (chain m)) → e ≤ first + cells → first + cells ≤ e
     → s ≡ stamp v s₀ (blocks first cells (chain m))
 cells-end m first cells e v s₀ s f g h = let q : e - first ≡ cells = omega arith in rw q at f
-
-isIn-append : (g : ℕ) (xs ys : List ℕ) → isIn g (xs ++ ys) ≡ isIn g xs || isIn g ys
-unfolding isIn
-isIn-append g [] ys = refl
-isIn-append g (x ∷ xs) ys = ap (λ b. eqb g x || b) (isIn-append g xs ys) ∙ go (eqb g x)
-  where
-    go : (b : Bool) → b || (isIn g xs || isIn g ys) ≡ (b || isIn g xs) || isIn g ys
-    go true = refl
-    go false = refl
 
 isIn-blocks : (g a n : ℕ) (f : ℕ → List ℕ) → isIn g (blocks a n f) ≡ some a n (λ c. isIn g (f c))
 unfolding blocks some isIn

@@ -10,7 +10,7 @@ use native.Mathlib.Omega.{arith}
 use lib.ListN.{length, getD, length-append, List·getD-append}
 use lib.Seq.{getD-append-add}
 use lib.Dec.{eqb}
-use borrow.Author.Tests.{eqb-true, eqb-false}
+use borrow.Author.Tests.{ne-eqb, eqb-true, eqb-false}
 use Rattle.vocabulary.specs.Lists.{isIn, placeOf, repeats, someOf, everyOf, All}
 
 -- ---- tests
@@ -377,3 +377,24 @@ repeats-left (x ∷ xs) ys e =
 
 pub repeats-parts : (xs ys : List ℕ) → repeats (xs ++ ys) ≡ false → (repeats xs ≡ false) × (repeats ys ≡ false)
 repeats-parts xs ys e = (repeats-left xs ys e, repeats-right xs ys e)
+
+-- ---- one list after another
+
+pub isIn-append : (x : ℕ) (ys zs : List ℕ) → isIn x (ys ++ zs) ≡ isIn x ys || isIn x zs
+unfolding isIn
+isIn-append x [] zs = refl
+isIn-append x (y ∷ ys) zs = ap (λ b. eqb x y || b) (isIn-append x ys zs) ∙ go (eqb x y)
+  where
+    go : (b : Bool) → b || (isIn x ys || isIn x zs) ≡ (b || isIn x ys) || isIn x zs
+    go true = refl
+    go false = refl
+
+pub repeats-snoc : (xs : List ℕ) (x : ℕ) → repeats xs ≡ false → isIn x xs ≡ false → repeats (xs ++ (x ∷ [])) ≡ false
+unfolding repeats isIn
+repeats-snoc [] x e f = refl
+repeats-snoc (y ∷ ys) x e f =
+    let g = or-false (isIn y ys) (repeats ys) e in
+    let h = or-false (eqb x y) (isIn x ys) f in
+    or-none (isIn y (ys ++ (x ∷ []))) (repeats (ys ++ (x ∷ [])))
+    (isIn-append y ys (x ∷ []) ∙ or-none (isIn y ys) (eqb y x || false) (g .0) (or-none (eqb y x) false (ne-eqb y x (λ q. eqb-false x y (h .0) (sym q))) refl))
+    (repeats-snoc ys x (g .1) (h .1))

@@ -46,10 +46,10 @@ module _ (m : Bytes) (n k i t s : ℕ) (room : t + length (follow m (n - k) i) �
 
 -- ---- the loop over the cells
 
-abbrev entries : Links → ℕ
+abbrev pub entries : Links → ℕ
 entries (links t cell prev last) = t
 
-linkAll-count : (c : ℕ) (L : Links) (gs : List ℕ) → entries (linkAll c L gs) ≡ entries L + length gs
+pub linkAll-count : (c : ℕ) (L : Links) (gs : List ℕ) → entries (linkAll c L gs) ≡ entries L + length gs
 unfolding linkAll link
 linkAll-count c L [] = omega arith
 linkAll-count c (links t cell prev last) (g ∷ gs) = linkAll-count c (link c g (links t cell prev last)) gs ∙ (let q : t + 1 + length gs ≡ t + suc (length gs) = omega arith in q)
