@@ -2,3 +2,4 @@ pub mod LinkLaws
 pub mod TrailLaws
 pub mod VisitLaws
 pub mod StepLaws
+pub mod NoteLaws

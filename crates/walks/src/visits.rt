@@ -18,7 +18,7 @@ ghost use Rattle.mesh.specs.Mesh.{elements, recordCount, elementIn, follow};
 const ENTRIES: usize = 12001;
 
 // The number at i of a list, and 0 past the end.
-fn entry(list: &[u16], i: usize) -> usize
+pub fn entry(list: &[u16], i: usize) -> usize
     ensures { λ r. ⌜ (r ≡ getD (now (list .entry)) i 0) × (r < 65536) ⌝ }
 {
     number_at(list, i) as usize
