@@ -3,3 +3,4 @@ pub mod TrailLaws
 pub mod VisitLaws
 pub mod StepLaws
 pub mod NoteLaws
+pub mod WalkLaws

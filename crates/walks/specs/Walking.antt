@@ -2,7 +2,7 @@
 use mathlib.Core.Path.{_≡_}
 use mathlib.Core.Bool.{Bool, true, false, _&&_, cond}
 use mathlib.Core.List.{List, [], _∷_}
-use Prim.Native.Nat.{ℕ, _+_, _≤_}
+use Prim.Native.Nat.{ℕ, _+_, _%_, _≤_}
 use lib.Dec.{eqb, leb, ltb}
 use lib.ListN.{length, getD, take}
 use Rattle.vocabulary.specs.Bytes.{Bytes}
@@ -68,3 +68,13 @@ pub record Walk (m st : Bytes) (c k v : ℕ) (marks from layers : List ℕ) (n :
   pub ends : (z : ℕ) → isIn z (take n from) ≡ isIn z (walked m st c k)
   pub size : length layers ≡ 2001
   pub layered : (z : ℕ) → getD layers z 0 ≡ layerMark m st c k z
+
+-- before step k: cells where it goes down, lower elements where it goes up
+pub record Sided (m : Bytes) (k : ℕ) (from : List ℕ) (n : ℕ) : Type 0 where
+  pub odd : k % 2 ≡ 1 → Cells m from n
+  pub even : (k % 2 ≡ 1 → ⊥) → Lowers m from n
+
+-- nothing has a layer
+pub record Clear (layers : List ℕ) : Type 0 where
+  pub size : length layers ≡ 2001
+  pub each : (z : ℕ) → getD layers z 0 ≡ 0

@@ -11,11 +11,12 @@ ghost use mathlib.Core.List.{[]};
 ghost use Prim.Native.Nat.{ℕ, _+_, _<_, _≤_};
 ghost use lib.Dec.{eqb};
 ghost use lib.ListN.{length, getD, take};
+ghost use Rattle.vocabulary.specs.Bytes.{byteAt};
 ghost use Rattle.vocabulary.specs.Lists.{All};
 ghost use Rattle.mesh.specs.Mesh.{top, elements, recordCount};
-ghost use Rattle.mesh.specs.Accepted.{Accepted};
+ghost use Rattle.mesh.specs.Accepted.{Accepted, Cell};
 ghost use Rattle.walks.specs.Visits.{Fresh, Gathered, Toward};
-ghost use Rattle.walks.specs.Walking.{Ground, Cells, Lowers, stepped, Noted, among};
+ghost use Rattle.walks.specs.Walking.{Ground, Cells, Lowers, Sided, Clear, stepped, Noted, among, Walk};
 
 // Down from the first n cells of `from` to the elements of dimension a.
 pub fn walk_down(
@@ -74,4 +75,101 @@ pub fn note_all(k: u16, from: &[u16], n: usize, layers: &mut [u16])
     for j in 0..n {
         note(k, entry(from, j), layers);
     }
+}
+
+// Step k of a walk: down where k is odd, and up where it is even.
+fn step(
+    m: &[u8],
+    e: usize,
+    r: usize,
+    st: &[u8],
+    cell: &[u16],
+    prev: &[u16],
+    last: &[u16],
+    k: usize,
+    from: &[u16],
+    n: usize,
+    v: u16,
+    marks: &mut [u16],
+    found: &mut [u16],
+) -> usize
+    requires { ⌜ Ground (now m) (now st) (now cell) (now prev) (now last) × (e ≡ elements (now m)) × (r ≡ recordCount (now m)) × (k < length (now st)) × Sided (now m) k (now from) n × Fresh v (now marks) × (length (now found) ≡ 2001) ⌝ }
+    ensures { λ s. ⌜ Gathered v (now (marks .exit)) (now (found .exit)) s × Toward (now (found .exit)) s [] (stepped (now (m .entry)) (byteAt (now (st .entry)) k) (now (from .entry)) n) × (s ≤ 2000) ⌝ }
+{
+    if k % 2 == 1 {
+        let a = byte_at(st, k) as usize;
+        return walk_down(m, e, r, a, from, n, v, marks, found);
+    }
+    walk_up(m, st, cell, prev, last, from, n, v, marks, found)
+}
+
+// Copies the first n numbers of a list.
+fn copy_list(src: &[u16], n: usize, dst: &mut [u16])
+    requires { ⌜ (n ≤ length (now src)) × (n ≤ length (now dst)) ⌝ }
+    ensures { λ _. ⌜ (take n (now (dst .exit)) ≡ take n (now (src .entry))) × (length (now (dst .exit)) ≡ length (now (dst .entry))) ⌝ }
+{
+    for j in 0..n {
+        dst[j] = src[j];
+    }
+}
+
+// Where the walks of k steps from cell c end: a walk of k - 1 steps, and one step more. Each element met bears its layer.
+pub fn walk(
+    m: &[u8],
+    e: usize,
+    r: usize,
+    st: &[u8],
+    cell: &[u16],
+    prev: &[u16],
+    last: &[u16],
+    c: usize,
+    k: usize,
+    v: usize,
+    marks: &mut [u16],
+    from: &mut [u16],
+    found: &mut [u16],
+    layers: &mut [u16],
+) -> usize
+    requires { ⌜ Ground (now m) (now st) (now cell) (now prev) (now last) × (e ≡ elements (now m)) × (r ≡ recordCount (now m)) × Cell (now m) c × (k < length (now st)) × (k ≤ 8) × (v ≤ 60000) × Fresh v (now marks) × (length (now from) ≡ 2001) × (length (now found) ≡ 2001) × Clear (now layers) ⌝ }
+    ensures { λ n. ⌜ Walk (now (m .entry)) (now (st .entry)) c k (v + k) (now (marks .exit)) (now (from .exit)) (now (layers .exit)) n × (length (now (found .exit)) ≡ 2001) ⌝ }
+{
+    if k == 0 {
+        put_number_at(from, 0, c as u16);
+        note(0, c, layers);
+        return 1;
+    }
+    let n = walk(
+        m,
+        e,
+        r,
+        st,
+        cell,
+        prev,
+        last,
+        c,
+        k - 1,
+        v,
+        marks,
+        from,
+        found,
+        layers,
+    );
+    let s = step(
+        m,
+        e,
+        r,
+        st,
+        cell,
+        prev,
+        last,
+        k,
+        from,
+        n,
+        (v + (k - 1)) as u16,
+        marks,
+        found,
+    );
+    copy_list(found, s, from);
+    note_all(k as u16, from, s, layers);
+    s
 }

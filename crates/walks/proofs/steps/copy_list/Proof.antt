@@ -1,0 +1,31 @@
+-- `walks::steps::copy_list` meets its contract. The invariant: the first j numbers are copied. Assumes nothing.
+use mathlib.Core.Path.{_≡_, refl}
+use Prim.Native.Nat.{_-_, _≤_}
+use lib.ListN.{length, take}
+use Rattle.walks.proofs.WalkLaws.{copy-start, copy-turn, copy-end}
+use borrow.Author.Needs.{needs}
+use Rattle.walks.proofs.steps.copy_list.Statement.{statement}
+use Rattle.walks.proofs.steps.copy_list.Tie as tie
+
+abbrev Inv-loop : tie.InvT-loop
+Inv-loop src n dst₀ j₀ dst j = (j ≤ n) × (length dst ≡ length dst₀) × (take j dst ≡ take j src)
+
+abbrev μ-loop : tie.MeasureT-loop
+μ-loop src n dst₀ j₀ dst j = n - j
+
+pub copy-list-spec : {M : Type 1} → statement M
+copy-list-spec =
+    tie.close
+    (tie.spec
+    Inv-loop
+    μ-loop
+    (λ c. (search needs, refl, search copy-start))
+    (λ c. search needs)
+    (λ c. search needs)
+    (λ c. search needs)
+    (λ c. search needs)
+    (λ c. search needs)
+    (λ c. search needs)
+    (λ c. (search needs, search needs, copy-turn _ _ _ _ (c .before .loop-test .taken) (c .before .before .before .pre .0) (search needs) (c .before .before .loop .inv .2)))
+    (λ c. search needs)
+    (λ c. (search copy-end, search needs)))

@@ -1,0 +1,20 @@
+-- `walks::steps::step` meets its contract. Assumes nothing.
+use Rattle.walks.proofs.WalkLaws.{dimension-down, stepped-up, stepped-down, side-odd, side-even}
+use borrow.Author.Needs.{needs}
+use Rattle.walks.proofs.steps.step.Statement.{statement}
+use Rattle.walks.proofs.steps.step.Tie as tie
+
+pub step-spec : {M : Type 1} → statement M
+step-spec =
+    tie.close
+    (tie.spec
+    (λ c κs. search needs)
+    (λ c. search needs)
+    (λ c κs. (search needs, search needs, search needs, search dimension-down, search side-odd, search needs, search needs))
+    (λ c. search needs)
+    (λ c. search needs)
+    (λ c. (search needs, search stepped-down, search needs))
+    (λ c κs. (search needs, search side-even, search needs, search needs))
+    (λ c. search needs)
+    (λ c. search needs)
+    (λ c. (search needs, search stepped-up, search needs)))
