@@ -2,3 +2,4 @@ pub mod State
 pub mod Calls
 pub mod Start
 pub mod Run
+pub mod StateLaws
