@@ -3,3 +3,4 @@ pub mod Calls
 pub mod Start
 pub mod Run
 pub mod StateLaws
+pub mod RunLaws
