@@ -11,24 +11,24 @@ use native.Mathlib.Omega.{arith}
 use lib.Dec.{eqb, ltb, leb}
 use lib.ListN.{length, getD, set, take, drop, replicate, length-append, length-drop, length-set, length-replicate, length-map, getD-replicate, List·getD-append}
 use lib.Seq.{getD-set-other, getD-append-add, take-append-seam}
-use borrow.Author.Tests.{eqb-true, eqb-false, eq-eqb, ltb-true, ltb-false, not-false}
+use borrow.Author.Tests.{eqb-true, eqb-false, eq-eqb, ltb-true, ltb-false, lt-ltb, not-false}
 use Rattle.vocabulary.specs.Bytes.{Bytes, byteAt, over}
 use Rattle.vocabulary.specs.ByteLaws.{Place, below, inside, above, place, over-length, over-in, over-before, over-after, over-front}
 use Rattle.vocabulary.specs.Lists.{All, joined}
-use Rattle.vocabulary.specs.ListLaws.{and-true, or-false, or-true, cond-has, All-map, All-getD, map-cong, map-map, getD-map-any}
+use Rattle.vocabulary.specs.ListLaws.{and-true, and-intro, or-false, or-true, cond-has, All-map, All-getD, map-cong, map-map, getD-map-any}
 use Rattle.vocabulary.specs.Ranges.{isUpTo, every, blocks}
 use Rattle.vocabulary.specs.RangeLaws.{every-in}
 use Rattle.vocabulary.specs.Tests.{passed, firstOf}
 use Rattle.layout.specs.Words.{word, wordAt, wordBytes, bytesOf}
 use Rattle.layout.specs.WordLaws.{word-same, word-set, word-before, word-in, word-left, word-back, length-wordBytes, length-bytesOf, wordAt-first}
 use Rattle.layout.specs.Depths.{four, rangedAt}
-use Rattle.layout.specs.DepthLaws.{four-same, length-four, four-four, four-whole, four-set, four-in, four-before, four-after, four-left, four-past, four-drop, fours-length, fours-at}
+use Rattle.layout.specs.DepthLaws.{four-same, length-four, four-four, four-whole, four-set, four-in, four-before, four-after, four-left, four-past, four-drop, four-stored, fours-length, fours-at}
 use Rattle.mesh.specs.Walks.{Near}
 use Rattle.round.specs.Rules.{Old}
 use Rattle.round.specs.Rounds.{Scheme, depthIn, oldsIn, newIn, round, undivided}
 use Rattle.messages.specs.Messages.{encode, fromIn, toIn, roundIn, countIn, bad15}
 use Rattle.parts.specs.State.{LocalNear, Lists, listsIn, listsOf, dynamic, heldCount, ownedCount, importEnd, isState, bad20, roundAt, takenPlace, writtenPlace, depthPlace, stateLength}
-use Rattle.parts.specs.StateLaws.{upTo-true, isStateAt, state-at, Whole, whole-is, Frame, frame-take, frame-dynamic}
+use Rattle.parts.specs.StateLaws.{upTo-true, upTo-intro, isStateAt, state-at, Whole, whole-is, Frame, frame-take, frame-dynamic}
 use Rattle.parts.specs.Calls.{importsFrom, exportsTo, depthAt, messageTo, writeTestsIn, writtenIn, takeTestsIn, takenIn, allTaken, allWritten, advanceTestsIn, newAt, advancedIn, collectTestsIn, collectedIn, writeNumber, message, writeState, writeOut, takeNumber, takeState, advanceNumber, advanceState, collectNumber, collectOut}
 
 -- ---- small laws
@@ -314,3 +314,190 @@ module _ (X : Scheme) (F : Bytes) (owner : ℕ → ℕ) (parts : ℕ) (Ls : ℕ 
             ∙ g .owned (getD (L .exports j) t 0) (q .0) (q .1)
             ∙ sym (ap₂ (Undivided X F) (v .2 ∙ g .round-is) (ap₂ (λ p n. Ls p .global (getD (Ls p .exports n) t 0)) me (v .1)));
       }
+
+-- ---- advance
+
+-- what an advance leaves, where every new depth is four bytes
+module _ (L : Lists) (d : ℕ) (b : Bytes) (w : Room L d b) (new4 : (l : ℕ) → length (newAt L d b l) ≡ 4) where
+  abbrev news : Bytes
+  news = blocks 1 (L .owned) (newAt L d b)
+
+  abbrev fresh : Bytes
+  fresh = wordBytes (roundAt b d + 1) ++ (replicate 32 0 ++ blocks 1 (L .owned) (newAt L d b))
+
+  news-length : length news ≡ 4 * L .owned
+  news-length = fours-length 1 (L .owned) (newAt L d b) (λ j h. new4 (1 + j))
+
+  pub fresh-length : length fresh ≡ 34 + 4 * L .owned
+  fresh-length =
+      omega (
+        arith,
+        length-append (wordBytes (roundAt b d + 1)) (replicate 32 0 ++ news),
+        length-append (replicate 32 0) news,
+        length-replicate {A = ℕ} 32 0,
+        length-wordBytes (roundAt b d + 1),
+        news-length,
+      )
+
+  advance-room : d + length fresh ≤ length b
+  advance-room = omega (arith, fresh-length, w .long, w .own-le)
+
+  pub advance-frame : Frame d b (advancedIn L d b)
+  unfolding advancedIn
+  advance-frame = record { same-length = over-length b d fresh advance-room; same = λ i h. over-before b d fresh advance-room i h }
+
+  pub advance-word : word (advancedIn L d b) d ≡ roundAt b d + 1
+  unfolding advancedIn
+  advance-word =
+      ap (λ o. word (advancedIn L d b) o) (sym (add-zero d))
+      ∙ word-in b d fresh advance-room 0 (omega (arith, fresh-length))
+      ∙ word-left (wordBytes (roundAt b d + 1)) (replicate 32 0 ++ news) 0 (omega (arith, length-wordBytes (roundAt b d + 1)))
+      ∙ word-back (roundAt b d + 1)
+
+  -- no flag is set
+  pub advance-flag : (k : ℕ) → k < 32 → byteAt (advancedIn L d b) (d + 2 + k) ≡ 0
+  unfolding advancedIn wordBytes
+  advance-flag k h =
+      let q : d + 2 + k ≡ d + (2 + k) = omega arith in
+      ap (λ n. byteAt (advancedIn L d b) n) q
+      ∙ over-in b d fresh advance-room (2 + k) (omega (arith, fresh-length))
+      ∙ getD-append-add (wordBytes (roundAt b d + 1)) (replicate 32 0 ++ news) k 0
+      ∙ List·getD-append (replicate 32 0) news 0 k (omega (arith, length-replicate {A = ℕ} 32 0))
+      ∙ getD-replicate 32 k 0 0 h
+
+  -- the new depths of the owned cells; the others keep theirs
+  pub advance-owned : (l : ℕ) → 1 ≤ l → l ≤ L .owned → depthAt d (advancedIn L d b) l ≡ newAt L d b l
+  unfolding advancedIn wordBytes
+  advance-owned l h k =
+      let q : depthPlace d l ≡ d + (2 + (32 + 4 * (l - 1))) = omega arith in
+      let p : 1 + (l - 1) ≡ l = omega arith in
+      let z : _≡_ {A = ℕ} 32 (length (replicate {A = ℕ} 32 0)) = sym (length-replicate {A = ℕ} 32 0) in
+      ap (λ n. four (advancedIn L d b) n) q
+      ∙ four-in b d fresh advance-room (2 + (32 + 4 * (l - 1))) (omega (arith, fresh-length))
+      ∙ four-past (wordBytes (roundAt b d + 1)) (replicate 32 0 ++ news) (32 + 4 * (l - 1))
+      ∙ ap (λ n. four (replicate 32 0 ++ news) (n + 4 * (l - 1))) z
+      ∙ four-past (replicate 32 0) news (4 * (l - 1))
+      ∙ fours-at 1 (L .owned) (newAt L d b) (λ j h. new4 (1 + j)) (l - 1) (omega arith)
+      ∙ ap (λ n. newAt L d b n) p
+
+  pub advance-others : (l : ℕ) → L .owned < l → depthAt d (advancedIn L d b) l ≡ depthAt d b l
+  unfolding advancedIn
+  advance-others l h = four-after b d fresh advance-room (depthPlace d l) (omega (arith, fresh-length))
+
+-- what an accepted advance says
+pub advance-taken : (L : Lists) (d : ℕ) (b : Bytes) → firstOf (advanceTestsIn L d b) ≡ 0 → (j : ℕ) → 1 ≤ j → j ≤ 16 → 0 < L .imported j → byteAt b (takenPlace d j) ≡ 1
+unfolding advanceTestsIn allTaken importsFrom
+advance-taken L d b e j h k l =
+    let a = passed (advanceTestsIn L d b) tt e in
+    let p : ℕ → Bool = λ j. not (isUpTo 16 j && ltb 0 (L .imported j)) || eqb (byteAt b (takenPlace d j)) 1 in
+    let t : not (isUpTo 16 j && ltb 0 (L .imported j)) || eqb (byteAt b (takenPlace d j)) 1 ≡ true = every-in 1 p 16 j (not-false _ (a .1 .0)) h (omega arith) in
+    let on : isUpTo 16 j && ltb 0 (L .imported j) ≡ true = and-intro (isUpTo 16 j) (ltb 0 (L .imported j)) (upTo-intro 16 j h k) (lt-ltb _ _ l) in
+    eqb-true _ _ (rw on at t)
+
+-- the undivided round at one cell
+pub undivided-at : (X : Scheme) (F : Bytes) (k c : ℕ) → ((own : Bytes) (os : List Old) → length own ≡ 4 → length (X .new own os) ≡ 4) → Cell X c
+    → Undivided X F (suc k) c ≡ X .new (Undivided X F k c) (oldsIn X (undivided X F k) (X .reach c))
+unfolding undivided round depthIn newIn
+undivided-at X F k c new4 h =
+    let g : Bytes = undivided X F k in
+    let p : X .first + (c - X .first) ≡ c = omega arith in
+    fours-at (X .first) (X .cells) (newIn X g) (λ j q. new4 _ _ (length-four g _)) (c - X .first) (omega arith)
+    ∙ ap (λ x. newIn X g x) p
+
+module _ (X : Scheme) (F : Bytes) (new4 : (own : Bytes) (os : List Old) → length own ≡ 4 → length (X .new own os) ≡ 4) (owner : ℕ → ℕ) (parts : ℕ) (Ls : ℕ → Lists) (S : Parted X owner parts Ls)
+    (i : ℕ) (part : Part parts i) (st : Bytes) (d rd : ℕ) (b : Bytes) (w : Room (Ls i) d b) (g : Good X F (Ls i) st d rd b)
+    (taken : (j : ℕ) → 1 ≤ j → j ≤ 16 → 0 < Ls i .imported j → byteAt b (takenPlace d j) ≡ 1) where
+  -- before an accepted advance every held depth is the undivided one
+  all-right : (l : ℕ) → 1 ≤ l → l ≤ Ls i .held → Right X F (Ls i) st d rd b l
+  all-right l h k =
+      ⊎-elim
+      (λ o. g .owned l h o)
+      (λ c. subst (λ n. Right X F (Ls i) st d rd b n) (sym (c .is))
+      (g .took (c .from) (c .at) (c .from-least) (c .from-most) (taken (c .from) (c .from-least) (c .from-most) (omega (arith, c .at-lt))) (c .at-lt)))
+      (S .covered i part l h k)
+
+  olds-right : (l : ℕ) → 1 ≤ l → l ≤ Ls i .owned
+      → map (λ e. record { layer = e .layer; depth = depthAt d b (e .local) }) (Ls i .reach l) ≡ oldsIn X (undivided X F rd) (X .reach (Ls i .global l))
+  unfolding oldsIn
+  olds-right l h k =
+      let old : Near → Old = λ e. record { layer = e .layer; depth = Undivided X F rd (e .cell) } in
+      map-cong (λ e. record { layer = e .layer; depth = depthAt d b (e .local) }) (λ e. old (globally (Ls i) e)) (Ls i .reach l)
+      (All-map (Ls i .reach l) (λ e q. ap (λ x. record { layer = e .layer; depth = x }) (all-right (e .local) (q .0) (q .1))) (S .near-held i part l h k))
+      ∙ sym (map-map old (globally (Ls i)) (Ls i .reach l))
+      ∙ ap (map old) (S .near-is i part l h k)
+
+  new-right : (l : ℕ) → 1 ≤ l → l ≤ Ls i .owned → newAt (Ls i) d b l ≡ Undivided X F (suc rd) (Ls i .global l)
+  unfolding newAt
+  new-right l h k =
+      ap (λ n. n (depthAt d b l) (map (λ e. record { layer = e .layer; depth = depthAt d b (e .local) }) (Ls i .reach l))) (S .new-is i part)
+      ∙ ap₂ (X .new) (g .owned l h k) (olds-right l h k)
+      ∙ sym (undivided-at X F rd (Ls i .global l) new4 (S .owned-cell i part l h k))
+
+  new-four : (l : ℕ) → length (newAt (Ls i) d b l) ≡ 4
+  unfolding newAt
+  new-four l = ap (λ n. length (n (depthAt d b l) (map (λ e. record { layer = e .layer; depth = depthAt d b (e .local) }) (Ls i .reach l)))) (S .new-is i part) ∙ new4 _ _ (length-four b _)
+
+  pub advance-good : Good X F (Ls i) st d (suc rd) (advancedIn (Ls i) d b)
+  advance-good =
+      let k = framed X F (Ls i) st d rd b (advancedIn (Ls i) d b) w (advance-frame (Ls i) d b w new-four) g in
+      record {
+        place-is = k .0;
+        front-is = k .1;
+        round-is = advance-word (Ls i) d b w new-four ∙ ap (λ n. n + 1) (g .round-is) ∙ add-one rd;
+        owned = λ l h q. advance-owned (Ls i) d b w new-four l h q ∙ new-right l h q;
+        took = λ j t h q e p.
+            let z : takenPlace d j ≡ d + 2 + (j - 1) = omega arith in
+            let n : _≡_ {A = ℕ} 0 1 = sym (advance-flag (Ls i) d b w new-four (j - 1) (omega arith)) ∙ ap (λ o. byteAt (advancedIn (Ls i) d b) o) (sym z) ∙ e in
+            let no : ⊥ = omega arith in absurd no;
+      }
+
+-- ---- collect
+
+module _ (L : Lists) (d : ℕ) (b out : Bytes) where
+  abbrev cell : ℕ → ℕ
+  cell l = L .global l - L .first
+
+  pub collect-length : (n : ℕ) → ((l : ℕ) → 1 ≤ l → l ≤ n → 4 * cell l + 4 ≤ length out) → length (collectedIn L d b n out) ≡ length out
+  unfolding collectedIn
+  collect-length zero r = refl
+  collect-length (suc n) r =
+      let ih = collect-length n (λ l h k. r l h (omega arith)) in
+      over-length (collectedIn L d b n out) (4 * cell (suc n)) (depthAt d b (suc n)) (omega (arith, ih, r (suc n) (omega arith) (omega arith), length-four b (depthPlace d (suc n)))) ∙ ih
+
+  pub collect-others : (n : ℕ) → ((l : ℕ) → 1 ≤ l → l ≤ n → 4 * cell l + 4 ≤ length out) → (x : ℕ)
+      → ((l : ℕ) → 1 ≤ l → l ≤ n → (x < 4 * cell l) ⊎ (4 * cell l + 4 ≤ x)) → byteAt (collectedIn L d b n out) x ≡ byteAt out x
+  unfolding collectedIn
+  collect-others zero r x h = refl
+  collect-others (suc n) r x h =
+      let prev : Bytes = collectedIn L d b n out in
+      let ih = collect-length n (λ l h k. r l h (omega arith)) in
+      let lf = length-four b (depthPlace d (suc n)) in
+      let room : 4 * cell (suc n) + length (depthAt d b (suc n)) ≤ length (collectedIn L d b n out) = omega (arith, ih, r (suc n) (omega arith) (omega arith), lf) in
+      ⊎-elim (λ k. over-before prev (4 * cell (suc n)) (depthAt d b (suc n)) room x k)
+      (λ k. over-after prev (4 * cell (suc n)) (depthAt d b (suc n)) room x (omega (arith, lf))) (h (suc n) (omega arith) (omega arith))
+      ∙ collect-others n (λ l h k. r l h (omega arith)) x (λ l q k. h l q (omega arith))
+
+  -- where the depths are the values of a function of the cell
+  pub collect-owned : (Y : ℕ → Bytes) (n : ℕ) → ((l : ℕ) → 1 ≤ l → l ≤ n → 4 * cell l + 4 ≤ length out)
+      → ((l : ℕ) → 1 ≤ l → l ≤ n → depthAt d b l ≡ Y (cell l)) → (l : ℕ) → 1 ≤ l → l ≤ n → four (collectedIn L d b n out) (4 * cell l) ≡ Y (cell l)
+  unfolding collectedIn
+  collect-owned Y zero r v l h k = let z : ⊥ = omega arith in absurd z
+  collect-owned Y (suc n) r v l h k =
+      go (place (cell (suc n)) 1 (cell l)) (λ q. collect-owned Y n (λ l h k. r l h (omega arith)) (λ l h k. v l h (omega arith)) l h q)
+    where
+      room : 4 * cell (suc n) + length (depthAt d b (suc n)) ≤ length (collectedIn L d b n out)
+      room = omega (arith, collect-length n (λ l h k. r l h (omega arith)), r (suc n) (omega arith) (omega arith), length-four b (depthPlace d (suc n)))
+
+      earlier : cell l ≢ cell (suc n) → l ≤ n
+      earlier ne = let nn : l ≢ suc n = λ p. ne (ap (λ y. L .global y - L .first) p) in omega arith
+
+      go : Place (cell (suc n)) 1 (cell l) → (l ≤ n → four (collectedIn L d b n out) (4 * cell l) ≡ Y (cell l))
+          → four (over (collectedIn L d b n out) (4 * cell (suc n)) (depthAt d b (suc n))) (4 * cell l) ≡ Y (cell l)
+      go (below q) ih = four-before (collectedIn L d b n out) (4 * cell (suc n)) (depthAt d b (suc n)) room (4 * cell l) (omega arith) ∙ ih (earlier (omega arith))
+      go (inside t q p) ih =
+          let same : cell l ≡ cell (suc n) = omega arith in
+          let lf = length-four b (depthPlace d (suc n)) in
+          subst (λ c. four (over (collectedIn L d b n out) (4 * cell (suc n)) (depthAt d b (suc n))) (4 * c) ≡ Y c) (sym same)
+          (four-stored (collectedIn L d b n out) (4 * cell (suc n)) (depthAt d b (suc n)) lf (omega (arith, room)) ∙ v (suc n) (omega arith) (omega arith))
+      go (above q) ih =
+          four-after (collectedIn L d b n out) (4 * cell (suc n)) (depthAt d b (suc n)) room (4 * cell l) (omega (arith, length-four b (depthPlace d (suc n)))) ∙ ih (earlier (omega arith))
