@@ -4,3 +4,4 @@ pub mod Start
 pub mod Run
 pub mod StateLaws
 pub mod RunLaws
+pub mod WorldLaws

@@ -1,0 +1,197 @@
+-- A run keeps the undivided depths: the invariant of a world, that every step keeps it, and the claims of demand 3 for parts whose lists are
+-- as they must be and whose states begin as they must. Assumes nothing.
+use mathlib.Core.Path.{_≡_, refl, sym, ap, ap₂, _∙_, subst, subst₂}
+use mathlib.Core.Logic.{_⊎_, inl, inr, ⊎-elim, _≢_}
+use mathlib.Core.Bool.{Bool, true, false, not, cond}
+use mathlib.Core.List.{List, [], _∷_, _++_, List·Memᴰ}
+use Prim.Native.Nat.{ℕ, zero, suc, _+_, _-_, _*_, _/_, _%_, _<_, _≤_}
+use native.Mathlib.Omega.{arith}
+use lib.Dec.{eqb, ltb}
+use lib.ListN.{length, getD, take, drop}
+use lib.Seq.{ext-getD, take-append-seam}
+use borrow.Author.Tests.{eqb-true, eq-eqb, ltb-false, not-false}
+use Rattle.vocabulary.specs.Bytes.{Bytes, byteAt, over}
+use Rattle.vocabulary.specs.ByteLaws.{Place, below, inside, above, place, over-front}
+use Rattle.vocabulary.specs.Lists.{All}
+use Rattle.vocabulary.specs.ListLaws.{and-true, cond-has}
+use Rattle.vocabulary.specs.Ranges.{isUpTo}
+use Rattle.vocabulary.specs.Tests.{passed, firstOf}
+use Rattle.layout.specs.Words.{wordAt}
+use Rattle.layout.specs.Depths.{four}
+use Rattle.layout.specs.DepthLaws.{length-four, getD-four}
+use Rattle.mesh.specs.Mesh.{cellCount}
+use Rattle.round.specs.Rules.{Old}
+use Rattle.round.specs.RuleLaws.{new-length}
+use Rattle.round.specs.Rounds.{Scheme, schemeOf, depthIn, undivided}
+use Rattle.messages.specs.Messages.{fromIn, toIn, roundIn, countIn}
+use Rattle.parts.specs.State.{Lists, listsIn, listsOf, dynamic, isState, bad20, roundAt}
+use Rattle.parts.specs.StateLaws.{upTo-true, isStateAt, state-at, whole-is}
+use Rattle.parts.specs.Calls.{exportsTo, messageTo, writeTestsIn, writtenIn, takeTestsIn, takenIn, advanceTestsIn, advancedIn, collectTestsIn, collectedIn, writeNumber, message, writeState, writeOut, takeNumber, takeState, advanceNumber, advanceState, collectNumber, collectOut}
+use Rattle.parts.specs.Run.{Call, write, take-in, advance, collect, Collected, World, put, more, step, run, Fair, Honest, Inputs, schemeIn, ownerIn, Right}
+use Rattle.parts.specs.RunLaws.{mem-all, Part, Parted, Undivided, Good, Room, room-of, RightMessage, taken-facts, write-good, write-right, take-good, advance-taken, advance-good, collect-length, collect-owned, collect-others}
+
+-- the owner of a cell by its global number
+abbrev pub ownerOf : Inputs → ℕ → ℕ
+ownerOf I c = ownerIn I (c - schemeIn I .first)
+
+pub new-is-four : (I : Inputs) (own : Bytes) (os : List Old) → length own ≡ 4 → length (schemeIn I .new own os) ≡ 4
+unfolding schemeOf
+new-is-four I own os h = new-length (I .kind) (I .weights) own os h
+
+-- ---- one more state, one more in a list
+
+put-has : (P : ℕ → Bytes → Type 0) (w : ℕ → Bytes) (i : ℕ) (s : Bytes) → P i s → ((j : ℕ) → P j (w j)) → (j : ℕ) → P j (put w i s j)
+unfolding put
+put-has P w i s g h j = cond-has (P j) (eqb i j) s (w j) (λ e. subst (λ k. P k s) (eqb-true i j e) g) (λ e. h j)
+
+put-both : (P : ℕ → ℕ → Bytes → Type 0) (m : ℕ → ℕ) (w : ℕ → Bytes) (i n : ℕ) (s : Bytes) → P i n s → ((j : ℕ) → P j (m j) (w j)) → (j : ℕ) → P j (put m i n j) (put w i s j)
+unfolding put
+put-both P m w i n s g h j = go (eqb i j) refl
+  where
+    go : (t : Bool) → eqb i j ≡ t → P j (cond t n (m j)) (cond t s (w j))
+    go true e = subst (λ k. P k n s) (eqb-true i j e) g
+    go false e = h j
+
+more-all : {A : Type 0} (P : A → Type 0) (n : ℕ) (x : A) (xs : List A) → (n ≡ 0 → P x) → All P xs → All P (more n x xs)
+unfolding more
+more-all P n x xs p q = cond-has (All P) (eqb n 0) (x ∷ xs) xs (λ e. (p (eqb-true n 0 e), q)) (λ e. q)
+
+-- ---- accepted calls are on states
+
+write-state : (b : Bytes) (j : ℕ) (out : Bytes) → writeNumber b j out ≡ 0 → isState b ≡ true
+unfolding writeNumber writeTestsIn bad20
+write-state b j out e = not-false _ (passed (writeTestsIn (listsOf b) (dynamic b) b j out) tt e .0)
+
+take-state : (b x : Bytes) → takeNumber b x ≡ 0 → isState b ≡ true
+unfolding takeNumber takeTestsIn bad20
+take-state b x e = not-false _ (passed (takeTestsIn (listsOf b) (dynamic b) b x) tt e .1 .0)
+
+advance-state : (b : Bytes) → advanceNumber b ≡ 0 → isState b ≡ true
+unfolding advanceNumber advanceTestsIn bad20
+advance-state b e = not-false _ (passed (advanceTestsIn (listsOf b) (dynamic b) b) tt e .0)
+
+collect-state : (b : Bytes) (k : ℕ) (f : Bytes) → collectNumber b k f ≡ 0 → isState b ≡ true
+unfolding collectNumber collectTestsIn bad20
+collect-state b k f e = not-false _ (passed (collectTestsIn (listsOf b) (dynamic b) b k f) tt e .0)
+
+-- the message that an accepted write gives
+pub written-is : (b : Bytes) (j : ℕ) (out : Bytes) → writeNumber b j out ≡ 0 → take (length (message b j)) (writeOut b j out) ≡ message b j
+unfolding writeOut
+written-is b j out e =
+    ap (λ t. take (length (message b j)) (cond t (over out 0 (message b j)) out)) (eq-eqb _ 0 e)
+    ∙ ap (λ r. take (length (message b j)) r) (over-front out (message b j))
+    ∙ take-append-seam (message b j) (drop (length (message b j)) out)
+
+-- ---- the invariant
+
+-- the lists of part i stand in the bytes `front i`
+module _ (I : Inputs) (front : ℕ → Bytes) where
+  abbrev X : Scheme
+  X = schemeIn I
+
+  abbrev pub listsAt : ℕ → Lists
+  listsAt i = listsIn (front i)
+
+  -- what a state holds, if it is one
+  abbrev pub Holds : ℕ → ℕ → Bytes → Type 0
+  Holds i rd b = isState b ≡ true → Part (I .parts) i × Good (schemeIn I) (I .field) (listsIn (front i)) (front i) (length (front i)) rd b
+
+  pub record Inv (w : World) : Type 0 where
+    pub good : (i : ℕ) → Holds i (w .made i) (w .states i)
+    pub right : All (RightMessage (schemeIn I) (I .field) (I .parts) listsAt) (w .sent)
+    pub gave : All (Right I) (w .given)
+
+  -- a state still has the lists that its part was started with
+  module _ (P : Lists → ℕ → Type 0) (i rd : ℕ) (b : Bytes) (g : Good (schemeIn I) (I .field) (listsIn (front i)) (front i) (length (front i)) rd b) where
+    lists-are : listsOf b ≡ listsIn (front i)
+    unfolding listsOf
+    lists-are = ap listsIn (ap (λ n. take n b) (g .place-is) ∙ g .front-is)
+
+    turn : P (listsIn (front i)) (length (front i)) → P (listsOf b) (dynamic b)
+    turn = subst₂ P (sym lists-are) (sym (g .place-is))
+
+    back : P (listsOf b) (dynamic b) → P (listsIn (front i)) (length (front i))
+    back = subst₂ P lists-are (g .place-is)
+
+  room : (i rd : ℕ) (b : Bytes) → isState b ≡ true → Good (schemeIn I) (I .field) (listsIn (front i)) (front i) (length (front i)) rd b → Room (listsIn (front i)) (length (front i)) b
+  room i rd b s g =
+      let e : isStateAt (front i) (length (front i)) b ≡ true =
+          subst₂ (λ n st. isStateAt st n b ≡ true) (g .place-is) (ap (λ n. take n b) (g .place-is) ∙ g .front-is) (sym (state-at b) ∙ s) in
+      room-of (front i) (length (front i)) b (whole-is (front i) (length (front i)) b e)
+
+  module _ (S : Parted (schemeIn I) (ownerOf I) (I .parts) listsAt) where
+    -- ---- write
+
+    write-part : (b : Bytes) (j : ℕ) (out : Bytes) → writeNumber b j out ≡ 0 → (1 ≤ j) × (j ≤ 16)
+    unfolding writeNumber writeTestsIn exportsTo
+    write-part b j out e =
+        let a = passed (writeTestsIn (listsOf b) (dynamic b) b j out) tt e in
+        upTo-true 16 j (and-true (isUpTo 16 j) (ltb 0 (length (listsOf b .exports j))) (not-false _ (a .1 .0)) .0)
+
+    write-holds : (i rd : ℕ) (b : Bytes) (j : ℕ) (out : Bytes) → Holds i rd b → Holds i rd (writeState b j out)
+    unfolding writeState
+    write-holds i rd b j out h =
+        cond-has (Holds i rd) (eqb (writeNumber b j out) 0) (writtenIn (listsOf b) (dynamic b) b j) b
+        (λ e _.
+        let n : writeNumber b j out ≡ 0 = eqb-true _ 0 e in
+        let s = write-state b j out n in
+        let g = h s in
+        let u = write-part b j out n in (
+          g .0,
+          turn (λ L d. Good (schemeIn I) (I .field) (listsIn (front i)) (front i) (length (front i)) rd (writtenIn L d b j)) i rd b (g .1)
+              (write-good (schemeIn I) (I .field) (listsIn (front i)) (front i) (length (front i)) rd b j (u .0) (u .1) (room i rd b s (g .1)) (g .1)),
+        ))
+        (λ e. h)
+
+    write-sends : (i rd : ℕ) (b : Bytes) (j : ℕ) (out : Bytes) → Holds i rd b → writeNumber b j out ≡ 0
+        → RightMessage (schemeIn I) (I .field) (I .parts) listsAt (take (length (message b j)) (writeOut b j out))
+    unfolding message
+    write-sends i rd b j out h n =
+        let g = h (write-state b j out n) in
+        let u = write-part b j out n in
+        subst (RightMessage (schemeIn I) (I .field) (I .parts) listsAt) (sym (written-is b j out n))
+        (turn (λ L d. RightMessage (schemeIn I) (I .field) (I .parts) listsAt (messageTo L d b j)) i rd b (g .1)
+        (write-right (schemeIn I) (I .field) (ownerOf I) (I .parts) listsAt S i (g .0) (front i) (length (front i)) rd b j (u .0) (u .1) (g .1)))
+
+    -- ---- take
+
+    take-holds : (i rd : ℕ) (b x : Bytes) → Holds i rd b → (takeNumber b x ≡ 0 → RightMessage (schemeIn I) (I .field) (I .parts) listsAt x) → Holds i rd (takeState b x)
+    unfolding takeState takeNumber
+    take-holds i rd b x h m =
+        cond-has (Holds i rd) (eqb (takeNumber b x) 0) (takenIn (listsOf b) (dynamic b) b x) b
+        (λ e _.
+        let n : takeNumber b x ≡ 0 = eqb-true _ 0 e in
+        let s = take-state b x n in
+        let g = h s in
+        let L : Lists = listsIn (front i) in
+        let d : ℕ = length (front i) in
+        let r = m n in
+        let v = taken-facts (listsIn (front i)) (length (front i)) b x (back (λ L d. firstOf (takeTestsIn L d b x) ≡ 0) i rd b (g .1) n) in (
+          g .0,
+          turn (λ L d. Good (schemeIn I) (I .field) (listsIn (front i)) (front i) (length (front i)) rd (takenIn L d b x)) i rd b (g .1)
+              (take-good (schemeIn I) (I .field) L (front i) d rd b x (room i rd b s (g .1)) v (g .1)
+              (λ t k.
+              r .depths t k
+              ∙ ap (Undivided (schemeIn I) (I .field) (roundIn x))
+              (ap (λ p. listsAt (fromIn x) .global (getD (listsAt (fromIn x) .exports p) t 0)) (v .to-is ∙ S .part-is i (g .0))
+              ∙ sym (S .agree i (fromIn x) t (g .0) (r .sender) (omega (arith, v .count-is)))))),
+        ))
+        (λ e. h)
+
+    -- ---- advance
+
+    advance-holds : (i rd : ℕ) (b : Bytes) → Holds i rd b → Holds i (cond (eqb (advanceNumber b) 0) (suc rd) rd) (advanceState b)
+    unfolding advanceState advanceNumber
+    advance-holds i rd b h = go (eqb (advanceNumber b) 0) refl
+      where
+        go : (t : Bool) → eqb (advanceNumber b) 0 ≡ t → Holds i (cond t (suc rd) rd) (cond t (advancedIn (listsOf b) (dynamic b) b) b)
+        go true e = λ _.
+            let n : advanceNumber b ≡ 0 = eqb-true _ 0 e in
+            let s = advance-state b n in
+            let g = h s in
+            let t = advance-taken (listsIn (front i)) (length (front i)) b (back (λ L d. firstOf (advanceTestsIn L d b) ≡ 0) i rd b (g .1) n) in (
+              g .0,
+              turn (λ L d. Good (schemeIn I) (I .field) (listsIn (front i)) (front i) (length (front i)) (suc rd) (advancedIn L d b)) i rd b (g .1)
+                  (advance-good (schemeIn I) (I .field) (new-is-four I) (ownerOf I) (I .parts) listsAt S i (g .0) (front i) (length (front i)) rd b (room i rd b s (g .1)) (g .1) t),
+            )
+        go false e = h
