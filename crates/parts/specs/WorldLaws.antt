@@ -195,3 +195,116 @@ module _ (I : Inputs) (front : ℕ → Bytes) where
                   (advance-good (schemeIn I) (I .field) (new-is-four I) (ownerOf I) (I .parts) listsAt S i (g .0) (front i) (length (front i)) rd b (room i rd b s (g .1)) (g .1) t),
             )
         go false e = h
+
+    -- ---- collect
+
+    module _ (i rd : ℕ) (b : Bytes) (part : Part (I .parts) i) (g : Good (schemeIn I) (I .field) (listsIn (front i)) (front i) (length (front i)) rd b)
+        (k : ℕ) (f : Bytes) (e : firstOf (collectTestsIn (listsIn (front i)) (length (front i)) b k f) ≡ 0) where
+      abbrev L : Lists
+      L = listsIn (front i)
+
+      same-round : k ≡ rd
+      unfolding collectTestsIn
+      same-round = eqb-true _ _ (not-false _ (passed (collectTestsIn (listsIn (front i)) (length (front i)) b k f) tt e .1 .0)) ∙ g .round-is
+
+      wide : 4 * schemeIn I .cells ≤ length f
+      unfolding collectTestsIn
+      wide =
+          let h : 4 * listsIn (front i) .cells ≤ length f = ltb-false _ _ (passed (collectTestsIn (listsIn (front i)) (length (front i)) b k f) tt e .1 .1 .0) in
+          omega (arith, S .cells-are i part)
+
+      index : (l : ℕ) → 1 ≤ l → l ≤ listsIn (front i) .owned → listsIn (front i) .global l - listsIn (front i) .first < schemeIn I .cells
+      index l h q = let c = S .owned-cell i part l h q in omega (arith, c .0, c .1, S .first-is i part)
+
+      fits : (l : ℕ) → 1 ≤ l → l ≤ listsIn (front i) .owned → 4 * (listsIn (front i) .global l - listsIn (front i) .first) + 4 ≤ length f
+      fits l h q = omega (arith, index l h q, wide)
+
+      mine : (l : ℕ) → 1 ≤ l → l ≤ listsIn (front i) .owned → ownerIn I (listsIn (front i) .global l - listsIn (front i) .first) ≡ i
+      mine l h q = ap (λ n. ownerIn I (listsIn (front i) .global l - n)) (S .first-is i part) ∙ S .owned-owner i part l h q
+
+      apart : (x : ℕ) → (x / 4 < cellCount (I .mesh) → ownerIn I (x / 4) ≡ i → ⊥) → (l : ℕ) → 1 ≤ l → l ≤ listsIn (front i) .owned
+          → Place (4 * (listsIn (front i) .global l - listsIn (front i) .first)) 4 x
+          → (x < 4 * (listsIn (front i) .global l - listsIn (front i) .first)) ⊎ (4 * (listsIn (front i) .global l - listsIn (front i) .first) + 4 ≤ x)
+      unfolding schemeOf
+      apart x n l h q (below j) = inl j
+      apart x n l h q (inside t j p) =
+          let c : x / 4 ≡ listsIn (front i) .global l - listsIn (front i) .first = omega arith in
+          absurd (n (subst (λ y. y < cellCount (I .mesh)) (sym c) (index l h q)) (ap (λ y. ownerIn I y) c ∙ mine l h q))
+      apart x n l h q (above j) = inr j
+
+      collect-right : Right I (record { part = i; round = k; made = rd; before = f; field = collectedIn (listsIn (front i)) (length (front i)) b (listsIn (front i) .owned) f })
+      unfolding schemeOf depthIn
+      collect-right = record {
+        rounds = same-round;
+        long = collect-length L (length (front i)) b f (listsIn (front i) .owned) fits;
+        owned = λ c h o.
+            let F : ℕ = schemeIn I .first in
+            let z : F + c - F ≡ c = omega arith in
+            let y = S .holder i part (F + c) (omega arith, omega arith) (ap (λ n. ownerIn I n) z ∙ o) in
+            let p : listsIn (front i) .global (y .0) - listsIn (front i) .first ≡ c = omega (arith, y .3, S .first-is i part) in
+            subst (λ n. four (collectedIn (listsIn (front i)) (length (front i)) b (listsIn (front i) .owned) f) (4 * n) ≡ four (undivided (schemeIn I) (I .field) k) (4 * n)) p
+            (collect-owned L (length (front i)) b f (λ n. four (undivided (schemeIn I) (I .field) k) (4 * n)) (listsIn (front i) .owned) fits
+            (λ l h q.
+            g .owned l h q
+            ∙ ap₂ (λ r s. four (undivided (schemeIn I) (I .field) r) (4 * (listsIn (front i) .global l - s))) (sym same-round) (sym (S .first-is i part)))
+            (y .0) (y .1) (y .2));
+        others = λ x n.
+            collect-others L (length (front i)) b f (listsIn (front i) .owned) fits x
+            (λ l h q. apart x n l h q (place (4 * (listsIn (front i) .global l - listsIn (front i) .first)) 4 x));
+      }
+
+    collect-gives : (i rd : ℕ) (b : Bytes) (k : ℕ) (f : Bytes) → Holds i rd b → collectNumber b k f ≡ 0
+        → Right I (record { part = i; round = k; made = rd; before = f; field = collectOut b k f })
+    unfolding collectNumber collectOut
+    collect-gives i rd b k f h n =
+        let g = h (collect-state b k f n) in
+        subst (λ t. Right I (record { part = i; round = k; made = rd; before = f; field = cond t (collectedIn (listsOf b) (dynamic b) b (listsOf b .owned) f) f })) (sym (eq-eqb _ 0 n))
+        (turn (λ L d. Right I (record { part = i; round = k; made = rd; before = f; field = collectedIn L d b (L .owned) f })) i rd b (g .1)
+        (collect-right i rd b (g .0) (g .1) k f (back (λ L d. firstOf (collectTestsIn L d b k f) ≡ 0) i rd b (g .1) n)))
+
+    -- ---- a step, and a run
+
+    step-inv : (w : World) (c : Call) → Fair w c → Inv w → Inv (step w c)
+    unfolding step Fair
+    step-inv w (write i j out) h v = record {
+      good = put-has (λ i s. Holds i (w .made i) s) (w .states) i _ (write-holds i (w .made i) (w .states i) j out (v .good i)) (v .good);
+      right = more-all (RightMessage (schemeIn I) (I .field) (I .parts) listsAt) _ _ (w .sent) (write-sends i (w .made i) (w .states i) j out (v .good i)) (v .right);
+      gave = v .gave;
+    }
+    step-inv w (take-in i x) h v = record {
+      good = put-has (λ i s. Holds i (w .made i) s) (w .states) i _
+          (take-holds i (w .made i) (w .states i) x (v .good i) (λ n. mem-all (RightMessage (schemeIn I) (I .field) (I .parts) listsAt) (w .sent) (h n) (v .right))) (v .good);
+      right = v .right;
+      gave = v .gave;
+    }
+    step-inv w (advance i) h v = record {
+      good = put-both Holds (w .made) (w .states) i _ _ (advance-holds i (w .made i) (w .states i) (v .good i)) (v .good);
+      right = v .right;
+      gave = v .gave;
+    }
+    step-inv w (collect i k f) h v = record {
+      good = v .good;
+      right = v .right;
+      gave = more-all (Right I) _ _ (w .given) (collect-gives i (w .made i) (w .states i) k f (v .good i)) (v .gave);
+    }
+
+    pub run-inv : (w : World) (cs : List Call) → Honest w cs → Inv w → Inv (run w cs)
+    unfolding run Honest
+    run-inv w [] h v = v
+    run-inv w (c ∷ cs) h v = run-inv (step w c) cs (h .1) (step-inv w c (h .0) v)
+
+-- ---- fields
+
+-- fields of n cells with the same depths are one
+pub field-same : (n : ℕ) (G H : Bytes) → length G ≡ 4 * n → length H ≡ 4 * n → ((c : ℕ) → c < n → four G (4 * c) ≡ four H (4 * c)) → G ≡ H
+field-same n G H p q e =
+    ext-getD 0 G H (omega arith)
+    (λ x h.
+    let c : x / 4 < n = omega arith in
+    let y : 4 * (x / 4) + x % 4 ≡ x = omega arith in
+    let k : x % 4 < 4 = omega arith in
+    ap (λ z. byteAt G z) (sym y)
+    ∙ sym (getD-four G (4 * (x / 4)) (x % 4) k)
+    ∙ ap (λ z. byteAt z (x % 4)) (e (x / 4) c)
+    ∙ getD-four H (4 * (x / 4)) (x % 4) k
+    ∙ ap (λ z. byteAt H z) y)
