@@ -84,7 +84,7 @@ whole-is st d b e =
       early = leb-true _ _ (c .1 .0);
       flags = λ j h k.
           let r = and-true (leb (byteAt b (takenPlace d j)) 1) (leb (byteAt b (writtenPlace d j)) 1)
-              (every-in 1 (λ j. leb (byteAt b (takenPlace d j)) 1 && leb (byteAt b (writtenPlace d j)) 1) 16 j (c .1 .1 .0) h (omega arith)) in
+          (every-in 1 (λ j. leb (byteAt b (takenPlace d j)) 1 && leb (byteAt b (writtenPlace d j)) 1) 16 j (c .1 .1 .0) h (omega arith)) in
           (leb-true _ _ (r .0), leb-true _ _ (r .1));
       ranged = c .1 .1 .1 .0;
     }

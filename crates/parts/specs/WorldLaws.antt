@@ -116,7 +116,7 @@ module _ (I : Inputs) (front : ℕ → Bytes) where
   room : (i rd : ℕ) (b : Bytes) → isState b ≡ true → Good (schemeIn I) (I .field) (listsIn (front i)) (front i) (length (front i)) rd b → Room (listsIn (front i)) (length (front i)) b
   room i rd b s g =
       let e : isStateAt (front i) (length (front i)) b ≡ true =
-          subst₂ (λ n st. isStateAt st n b ≡ true) (g .place-is) (ap (λ n. take n b) (g .place-is) ∙ g .front-is) (sym (state-at b) ∙ s) in
+      subst₂ (λ n st. isStateAt st n b ≡ true) (g .place-is) (ap (λ n. take n b) (g .place-is) ∙ g .front-is) (sym (state-at b) ∙ s) in
       room-of (front i) (length (front i)) b (whole-is (front i) (length (front i)) b e)
 
   module _ (S : Parted (schemeIn I) (ownerOf I) (I .parts) listsAt) where

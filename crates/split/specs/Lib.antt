@@ -1,2 +1,4 @@
 pub mod Split
 pub mod Lists
+pub mod ReachLaws
+pub mod SplitLaws
