@@ -166,7 +166,7 @@ module _ (S : Split) (i : ℕ) (order : List ℕ) (n kind : ℕ) (v : Bytes) whe
   s7 : (k : ℕ) → wordAt front (46 + length order + ownedIn S i + k) ≡ getD r7 k 0
   s7 k =
       let e : 46 + length order + ownedIn S i + k ≡ 45 + length order + (length (listed 0 (ownedIn S i + 1) (reachEnds S i order)) + k) =
-          omega (arith, listed-length 0 (reachEnds S i order) (ownedIn S i + 1)) in
+      omega (arith, listed-length 0 (reachEnds S i order) (ownedIn S i + 1)) in
       ap (wordAt front) e
       ∙ s6 (length (listed 0 (ownedIn S i + 1) (reachEnds S i order)) + k)
       ∙ getD-append-add (listed 0 (ownedIn S i + 1) (reachEnds S i order)) r7 k 0
@@ -174,7 +174,7 @@ module _ (S : Split) (i : ℕ) (order : List ℕ) (n kind : ℕ) (v : Bytes) whe
   s8 : (k : ℕ) → wordAt front (46 + length order + ownedIn S i + 2 * reachEnds S i order (ownedIn S i) + k) ≡ getD r8 k 0
   s8 k =
       let e : 46 + length order + ownedIn S i + 2 * reachEnds S i order (ownedIn S i) + k
-          ≡ 46 + length order + ownedIn S i + (length (blocks 1 (ownedIn S i) (reachWords S i order)) + k) = omega (arith, reaches-length (ownedIn S i)) in
+      ≡ 46 + length order + ownedIn S i + (length (blocks 1 (ownedIn S i) (reachWords S i order)) + k) = omega (arith, reaches-length (ownedIn S i)) in
       ap (wordAt front) e
       ∙ s7 (length (blocks 1 (ownedIn S i) (reachWords S i order)) + k)
       ∙ getD-append-add (blocks 1 (ownedIn S i) (reachWords S i order)) r8 k 0
@@ -226,3 +226,197 @@ module _ (S : Split) (i : ℕ) (order : List ℕ) (n kind : ℕ) (v : Bytes) whe
   global-back l h k =
       let e : 44 + l ≡ 45 + (l - 1) = omega arith in
       ap (wordAt front) e ∙ s5 (l - 1) ∙ List·getD-append order r6 0 (l - 1) (omega arith)
+
+  -- ---- the lists, where the order has as many cells as the table of imports says
+
+  module _ (full : importEnds S i order 16 ≡ length order) where
+    pub held-back : heldCount front ≡ length order
+    held-back = import-back 16 (omega arith) ∙ full
+
+    pub ends-back : (l : ℕ) → l ≤ ownedIn S i → reachEnd front l ≡ reachEnds S i order l
+    ends-back l h =
+        ap (λ k. wordAt front (45 + k + l)) held-back
+        ∙ s6 l
+        ∙ List·getD-append (listed 0 (ownedIn S i + 1) (reachEnds S i order)) r7 0 l (omega (arith, listed-length 0 (reachEnds S i order) (ownedIn S i + 1)))
+        ∙ listed-at 0 (reachEnds S i order) (ownedIn S i + 1) l 0 (omega arith)
+        ∙ ap (reachEnds S i order) (zero-add l)
+
+    pub count-back : wordAt front (45 + heldCount front + ownedCount front) ≡ reachEnds S i order (ownedIn S i)
+    count-back = ap (λ k. wordAt front (45 + heldCount front + k)) owned-back ∙ ends-back (ownedIn S i) (omega arith)
+
+    -- a word of the reaches, and of the exports
+    reach-word : (k : ℕ) → k < length (blocks 1 (ownedIn S i) (reachWords S i order))
+        → wordAt front (46 + heldCount front + ownedCount front + k) ≡ getD (blocks 1 (ownedIn S i) (reachWords S i order)) k 0
+    reach-word k h =
+        ap₂ (λ a c. wordAt front (46 + a + c + k)) held-back owned-back ∙ s7 k ∙ List·getD-append (blocks 1 (ownedIn S i) (reachWords S i order)) r8 0 k h
+
+    export-word : (k : ℕ) → exportAt front k ≡ getD r8 k 0
+    export-word k =
+        ap (λ a. wordAt front (46 + heldCount front + ownedCount front + 2 * a + k)) count-back
+        ∙ ap₂ (λ a c. wordAt front (46 + a + c + 2 * reachEnds S i order (ownedIn S i) + k)) held-back owned-back
+        ∙ s8 k
+
+    -- an entry by its local number
+    abbrev pub toLocal : Near → LocalNear
+    toLocal e = record { local = localOf order (e .cell); layer = e .layer }
+
+    module _ (l : ℕ) (h : 1 ≤ l) (k : l ≤ ownedIn S i) where
+      last-end : reachEnds S i order l ≡ reachEnds S i order (l - 1) + length (reachOf S i order l)
+      unfolding reachEnds
+      last-end =
+          let p : l ≡ l - 1 + 1 = omega arith in
+          let q : 1 + (l - 1) ≡ l = omega arith in
+          ap (λ x. total 1 x (λ k. length (reachOf S i order k))) p
+          ∙ total-turn 1 (λ k. length (reachOf S i order k)) (l - 1)
+          ∙ ap (λ x. total 1 (l - 1) (λ k. length (reachOf S i order k)) + length (reachOf S i order x)) q
+
+      -- the place of the t-th entry among the words of the reaches
+      entry-fits : (t : ℕ) → t < length (reachOf S i order l) → 2 * (reachEnds S i order (l - 1) + t) + 1 < length (blocks 1 (ownedIn S i) (reachWords S i order))
+      entry-fits t q =
+          let p : 1 + (l - 1) ≡ l = omega arith in
+          let f = blocks-fit 1 (reachWords S i order) (ownedIn S i) (l - 1) (omega arith) in
+          let e : length (reachWords S i order (1 + (l - 1))) ≡ 2 * length (reachOf S i order l) = ap (λ x. length (reachWords S i order x)) p ∙ reach-length l in
+          omega (arith, f, reaches-length (l - 1))
+
+      entry-word : (t r : ℕ) → t < length (reachOf S i order l) → r < 2
+          → wordAt front (46 + heldCount front + ownedCount front + (2 * (reachEnds S i order (l - 1) + t) + r)) ≡ getD (reachWords S i order l) (2 * t + r) 0
+      entry-word t r q s =
+          let p : 1 + (l - 1) ≡ l = omega arith in
+          let e : 2 * (reachEnds S i order (l - 1) + t) + r ≡ length (blocks 1 (l - 1) (reachWords S i order)) + (2 * t + r) = omega (arith, reaches-length (l - 1)) in
+          let g : length (reachWords S i order (1 + (l - 1))) ≡ 2 * length (reachOf S i order l) = ap (λ x. length (reachWords S i order x)) p ∙ reach-length l in
+          reach-word (2 * (reachEnds S i order (l - 1) + t) + r) (omega (arith, entry-fits t q))
+          ∙ ap (λ x. getD (blocks 1 (ownedIn S i) (reachWords S i order)) x 0) e
+          ∙ blocks-at 1 (reachWords S i order) (ownedIn S i) (l - 1) (2 * t + r) 0 (omega arith) (omega arith)
+          ∙ ap (λ x. getD (reachWords S i order x) (2 * t + r) 0) p
+
+      entry-back : (t : ℕ) → t < length (reachOf S i order l)
+          → entryAt front (reachEnds S i order (l - 1) + t) ≡ toLocal (getD (reachOf S i order l) t (record { cell = 0; layer = 0 }))
+      unfolding reachWords
+      entry-back t q =
+          let H : ℕ = heldCount front in
+          let C : ℕ = ownedCount front in
+          let u : ℕ = 2 * (reachEnds S i order (l - 1) + t) in
+          let d : Near = record { cell = 0; layer = 0 } in
+          let r = pairs-at (λ e. localOf order (e .cell)) (λ e. e .layer) (reachOf S i order l) t d q in
+          let p : 46 + H + C + u ≡ 46 + H + C + (u + 0) = omega arith in
+          let s : 47 + H + C + u ≡ 46 + H + C + (u + 1) = omega arith in
+          let z : 2 * t + 0 ≡ 2 * t = omega arith in
+          let a : wordAt front (46 + H + C + u) ≡ localOf order ((getD (reachOf S i order l) t d) .cell) =
+          ap (wordAt front) p ∙ entry-word t 0 q (omega arith) ∙ ap (λ x. getD (reachWords S i order l) x 0) z ∙ r .0 in
+          let c : wordAt front (47 + H + C + u) ≡ (getD (reachOf S i order l) t d) .layer =
+          ap (wordAt front) s ∙ entry-word t 1 q (omega arith) ∙ r .1 in
+          λ j. record { local = a j; layer = c j }
+
+      pub reach-back : localReach front l ≡ map toLocal (reachOf S i order l)
+      unfolding localReach
+      reach-back =
+          let es : List Near = reachOf S i order l in
+          let ls : List LocalNear = map toLocal (reachOf S i order l) in
+          let d : Near = record { cell = 0; layer = 0 } in
+          let m : length (map toLocal (reachOf S i order l)) ≡ length (reachOf S i order l) = length-map (reachOf S i order l) toLocal in
+          let a : reachEnd front (l - 1) ≡ reachEnds S i order (l - 1) = ends-back (l - 1) (omega arith) in
+          let c : reachEnd front l - reachEnd front (l - 1) ≡ length (map toLocal (reachOf S i order l)) = omega (arith, ends-back l k, last-end) in
+          ap₂ (λ x y. listed x y (entryAt front)) a c
+          ∙ listed-back (reachEnds S i order (l - 1)) (entryAt front) ls (toLocal d)
+          (λ t q.
+          let lt : t < length (reachOf S i order l) = omega arith in
+          entry-back t lt ∙ sym (getD-map-any toLocal es t d (toLocal d) lt))
+
+    module _ (j : ℕ) (h : 1 ≤ j) (k : j ≤ 16) where
+      last-export : exportEnds S i order j ≡ exportEnds S i order (j - 1) + length (exports S i j)
+      unfolding exportEnds
+      last-export =
+          let p : j ≡ j - 1 + 1 = omega arith in
+          let q : 1 + (j - 1) ≡ j = omega arith in
+          ap (λ x. total 1 x (λ k. length (exports S i k))) p
+          ∙ total-turn 1 (λ k. length (exports S i k)) (j - 1)
+          ∙ ap (λ x. total 1 (j - 1) (λ k. length (exports S i k)) + length (exports S i x)) q
+
+      pub exports-back : localExports front j ≡ map (localOf order) (exports S i j)
+      unfolding localExports exportWords
+      exports-back =
+          let xs : List ℕ = exportWords S i order j in
+          let p : 1 + (j - 1) ≡ j = omega arith in
+          let m : length (exportWords S i order j) ≡ length (exports S i j) = export-length j in
+          let a : exportEnd front (j - 1) ≡ exportEnds S i order (j - 1) = export-back (j - 1) (omega arith) in
+          let c : exportEnd front j - exportEnd front (j - 1) ≡ length (exportWords S i order j) = omega (arith, export-back j k, last-export) in
+          ap₂ (λ x y. listed x y (exportAt front)) a c
+          ∙ listed-back (exportEnds S i order (j - 1)) (exportAt front) xs 0
+          (λ t q.
+          let e : exportEnds S i order (j - 1) + t ≡ length (blocks 1 (j - 1) (exportWords S i order)) + t = omega (arith, exports-length (j - 1)) in
+          export-word (exportEnds S i order (j - 1) + t)
+          ∙ ap (λ x. getD (blocks 1 16 (exportWords S i order)) x 0) e
+          ∙ blocks-at 1 (exportWords S i order) 16 (j - 1) t 0 (omega arith) (subst (λ x. t < length (exportWords S i order x)) (sym p) q)
+          ∙ ap (λ x. getD (exportWords S i order x) t 0) p)
+
+  -- ---- the weights
+
+  module _ (rule : bad11 kind n v ≡ false) (short : n ≤ 8) where
+    abbrev wc : ℕ
+    wc = weightCount kind n
+
+    rule-parts : (length v ≡ 2 * weightCount kind n) × (some 0 (weightCount kind n) (tooHeavy v) ≡ false)
+    unfolding bad11
+    rule-parts =
+        let a = ltb 2 kind in
+        let b = not (eqb (length v) (2 * weightCount kind n)) in
+        let c = some 0 (weightCount kind n) (tooHeavy v) in
+        let d = eqb kind 1 && eqb (wordAt v 0) 0 in
+        let p = or-false (a || b || c) d rule in
+        let q = or-false (a || b) c (p .0) in
+        let r = or-false a b (q .0) in
+        (eqb-true _ _ (not-false _ (r .1)), q .1)
+
+    few-weights : weightCount kind n ≤ 5
+    unfolding weightCount
+    few-weights = go (eqb kind 1)
+      where
+        go : (b : Bool) → cond b (n / 2 + 1) 0 ≤ 5
+        go true = omega arith
+        go false = omega arith
+
+    light : (k : ℕ) → k < weightCount kind n → word v (2 * k) ≤ 15
+    unfolding tooHeavy wordAt
+    light k h =
+        let e : 0 + k ≡ k = omega arith in
+        ltb-false 15 (wordAt v k) (subst (λ x. ltb 15 (wordAt v x) ≡ false) e (some-at 0 (tooHeavy v) (weightCount kind n) k (rule-parts .1) h))
+
+    weight-word : (k : ℕ) → k < weightCount kind n → getD r1 k 0 ≡ word v (2 * k)
+    unfolding wordAt
+    weight-word k h =
+        let q : k < 5 = omega (arith, few-weights) in
+        List·getD-append (listed 0 5 (wordAt v)) r2 0 k (omega (arith, listed-length 0 (wordAt v) 5))
+        ∙ listed-at 0 (wordAt v) 5 k 0 q
+        ∙ ap (wordAt v) (zero-add k)
+
+    r1-long : 5 ≤ length r1
+    r1-long = omega (arith, length-append (listed 0 5 (wordAt v)) r2, listed-length 0 (wordAt v) 5)
+
+    weight-byte : (x : ℕ) → x < 2 * weightCount kind n → byteAt (bytesOf r1) x ≡ byteAt v x
+    unfolding word
+    weight-byte x h = half (x / 2) (x % 2) (omega arith) (omega arith) (omega arith)
+      where
+        half : (k r : ℕ) → x ≡ 2 * k + r → r < 2 → k < weightCount kind n → byteAt (bytesOf r1) x ≡ byteAt v x
+        half k zero e g q =
+            let p : x ≡ 2 * k = omega arith in
+            let w : getD r1 k 0 ≡ byteAt v (2 * k) * 256 + byteAt v (2 * k + 1) = weight-word k q in
+            let y : byteAt v (2 * k) * 256 + byteAt v (2 * k + 1) ≤ 15 = light k q in
+            rw p (bytesOf-high r1 k (omega (arith, r1-long, few-weights)) ∙ omega arith)
+        half k (suc r) e g q =
+            let p : x ≡ 2 * k + 1 = omega arith in
+            let w : getD r1 k 0 ≡ byteAt v (2 * k) * 256 + byteAt v (2 * k + 1) = weight-word k q in
+            let y : byteAt v (2 * k) * 256 + byteAt v (2 * k + 1) ≤ 15 = light k q in
+            rw p (bytesOf-low r1 k (omega (arith, r1-long, few-weights)) ∙ omega arith)
+
+    pub weights-back : weights front ≡ v
+    unfolding weights listsWords
+    weights-back =
+        let hd : List ℕ = listsLong S i order ∷ i ∷ n ∷ kind ∷ [] in
+        let lh : length (bytesOf hd) ≡ 8 = length-bytesOf hd in
+        let d : drop 8 front ≡ bytesOf r1 = ap (λ b. drop 8 b) (bytesOf-append hd r1) ∙ drop-at (bytesOf hd) (bytesOf r1) 8 lh in
+        let m : length (take (2 * weightCount kind n) (bytesOf r1)) ≡ 2 * weightCount kind n =
+        length-take-le (2 * weightCount kind n) (bytesOf r1) (omega (arith, length-bytesOf r1, r1-long, few-weights)) in
+        ap₂ (λ a c. take (2 * weightCount a c) (drop 8 front)) kind-back steps-back
+        ∙ ap (λ b. take (2 * weightCount kind n) b) d
+        ∙ ext-getD 0 (take (2 * weightCount kind n) (bytesOf r1)) v (m ∙ sym (rule-parts .0))
+        (λ x h. let q : x < 2 * weightCount kind n = omega arith in getD-take (2 * weightCount kind n) (bytesOf r1) x 0 q ∙ weight-byte x q)
