@@ -6,3 +6,4 @@ pub mod StateLaws
 pub mod FormLaws
 pub mod RunLaws
 pub mod WorldLaws
+pub mod StartLaws

@@ -1,0 +1,277 @@
+-- What an accepted start says of its inputs and leaves: the lists of all parts are as a run needs them, and each state begins right.
+-- Assumes nothing.
+use mathlib.Core.Path.{_≡_, refl, sym, ap, ap₂, _∙_, subst}
+use mathlib.Core.Logic.{_⊎_, inl, inr, ⊎-elim, _≢_}
+use mathlib.Core.Bool.{Bool, true, false, not, _&&_, _||_, cond}
+use mathlib.Core.List.{List, [], _∷_, _++_, map, append-assoc}
+use Prim.Native.Nat.{ℕ, zero, suc, _+_, _-_, _*_, _%_, _<_, _≤_}
+use native.Mathlib.Nat.{zero-add, add-zero}
+use native.Mathlib.Omega.{arith}
+use lib.Dec.{eqb, ltb, leb}
+use lib.ListN.{length, getD, take, drop, replicate, length-append, length-replicate, length-map, getD-replicate, List·getD-append}
+use lib.Seq.{getD-append-add, take-append-seam}
+use borrow.Author.Tests.{eqb-true, eq-eqb, ltb-true, ltb-false, not-false}
+use Rattle.vocabulary.specs.Bytes.{Bytes, byteAt, over}
+use Rattle.vocabulary.specs.ByteLaws.{over-front}
+use Rattle.vocabulary.specs.Lists.{All, everyOf}
+use Rattle.vocabulary.specs.ListLaws.{or-false, and-true, All-map, All-getD, map-cong, map-map, getD-map-any, everyOf-at, At}
+use Rattle.vocabulary.specs.Ranges.{isUpTo, every, blocks, total}
+use Rattle.vocabulary.specs.RangeLaws.{total-turn, total-fit}
+use Rattle.vocabulary.specs.Tests.{passed, firstOf}
+use Rattle.layout.specs.Words.{word, wordAt, bytesOf}
+use Rattle.layout.specs.WordLaws.{word-same, word-past, wordAt-first, length-bytesOf}
+use Rattle.layout.specs.Depths.{four}
+use Rattle.layout.specs.DepthLaws.{length-four, four-left, four-past, fours-length, fours-at}
+use Rattle.mesh.specs.Mesh.{top, firstCell, cellCount, meshTests}
+use Rattle.mesh.specs.Walks.{Near, reach, steps, bad10, bad13}
+use Rattle.round.specs.Rules.{newDepth, bad11}
+use Rattle.round.specs.Rounds.{Scheme, schemeOf, depthIn, undivided, bad14}
+use Rattle.split.specs.Split.{Split, splitOf, ownerAt, owned, imports, exports, locals, localOf, globalOf}
+use Rattle.split.specs.Lists.{bad8, bad9, bad12, splitTests, sizeTests}
+use Rattle.split.specs.ReachLaws.{reach-in, All-of-map}
+use Rattle.split.specs.SplitLaws.{Cell, order-length, own-is, own-has, own-local, local-back, own-first, import-own, import-at, local-cases, reach-held, imports-none, import-total, ownCells, own-count}
+use Rattle.parts.specs.State.{LocalNear, Lists, listsIn, dynamic, isState, roundAt, takenPlace, depthPlace, stateLength, globalAt, ownedCount, heldCount, importEnd}
+use Rattle.parts.specs.StateLaws.{upTo-true}
+use Rattle.parts.specs.Start.{ownedIn, reachOf, importEnds, listsLong, listsWords, orderOf, stateSize, firstState, startTests, startNumber, startState}
+use Rattle.parts.specs.FormLaws.{front, words-length, front-length, part-back, kind-back, first-back, cells-back, owned-back, held-back, global-back, import-back, reach-back, exports-back, weights-back, toLocal}
+use Rattle.parts.specs.Run.{Inputs, schemeIn, ownerIn, startNumberIn, startStateIn}
+use Rattle.parts.specs.RunLaws.{Part, Parted, Block, Good, Undivided, globally}
+use Rattle.parts.specs.WorldLaws.{ownerOf}
+
+-- ---- what an accepted start says of its inputs
+
+pub record Ready (I : Inputs) : Type 0 where
+  pub mesh-good : All (λ t. t .holds ≡ false) (meshTests (I .mesh))
+  pub few-parts : I .parts ≤ 16
+  pub owners-in : (k : ℕ) → k < cellCount (I .mesh) → (1 ≤ ownerIn I k) × (ownerIn I k ≤ I .parts)
+  pub stencil-good : bad10 (top (I .mesh)) (I .stencil) ≡ false
+  pub short : steps (I .stencil) ≤ 8
+  pub rule : bad11 (I .kind) (steps (I .stencil)) (I .weights) ≡ false
+  pub field-good : bad14 (cellCount (I .mesh)) (I .field) ≡ false
+
+pub record Begun (I : Inputs) (i : ℕ) (buffer : Bytes) : Type 0 where
+  pub inputs : Ready I
+  pub part : Part (I .parts) i
+  pub room : stateSize (I .mesh) (I .parts) (I .owners) i (I .stencil) ≤ length buffer
+
+short-steps : (d : ℕ) (st : Bytes) → bad10 d st ≡ false → steps st ≤ 8
+unfolding bad10 steps
+short-steps d st e =
+    let a = not (eqb (length st % 2) 1) in
+    let b = ltb 9 (length st) in
+    let c = not (every 0 (length st) (λ k. cond (eqb (k % 2) 0) (eqb (byteAt st k) d) (ltb (byteAt st k) d))) in
+    let h : length st ≤ 9 = ltb-false 9 (length st) (or-false a b (or-false (a || b) c e .0) .1) in
+    omega arith
+
+map-parts : (m : Bytes) (parts : ℕ) (owners : Bytes) (i : ℕ) → bad8 m parts owners (i ∷ []) ≡ false
+    → (parts ≤ 16) × Part parts i × ((k : ℕ) → k < cellCount m → (1 ≤ byteAt owners k) × (byteAt owners k ≤ parts))
+unfolding bad8 everyOf
+map-parts m parts owners i e =
+    let a = not (isUpTo 16 parts) in
+    let b = not (isUpTo parts i && true) in
+    let c = not (eqb (length owners) (cellCount m)) in
+    let d = not (everyOf owners (isUpTo parts)) in
+    let p = or-false (a || b || c) d e in
+    let q = or-false (a || b) c (p .0) in
+    let r = or-false a b (q .0) in
+    let l : length owners ≡ cellCount m = eqb-true _ _ (not-false _ (q .1)) in (
+      upTo-true 16 parts (not-false _ (r .0)) .1,
+      upTo-true parts i (and-true (isUpTo parts i) true (not-false _ (r .1)) .0),
+      λ k h. upTo-true parts (byteAt owners k) (everyOf-at (isUpTo parts) owners 0 k (not-false _ (p .1)) (omega arith)),
+    )
+
+pub started-facts : (I : Inputs) (i : ℕ) (buffer : Bytes) → startNumberIn I i buffer ≡ 0 → Begun I i buffer
+unfolding startNumberIn startNumber startTests splitTests meshTests sizeTests ownerAt
+started-facts I i buffer e =
+    let a = passed (startTests (I .mesh) (I .parts) (I .owners) i (I .stencil) (I .kind) (I .weights) (I .field) buffer) tt e in
+    let b = map-parts (I .mesh) (I .parts) (I .owners) i (a .1 .1 .1 .1 .1 .1 .1 .0) in
+    let c = a .1 .1 .1 .1 .1 .1 .1 .1 .1 in
+    record {
+      inputs = record {
+        mesh-good = (a .0, (a .1 .0, (a .1 .1 .0, (a .1 .1 .1 .0, (a .1 .1 .1 .1 .0, (a .1 .1 .1 .1 .1 .0, (a .1 .1 .1 .1 .1 .1 .0, tt)))))));
+        few-parts = b .0;
+        owners-in = b .2;
+        stencil-good = c .0;
+        short = short-steps (top (I .mesh)) (I .stencil) (c .0);
+        rule = c .1 .0;
+        field-good = c .1 .1 .1 .1 .0;
+      };
+      part = b .1;
+      room = ltb-false _ _ (c .1 .1 .1 .1 .1 .0);
+    }
+
+-- ---- the lists of all parts are as a run needs them
+
+map-id : {A : Type 0} (xs : List A) → map (λ x. x) xs ≡ xs
+map-id [] = refl
+map-id (x ∷ xs) = ap (λ r. x ∷ r) (map-id xs)
+
+abbrev pub splitIn : Inputs → Split
+splitIn I = splitOf (I .mesh) (I .parts) (I .owners) (I .stencil)
+
+abbrev pub orderIn : Inputs → ℕ → List ℕ
+orderIn I i = locals (splitIn I) i
+
+-- the bytes of the lists of part i
+abbrev pub frontIn : Inputs → ℕ → Bytes
+frontIn I i = front (splitIn I) i (locals (splitIn I) i) (steps (I .stencil)) (I .kind) (I .weights)
+
+module _ (I : Inputs) (R : Ready I) where
+  pub split-reach : (c : ℕ) → Cell (splitIn I) c → All (λ e. Cell (splitIn I) (e .cell)) (splitIn I .reach c)
+  unfolding splitOf
+  split-reach c h = reach-in (I .mesh) (I .stencil) c
+
+  pub split-owner : (c : ℕ) → Cell (splitIn I) c → (1 ≤ splitIn I .owner c) × (splitIn I .owner c ≤ splitIn I .parts)
+  unfolding splitOf
+  split-owner c h = R .owners-in (c - firstCell (I .mesh)) (omega (arith, h .0, h .1))
+
+  split-few : splitIn I .parts ≤ 16
+  unfolding splitOf
+  split-few = R .few-parts
+
+  -- the table of imports ends with all held cells
+  pub order-full : (i : ℕ) → importEnds (splitIn I) i (orderIn I i) 16 ≡ length (orderIn I i)
+  unfolding importEnds
+  order-full i =
+      ap (λ n. ownedIn (splitIn I) i + n) (import-total (splitIn I) split-reach split-owner i split-few) ∙ sym (order-length (splitIn I) i)
+
+  import-fits : (i j t : ℕ) → 1 ≤ j → j ≤ splitIn I .parts → t < length (imports (splitIn I) i j)
+      → ownedIn (splitIn I) i + total 1 (j - 1) (λ k. length (imports (splitIn I) i k)) + 1 + t ≤ length (orderIn I i)
+  import-fits i j t h k q =
+      let p : 1 + (j - 1) ≡ j = omega arith in
+      let f : total 1 (j - 1) (λ k. length (imports (splitIn I) i k)) + length (imports (splitIn I) i (1 + (j - 1))) ≤ total 1 (splitIn I .parts) (λ k. length (imports (splitIn I) i k)) =
+          total-fit 1 (λ k. length (imports (splitIn I) i k)) (splitIn I .parts) (j - 1) (omega arith) in
+      let s : length (imports (splitIn I) i (1 + (j - 1))) ≡ length (imports (splitIn I) i j) = ap (λ x. length (imports (splitIn I) i x)) p in
+      omega (arith, order-length (splitIn I) i)
+
+  module _ (i : ℕ) where
+    abbrev S : Split
+    S = splitOf (I .mesh) (I .parts) (I .owners) (I .stencil)
+
+    abbrev order : List ℕ
+    order = locals (splitIn I) i
+
+    abbrev st : Bytes
+    st = frontIn I i
+
+    abbrev L : Lists
+    L = listsIn (frontIn I i)
+
+    pub lists-owned : L .owned ≡ ownedIn (splitIn I) i
+    unfolding listsIn
+    lists-owned = owned-back S i order (steps (I .stencil)) (I .kind) (I .weights)
+
+    pub lists-held : L .held ≡ length (orderIn I i)
+    unfolding listsIn
+    lists-held = held-back S i order (steps (I .stencil)) (I .kind) (I .weights) (order-full i)
+
+    owned-held : ownedIn (splitIn I) i ≤ length (orderIn I i)
+    owned-held = omega (arith, order-length (splitIn I) i)
+
+    pub lists-global : (l : ℕ) → 1 ≤ l → l ≤ length (orderIn I i) → L .global l ≡ globalOf (orderIn I i) l
+    unfolding listsIn
+    lists-global l h k = global-back S i order (steps (I .stencil)) (I .kind) (I .weights) l h k
+
+    pub lists-reach : (l : ℕ) → 1 ≤ l → l ≤ ownedIn (splitIn I) i
+        → L .reach l ≡ map (λ e. record { local = localOf (orderIn I i) (e .cell); layer = e .layer }) (splitIn I .reach (globalOf (orderIn I i) l))
+    unfolding listsIn
+    lists-reach l h k = reach-back S i order (steps (I .stencil)) (I .kind) (I .weights) (order-full i) l h k
+
+    pub lists-before : (j : ℕ) → 1 ≤ j → j ≤ 16 → L .before j ≡ ownedIn (splitIn I) i + total 1 (j - 1) (λ k. length (imports (splitIn I) i k))
+    unfolding listsIn importEnds
+    lists-before j h k = import-back S i order (steps (I .stencil)) (I .kind) (I .weights) (j - 1) (omega arith)
+
+    pub lists-imported : (j : ℕ) → 1 ≤ j → j ≤ 16 → L .imported j ≡ length (imports (splitIn I) i j)
+    unfolding listsIn importEnds
+    lists-imported j h k =
+        let p : j - 1 + 1 ≡ j = omega arith in
+        let q : 1 + (j - 1) ≡ j = omega arith in
+        let g : ℕ → ℕ = λ k. length (imports (splitIn I) i k) in
+        let t : total 1 j (λ k. length (imports (splitIn I) i k)) ≡ total 1 (j - 1) (λ k. length (imports (splitIn I) i k)) + length (imports (splitIn I) i j) =
+            ap (λ x. total 1 x g) (sym p) ∙ total-turn 1 g (j - 1) ∙ ap (λ x. total 1 (j - 1) g + length (imports (splitIn I) i x)) q in
+        omega (
+          arith,
+          import-back S i order (steps (I .stencil)) (I .kind) (I .weights) (j - 1) (omega arith),
+          import-back S i order (steps (I .stencil)) (I .kind) (I .weights) j k,
+        )
+
+    pub lists-exports : (j : ℕ) → 1 ≤ j → j ≤ 16 → L .exports j ≡ map (localOf (orderIn I i)) (exports (splitIn I) i j)
+    unfolding listsIn
+    lists-exports j h k = exports-back S i order (steps (I .stencil)) (I .kind) (I .weights) (order-full i) j h k
+
+    pub lists-new : L .new ≡ newDepth (I .kind) (I .weights)
+    unfolding listsIn
+    lists-new =
+        ap₂ newDepth (kind-back S i order (steps (I .stencil)) (I .kind) (I .weights)) (weights-back S i order (steps (I .stencil)) (I .kind) (I .weights) (R .rule) (R .short))
+
+    -- an owned cell
+    owned-is : (l : ℕ) → 1 ≤ l → l ≤ L .owned → Cell (splitIn I) (L .global l) × (splitIn I .owner (L .global l) ≡ i)
+    owned-is l h k =
+        let q : l ≤ ownedIn (splitIn I) i = omega (arith, lists-owned) in
+        subst (λ c. Cell (splitIn I) c × (splitIn I .owner c ≡ i)) (sym (lists-global l h (omega (arith, owned-held)))) (own-is (splitIn I) i l h q)
+
+    owned-reach : (l : ℕ) → 1 ≤ l → l ≤ L .owned → All (λ e. At (e .cell) (orderIn I i)) (splitIn I .reach (globalOf (orderIn I i) l))
+    owned-reach l h k =
+        let q : l ≤ ownedIn (splitIn I) i = omega (arith, lists-owned) in
+        let o = own-is (splitIn I) i l h q in
+        reach-held (splitIn I) split-reach split-owner i (globalOf (orderIn I i) l) (o .0) (o .1)
+
+    lists-near-held : (l : ℕ) → 1 ≤ l → l ≤ L .owned → All (λ e. (1 ≤ e .local) × (e .local ≤ L .held)) (L .reach l)
+    lists-near-held l h k =
+        let q : l ≤ ownedIn (splitIn I) i = omega (arith, lists-owned) in
+        let f : Near → LocalNear = λ e. record { local = localOf (orderIn I i) (e .cell); layer = e .layer } in
+        let es : List Near = splitIn I .reach (globalOf (orderIn I i) l) in
+        subst (All (λ e. (1 ≤ e .local) × (e .local ≤ L .held))) (sym (lists-reach l h q))
+        (All-of-map (λ e. (1 ≤ e .local) × (e .local ≤ L .held)) f es
+        (All-map es (λ x a. let b = local-back (splitIn I) i (x .cell) a in (b .0, omega (arith, b .1, lists-held))) (owned-reach l h k)))
+
+    lists-near-is : (l : ℕ) → 1 ≤ l → l ≤ L .owned → map (globally L) (L .reach l) ≡ splitIn I .reach (L .global l)
+    lists-near-is l h k =
+        let q : l ≤ ownedIn (splitIn I) i = omega (arith, lists-owned) in
+        let f : Near → LocalNear = λ e. record { local = localOf (orderIn I i) (e .cell); layer = e .layer } in
+        let es : List Near = splitIn I .reach (globalOf (orderIn I i) l) in
+        ap (map (globally L)) (lists-reach l h q)
+        ∙ map-map (globally L) f es
+        ∙ map-cong (λ e. globally L (f e)) (λ e. e) es
+        (All-map es
+        (λ x a.
+        let b = local-back (splitIn I) i (x .cell) a in
+        ap (λ c. record { cell = c; layer = x .layer }) (lists-global (localOf (orderIn I i) (x .cell)) (b .0) (b .1) ∙ b .2))
+        (owned-reach l h k))
+        ∙ map-id es
+        ∙ ap (splitIn I .reach) (sym (lists-global l h (omega (arith, owned-held))))
+
+    lists-covered : (l : ℕ) → 1 ≤ l → l ≤ L .held → (l ≤ L .owned) ⊎ Block L l
+    lists-covered l h k =
+        ⊎-elim
+        (λ o. inl (omega (arith, lists-owned)))
+        (λ b.
+        let few : b .0 ≤ 16 = omega (arith, b .2, split-few) in
+        inr (record {
+          from = b .0;
+          from-least = b .1;
+          from-most = few;
+          at = b .3 .0;
+          at-lt = omega (arith, b .3 .1, lists-imported (b .0) (b .1) few);
+          is = omega (arith, b .3 .2, lists-before (b .0) (b .1) few);
+        }))
+        (local-cases (splitIn I) i l h (omega (arith, lists-held)))
+
+    lists-exported : (j : ℕ) → 1 ≤ j → j ≤ 16 → All (λ l. (1 ≤ l) × (l ≤ L .owned)) (L .exports j)
+    unfolding exports localOf
+    lists-exported j h k =
+        subst (All (λ l. (1 ≤ l) × (l ≤ L .owned))) (sym (lists-exports j h k))
+        (All-of-map (λ l. (1 ≤ l) × (l ≤ L .owned)) (localOf (orderIn I i)) (exports (splitIn I) i j)
+        (All-map (exports (splitIn I) i j) (λ c a. (omega arith, omega (arith, own-local (splitIn I) i c a .0, lists-owned))) (import-own (splitIn I) j i)))
+
+    -- the t-th cell imported from j is the t-th that j exports here
+    lists-import : (j t : ℕ) → 1 ≤ j → j ≤ I .parts → t < L .imported j → L .global (L .before j + 1 + t) ≡ getD (imports (splitIn I) i j) t 0
+    unfolding splitOf
+    lists-import j t h k l =
+        let few : j ≤ 16 = omega (arith, R .few-parts) in
+        let q : t < length (imports (splitIn I) i j) = omega (arith, lists-imported j h few) in
+        let e : L .before j + 1 + t ≡ ownedIn (splitIn I) i + total 1 (j - 1) (λ k. length (imports (splitIn I) i k)) + 1 + t = omega (arith, lists-before j h few) in
+        let n : ℕ = ownedIn (splitIn I) i + total 1 (j - 1) (λ k. length (imports (splitIn I) i k)) + 1 + t in
+        ap (L .global) e
+        ∙ lists-global n (omega arith) (import-fits i j t h k q)
+        ∙ import-at (splitIn I) i j t h k q
