@@ -140,7 +140,7 @@ module _ (I : Inputs) (R : Ready I) where
   import-fits i j t h k q =
       let p : 1 + (j - 1) ≡ j = omega arith in
       let f : total 1 (j - 1) (λ k. length (imports (splitIn I) i k)) + length (imports (splitIn I) i (1 + (j - 1))) ≤ total 1 (splitIn I .parts) (λ k. length (imports (splitIn I) i k)) =
-          total-fit 1 (λ k. length (imports (splitIn I) i k)) (splitIn I .parts) (j - 1) (omega arith) in
+      total-fit 1 (λ k. length (imports (splitIn I) i k)) (splitIn I .parts) (j - 1) (omega arith) in
       let s : length (imports (splitIn I) i (1 + (j - 1))) ≡ length (imports (splitIn I) i j) = ap (λ x. length (imports (splitIn I) i x)) p in
       omega (arith, order-length (splitIn I) i)
 
@@ -188,7 +188,7 @@ module _ (I : Inputs) (R : Ready I) where
         let q : 1 + (j - 1) ≡ j = omega arith in
         let g : ℕ → ℕ = λ k. length (imports (splitIn I) i k) in
         let t : total 1 j (λ k. length (imports (splitIn I) i k)) ≡ total 1 (j - 1) (λ k. length (imports (splitIn I) i k)) + length (imports (splitIn I) i j) =
-            ap (λ x. total 1 x g) (sym p) ∙ total-turn 1 g (j - 1) ∙ ap (λ x. total 1 (j - 1) g + length (imports (splitIn I) i x)) q in
+        ap (λ x. total 1 x g) (sym p) ∙ total-turn 1 g (j - 1) ∙ ap (λ x. total 1 (j - 1) g + length (imports (splitIn I) i x)) q in
         omega (
           arith,
           import-back S i order (steps (I .stencil)) (I .kind) (I .weights) (j - 1) (omega arith),
@@ -257,12 +257,20 @@ module _ (I : Inputs) (R : Ready I) where
         }))
         (local-cases (splitIn I) i l h (omega (arith, lists-held)))
 
+    lists-export-at : (j t : ℕ) → 1 ≤ j → j ≤ 16 → t < length (imports (splitIn I) j i) → getD (L .exports j) t 0 ≡ localOf (orderIn I i) (getD (imports (splitIn I) j i) t 0)
+    unfolding exports
+    lists-export-at j t h k l = ap (λ xs. getD xs t 0) (lists-exports j h k) ∙ getD-map-any (localOf (orderIn I i)) (imports (splitIn I) j i) t 0 0 l
+
+    local-least : (c : ℕ) → 1 ≤ localOf (orderIn I i) c
+    unfolding localOf
+    local-least c = omega arith
+
     lists-exported : (j : ℕ) → 1 ≤ j → j ≤ 16 → All (λ l. (1 ≤ l) × (l ≤ L .owned)) (L .exports j)
-    unfolding exports localOf
+    unfolding exports
     lists-exported j h k =
         subst (All (λ l. (1 ≤ l) × (l ≤ L .owned))) (sym (lists-exports j h k))
         (All-of-map (λ l. (1 ≤ l) × (l ≤ L .owned)) (localOf (orderIn I i)) (exports (splitIn I) i j)
-        (All-map (exports (splitIn I) i j) (λ c a. (omega arith, omega (arith, own-local (splitIn I) i c a .0, lists-owned))) (import-own (splitIn I) j i)))
+        (All-map (exports (splitIn I) i j) (λ c a. (local-least c, omega (arith, own-local (splitIn I) i c a .0, lists-owned))) (import-own (splitIn I) j i)))
 
     -- the t-th cell imported from j is the t-th that j exports here
     lists-import : (j t : ℕ) → 1 ≤ j → j ≤ I .parts → t < L .imported j → L .global (L .before j + 1 + t) ≡ getD (imports (splitIn I) i j) t 0
@@ -275,3 +283,123 @@ module _ (I : Inputs) (R : Ready I) where
         ap (L .global) e
         ∙ lists-global n (omega arith) (import-fits i j t h k q)
         ∙ import-at (splitIn I) i j t h k q
+
+  pub parted : Parted (schemeIn I) (ownerOf I) (I .parts) (λ i. listsIn (frontIn I i))
+  unfolding schemeOf splitOf
+  parted = record {
+    part-is = λ i p. unfold listsIn in (part-back (splitIn I) i (orderIn I i) (steps (I .stencil)) (I .kind) (I .weights));
+    first-is = λ i p. unfold listsIn in (first-back (splitIn I) i (orderIn I i) (steps (I .stencil)) (I .kind) (I .weights));
+    cells-are = λ i p. unfold listsIn in (cells-back (splitIn I) i (orderIn I i) (steps (I .stencil)) (I .kind) (I .weights));
+    new-is = λ i p. lists-new i;
+    owned-cell = λ i p l h k. owned-is i l h k .0;
+    owned-owner = λ i p l h k. owned-is i l h k .1;
+    holder = λ i p c h e.
+        let a = own-has (splitIn I) i c h e in
+        let q : a .place + 1 ≤ ownedIn (splitIn I) i = omega (arith, a .place-lt, own-count (splitIn I) i) in
+        let z : a .place + 1 - 1 ≡ a .place = omega arith in (
+          a .place + 1,
+          omega arith,
+          omega (arith, lists-owned i),
+          lists-global i (a .place + 1) (omega arith) (omega (arith, owned-held i))
+              ∙ own-first (splitIn I) i (a .place + 1) (omega arith) q
+              ∙ ap (λ n. getD (ownCells (splitIn I) i) n 0) z
+              ∙ a .place-is,
+        );
+    near-held = λ i p. lists-near-held i;
+    near-is = λ i p. lists-near-is i;
+    covered = λ i p. lists-covered i;
+    exported = λ i p. lists-exported i;
+    agree = λ i j t p q l.
+        let few : j ≤ 16 = omega (arith, q .1, R .few-parts) in
+        let one : i ≤ 16 = omega (arith, p .1, R .few-parts) in
+        let lt : t < length (imports (splitIn I) i j) = omega (arith, lists-imported i j (q .0) few) in
+        let c : ℕ = getD (imports (splitIn I) i j) t 0 in
+        let a = All-getD (λ c. At c (ownCells (splitIn I) j)) (imports (splitIn I) i j) t 0 (import-own (splitIn I) i j) lt in
+        let b = own-local (splitIn I) j (getD (imports (splitIn I) i j) t 0) a in
+        lists-import i j t (q .0) (q .1) l
+        ∙ sym (ap (listsIn (frontIn I j) .global) (lists-export-at j i t (p .0) one lt)
+        ∙ lists-global j (localOf (orderIn I j) c) (local-least j c) (omega (arith, b .0, owned-held j))
+        ∙ b .1);
+  }
+
+-- ---- a state as start leaves it
+
+module _ (I : Inputs) (i : ℕ) where
+  abbrev depthOfLocal : ℕ → Bytes
+  depthOfLocal l = depthIn (schemeIn I) (I .field) (globalOf (orderIn I i) l)
+
+  abbrev pub deep : Bytes
+  deep = blocks 1 (length (orderIn I i)) (λ l. depthIn (schemeIn I) (I .field) (globalOf (orderIn I i) l))
+
+  deep-length : length deep ≡ 4 * length (orderIn I i)
+  unfolding depthIn
+  deep-length = fours-length 1 (length (orderIn I i)) depthOfLocal (λ j h. length-four (I .field) _)
+
+  module _ (tail : Bytes) where
+    abbrev pub stateOf : Bytes
+    stateOf = frontIn I i ++ (replicate 34 0 ++ (deep ++ tail))
+
+    pub state-dynamic : dynamic stateOf ≡ length (frontIn I i)
+    unfolding listsWords
+    state-dynamic =
+        let ws : List ℕ = listsWords (splitIn I) i (orderIn I i) (steps (I .stencil)) (I .kind) (I .weights) in
+        ap (λ n. 2 * n)
+        (wordAt-first ws (replicate 34 0 ++ (deep ++ tail)) 0
+        (omega (arith, words-length (splitIn I) i (orderIn I i) (steps (I .stencil)) (I .kind) (I .weights))))
+        ∙ sym (front-length (splitIn I) i (orderIn I i) (steps (I .stencil)) (I .kind) (I .weights))
+
+    pub state-front : take (length (frontIn I i)) stateOf ≡ frontIn I i
+    state-front = take-append-seam (frontIn I i) (replicate 34 0 ++ (deep ++ tail))
+
+    -- round 0, and no flag set
+    pub state-zero : (k : ℕ) → k < 34 → byteAt stateOf (length (frontIn I i) + k) ≡ 0
+    state-zero k h =
+        getD-append-add (frontIn I i) (replicate 34 0 ++ (deep ++ tail)) k 0
+        ∙ List·getD-append (replicate 34 0) (deep ++ tail) 0 k (omega (arith, length-replicate {A = ℕ} 34 0))
+        ∙ getD-replicate 34 k 0 0 h
+
+    pub state-round : roundAt stateOf (length (frontIn I i)) ≡ 0
+    unfolding word
+    state-round =
+        let a : byteAt stateOf (length (frontIn I i)) ≡ 0 = ap (λ n. byteAt stateOf n) (sym (add-zero (length (frontIn I i)))) ∙ state-zero 0 (omega arith) in
+        omega (arith, state-zero 1 (omega arith))
+
+    pub state-depth : (l : ℕ) → 1 ≤ l → l ≤ length (orderIn I i)
+        → four stateOf (depthPlace (length (frontIn I i)) l) ≡ depthIn (schemeIn I) (I .field) (globalOf (orderIn I i) l)
+    unfolding depthIn
+    state-depth l h k =
+        let q : depthPlace (length (frontIn I i)) l ≡ length (frontIn I i) + (34 + 4 * (l - 1)) = omega arith in
+        let p : 1 + (l - 1) ≡ l = omega arith in
+        let z : _≡_ {A = ℕ} 34 (length (replicate {A = ℕ} 34 0)) = sym (length-replicate {A = ℕ} 34 0) in
+        ap (four stateOf) q
+        ∙ four-past (frontIn I i) (replicate 34 0 ++ (deep ++ tail)) (34 + 4 * (l - 1))
+        ∙ ap (λ n. four (replicate 34 0 ++ (deep ++ tail)) (n + 4 * (l - 1))) z
+        ∙ four-past (replicate 34 0) (deep ++ tail) (4 * (l - 1))
+        ∙ four-left deep tail (4 * (l - 1)) (omega (arith, deep-length))
+        ∙ fours-at 1 (length (orderIn I i)) depthOfLocal (λ j h. length-four (I .field) _) (l - 1) (omega arith)
+        ∙ ap depthOfLocal p
+
+  -- start leaves it, and after it the rest of the buffer
+  pub start-is : (buffer : Bytes) → startNumberIn I i buffer ≡ 0
+      → startStateIn I i buffer ≡ stateOf (drop (length (firstState (I .mesh) (I .parts) (I .owners) i (I .stencil) (I .kind) (I .weights) (I .field))) buffer)
+  unfolding startStateIn startState startNumberIn firstState
+  start-is buffer e =
+      let first : Bytes = firstState (I .mesh) (I .parts) (I .owners) i (I .stencil) (I .kind) (I .weights) (I .field) in
+      ap (λ t. cond t (over buffer 0 first) buffer) (eq-eqb _ 0 e)
+      ∙ over-front buffer first
+      ∙ simp append-assoc
+
+  pub begin-good : (R : Ready I) (tail : Bytes) → Good (schemeIn I) (I .field) (listsIn (frontIn I i)) (frontIn I i) (length (frontIn I i)) 0 (stateOf tail)
+  unfolding undivided
+  begin-good R tail = record {
+    place-is = state-dynamic tail;
+    front-is = state-front tail;
+    round-is = state-round tail;
+    owned = λ l h k.
+        let q : l ≤ length (orderIn I i) = omega (arith, lists-owned I R i, order-length (splitIn I) i) in
+        state-depth tail l h q ∙ ap (depthIn (schemeIn I) (I .field)) (sym (lists-global I R i l h q));
+    took = λ j t h k e p.
+        let z : takenPlace (length (frontIn I i)) j ≡ length (frontIn I i) + (1 + j) = omega arith in
+        let n : _≡_ {A = ℕ} 0 1 = sym (state-zero tail (1 + j) (omega arith)) ∙ ap (λ o. byteAt (stateOf tail) o) (sym z) ∙ e in
+        let no : ⊥ = omega arith in absurd no;
+  }
