@@ -7,3 +7,4 @@ pub mod FormLaws
 pub mod RunLaws
 pub mod WorldLaws
 pub mod StartLaws
+pub mod DemandLaws
