@@ -12,18 +12,13 @@ use lib.ListN.{length, getD, length-append, List·getD-append}
 use lib.Seq.{getD-append-add}
 use borrow.Author.Tests.{eqb-true, eqb-false, eq-eqb, ne-eqb, ltb-true, ltb-false, not-false, not-true}
 use Rattle.vocabulary.specs.Lists.{All, someOf, everyOf, placeOf, repeats}
-use Rattle.vocabulary.specs.ListLaws.{and-true, and-intro, and-left, and-right, All-map, All-append, All-getD, All-intro, At, at-left, at-right, at-all, placeOf-is, placeOf-left, someOf-has, someOf-witness}
+use Rattle.vocabulary.specs.ListLaws.{and-true, and-intro, and-left, and-right, All-map, All-append, All-getD, All-intro, At, at-left, at-right, at-all, placeOf-is, placeOf-left, not-both, same-test, someOf-has, someOf-witness}
 use Rattle.vocabulary.specs.Ranges.{picked, blocks, total}
-use Rattle.vocabulary.specs.RangeLaws.{picked-all, picked-in, picked-passes, picked-none, blocks-cases, blocks-fit, blocks-at, blocks-have, blocks-length, total-cong}
+use Rattle.vocabulary.specs.RangeLaws.{last-or, picked-all, picked-in, picked-passes, picked-none, picked-cong, blocks-cases, blocks-fit, blocks-at, blocks-have, blocks-length, total-cong}
 use Rattle.mesh.specs.Walks.{Near}
 use Rattle.split.specs.Split.{Split, owns, owned, reaches, holds, held, imports, exports, inside, interior, halo, locals, localOf, globalOf}
 
 -- ---- counting
-
--- one at most
-one-length : (b : Bool) (x : ℕ) → length (cond b (x ∷ []) []) ≡ cond b 1 0
-one-length true x = refl
-one-length false x = refl
 
 -- those that pass are those that pass one more test and those that fail it
 pub picked-halves : (a n : ℕ) (p q : ℕ → Bool)
@@ -52,6 +47,58 @@ total-short a n zero f h = ap (λ x. total a x f) (add-zero n)
 total-short a n (suc k) f h =
     let e : n + suc k ≡ suc (n + k) = omega arith in
     ap (λ x. total a x f) e ∙ omega (arith, total-short a n k f (λ i l q. h i l (omega arith)), h (n + k) (omega arith) (omega arith))
+
+-- two sums, and a sum with one summand
+pub total-add : (a n : ℕ) (f g : ℕ → ℕ) → total a n (λ x. f x + g x) ≡ total a n f + total a n g
+unfolding total
+total-add a zero f g = refl
+total-add a (suc n) f g = omega (arith, total-add a n f g)
+
+pub total-zero : (a n : ℕ) (f : ℕ → ℕ) → ((i : ℕ) → i < n → f (a + i) ≡ 0) → total a n f ≡ 0
+unfolding total
+total-zero a zero f h = refl
+total-zero a (suc n) f h = omega (arith, total-zero a n f (λ i k. h i (omega arith)), h n (omega arith))
+
+pub total-single : (a n j : ℕ) (f : ℕ → ℕ) → j < n → ((i : ℕ) → i < n → i ≢ j → f (a + i) ≡ 0) → total a n f ≡ f (a + j)
+unfolding total
+total-single a zero j f h k = absurd (not-suc-le-zero h)
+total-single a (suc n) j f h k =
+    ⊎-elim
+    (λ l. omega (arith, total-single a n j f l (λ i q ne. k i (omega arith) ne), k n (omega arith) (omega arith)))
+    (λ e. let z : total a n f ≡ 0 = total-zero a n f (λ i q. k i (omega arith) (omega arith)) in rw e (omega arith))
+    (last-or j n h)
+
+-- numbers that pass p, each shared out to the one list q j of its owner: as many as all those lists have
+pub picked-shared : (a n P : ℕ) (p : ℕ → Bool) (q : ℕ → ℕ → Bool) (o : ℕ → ℕ)
+    → ((i : ℕ) → i < n → p (a + i) ≡ true → (1 ≤ o (a + i)) × (o (a + i) ≤ P) × (q (o (a + i)) (a + i) ≡ true))
+    → ((i j : ℕ) → i < n → q j (a + i) ≡ true → (p (a + i) ≡ true) × (j ≡ o (a + i)))
+    → length (picked a n p) ≡ total 1 P (λ j. length (picked a n (q j)))
+unfolding picked
+picked-shared a zero P p q o f g = sym (total-zero 1 P (λ j. 0) (λ i h. refl))
+picked-shared a (suc n) P p q o f g =
+    let ih = picked-shared a n P p q o (λ i h e. f i (omega arith) e) (λ i j h e. g i j (omega arith) e) in
+    length-append (picked a n p) (cond (p (a + n)) ((a + n) ∷ []) [])
+    ∙ ap₂ _+_ ih (last (p (a + n)) refl)
+    ∙ sym (total-add 1 P (λ j. length (picked a n (q j))) (λ j. length (cond (q j (a + n)) ((a + n) ∷ []) [])))
+    ∙ total-cong 1 (λ j. length (picked a n (q j)) + length (cond (q j (a + n)) ((a + n) ∷ []) []))
+    (λ j. length (picked a n (q j) ++ cond (q j (a + n)) ((a + n) ∷ []) [])) P
+    (λ i h. sym (length-append (picked a n (q (1 + i))) (cond (q (1 + i) (a + n)) ((a + n) ∷ []) [])))
+  where
+    -- another list does not have it
+    other : (j : ℕ) → (b : Bool) → q j (a + n) ≡ b → (p (a + n) ≡ true → j ≡ o (a + n) → ⊥) → length (cond b ((a + n) ∷ []) []) ≡ 0
+    other j true e off = let r = g n j (omega arith) e in absurd (off (r .0) (r .1))
+    other j false e off = refl
+
+    last : (b : Bool) → p (a + n) ≡ b → length (cond b ((a + n) ∷ []) []) ≡ total 1 P (λ j. length (cond (q j (a + n)) ((a + n) ∷ []) []))
+    last true e =
+        let r = f n (omega arith) e in
+        let x : ℕ = o (a + n) in
+        let z : 1 + (o (a + n) - 1) ≡ o (a + n) = omega (arith, r .0) in
+        sym (total-single 1 P (o (a + n) - 1) (λ j. length (cond (q j (a + n)) ((a + n) ∷ []) [])) (omega (arith, r .0, r .1))
+        (λ i h ne. other (1 + i) (q (1 + i) (a + n)) refl (λ t w. let no : ⊥ = omega (arith, r .0) in no))
+        ∙ ap (λ j. length (cond (q j (a + n)) ((a + n) ∷ []) [])) z
+        ∙ ap (λ b. length (cond b ((a + n) ∷ []) [])) (r .2))
+    last false e = sym (total-zero 1 P (λ j. length (cond (q j (a + n)) ((a + n) ∷ []) [])) (λ i h. other (1 + i) (q (1 + i) (a + n)) refl (λ t w. not-both (p (a + n)) t e)))
 
 -- ---- a split whose reaches stay among the cells and whose cells belong to its parts
 
@@ -255,3 +302,50 @@ module _ (S : Split) where
         let e : S .parts + (16 - S .parts) ≡ 16 = omega arith in
         ap (λ n. total 1 n (λ j. length (exports S i j))) (sym e)
         ∙ total-short 1 (S .parts) (16 - S .parts) (λ j. length (exports S i j)) (λ k l q. ap length (exports-none i (1 + k) (omega arith)))
+
+    -- ---- what is held, where a cell is in its own reach: the owned cells and the imports
+
+    module _ (own-reach : (c : ℕ) → Cell S c → reaches S c c ≡ true) where
+      own-held : (i c : ℕ) → Cell S c → owns S i c ≡ true → holds S i c ≡ true
+      unfolding holds owned
+      own-held i c h e =
+          let a = picked-in (S .first) (owns S i) (S .cells) c (h .0) (h .1) e in
+          someOf-has (λ o. reaches S o c) (picked (S .first) (S .cells) (owns S i)) 0 (a .place) (a .place-lt)
+          (subst (λ o. reaches S o c ≡ true) (sym (a .place-is)) (own-reach c h))
+
+      pub held-length : (i : ℕ) → length (held S i) ≡ length (owned S i) + total 1 (S .parts) (λ j. length (imports S i j))
+      unfolding held owned imports owns
+      held-length i =
+          let a : ℕ = S .first in
+          let n : ℕ = S .cells in
+          picked-halves (S .first) (S .cells) (holds S i) (λ c. eqb (S .owner c) i)
+          ∙ ap₂ _+_
+          (ap length (picked-cong (S .first) (λ c. holds S i c && eqb (S .owner c) i) (λ c. eqb (S .owner c) i) (S .cells)
+          (λ k h.
+          same-test (holds S i (S .first + k) && eqb (S .owner (S .first + k)) i) (eqb (S .owner (S .first + k)) i)
+          (λ e. and-true (holds S i (S .first + k)) (eqb (S .owner (S .first + k)) i) e .1)
+          (λ e. and-intro (holds S i (S .first + k)) (eqb (S .owner (S .first + k)) i) (own-held i (S .first + k) (omega arith, omega arith) e) e))))
+          (picked-shared (S .first) (S .cells) (S .parts) (λ c. holds S i c && not (eqb (S .owner c) i))
+          (λ j c. not (eqb i j) && eqb (S .owner c) j && holds S i c) (S .owner)
+          (λ k h e.
+          let c : ℕ = S .first + k in
+          let o = owner-in (S .first + k) (omega arith, omega arith) in
+          let r = and-true (holds S i (S .first + k)) (not (eqb (S .owner (S .first + k)) i)) e in
+          let ne : S .owner (S .first + k) ≢ i = eqb-false _ _ (not-true _ (r .1)) in (
+            o .0,
+            o .1,
+            and-intro (not (eqb i (S .owner c)) && eqb (S .owner c) (S .owner c)) (holds S i c)
+                (and-intro (not (eqb i (S .owner c))) (eqb (S .owner c) (S .owner c)) (ap not (ne-eqb i (S .owner c) (λ z. ne (sym z)))) (eq-eqb (S .owner c) (S .owner c) refl)) (r .0),
+          ))
+          (λ k j h e.
+          let c : ℕ = S .first + k in
+          let p = and-true (not (eqb i j) && eqb (S .owner c) j) (holds S i c) e in
+          let q = and-true (not (eqb i j)) (eqb (S .owner c) j) (p .0) in
+          let own : S .owner c ≡ j = eqb-true _ _ (q .1) in
+          let ne : i ≢ j = eqb-false _ _ (not-true _ (q .0)) in (
+            and-intro (holds S i c) (not (eqb (S .owner c) i)) (p .1) (ap not (ne-eqb (S .owner c) i (λ z. ne (sym z ∙ own)))),
+            sym own,
+          )))
+
+      pub local-held : (i : ℕ) → length (locals S i) ≡ length (held S i)
+      local-held i = order-length i ∙ sym (held-length i)
