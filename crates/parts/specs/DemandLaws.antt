@@ -15,8 +15,8 @@ use Rattle.layout.specs.Depths.{four}
 use Rattle.mesh.specs.Mesh.{cellCount}
 use Rattle.round.specs.Rounds.{schemeOf, undivided}
 use Rattle.round.specs.RoundLaws.{field-length, undivided-good}
+use Rattle.split.specs.SplitLaws.{upTo-true}
 use Rattle.parts.specs.State.{isState, dynamic, listsIn, listsLength}
-use Rattle.parts.specs.StateLaws.{upTo-true}
 use Rattle.parts.specs.Start.{firstState}
 use Rattle.parts.specs.Run.{Call, Collected, World, run, Honest, Inputs, schemeIn, ownerIn, startNumberIn, startStateIn, begin, Run, collectsOf, Right, Gathered, RunTheorem}
 use Rattle.parts.specs.RunLaws.{mem-all}

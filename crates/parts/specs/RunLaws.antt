@@ -27,8 +27,9 @@ use Rattle.mesh.specs.Walks.{Near}
 use Rattle.round.specs.Rules.{Old}
 use Rattle.round.specs.Rounds.{Scheme, depthIn, oldsIn, newIn, round, undivided}
 use Rattle.messages.specs.Messages.{encode, fromIn, toIn, roundIn, countIn, bad15}
+use Rattle.split.specs.SplitLaws.{upTo-true, upTo-intro}
 use Rattle.parts.specs.State.{LocalNear, Lists, listsIn, listsOf, dynamic, heldCount, ownedCount, importEnd, isState, bad20, roundAt, takenPlace, writtenPlace, depthPlace, stateLength}
-use Rattle.parts.specs.StateLaws.{upTo-true, upTo-intro, isStateAt, state-at, Whole, whole-is, Frame, frame-take, frame-dynamic}
+use Rattle.parts.specs.StateLaws.{isStateAt, state-at, Whole, whole-is, Frame, frame-take, frame-dynamic}
 use Rattle.parts.specs.Calls.{importsFrom, exportsTo, depthAt, messageTo, writeTestsIn, writtenIn, takeTestsIn, takenIn, allTaken, allWritten, advanceTestsIn, newAt, advancedIn, collectTestsIn, collectedIn, writeNumber, message, writeState, writeOut, takeNumber, takeState, advanceNumber, advanceState, collectNumber, collectOut}
 
 -- ---- small laws

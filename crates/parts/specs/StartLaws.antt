@@ -28,10 +28,9 @@ use Rattle.round.specs.Rules.{newDepth, bad11}
 use Rattle.round.specs.Rounds.{Scheme, schemeOf, depthIn, undivided, bad14}
 use Rattle.split.specs.Split.{Split, splitOf, ownerAt, owned, imports, exports, locals, localOf, globalOf}
 use Rattle.split.specs.Lists.{bad8, bad9, bad12, splitTests, sizeTests}
-use Rattle.split.specs.ReachLaws.{reach-in, All-of-map}
-use Rattle.split.specs.SplitLaws.{Cell, order-length, own-is, own-has, own-local, local-back, own-first, import-own, import-at, local-cases, reach-held, imports-none, import-total, ownCells, own-count}
+use Rattle.split.specs.ReachLaws.{All-of-map}
+use Rattle.split.specs.SplitLaws.{map-facts, split-reach, split-owner, Cell, order-length, own-is, own-has, own-local, local-back, own-first, import-own, import-at, local-cases, reach-held, imports-none, import-total, ownCells, own-count}
 use Rattle.parts.specs.State.{LocalNear, Lists, listsIn, dynamic, isState, roundAt, takenPlace, depthPlace, stateLength, globalAt, ownedCount, heldCount, importEnd}
-use Rattle.parts.specs.StateLaws.{upTo-true}
 use Rattle.parts.specs.Start.{ownedIn, reachOf, importEnds, listsLong, listsWords, orderOf, stateSize, firstState, startTests, startNumber, startState}
 use Rattle.parts.specs.FormLaws.{front, words-length, front-length, part-back, kind-back, first-back, cells-back, owned-back, held-back, global-back, import-back, reach-back, exports-back, weights-back, toLocal}
 use Rattle.parts.specs.Run.{Inputs, schemeIn, ownerIn, startNumberIn, startStateIn}
@@ -63,40 +62,23 @@ short-steps d st e =
     let h : length st ≤ 9 = ltb-false 9 (length st) (or-false a b (or-false (a || b) c e .0) .1) in
     omega arith
 
-map-parts : (m : Bytes) (parts : ℕ) (owners : Bytes) (i : ℕ) → bad8 m parts owners (i ∷ []) ≡ false
-    → (parts ≤ 16) × Part parts i × ((k : ℕ) → k < cellCount m → (1 ≤ byteAt owners k) × (byteAt owners k ≤ parts))
-unfolding bad8 everyOf
-map-parts m parts owners i e =
-    let a = not (isUpTo 16 parts) in
-    let b = not (isUpTo parts i && true) in
-    let c = not (eqb (length owners) (cellCount m)) in
-    let d = not (everyOf owners (isUpTo parts)) in
-    let p = or-false (a || b || c) d e in
-    let q = or-false (a || b) c (p .0) in
-    let r = or-false a b (q .0) in
-    let l : length owners ≡ cellCount m = eqb-true _ _ (not-false _ (q .1)) in (
-      upTo-true 16 parts (not-false _ (r .0)) .1,
-      upTo-true parts i (and-true (isUpTo parts i) true (not-false _ (r .1)) .0),
-      λ k h. upTo-true parts (byteAt owners k) (everyOf-at (isUpTo parts) owners 0 k (not-false _ (p .1)) (omega arith)),
-    )
-
 pub started-facts : (I : Inputs) (i : ℕ) (buffer : Bytes) → startNumberIn I i buffer ≡ 0 → Begun I i buffer
 unfolding startNumberIn startNumber startTests splitTests meshTests sizeTests ownerAt
 started-facts I i buffer e =
     let a = passed (startTests (I .mesh) (I .parts) (I .owners) i (I .stencil) (I .kind) (I .weights) (I .field) buffer) tt e in
-    let b = map-parts (I .mesh) (I .parts) (I .owners) i (a .1 .1 .1 .1 .1 .1 .1 .0) in
+    let b = map-facts (I .mesh) (I .parts) (I .owners) i (a .1 .1 .1 .1 .1 .1 .1 .0) in
     let c = a .1 .1 .1 .1 .1 .1 .1 .1 .1 in
     record {
       inputs = record {
         mesh-good = (a .0, (a .1 .0, (a .1 .1 .0, (a .1 .1 .1 .0, (a .1 .1 .1 .1 .0, (a .1 .1 .1 .1 .1 .0, (a .1 .1 .1 .1 .1 .1 .0, tt)))))));
         few-parts = b .0;
-        owners-in = b .2;
+        owners-in = b .3;
         stencil-good = c .0;
         short = short-steps (top (I .mesh)) (I .stencil) (c .0);
         rule = c .1 .0;
         field-good = c .1 .1 .1 .1 .0;
       };
-      part = b .1;
+      part = (b .1, b .2);
       room = ltb-false _ _ (c .1 .1 .1 .1 .1 .0);
     }
 
@@ -117,13 +99,12 @@ abbrev pub frontIn : Inputs → ℕ → Bytes
 frontIn I i = front (splitIn I) i (locals (splitIn I) i) (steps (I .stencil)) (I .kind) (I .weights)
 
 module _ (I : Inputs) (R : Ready I) where
-  pub split-reach : (c : ℕ) → Cell (splitIn I) c → All (λ e. Cell (splitIn I) (e .cell)) (splitIn I .reach c)
-  unfolding splitOf
-  split-reach c h = reach-in (I .mesh) (I .stencil) c
+  pub reach-inside : (c : ℕ) → Cell (splitIn I) c → All (λ e. Cell (splitIn I) (e .cell)) (splitIn I .reach c)
+  reach-inside = split-reach (I .mesh) (I .parts) (I .owners) (I .stencil)
 
-  pub split-owner : (c : ℕ) → Cell (splitIn I) c → (1 ≤ splitIn I .owner c) × (splitIn I .owner c ≤ splitIn I .parts)
-  unfolding splitOf
-  split-owner c h = R .owners-in (c - firstCell (I .mesh)) (omega (arith, h .0, h .1))
+  pub owner-inside : (c : ℕ) → Cell (splitIn I) c → (1 ≤ splitIn I .owner c) × (splitIn I .owner c ≤ splitIn I .parts)
+  unfolding ownerAt
+  owner-inside = split-owner (I .mesh) (I .parts) (I .owners) (I .stencil) (R .owners-in)
 
   split-few : splitIn I .parts ≤ 16
   unfolding splitOf
@@ -133,7 +114,7 @@ module _ (I : Inputs) (R : Ready I) where
   pub order-full : (i : ℕ) → importEnds (splitIn I) i (orderIn I i) 16 ≡ length (orderIn I i)
   unfolding importEnds
   order-full i =
-      ap (λ n. ownedIn (splitIn I) i + n) (import-total (splitIn I) split-reach split-owner i split-few) ∙ sym (order-length (splitIn I) i)
+      ap (λ n. ownedIn (splitIn I) i + n) (import-total (splitIn I) reach-inside owner-inside i split-few) ∙ sym (order-length (splitIn I) i)
 
   import-fits : (i j t : ℕ) → 1 ≤ j → j ≤ splitIn I .parts → t < length (imports (splitIn I) i j)
       → ownedIn (splitIn I) i + total 1 (j - 1) (λ k. length (imports (splitIn I) i k)) + 1 + t ≤ length (orderIn I i)
@@ -214,7 +195,7 @@ module _ (I : Inputs) (R : Ready I) where
     owned-reach l h k =
         let q : l ≤ ownedIn (splitIn I) i = omega (arith, lists-owned) in
         let o = own-is (splitIn I) i l h q in
-        reach-held (splitIn I) split-reach split-owner i (globalOf (orderIn I i) l) (o .0) (o .1)
+        reach-held (splitIn I) reach-inside owner-inside i (globalOf (orderIn I i) l) (o .0) (o .1)
 
     lists-near-held : (l : ℕ) → 1 ≤ l → l ≤ L .owned → All (λ e. (1 ≤ e .local) × (e .local ≤ L .held)) (L .reach l)
     lists-near-held l h k =

@@ -13,7 +13,7 @@ use lib.ListN.{length, getD, take}
 use lib.Seq.{getD-take, ext-getD, length-take-le}
 use borrow.Author.Tests.{eqb-true, leb-true, le-leb, not-false}
 use Rattle.vocabulary.specs.Bytes.{Bytes, byteAt}
-use Rattle.vocabulary.specs.Ranges.{isUpTo, every}
+use Rattle.vocabulary.specs.Ranges.{every}
 use Rattle.vocabulary.specs.RangeLaws.{last-or, every-at, every-in, every-intro}
 use Rattle.vocabulary.specs.ListLaws.{and-true, and-intro}
 use Rattle.vocabulary.specs.Tests.{allOf, allOf-true, allOf-intro}
@@ -22,15 +22,6 @@ use Rattle.layout.specs.WordLaws.{word-same}
 use Rattle.layout.specs.Depths.{depthFrom, rangedAt}
 use Rattle.layout.specs.DepthLaws.{ranged-size, range-intro}
 use Rattle.parts.specs.State.{Lists, listsIn, dynamic, importEnd, ownedCount, heldCount, rises, listsLength, listsTests, dynamicTests, isState, bad20, roundAt, takenPlace, writtenPlace, depthPlace, stateLength}
-
--- x is from 1 to n
-pub upTo-true : (n x : ℕ) → isUpTo n x ≡ true → (1 ≤ x) × (x ≤ n)
-unfolding isUpTo
-upTo-true n x e = let r = and-true (leb 1 x) (leb x n) e in (leb-true 1 x (r .0), leb-true x n (r .1))
-
-pub upTo-intro : (n x : ℕ) → 1 ≤ x → x ≤ n → isUpTo n x ≡ true
-unfolding isUpTo
-upTo-intro n x h k = and-intro (leb 1 x) (leb x n) (le-leb 1 x h) (le-leb x n k)
 
 -- a table of ends that never falls
 pub rises-grow : (n : ℕ) (end : ℕ → ℕ) → rises n end ≡ true → (i j : ℕ) → i ≤ j → j ≤ n → end i ≤ end j

@@ -24,8 +24,9 @@ use Rattle.round.specs.Rules.{Old}
 use Rattle.round.specs.RuleLaws.{new-length}
 use Rattle.round.specs.Rounds.{Scheme, schemeOf, depthIn, undivided}
 use Rattle.messages.specs.Messages.{fromIn, toIn, roundIn, countIn}
+use Rattle.split.specs.SplitLaws.{upTo-true}
 use Rattle.parts.specs.State.{Lists, listsIn, listsOf, dynamic, isState, bad20, roundAt}
-use Rattle.parts.specs.StateLaws.{upTo-true, isStateAt, state-at, whole-is}
+use Rattle.parts.specs.StateLaws.{isStateAt, state-at, whole-is}
 use Rattle.parts.specs.Calls.{exportsTo, messageTo, writeTestsIn, writtenIn, takeTestsIn, takenIn, advanceTestsIn, advancedIn, collectTestsIn, collectedIn, writeNumber, message, writeState, writeOut, takeNumber, takeState, advanceNumber, advanceState, collectNumber, collectOut}
 use Rattle.parts.specs.Run.{Call, write, take-in, advance, collect, Collected, World, put, more, step, run, Fair, Honest, Inputs, schemeIn, ownerIn, Right}
 use Rattle.parts.specs.RunLaws.{mem-all, Part, Parted, Undivided, Good, Room, room-of, RightMessage, taken-facts, write-good, write-right, take-good, advance-taken, advance-good, collect-length, collect-owned, collect-others}

@@ -7,16 +7,29 @@ use mathlib.Core.List.{List, [], _∷_, _++_, map, append-assoc}
 use Prim.Native.Nat.{ℕ, zero, suc, _+_, _-_, _*_, _<_, _≤_}
 use native.Mathlib.Nat.{not-suc-le-zero, add-zero}
 use native.Mathlib.Omega.{arith}
-use lib.Dec.{eqb, ltb}
+use lib.Dec.{eqb, ltb, leb}
 use lib.ListN.{length, getD, length-append, List·getD-append}
 use lib.Seq.{getD-append-add}
-use borrow.Author.Tests.{eqb-true, eqb-false, eq-eqb, ne-eqb, ltb-true, ltb-false, not-false, not-true}
+use borrow.Author.Tests.{eqb-true, eqb-false, eq-eqb, ne-eqb, ltb-true, ltb-false, not-false, not-true, leb-true, le-leb}
+use Rattle.vocabulary.specs.Bytes.{Bytes, byteAt}
 use Rattle.vocabulary.specs.Lists.{All, someOf, everyOf, placeOf, repeats}
-use Rattle.vocabulary.specs.ListLaws.{and-true, and-intro, and-left, and-right, All-map, All-append, All-getD, All-intro, At, at-left, at-right, at-all, placeOf-is, placeOf-left, not-both, same-test, someOf-has, someOf-witness}
-use Rattle.vocabulary.specs.Ranges.{picked, blocks, total}
+use Rattle.vocabulary.specs.ListLaws.{and-true, and-intro, and-left, and-right, or-false, everyOf-at, All-map, All-append, All-getD, All-intro, At, at-left, at-right, at-all, placeOf-is, placeOf-left, not-both, same-test, someOf-has, someOf-witness}
+use Rattle.vocabulary.specs.Ranges.{isUpTo, picked, blocks, total}
 use Rattle.vocabulary.specs.RangeLaws.{last-or, picked-all, picked-in, picked-passes, picked-none, picked-cong, blocks-cases, blocks-fit, blocks-at, blocks-have, blocks-length, total-cong}
-use Rattle.mesh.specs.Walks.{Near}
-use Rattle.split.specs.Split.{Split, owns, owned, reaches, holds, held, imports, exports, inside, interior, halo, locals, localOf, globalOf}
+use Rattle.mesh.specs.Mesh.{firstCell, cellCount}
+use Rattle.mesh.specs.Walks.{Near, reach}
+use Rattle.split.specs.Split.{Split, splitOf, ownerAt, owns, owned, reaches, holds, held, imports, exports, inside, interior, halo, locals, localOf, globalOf}
+use Rattle.split.specs.Lists.{bad8}
+use Rattle.split.specs.ReachLaws.{reach-in, reach-own}
+
+-- x is from 1 to n
+pub upTo-true : (n x : ℕ) → isUpTo n x ≡ true → (1 ≤ x) × (x ≤ n)
+unfolding isUpTo
+upTo-true n x e = let r = and-true (leb 1 x) (leb x n) e in (leb-true 1 x (r .0), leb-true x n (r .1))
+
+pub upTo-intro : (n x : ℕ) → 1 ≤ x → x ≤ n → isUpTo n x ≡ true
+unfolding isUpTo
+upTo-intro n x h k = and-intro (leb 1 x) (leb x n) (le-leb 1 x h) (le-leb x n k)
 
 -- ---- counting
 
@@ -349,3 +362,41 @@ module _ (S : Split) where
 
       pub local-held : (i : ℕ) → length (locals S i) ≡ length (held S i)
       local-held i = order-length i ∙ sym (held-length i)
+
+-- ---- the split of a mesh, a part map and a stencil
+
+-- an accepted part map
+pub map-facts : (m : Bytes) (parts : ℕ) (owners : Bytes) (i : ℕ) → bad8 m parts owners (i ∷ []) ≡ false
+    → (parts ≤ 16) × (1 ≤ i) × (i ≤ parts) × ((k : ℕ) → k < cellCount m → (1 ≤ byteAt owners k) × (byteAt owners k ≤ parts))
+unfolding bad8 everyOf
+map-facts m parts owners i e =
+    let a = not (isUpTo 16 parts) in
+    let b = not (isUpTo parts i && true) in
+    let c = not (eqb (length owners) (cellCount m)) in
+    let d = not (everyOf owners (isUpTo parts)) in
+    let p = or-false (a || b || c) d e in
+    let q = or-false (a || b) c (p .0) in
+    let r = or-false a b (q .0) in
+    let l : length owners ≡ cellCount m = eqb-true _ _ (not-false _ (q .1)) in
+    let u = upTo-true parts i (and-true (isUpTo parts i) true (not-false _ (r .1)) .0) in (
+      upTo-true 16 parts (not-false _ (r .0)) .1,
+      u .0,
+      u .1,
+      λ k h. upTo-true parts (byteAt owners k) (everyOf-at (isUpTo parts) owners 0 k (not-false _ (p .1)) (omega arith)),
+    )
+
+module _ (m : Bytes) (parts : ℕ) (owners st : Bytes) where
+  pub split-reach : (c : ℕ) → Cell (splitOf m parts owners st) c → All (λ e. Cell (splitOf m parts owners st) (e .cell)) (splitOf m parts owners st .reach c)
+  unfolding splitOf
+  split-reach c h = reach-in m st c
+
+  pub split-own : (c : ℕ) → Cell (splitOf m parts owners st) c → reaches (splitOf m parts owners st) c c ≡ true
+  unfolding splitOf reaches
+  split-own c h =
+      let t = reach-own m st c (h .0) (h .1) in
+      someOf-has (λ e. eqb (e .cell) c) (reach m st c) (record { cell = 0; layer = 0 }) (t .0) (t .1) (eq-eqb _ _ (ap (λ e. e .cell) (t .2)))
+
+  pub split-owner : ((k : ℕ) → k < cellCount m → (1 ≤ byteAt owners k) × (byteAt owners k ≤ parts)) → (c : ℕ) → Cell (splitOf m parts owners st) c
+      → (1 ≤ splitOf m parts owners st .owner c) × (splitOf m parts owners st .owner c ≤ splitOf m parts owners st .parts)
+  unfolding splitOf ownerAt
+  split-owner f c h = f (c - firstCell m) (omega (arith, h .0, h .1))
