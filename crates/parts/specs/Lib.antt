@@ -8,3 +8,4 @@ pub mod RunLaws
 pub mod WorldLaws
 pub mod StartLaws
 pub mod DemandLaws
+pub mod BoundLaws
