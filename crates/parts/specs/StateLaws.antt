@@ -2,8 +2,8 @@
 use mathlib.Core.Path.{_≡_, refl, sym, ap, _∙_, subst, subst₂}
 use mathlib.Core.Logic.{_⊎_, ⊎-elim}
 use mathlib.Core.Bool.{Bool, true, false, not, _&&_}
-use mathlib.Core.List.{List, [], _∷_}
-use Prim.Native.Nat.{ℕ, zero, suc, _+_, _-_, _*_, _<_, _≤_}
+use mathlib.Core.List.{List, [], _∷_, _++_}
+use Prim.Native.Nat.{ℕ, zero, suc, _+_, _-_, _*_, _%_, _<_, _≤_}
 use native.Mathlib.Nat.{zero-add}
 use native.Mathlib.Numerals.{add-one}
 use native.Mathlib.Omega.{arith}
@@ -13,15 +13,17 @@ use lib.ListN.{length, getD, take}
 use lib.Seq.{getD-take, ext-getD, length-take-le}
 use borrow.Author.Tests.{eqb-true, leb-true, le-leb, not-false}
 use Rattle.vocabulary.specs.Bytes.{Bytes, byteAt}
-use Rattle.vocabulary.specs.Ranges.{every}
+use Rattle.vocabulary.specs.Lists.{All}
+use Rattle.vocabulary.specs.Ranges.{isUpTo, every, listed}
 use Rattle.vocabulary.specs.RangeLaws.{last-or, every-at, every-in, every-intro}
-use Rattle.vocabulary.specs.ListLaws.{and-true, and-intro}
+use Rattle.vocabulary.specs.ListLaws.{and-true, and-intro, All-append}
 use Rattle.vocabulary.specs.Tests.{allOf, allOf-true, allOf-intro}
 use Rattle.layout.specs.Words.{word, wordAt}
 use Rattle.layout.specs.WordLaws.{word-same}
 use Rattle.layout.specs.Depths.{depthFrom, rangedAt}
 use Rattle.layout.specs.DepthLaws.{ranged-size, range-intro}
-use Rattle.parts.specs.State.{Lists, listsIn, dynamic, importEnd, ownedCount, heldCount, rises, listsLength, listsTests, dynamicTests, isState, bad20, roundAt, takenPlace, writtenPlace, depthPlace, stateLength}
+use Rattle.split.specs.SplitLaws.{upTo-true}
+use Rattle.parts.specs.State.{LocalNear, Lists, listsIn, stepCount, reachEnd, reachCount, entryAt, localReach, dynamic, importEnd, ownedCount, heldCount, rises, listsLength, listsTests, dynamicTests, isState, bad20, roundAt, takenPlace, writtenPlace, depthPlace, stateLength}
 
 -- a table of ends that never falls
 pub rises-grow : (n : ℕ) (end : ℕ → ℕ) → rises n end ≡ true → (i j : ℕ) → i ≤ j → j ≤ n → end i ≤ end j
@@ -41,6 +43,12 @@ unfolding rises
 rises-intro n end f =
     every-intro 0 (λ j. leb (end j) (end (j + 1))) n (λ i h. subst (λ j. leb (end j) (end (j + 1)) ≡ true) (sym (zero-add i)) (le-leb (end i) (end (i + 1)) (f i h)))
 
+-- a list by its indices
+pub listed-all : {A : Type 0} (P : A → Type 0) (a n : ℕ) (g : ℕ → A) → ((i : ℕ) → i < n → P (g (a + i))) → All P (listed a n g)
+unfolding listed
+listed-all P a zero g f = tt
+listed-all P a (suc n) g f = All-append P (listed a n g) (g (a + n) ∷ []) (listed-all P a n g (λ i h. f i (omega arith))) (f n (omega arith), tt)
+
 -- ---- the test, by the lists st and the place d where they end
 
 abbrev pub isStateAt : Bytes → ℕ → Bytes → Bool
@@ -59,9 +67,15 @@ pub record Whole (st : Bytes) (d : ℕ) (b : Bytes) : Type 0 where
   pub early : roundAt b d ≤ 60000
   pub flags : (j : ℕ) → 1 ≤ j → j ≤ 16 → (byteAt b (takenPlace d j) ≤ 1) × (byteAt b (writtenPlace d j) ≤ 1)
   pub ranged : every 0 (heldCount st) (rangedAt b (d + 34)) ≡ true
+  pub reach-ends : (i j : ℕ) → i ≤ j → j ≤ ownedCount st → reachEnd st i ≤ reachEnd st j
+  pub entries : (t : ℕ) → t < reachCount st → (1 ≤ (entryAt st t) .local) × ((entryAt st t) .local ≤ heldCount st)
+
+-- of an entry of a reach
+entry-fine : Bytes → ℕ → Bool
+entry-fine st t = let e : LocalNear = entryAt st t in isUpTo (heldCount st) (e .local) && eqb (e .layer % 2) 0 && leb (e .layer) (stepCount st)
 
 pub whole-is : (st : Bytes) (d : ℕ) (b : Bytes) → isStateAt st d b ≡ true → Whole st d b
-unfolding listsTests dynamicTests
+unfolding listsTests dynamicTests entry-fine
 whole-is st d b e =
     let p = and-true (eqb d (listsLength st) && allOf (listsTests st)) (allOf (dynamicTests b d (heldCount st))) e in
     let q = and-true (eqb d (listsLength st)) (allOf (listsTests st)) (p .0) in
@@ -78,7 +92,21 @@ whole-is st d b e =
           (every-in 1 (λ j. leb (byteAt b (takenPlace d j)) 1 && leb (byteAt b (writtenPlace d j)) 1) 16 j (c .1 .1 .0) h (omega arith)) in
           (leb-true _ _ (r .0), leb-true _ _ (r .1));
       ranged = c .1 .1 .1 .0;
+      reach-ends = λ i j h k. rises-grow (ownedCount st) (reachEnd st) (and-true (eqb (reachEnd st 0) 0) (rises (ownedCount st) (reachEnd st)) (l .1 .1 .1 .1 .1 .1 .0) .1) i j h k;
+      entries = λ t h.
+          let x = every-in 0 (entry-fine st) (reachCount st) t (l .1 .1 .1 .1 .1 .1 .1 .1 .0) (omega arith) (omega arith) in
+          let p = isUpTo (heldCount st) ((entryAt st t) .local) in
+          let q = eqb ((entryAt st t) .layer % 2) 0 in
+          let r = leb ((entryAt st t) .layer) (stepCount st) in
+          upTo-true (heldCount st) ((entryAt st t) .local) (and-true p q (and-true (p && q) r x .0) .0);
     }
+
+-- every entry of an owned cell's reach is held
+pub near-whole : (st : Bytes) (d : ℕ) (b : Bytes) → Whole st d b → (l : ℕ) → 1 ≤ l → l ≤ ownedCount st → All (λ e. (1 ≤ e .local) × (e .local ≤ heldCount st)) (localReach st l)
+unfolding localReach
+near-whole st d b w l h k =
+    listed-all (λ e. (1 ≤ e .local) × (e .local ≤ heldCount st)) (reachEnd st (l - 1)) (reachEnd st l - reachEnd st (l - 1)) (entryAt st)
+    (λ t q. w .entries (reachEnd st (l - 1) + t) (omega (arith, w .reach-ends (l - 1) l (omega arith) k, w .reach-ends l (ownedCount st) k (omega arith))))
 
 -- the lists' side of the test says nothing of what calls change, and what calls change is tested by itself
 pub still-whole : (st : Bytes) (d : ℕ) (b b′ : Bytes) → isStateAt st d b ≡ true → stateLength d (heldCount st) ≤ length b′ → roundAt b′ d ≤ 60000
