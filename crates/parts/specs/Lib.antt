@@ -9,3 +9,4 @@ pub mod WorldLaws
 pub mod StartLaws
 pub mod DemandLaws
 pub mod BoundLaws
+pub mod KeptLaws

@@ -75,6 +75,13 @@ collect-state : (b : Bytes) (k : ℕ) (f : Bytes) → collectNumber b k f ≡ 0 
 unfolding collectNumber collectTestsIn bad20
 collect-state b k f e = not-false _ (passed (collectTestsIn (listsOf b) (dynamic b) b k f) tt e .0)
 
+-- and a write's is to a number from 1 to 16
+pub write-part : (b : Bytes) (j : ℕ) (out : Bytes) → writeNumber b j out ≡ 0 → (1 ≤ j) × (j ≤ 16)
+unfolding writeNumber writeTestsIn exportsTo
+write-part b j out e =
+    let a = passed (writeTestsIn (listsOf b) (dynamic b) b j out) tt e in
+    upTo-true 16 j (and-true (isUpTo 16 j) (ltb 0 (length (listsOf b .exports j))) (not-false _ (a .1 .0)) .0)
+
 -- the message that an accepted write gives
 pub written-is : (b : Bytes) (j : ℕ) (out : Bytes) → writeNumber b j out ≡ 0 → take (length (message b j)) (writeOut b j out) ≡ message b j
 unfolding writeOut
@@ -122,12 +129,6 @@ module _ (I : Inputs) (front : ℕ → Bytes) where
 
   module _ (S : Parted (schemeIn I) (ownerOf I) (I .parts) listsAt) where
     -- ---- write
-
-    write-part : (b : Bytes) (j : ℕ) (out : Bytes) → writeNumber b j out ≡ 0 → (1 ≤ j) × (j ≤ 16)
-    unfolding writeNumber writeTestsIn exportsTo
-    write-part b j out e =
-        let a = passed (writeTestsIn (listsOf b) (dynamic b) b j out) tt e in
-        upTo-true 16 j (and-true (isUpTo 16 j) (ltb 0 (length (listsOf b .exports j))) (not-false _ (a .1 .0)) .0)
 
     write-holds : (i rd : ℕ) (b : Bytes) (j : ℕ) (out : Bytes) → Holds i rd b → Holds i rd (writeState b j out)
     unfolding writeState
