@@ -1,21 +1,21 @@
--- Laws of reaches: they stay among the cells, and a cell is in its own reach at layer 0. Assumes nothing.
+-- Laws of reaches: they stay among the cells, a cell is in its own reach at layer 0, and layers are even. Assumes nothing.
 use mathlib.Core.Path.{_≡_, refl, sym, ap, _∙_, subst}
 use mathlib.Core.Logic.{_⊎_, ⊎-elim}
-use mathlib.Core.Bool.{Bool, true, false, _||_}
+use mathlib.Core.Bool.{Bool, true, false, not, cond, _||_}
 use mathlib.Core.List.{List, [], _∷_, map}
-use Prim.Native.Nat.{ℕ, zero, suc, _+_, _-_, _<_, _≤_}
+use Prim.Native.Nat.{ℕ, zero, suc, _+_, _-_, _%_, _<_, _≤_}
 use native.Mathlib.Nat.{add-zero}
 use native.Mathlib.Omega.{arith}
 use lib.Dec.{eqb, ltb}
 use lib.ListN.{length, getD, length-map}
-use borrow.Author.Tests.{eq-eqb, lt-ltb}
-use Rattle.vocabulary.specs.Bytes.{Bytes}
-use Rattle.vocabulary.specs.Lists.{isIn, All}
-use Rattle.vocabulary.specs.ListLaws.{or-left, At, getD-map-any}
-use Rattle.vocabulary.specs.Ranges.{picked}
-use Rattle.vocabulary.specs.RangeLaws.{Rises, picked-all, picked-at, picked-in, picked-rises}
-use Rattle.mesh.specs.Mesh.{firstCell, cellCount}
-use Rattle.mesh.specs.Walks.{Near, reach, layer, steps, stepsTo, walked}
+use borrow.Author.Tests.{eqb-true, eq-eqb, ne-eqb, ltb-true, ltb-false, lt-ltb, not-false}
+use Rattle.vocabulary.specs.Bytes.{Bytes, byteAt}
+use Rattle.vocabulary.specs.Lists.{isIn, someOf, All}
+use Rattle.vocabulary.specs.ListLaws.{or-left, or-false, isIn-at, At, getD-map-any}
+use Rattle.vocabulary.specs.Ranges.{picked, every}
+use Rattle.vocabulary.specs.RangeLaws.{Rises, last-or, every-in, picked-passes, picked-all, picked-at, picked-in, picked-rises}
+use Rattle.mesh.specs.Mesh.{top, counted, below, firstCell, cellCount}
+use Rattle.mesh.specs.Walks.{Near, incident, reach, layer, steps, bad10, stepTo, stepsTo, walked}
 
 -- what holds of every image holds of the images
 pub All-of-map : {A B : Type 0} (P : B → Type 0) (f : A → B) (xs : List A) → All (λ x. P (f x)) xs → All P (map f xs)
@@ -64,3 +64,75 @@ module _ (m st : Bytes) (c : ℕ) where
             ∙ ap near (a .place-is)
             ∙ ap (λ l. record { cell = c; layer = l }) own-layer,
       )
+
+-- ---- layers
+
+-- the numbers of a dimension come after those of all lower ones
+pub below-grows : (m : Bytes) (j k : ℕ) → j ≤ k → below m j ≤ below m k
+unfolding below
+below-grows m j zero h = let e : j ≡ 0 = omega arith in subst (λ x. below m j ≤ below m x) e (omega arith)
+below-grows m j (suc k) h =
+    ⊎-elim (λ l. omega (arith, below-grows m j k (omega arith))) (λ e. subst (λ x. below m j ≤ below m x) e (omega arith)) (last-or j (suc k) (omega arith))
+
+-- an accepted stencil
+module _ (d : ℕ) (st : Bytes) (good : bad10 d st ≡ false) where
+  abbrev places : ℕ → Bool
+  places k = cond (eqb (k % 2) 0) (eqb (byteAt st k) d) (ltb (byteAt st k) d)
+
+  stencil-parts : (length st % 2 ≡ 1) × (length st ≤ 9) × (every 0 (length st) places ≡ true)
+  unfolding bad10
+  stencil-parts =
+      let a = not (eqb (length st % 2) 1) in
+      let b = ltb 9 (length st) in
+      let c = not (every 0 (length st) places) in
+      let p = or-false (a || b) c good in
+      let q = or-false a b (p .0) in
+      (eqb-true _ _ (not-false _ (q .0)), ltb-false _ _ (q .1), not-false _ (p .1))
+
+  pub steps-even : steps st % 2 ≡ 0
+  unfolding steps
+  steps-even = omega (arith, stencil-parts .0)
+
+  pub steps-few : steps st ≤ 8
+  unfolding steps
+  steps-few = omega (arith, stencil-parts .1)
+
+  -- an odd place has a lower dimension
+  pub stencil-odd : (k : ℕ) → k ≤ steps st → k % 2 ≡ 1 → byteAt st k < d
+  unfolding steps
+  stencil-odd k h e =
+      let q : k < length st = omega (arith, stencil-parts .0) in
+      let p : cond (eqb (k % 2) 0) (eqb (byteAt st k) d) (ltb (byteAt st k) d) ≡ true = every-in 0 places (length st) k (stencil-parts .2) (omega arith) (omega arith) in
+      let z : eqb (k % 2) 0 ≡ false = ne-eqb (k % 2) 0 (λ y. let n : ⊥ = omega arith in n) in
+      ltb-true _ _ (rw z at p)
+
+module _ (m st : Bytes) (c : ℕ) (good : bad10 (top m) st ≡ false) where
+  -- a cell is walked to in an even number of steps
+  walked-even : (x k : ℕ) → firstCell m ≤ x → k ≤ steps st → isIn x (walked m st c k) ≡ true → k % 2 ≡ 0
+  unfolding walked stepTo below
+  walked-even x zero h q e = refl
+  walked-even x (suc k) h q e = go (suc k % 2) refl (omega arith)
+    where
+      low : suc k % 2 ≡ 1 → ⊥
+      low o =
+          let a : ℕ = byteAt st (suc k) in
+          let t = picked-passes (below m (byteAt st (suc k)) + 1) (λ y. someOf (walked m st c k) (λ e. incident m e y)) (counted m (byteAt st (suc k))) x (isIn-at x (walked m st c (suc k)) e) in
+          let s : byteAt st (suc k) < top m = stencil-odd (top m) st good (suc k) q o in
+          let g : below m (suc (byteAt st (suc k))) ≤ below m (top m) = below-grows m (suc (byteAt st (suc k))) (top m) (omega arith) in
+          omega (arith, t .1)
+
+      go : (r : ℕ) → suc k % 2 ≡ r → r < 2 → suc k % 2 ≡ 0
+      go zero p l = p
+      go (suc r) p l = let o : suc k % 2 ≡ 1 = omega arith in absurd (low o)
+
+  pub reach-layers : All (λ e. (e .layer % 2 ≡ 0) × (e .layer ≤ steps st)) (reach m st c)
+  unfolding reach layer stepsTo
+  reach-layers =
+      All-of-map (λ e. (e .layer % 2 ≡ 0) × (e .layer ≤ steps st)) (near m st c) (picked (firstCell m) (cellCount m) (met m st c))
+      (picked-all (firstCell m) (met m st c) (λ x. (layer m st c x % 2 ≡ 0) × (layer m st c x ≤ steps st)) (cellCount m)
+      (λ i h e.
+      let x : ℕ = firstCell m + i in
+      let l : 0 < length (stepsTo m st c (firstCell m + i)) = ltb-true _ _ e in
+      let t = picked-passes 0 (λ k. isIn x (walked m st c k)) (steps st + 1) (layer m st c x) (record { place = 0; place-lt = l; place-is = refl }) in
+      let q : layer m st c x ≤ steps st = omega (arith, t .1) in
+      (walked-even x (layer m st c x) (omega arith) q (t .2), q)))
