@@ -12,10 +12,11 @@ use lib.ListN.{length, getD, length-append, List·getD-append}
 use lib.Seq.{getD-append-add}
 use borrow.Author.Tests.{eqb-true, eqb-false, eq-eqb, ne-eqb, ltb-true, ltb-false, not-false, not-true, leb-true, le-leb}
 use Rattle.vocabulary.specs.Bytes.{Bytes, byteAt}
+use Rattle.vocabulary.specs.ByteLaws.{Place, below, inside as within, above, place}
 use Rattle.vocabulary.specs.Lists.{All, someOf, everyOf, placeOf, repeats}
-use Rattle.vocabulary.specs.ListLaws.{and-true, and-intro, and-left, and-right, or-false, everyOf-at, All-map, All-append, All-getD, All-intro, At, at-left, at-right, at-all, placeOf-is, placeOf-left, not-both, same-test, someOf-has, someOf-witness}
+use Rattle.vocabulary.specs.ListLaws.{repeats-none, repeats-once, and-true, and-intro, and-left, and-right, or-false, everyOf-at, All-map, All-append, All-getD, All-intro, At, at-left, at-right, at-all, placeOf-is, placeOf-left, not-both, same-test, someOf-has, someOf-witness}
 use Rattle.vocabulary.specs.Ranges.{isUpTo, picked, blocks, total}
-use Rattle.vocabulary.specs.RangeLaws.{last-or, picked-all, picked-in, picked-passes, picked-none, picked-cong, blocks-cases, blocks-fit, blocks-at, blocks-have, blocks-length, total-cong}
+use Rattle.vocabulary.specs.RangeLaws.{last-or, picked-all, picked-in, picked-passes, picked-none, picked-cong, picked-rises, blocks-all, blocks-cases, blocks-fit, blocks-at, blocks-have, blocks-length, total-cong}
 use Rattle.mesh.specs.Mesh.{firstCell, cellCount}
 use Rattle.mesh.specs.Walks.{Near, reach}
 use Rattle.split.specs.Split.{Split, splitOf, ownerAt, owns, owned, reaches, holds, held, imports, exports, inside, interior, halo, locals, localOf, globalOf}
@@ -195,6 +196,57 @@ module _ (S : Split) where
       let p = placeOf-is c (locals S i) a in
       let s : placeOf c (locals S i) + 1 - 1 ≡ placeOf c (locals S i) = omega arith in
       (omega arith, omega (arith, p .0), ap (λ n. getD (locals S i) n 0) s ∙ p .1)
+
+  -- no owned cell stands twice, so a local number comes back as it was
+  own-once : (i : ℕ) → repeats (ownCells S i) ≡ false
+  unfolding interior halo
+  own-once i = repeats-none (ownCells S i) (λ k l h q e. go k l h q e (place (length (interior S i)) (length (halo S i)) k) (place (length (interior S i)) (length (halo S i)) l))
+    where
+      in-first : (k : ℕ) → k < length (interior S i) → getD (ownCells S i) k 0 ≡ getD (interior S i) k 0
+      in-first k h = List·getD-append (interior S i) (halo S i) 0 k h
+
+      in-second : (k t : ℕ) → k ≡ length (interior S i) + t → getD (ownCells S i) k 0 ≡ getD (halo S i) t 0
+      in-second k t p = ap (λ n. getD (ownCells S i) n 0) p ∙ getD-append-add (interior S i) (halo S i) t 0
+
+      go : (k l : ℕ) → k < l → l < length (ownCells S i) → getD (ownCells S i) k 0 ≡ getD (ownCells S i) l 0
+          → Place (length (interior S i)) (length (halo S i)) k → Place (length (interior S i)) (length (halo S i)) l → ⊥
+      go k l h q e (below a) (below b) =
+          let r = picked-rises (S .first) (λ c. owns S i c && inside S i c) (S .cells) k l h b in
+          omega (arith, in-first k a, in-first l b)
+      go k l h q e (below a) (within t b p) =
+          let x : ℕ = getD (ownCells S i) k 0 in
+          let u = picked-passes (S .first) (λ c. owns S i c && inside S i c) (S .cells) x (record { place = k; place-lt = a; place-is = sym (in-first k a) }) in
+          let w = picked-passes (S .first) (λ c. owns S i c && not (inside S i c)) (S .cells) x (record { place = t; place-lt = b; place-is = sym (in-second l t p) ∙ sym e }) in
+          not-both (inside S i x) (and-true (owns S i x) (inside S i x) (u .2) .1) (not-true (inside S i x) (and-true (owns S i x) (not (inside S i x)) (w .2) .1))
+      go k l h q e (within s a o) (within t b p) =
+          let r = picked-rises (S .first) (λ c. owns S i c && not (inside S i c)) (S .cells) s t (omega arith) b in
+          omega (arith, in-second k s o, in-second l t p)
+      go k l h q e (within s a o) (below b) = omega arith
+      go k l h q e (above a) y = omega (arith, length-append (interior S i) (halo S i))
+      go k l h q e (below a) (above b) = omega (arith, length-append (interior S i) (halo S i))
+      go k l h q e (within s a o) (above b) = omega (arith, length-append (interior S i) (halo S i))
+
+  pub own-number : (i l : ℕ) → 1 ≤ l → l ≤ length (owned S i) → localOf (locals S i) (globalOf (locals S i) l) ≡ l
+  unfolding localOf
+  own-number i l h k =
+      let xs : List ℕ = ownCells S i in
+      let q : l - 1 < length (ownCells S i) = omega (arith, own-count i) in
+      let c : ℕ = getD (ownCells S i) (l - 1) 0 in
+      let a : At (getD (ownCells S i) (l - 1) 0) (ownCells S i) = record { place = l - 1; place-lt = q; place-is = refl } in
+      let p = placeOf-is (getD (ownCells S i) (l - 1) 0) (ownCells S i) a in
+      let e : placeOf (getD (ownCells S i) (l - 1) 0) (ownCells S i) ≡ l - 1 = repeats-once (ownCells S i) _ (l - 1) (own-once i) (p .0) q (p .1) in
+      let f : placeOf (globalOf (locals S i) l) (locals S i) ≡ placeOf (getD (ownCells S i) (l - 1) 0) (ownCells S i) =
+      ap₂ placeOf (own-first i l h k) (order-is i) ∙ placeOf-left c (ownCells S i) (blocks 1 (S .parts) (imports S i)) a in
+      omega arith
+
+  -- all in the local order are cells
+  pub order-cells : (i : ℕ) → All (λ c. Cell S c) (locals S i)
+  unfolding imports
+  order-cells i =
+      subst (All (λ c. Cell S c)) (sym (order-is i))
+      (All-append (λ c. Cell S c) (ownCells S i) (blocks 1 (S .parts) (imports S i)) (All-map (ownCells S i) (λ c h. h .0) (own-all i))
+      (blocks-all 1 (imports S i) (λ c. Cell S c) (S .parts)
+      (λ j h. picked-all (S .first) (λ c. not (eqb i (1 + j)) && owns S (1 + j) c && holds S i c) (λ c. Cell S c) (S .cells) (λ k q e. (omega arith, omega arith)))))
 
   -- an import list has cells that the exporter owns
   pub import-own : (i j : ℕ) → All (λ c. At c (ownCells S j)) (imports S i j)
