@@ -100,11 +100,11 @@ module _ (S : Split) (i : ℕ) (order : List ℕ) (n kind : ℕ) (v : Bytes) whe
   unfolding reachEnds
   reaches-length l = blocks-length 1 (reachWords S i order) l ∙ total-double 1 l (λ k. length (reachWords S i order k)) (λ k. length (reachOf S i order k)) reach-length
 
-  export-length : (j : ℕ) → length (exportWords S i order j) ≡ length (exports S i j)
+  pub export-length : (j : ℕ) → length (exportWords S i order j) ≡ length (exports S i j)
   unfolding exportWords
   export-length j = length-map (exports S i j) (localOf order)
 
-  exports-length : (j : ℕ) → length (blocks 1 j (exportWords S i order)) ≡ exportEnds S i order j
+  pub exports-length : (j : ℕ) → length (blocks 1 j (exportWords S i order)) ≡ exportEnds S i order j
   unfolding exportEnds
   exports-length j = blocks-length 1 (exportWords S i order) j ∙ total-cong 1 (λ k. length (exportWords S i order k)) (λ k. length (exports S i k)) j (λ k h. export-length (1 + k))
 
@@ -250,7 +250,7 @@ module _ (S : Split) (i : ℕ) (order : List ℕ) (n kind : ℕ) (v : Bytes) whe
     reach-word k h =
         ap₂ (λ a c. wordAt front (46 + a + c + k)) held-back owned-back ∙ s7 k ∙ List·getD-append (blocks 1 (ownedIn S i) (reachWords S i order)) r8 0 k h
 
-    export-word : (k : ℕ) → exportAt front k ≡ getD r8 k 0
+    pub export-word : (k : ℕ) → exportAt front k ≡ getD r8 k 0
     export-word k =
         ap (λ a. wordAt front (46 + heldCount front + ownedCount front + 2 * a + k)) count-back
         ∙ ap₂ (λ a c. wordAt front (46 + a + c + 2 * reachEnds S i order (ownedIn S i) + k)) held-back owned-back
@@ -289,7 +289,7 @@ module _ (S : Split) (i : ℕ) (order : List ℕ) (n kind : ℕ) (v : Bytes) whe
           ∙ blocks-at 1 (reachWords S i order) (ownedIn S i) (l - 1) (2 * t + r) 0 (omega arith) (omega arith)
           ∙ ap (λ x. getD (reachWords S i order x) (2 * t + r) 0) p
 
-      entry-back : (t : ℕ) → t < length (reachOf S i order l)
+      pub entry-back : (t : ℕ) → t < length (reachOf S i order l)
           → entryAt front (reachEnds S i order (l - 1) + t) ≡ toLocal (getD (reachOf S i order l) t (record { cell = 0; layer = 0 }))
       unfolding reachWords
       entry-back t q =

@@ -10,3 +10,4 @@ pub mod StartLaws
 pub mod DemandLaws
 pub mod BoundLaws
 pub mod KeptLaws
+pub mod BegunLaws

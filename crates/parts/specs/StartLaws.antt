@@ -312,7 +312,7 @@ module _ (I : Inputs) (i : ℕ) where
   abbrev pub deep : Bytes
   deep = blocks 1 (length (orderIn I i)) (λ l. depthIn (schemeIn I) (I .field) (globalOf (orderIn I i) l))
 
-  deep-length : length deep ≡ 4 * length (orderIn I i)
+  pub deep-length : length deep ≡ 4 * length (orderIn I i)
   unfolding depthIn
   deep-length = fours-length 1 (length (orderIn I i)) depthOfLocal (λ j h. length-four (I .field) _)
 
