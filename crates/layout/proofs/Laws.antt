@@ -1,15 +1,15 @@
 -- What the functions' needs ask: signed numbers of 32 bits and their registers, stored bytes, and the two loops. Assumes nothing.
 use mathlib.Core.Path.{_≡_, refl, sym, ap, _∙_}
 use mathlib.Core.Bool.{Bool, true, false, true≢false}
-use mathlib.Core.List.{[], _∷_, _++_}
+use mathlib.Core.List.{List, [], _∷_, _++_}
 use Prim.Native.Nat.{ℕ, suc, _+_, _-_, _*_, _/_, _%_, _≤_, _<_}
 use native.Mathlib.Numerals.{add-one}
 use native.Mathlib.Omega.{arith}
 use lib.IntN.{ℤ, pos, negsuc, natAbs, _+ℤ_, _-ℤ_}
 use lib.Signed.{mag, ltZ, leZ, nonNeg}
 use lib.Dec.{T}
-use lib.ListN.{length, getD, set, take, drop, length-drop}
-use lib.Seq.{length-take-le, take-suc, getD-drop}
+use lib.ListN.{List·getD-eq-default, length, getD, set, take, drop, length-drop}
+use lib.Seq.{set-out, length-take-le, take-suc, getD-drop}
 use mir.Syntax.{w32, w64}
 use mir.Val.{Fits, SFits, toZ, ofZ}
 use mir.ValLaws.{toZ-pos, toZ-ofZ}
@@ -27,6 +27,14 @@ byte-end b i h = sym (byte-past b i h)
 
 pub word-end : (b : Bytes) (i : ℕ) → length b ≤ i → 0 ≡ wordAt b i
 word-end b i h = sym (wordAt-none b i (omega arith))
+
+-- ---- lists of numbers
+
+pub number-past : (l : List ℕ) (i : ℕ) → length l ≤ i → 0 ≡ getD l i 0
+number-past l i h = sym (List·getD-eq-default l 0 {n = i} h)
+
+pub store-past : (l : List ℕ) (i v : ℕ) → length l ≤ i → l ≡ set l i v
+store-past l i v h = sym (set-out l i v h)
 
 -- two stores are one replacement
 pub word-stores : (b : Bytes) (o v : ℕ) → o + 1 < length b → set (set b o (v / 256)) (o + 1) (v % 256) ≡ over b o (wordBytes v)

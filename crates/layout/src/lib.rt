@@ -4,6 +4,7 @@ pub mod inner;
 
 ghost use mathlib.Core.Path.{_≡_};
 ghost use Prim.Native.Nat.{ℕ, _<_};
+ghost use lib.ListN.{getD, set};
 ghost use Rattle.vocabulary.specs.Bytes.{byteAt};
 ghost use Rattle.layout.specs.Words.{wordAt};
 ghost use Rattle.layout.specs.Depths.{inRange};
@@ -38,6 +39,22 @@ pub fn word_at(b: &[u8], i: usize) -> usize
         high * 256 + low
     } else {
         0
+    }
+}
+
+// The number at `i` of a list, and 0 past the end.
+pub fn number_at(list: &[u16], i: usize) -> u16
+    ensures { λ r. ⌜ r ≡ getD (now (list .entry)) i 0 ⌝ }
+{
+    if i < list.len() { list[i] } else { 0 }
+}
+
+// Stores v at `i` of a list, where there is a place for it.
+pub fn put_number_at(list: &mut [u16], i: usize, v: u16)
+    ensures { λ _. ⌜ now (list .exit) ≡ set (now (list .entry)) i v ⌝ }
+{
+    if i < list.len() {
+        list[i] = v;
     }
 }
 

@@ -6,7 +6,7 @@ use Prim.Native.Nat.{ℕ, zero, suc, _+_, _-_, _≤_, _<_}
 use native.Mathlib.Nat.{sub-zero}
 use native.Mathlib.Numerals.{add-one}
 use native.Mathlib.Omega.{arith}
-use lib.Dec.{eqb, ltb, leb}
+use lib.Dec.{eqb, leb}
 use lib.ListN.{length, getD, set, replicate, length-set, List·getD-eq-default}
 use lib.Seq.{getD-set-same, getD-set-other, set-out}
 use borrow.Author.Tests.{eqb-true, eqb-false, eq-eqb, ne-eqb, leb-true, not-false}
@@ -15,8 +15,8 @@ use Rattle.vocabulary.specs.Ranges.{isUpTo, some, blocks}
 use Rattle.vocabulary.specs.RangeLaws.{some-at, blocks-turn, blocks-all}
 use Rattle.vocabulary.specs.ScanLaws.{some-stop-from, some-turn-from, some-end-from}
 use Rattle.vocabulary.specs.Lists.{isIn, someOf, All}
-use Rattle.vocabulary.specs.ListLaws.{someOf-cong, someOf-false, All-intro, All-map, or-false, and-true}
-use Rattle.mesh.specs.Mesh.{top, counted, elements, recordCount, below, dimension, headOf, elementIn, follow, records, chain, wrongIn, wrongAt, leaves, unclosed, bare, bad5, bad6, bad7}
+use Rattle.vocabulary.specs.ListLaws.{isIn-append, someOf-cong, someOf-false, All-intro, All-map, or-false, and-true}
+use Rattle.mesh.specs.Mesh.{counted, elements, recordCount, below, dimension, headOf, elementIn, follow, records, chain, wrongIn, wrongAt, leaves, unclosed, bare, bad5, bad6, bad7}
 use Rattle.mesh.specs.Meet.{Sizes, Under, stamp, unlike, leavesBy}
 use Rattle.mesh.proofs.MeetLaws.{outside}
 use Rattle.mesh.proofs.DimensionLaws.{below-more, below-rises, lower-right, lower-small, dimension-le}
@@ -24,16 +24,9 @@ use Rattle.mesh.proofs.ElementLaws.{set-under, under-none}
 
 -- ---- one mark
 
-pub mark-out : (s : List ℕ) (g v : ℕ) → length s ≤ g → s ≡ set s g v
-mark-out s g v h = sym (set-out s g v h)
-
-pub mark-read : (s : List ℕ) (g v : ℕ) → not (eqb (getD s g 0) v) ≡ unlike v s g
+pub mark-told : (s : List ℕ) (g v x : ℕ) → x ≡ getD s g 0 → not (eqb x v) ≡ unlike v s g
 unfolding unlike
-mark-read s g v = refl
-
-pub mark-none : (s : List ℕ) (g v : ℕ) → length s ≤ g → not (eqb 0 v) ≡ unlike v s g
-unfolding unlike
-mark-none s g v h = ap (λ x. not (eqb x v)) (sym (List·getD-eq-default s 0 {n = g} h))
+mark-told s g v x e = ap (λ y. not (eqb y v)) e
 
 -- ---- all marks of a list
 
@@ -156,15 +149,6 @@ cells-turn m r first e h v s₀ s t re he l f g =
 pub cells-end : (m : Bytes) (first cells e v : ℕ) (s₀ s : List ℕ) → s ≡ stamp v s₀ (blocks first (e - first) (chain m)) → e ≤ first + cells → first + cells ≤ e
     → s ≡ stamp v s₀ (blocks first cells (chain m))
 cells-end m first cells e v s₀ s f g h = let q : e - first ≡ cells = omega arith in rw q at f
-
-isIn-append : (g : ℕ) (xs ys : List ℕ) → isIn g (xs ++ ys) ≡ isIn g xs || isIn g ys
-unfolding isIn
-isIn-append g [] ys = refl
-isIn-append g (x ∷ xs) ys = ap (λ b. eqb g x || b) (isIn-append g xs ys) ∙ go (eqb g x)
-  where
-    go : (b : Bool) → b || (isIn g xs || isIn g ys) ≡ (b || isIn g xs) || isIn g ys
-    go true = refl
-    go false = refl
 
 isIn-blocks : (g a n : ℕ) (f : ℕ → List ℕ) → isIn g (blocks a n f) ≡ some a n (λ c. isIn g (f c))
 unfolding blocks some isIn

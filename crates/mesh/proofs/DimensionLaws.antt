@@ -1,14 +1,13 @@
 -- The dimension of an element by the counts of those below it. Assumes nothing.
 use mathlib.Core.Path.{_≡_, refl, sym, ap, _∙_}
 use mathlib.Core.Bool.{Bool, true, false, not, _||_, _&&_, cond}
-use mathlib.Core.List.{List, [], _∷_, _++_}
-use Prim.Native.Nat.{ℕ, zero, suc, _+_, _-_, _≤_, _<_}
-use native.Mathlib.Nat.{not-suc-le-zero}
+use mathlib.Core.List.{[], _∷_}
+use Prim.Native.Nat.{ℕ, zero, suc, _+_, _≤_, _<_}
 use native.Mathlib.Numerals.{add-one}
 use native.Mathlib.Omega.{arith}
 use lib.Dec.{eqb, ltb, leb}
 use lib.ListN.{length, length-append}
-use borrow.Author.Tests.{ltb-true, ltb-false, lt-ltb, le-ltb, le-leb, lt-leb, eqb-true, eqb-false, eq-eqb, ne-eqb}
+use borrow.Author.Tests.{ltb-true, ltb-false, lt-ltb, le-ltb, le-leb, lt-leb, eqb-true, eqb-false}
 use Rattle.vocabulary.specs.Bytes.{Bytes}
 use Rattle.vocabulary.specs.Ranges.{isUpTo, picked}
 use Rattle.vocabulary.specs.RangeLaws.{picked-length-le}
@@ -110,15 +109,15 @@ module _ (m : Bytes) (d e low k c : ℕ) (de : d ≡ top m) (le : low ≡ below 
   pub past-turn : low + c < e → Past m e (k + 1)
   past-turn h = record { each = λ l. omega (arith, next-below) }
 
-  pub lower-found : Past m e k → k < d → e ≤ low + c → low ≡ below m (dimension m e)
-  lower-found p h g = le ∙ ap (below m) (go (eqb k 0) refl)
+  pub dimension-found : Past m e k → k < d → e ≤ low + c → k ≡ dimension m e
+  dimension-found p h g = go (eqb k 0) refl
     where
+      lesser : (b : Bool) → ltb k (dimension m e) ≡ b → dimension m e < k + 1
+      lesser true t = let z : ⊥ = omega (arith, below-after m e (k + 1) (omega arith) (omega (arith, de)) (omega (arith, ltb-true k (dimension m e) t)), next-below) in absurd z
+      lesser false t = omega (arith, ltb-false k (dimension m e) t)
+
       at-most : dimension m e < k + 1
       at-most = lesser (ltb k (dimension m e)) refl
-        where
-          lesser : (b : Bool) → ltb k (dimension m e) ≡ b → dimension m e < k + 1
-          lesser true t = let z : ⊥ = omega (arith, below-after m e (k + 1) (omega arith) (omega (arith, de)) (omega (arith, ltb-true k (dimension m e) t)), next-below) in absurd z
-          lesser false t = omega (arith, ltb-false k (dimension m e) t)
 
       go : (b : Bool) → eqb k 0 ≡ b → k ≡ dimension m e
       go true z = omega (arith, eqb-true k 0 z, at-most)
@@ -127,15 +126,18 @@ module _ (m : Bytes) (d e low k c : ℕ) (de : d ≡ top m) (le : low ≡ below 
           let l : 1 ≤ k = omega arith in
           omega (arith, at-most, after-below m e k l (omega (arith, de)) (p .each l))
 
-pub lower-end : (m : Bytes) (d e low k : ℕ) → d ≡ top m → low ≡ below m k → Past m e k → k ≤ d → d ≤ k → low ≡ below m (dimension m e)
-lower-end m d e low k de le p g h = le ∙ ap (below m) (go (eqb k 0) refl)
+pub dimension-end : (m : Bytes) (d e k : ℕ) → d ≡ top m → Past m e k → k ≤ d → d ≤ k → d ≡ dimension m e
+dimension-end m d e k de p g h = go (eqb k 0) refl
   where
-    go : (b : Bool) → eqb k 0 ≡ b → k ≡ dimension m e
+    go : (b : Bool) → eqb k 0 ≡ b → d ≡ dimension m e
     go true z = omega (arith, eqb-true k 0 z, dimension-le m e, de)
     go false z =
         let q : k ≡ 0 → ⊥ = eqb-false k 0 z in
         let l : 1 ≤ k = omega arith in
         omega (arith, dimension-le m e, de, after-below m e k l (omega (arith, de)) (p .each l))
+
+pub lower-told : (m : Bytes) (e k r : ℕ) → k ≡ dimension m e → r ≡ below m k → r ≡ below m (dimension m e)
+lower-told m e k r f g = g ∙ ap (below m) f
 
 pub lower-small : (m : Bytes) (d low k : ℕ) → low ≡ below m k → k ≤ d → d ≤ 3 → low ≤ elements m
 lower-small m d low k le g h = omega (arith, below-rises m k 4 (omega arith))

@@ -1,19 +1,19 @@
 -- The elements of the chains met one chain after another: test 5. Assumes nothing.
-use mathlib.Core.Path.{_≡_, refl, sym, ap, ap₂, _∙_}
-use mathlib.Core.Bool.{Bool, true, false, not, _||_}
+use mathlib.Core.Path.{_≡_, refl, ap, _∙_}
+use mathlib.Core.Bool.{Bool, true, false, _||_}
 use mathlib.Core.List.{List, [], _∷_, map}
-use Prim.Native.Nat.{ℕ, zero, suc, _+_, _-_, _≤_, _<_}
+use Prim.Native.Nat.{ℕ, _+_, _-_, _≤_, _<_}
 use native.Mathlib.Omega.{arith}
-use lib.Dec.{eqb, ltb, leb}
+use lib.Dec.{eqb, ltb}
 use lib.ListN.{length-set, length, getD, set, replicate, length-replicate, getD-replicate, List·getD-eq-default}
 use lib.Seq.{getD-set-same, getD-set-other, set-out}
 use borrow.Author.Tests.{ltb-true, ltb-false, eqb-true, eqb-false}
 use Rattle.vocabulary.specs.Bytes.{Bytes}
 use Rattle.vocabulary.specs.Ranges.{isUpTo, some}
-use Rattle.vocabulary.specs.ScanLaws.{some-start-from, some-stop-from, some-turn-from, some-end-from}
-use Rattle.vocabulary.specs.Lists.{repeats, someOf, All}
+use Rattle.vocabulary.specs.ScanLaws.{some-stop-from, some-end-from}
+use Rattle.vocabulary.specs.Lists.{repeats, someOf}
 use Rattle.vocabulary.specs.ListLaws.{someOf-cong, All-intro}
-use Rattle.mesh.specs.Mesh.{top, elements, recordCount, below, dimension, headOf, elementIn, follow, records, chain, wrongIn, wrongAt, bad5}
+use Rattle.mesh.specs.Mesh.{elements, below, dimension, headOf, elementIn, follow, records, chain, wrongAt, bad5}
 use Rattle.mesh.specs.Meet.{Met, met, meet, Sizes, Under}
 use Rattle.mesh.proofs.MeetLaws.{outside, marks, fresh-tells}
 use Rattle.mesh.proofs.DimensionLaws.{lower-right}

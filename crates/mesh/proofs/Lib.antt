@@ -7,3 +7,4 @@ pub mod DimensionLaws
 pub mod ElementLaws
 pub mod ClosureLaws
 pub mod NumberLaws
+pub mod AcceptedLaws

@@ -21,7 +21,7 @@ map-itself [] = refl
 map-itself (x ∷ xs) = ap (λ r. x ∷ r) (map-itself xs)
 
 -- a record that is followed is not 0
-follow-positive : (m : Bytes) (n i : ℕ) → All (λ x. 1 ≤ x) (follow m n i)
+pub follow-positive : (m : Bytes) (n i : ℕ) → All (λ x. 1 ≤ x) (follow m n i)
 unfolding follow
 follow-positive m zero i = tt
 follow-positive m (suc n) i = go (eqb i 0) refl (follow-positive m n (nextOf m i))

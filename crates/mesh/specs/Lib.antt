@@ -1,3 +1,4 @@
 pub mod Mesh
 pub mod Walks
 pub mod Meet
+pub mod Accepted

@@ -1,5 +1,7 @@
 // The tests 4 and 5: records and elements of the chains. Each function answers true where the mesh is to be refused.
+use crate::inner::below_of;
 use crate::inner::count_of;
+use crate::inner::dimension_of;
 use crate::inner::element_in;
 use crate::inner::head_of;
 use crate::inner::next_of;
@@ -78,15 +80,7 @@ fn lower_of(m: &[u8], d: usize, e: usize) -> usize
     requires { ⌜ (d ≡ top (now m)) × (d ≤ 3) ⌝ }
     ensures { λ r. ⌜ (r ≡ below (now (m .entry)) (dimension (now (m .entry)) e)) × (r ≤ elements (now (m .entry))) ⌝ }
 {
-    let mut low = 0;
-    for k in 0..d {
-        let high = low + count_of(m, k);
-        if e <= high {
-            return low;
-        }
-        low = high;
-    }
-    low
+    below_of(m, dimension_of(m, d, e))
 }
 
 // Follows the chain from record h on and marks its elements; true where one is not from 1 to low, or is marked already.

@@ -4,34 +4,22 @@ use crate::inner::count_of;
 use crate::inner::element_in;
 use crate::inner::head_of;
 use crate::inner::next_of;
+use layout::number_at;
+use layout::put_number_at;
 ghost use mathlib.Core.Path.{_≡_};
 ghost use mathlib.Core.Bool.{false};
 ghost use mathlib.Core.List.{map};
 ghost use Prim.Native.Nat.{ℕ, _+_, _*_, _<_, _≤_};
-ghost use lib.ListN.{set};
 ghost use Rattle.vocabulary.specs.Ranges.{blocks};
 ghost use Rattle.vocabulary.specs.Lists.{someOf};
 ghost use Rattle.mesh.specs.Mesh.{elements, recordCount, elementIn, follow, chain, unclosed, bad5, bad6, bad7};
 ghost use Rattle.mesh.specs.Meet.{Sizes, Under, stamp, unlike, leavesBy};
 
-// Marks g with v, where there is a place for it.
-fn mark_at(marks: &mut [u16], g: usize, v: u16)
-    ensures { λ _. ⌜ now (marks .exit) ≡ set (now (marks .entry)) g v ⌝ }
-{
-    if g < marks.len() {
-        marks[g] = v;
-    }
-}
-
 // Whether g does not bear the mark v.
 fn unmarked(marks: &[u16], g: usize, v: u16) -> bool
     ensures { λ b. ⌜ b ≡ unlike v (now (marks .entry)) g ⌝ }
 {
-    if g < marks.len() {
-        marks[g] != v
-    } else {
-        0 != v
-    }
+    number_at(marks, g) != v
 }
 
 // Marks the elements of the chain from record h on.
@@ -44,7 +32,7 @@ fn stamp_chain(m: &[u8], n: usize, r: usize, h: usize, v: u16, marks: &mut [u16]
         if i < 1 {
             return;
         }
-        mark_at(marks, element_in(m, n, i), v);
+        put_number_at(marks, element_in(m, n, i), v);
         i = next_of(m, n, i);
     }
 }

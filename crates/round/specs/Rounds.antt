@@ -1,7 +1,7 @@
 -- Fields, the undivided round and what it makes in k rounds, and the refusal 14. It knows nothing of parts. Assumes nothing.
 use mathlib.Core.Bool.{Bool, _||_, not, cond}
 use mathlib.Core.List.{List, [], _∷_, _++_, map}
-use Prim.Native.Nat.{ℕ, zero, suc, _+_, _-_, _*_}
+use Prim.Native.Nat.{ℕ, zero, suc, _-_, _*_}
 use lib.Dec.{eqb, ltb}
 use lib.ListN.{length}
 use Rattle.vocabulary.specs.Ranges.{every, blocks}

@@ -4,13 +4,13 @@ use mathlib.Core.Path.{_≡_, refl, sym, ap, ap₂, _∙_, subst}
 use mathlib.Core.Logic.{_⊎_, inl, inr, ⊎-elim}
 use mathlib.Core.Bool.{Bool, true, false, _&&_, _||_, cond, true≢false, false≢true}
 use mathlib.Core.List.{List, [], _∷_, _++_, map}
-use Prim.Native.Nat.{ℕ, zero, suc, _+_, _<_, suc-le-suc}
+use Prim.Native.Nat.{ℕ, zero, suc, _+_, _<_, _≤_, suc-le-suc}
 use native.Mathlib.Nat.{not-suc-le-zero, le-of-suc-le-suc, zero-lt-suc}
 use native.Mathlib.Omega.{arith}
 use lib.ListN.{length, getD, length-append, List·getD-append}
 use lib.Seq.{getD-append-add}
 use lib.Dec.{eqb}
-use borrow.Author.Tests.{eqb-true, eqb-false}
+use borrow.Author.Tests.{ne-eqb, eqb-true, eqb-false}
 use Rattle.vocabulary.specs.Lists.{isIn, placeOf, repeats, someOf, everyOf, All}
 
 -- ---- tests
@@ -82,6 +82,10 @@ module _ {A : Type 0} where
   pub All-split : (P : A → Type 0) (xs ys : List A) → All P (xs ++ ys) → All P xs × All P ys
   All-split P [] ys a = (tt, a)
   All-split P (x ∷ xs) ys a = let r = All-split P xs ys (a .1) in ((a .0, r .0), r .1)
+
+  pub All-both : (P Q : A → Type 0) (xs : List A) → All P xs → All Q xs → All (λ x. P x × Q x) xs
+  All-both P Q [] a b = tt
+  All-both P Q (x ∷ xs) a b = ((a .0, b .0), All-both P Q xs (a .1) (b .1))
 
   pub All-getD : (P : A → Type 0) (xs : List A) (l : ℕ) (d : A) → All P xs → l < length xs → P (getD xs l d)
   All-getD P [] l d a h = absurd (not-suc-le-zero h)
@@ -292,3 +296,105 @@ repeats-none xs f = go (repeats xs) refl
     go : (b : Bool) → repeats xs ≡ b → repeats xs ≡ false
     go true e = let r = repeats-twice xs e in absurd (f (r .0) (r .1) (r .2) (r .3) (r .4))
     go false e = e
+
+-- ---- how many different numbers there can be
+
+-- the list without x
+without : ℕ → List ℕ → List ℕ
+without x [] = []
+without x (y ∷ ys) = cond (eqb x y) (without x ys) (y ∷ without x ys)
+
+without-isIn : (x z : ℕ) (ys : List ℕ) → isIn z (without x ys) ≡ true → isIn z ys ≡ true
+unfolding without isIn
+without-isIn x z [] e = e
+without-isIn x z (y ∷ ys) e = go (eqb x y) e (without-isIn x z ys)
+  where
+    go : (b : Bool) → isIn z (cond b (without x ys) (y ∷ without x ys)) ≡ true → (isIn z (without x ys) ≡ true → isIn z ys ≡ true) → eqb z y || isIn z ys ≡ true
+    go true e ih = or-right (eqb z y) (isIn z ys) (ih e)
+    go false e ih = ⊎-elim (λ q. or-left (eqb z y) (isIn z ys) q) (λ q. or-right (eqb z y) (isIn z ys) (ih q)) (or-true (eqb z y) (isIn z (without x ys)) e)
+
+without-once : (x : ℕ) (ys : List ℕ) → repeats ys ≡ false → repeats (without x ys) ≡ false
+unfolding without repeats
+without-once x [] e = refl
+without-once x (y ∷ ys) e = go (eqb x y) (or-false (isIn y ys) (repeats ys) e) (without-once x ys (or-false (isIn y ys) (repeats ys) e .1))
+  where
+    out : (b : Bool) → isIn y (without x ys) ≡ b → isIn y ys ≡ false → isIn y (without x ys) ≡ false
+    out true q f = absurd (not-both (isIn y ys) (without-isIn x y ys q) f)
+    out false q f = q
+
+    go : (b : Bool) → (isIn y ys ≡ false) × (repeats ys ≡ false) → repeats (without x ys) ≡ false → repeats (cond b (without x ys) (y ∷ without x ys)) ≡ false
+    go true f ih = ih
+    go false f ih = or-none (isIn y (without x ys)) (repeats (without x ys)) (out (isIn y (without x ys)) refl (f .0)) ih
+
+without-same : (x : ℕ) (ys : List ℕ) → isIn x ys ≡ false → without x ys ≡ ys
+unfolding without isIn
+without-same x [] e = refl
+without-same x (y ∷ ys) e =
+    let f = or-false (eqb x y) (isIn x ys) e in
+    ap (λ b. cond b (without x ys) (y ∷ without x ys)) (f .0) ∙ ap (λ r. y ∷ r) (without-same x ys (f .1))
+
+-- one less at most
+without-length : (x : ℕ) (ys : List ℕ) → repeats ys ≡ false → length ys ≤ suc (length (without x ys))
+unfolding without repeats
+without-length x [] e = omega arith
+without-length x (y ∷ ys) e = go (eqb x y) refl (or-false (isIn y ys) (repeats ys) e) (without-length x ys (or-false (isIn y ys) (repeats ys) e .1))
+  where
+    go : (b : Bool) → eqb x y ≡ b → (isIn y ys ≡ false) × (repeats ys ≡ false) → length ys ≤ suc (length (without x ys))
+        → suc (length ys) ≤ suc (length (cond b (without x ys) (y ∷ without x ys)))
+    go true q f ih =
+        let s : without x ys ≡ ys = without-same x ys (ap (λ z. isIn z ys) (eqb-true x y q) ∙ f .0) in
+        omega (arith, ap length s)
+    go false q f ih = omega arith
+
+without-all : (n : ℕ) (ys : List ℕ) → All (λ y. (1 ≤ y) × (y ≤ suc n)) ys → All (λ y. (1 ≤ y) × (y ≤ n)) (without (suc n) ys)
+unfolding without
+without-all n [] a = tt
+without-all n (y ∷ ys) a = go (eqb (suc n) y) refl (without-all n ys (a .1))
+  where
+    go : (b : Bool) → eqb (suc n) y ≡ b → All (λ y. (1 ≤ y) × (y ≤ n)) (without (suc n) ys) → All (λ y. (1 ≤ y) × (y ≤ n)) (cond b (without (suc n) ys) (y ∷ without (suc n) ys))
+    go true q ih = ih
+    go false q ih = let ne : suc n ≡ y → ⊥ = eqb-false (suc n) y q in ((a .0 .0, omega (arith, a .0 .1)), ih)
+
+-- numbers from 1 to n, each once: n of them at most
+pub once-few : (n : ℕ) (xs : List ℕ) → All (λ x. (1 ≤ x) × (x ≤ n)) xs → repeats xs ≡ false → length xs ≤ n
+once-few zero [] a e = omega arith
+once-few zero (x ∷ xs) a e = let z : ⊥ = omega (arith, a .0 .0, a .0 .1) in absurd z
+once-few (suc n) xs a e = omega (arith, without-length (suc n) xs e, once-few n (without (suc n) xs) (without-all n xs a) (without-once (suc n) xs e))
+
+-- ---- repeats in a part
+
+repeats-right : (xs ys : List ℕ) → repeats (xs ++ ys) ≡ false → repeats ys ≡ false
+unfolding repeats
+repeats-right [] ys e = e
+repeats-right (x ∷ xs) ys e = repeats-right xs ys (or-false (isIn x (xs ++ ys)) (repeats (xs ++ ys)) e .1)
+
+repeats-left : (xs ys : List ℕ) → repeats (xs ++ ys) ≡ false → repeats xs ≡ false
+unfolding repeats
+repeats-left [] ys e = refl
+repeats-left (x ∷ xs) ys e =
+    let f = or-false (isIn x (xs ++ ys)) (repeats (xs ++ ys)) e in
+    or-none (isIn x xs) (repeats xs) (not-isIn x xs (λ a. isIn-not x (xs ++ ys) (f .0) (at-left x xs ys a))) (repeats-left xs ys (f .1))
+
+pub repeats-parts : (xs ys : List ℕ) → repeats (xs ++ ys) ≡ false → (repeats xs ≡ false) × (repeats ys ≡ false)
+repeats-parts xs ys e = (repeats-left xs ys e, repeats-right xs ys e)
+
+-- ---- one list after another
+
+pub isIn-append : (x : ℕ) (ys zs : List ℕ) → isIn x (ys ++ zs) ≡ isIn x ys || isIn x zs
+unfolding isIn
+isIn-append x [] zs = refl
+isIn-append x (y ∷ ys) zs = ap (λ b. eqb x y || b) (isIn-append x ys zs) ∙ go (eqb x y)
+  where
+    go : (b : Bool) → b || (isIn x ys || isIn x zs) ≡ (b || isIn x ys) || isIn x zs
+    go true = refl
+    go false = refl
+
+pub repeats-snoc : (xs : List ℕ) (x : ℕ) → repeats xs ≡ false → isIn x xs ≡ false → repeats (xs ++ (x ∷ [])) ≡ false
+unfolding repeats isIn
+repeats-snoc [] x e f = refl
+repeats-snoc (y ∷ ys) x e f =
+    let g = or-false (isIn y ys) (repeats ys) e in
+    let h = or-false (eqb x y) (isIn x ys) f in
+    or-none (isIn y (ys ++ (x ∷ []))) (repeats (ys ++ (x ∷ [])))
+    (isIn-append y ys (x ∷ []) ∙ or-none (isIn y ys) (eqb y x || false) (g .0) (or-none (eqb y x) false (ne-eqb y x (λ q. eqb-false x y (h .0) (sym q))) refl))
+    (repeats-snoc ys x (g .1) (h .1))

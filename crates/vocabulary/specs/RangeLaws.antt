@@ -265,6 +265,19 @@ blocks-split a g k (suc j) =
     let f : a + (k + j) ≡ a + k + j = omega arith in
     rw e (ap₂ _++_ (blocks-split a g k j) (ap g f) ∙ append-assoc (blocks a k g) (blocks (a + k) j g) (g (a + k + j)))
 
+-- some of the blocks are not longer than all of them
+pub blocks-inner : {A : Type 0} (a : ℕ) (g : ℕ → List A) (j k n : ℕ) → j + k ≤ n → length (blocks (a + j) k g) ≤ length (blocks a n g)
+blocks-inner a g j k n h =
+    let q : n ≡ j + k + (n - (j + k)) = omega arith in
+    omega (
+      arith,
+      ap (λ x. length (blocks a x g)) q,
+      ap length (blocks-split a g (j + k) (n - (j + k))),
+      ap length (blocks-split a g j k),
+      length-append (blocks a (j + k) g) (blocks (a + (j + k)) (n - (j + k)) g),
+      length-append (blocks a j g) (blocks (a + j) k g),
+    )
+
 module _ {A : Type 0} (a : ℕ) (g : ℕ → List A) where
   -- a place in all the blocks is a place in one of them
   pub blocks-cases : (n r : ℕ) → r < length (blocks a n g) → (j : ℕ) × (j < n) × ((t : ℕ) × (t < length (g (a + j))) × (r ≡ length (blocks a j g) + t))
@@ -339,6 +352,15 @@ module _ (a : ℕ) (g : ℕ → List ℕ) where
           place-is = sym (blocks-at a g n (v .0) (v .2 .0) 0 (v .1) (v .2 .1)) ∙ ap (λ y. getD (blocks a n g) y 0) (sym (v .2 .2)) ∙ t .place-is;
         },
       )
+
+-- what holds of all the blocks holds of each
+pub blocks-each : {A : Type 0} (P : List A → Type 0) → ((xs ys : List A) → P (xs ++ ys) → P xs × P ys) → (a : ℕ) (g : ℕ → List A) (n j : ℕ) → j < n
+    → P (blocks a n g) → P (g (a + j))
+unfolding blocks
+blocks-each P f a g zero j h q = absurd (not-suc-le-zero h)
+blocks-each P f a g (suc n) j h q =
+    let r = f (blocks a n g) (g (a + n)) q in
+    ⊎-elim (λ k. blocks-each P f a g n j k (r .0)) (λ e. subst (λ x. P (g (a + x))) (sym e) (r .1)) (last-or j n h)
 
 -- ---- total
 

@@ -1,30 +1,13 @@
--- `mesh::chains::lower_of` meets its contract. The invariant: e comes after all elements below dimension k. Assumes nothing.
-use mathlib.Core.Path.{_≡_}
-use Prim.Native.Nat.{_-_, _*_, _≤_}
-use Rattle.mesh.specs.Mesh.{below}
-use Rattle.mesh.proofs.ReaderLaws.{below-start}
-use Rattle.mesh.proofs.DimensionLaws.{Past, past-none, past-turn, lower-turn, lower-found, lower-end, lower-small}
+-- `mesh::chains::lower_of` meets its contract. Assumes nothing.
+use Rattle.mesh.proofs.DimensionLaws.{lower-told, lower-small}
 use borrow.Author.Needs.{needs}
 use Rattle.mesh.proofs.chains.lower_of.Statement.{statement}
 use Rattle.mesh.proofs.chains.lower_of.Tie as tie
-
-abbrev Inv-loop : tie.InvT-loop
-Inv-loop m d e low₀ k₀ low k = (k ≤ d) × (low ≡ below m k) × (low ≤ 65536 * k) × Past m e k
-
-abbrev μ-loop : tie.MeasureT-loop
-μ-loop m d e low₀ k₀ low k = d - k
 
 pub lower-of-spec : {M : Type 1} → statement M
 lower-of-spec =
     tie.close
     (tie.spec
-    Inv-loop
-    μ-loop
-    (λ c. (search needs, search below-start, search needs, search past-none))
     (λ c κs. search needs)
-    (λ c. search needs)
-    (λ c. (search lower-found, search lower-small))
-    (λ c. search needs)
-    (λ c. search needs)
-    (λ c. (search needs, search lower-turn, search needs, search past-turn))
-    (λ c. (search lower-end, search lower-small)))
+    (λ c κs. search needs)
+    (λ c. (search lower-told, search lower-small)))

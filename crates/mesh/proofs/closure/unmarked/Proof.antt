@@ -1,5 +1,5 @@
 -- `mesh::closure::unmarked` meets its contract. Assumes nothing.
-use Rattle.mesh.proofs.ClosureLaws.{mark-read, mark-none}
+use Rattle.mesh.proofs.ClosureLaws.{mark-told}
 use borrow.Author.Needs.{needs}
 use Rattle.mesh.proofs.closure.unmarked.Statement.{statement}
 use Rattle.mesh.proofs.closure.unmarked.Tie as tie
@@ -8,7 +8,5 @@ pub unmarked-spec : {M : Type 1} → statement M
 unmarked-spec =
     tie.close
     (tie.spec
-    (λ c. search needs)
-    (λ c. search needs)
-    (λ c. search mark-read)
-    (λ c. search mark-none))
+    (λ c κs. search needs)
+    (λ c. search mark-told))

@@ -1,0 +1,191 @@
+-- A mesh that no test refuses has what `Accepted` says. Assumes nothing.
+use mathlib.Core.Path.{ap, _≡_, refl, sym, _∙_, subst}
+use mathlib.Core.Bool.{Bool, true, false, not, _||_}
+use mathlib.Core.List.{[], map}
+use Prim.Native.Nat.{ℕ, zero, suc, _+_, _-_, _≤_, _<_}
+use native.Mathlib.Omega.{arith}
+use lib.Dec.{eqb, ltb, leb}
+use lib.ListN.{length}
+use borrow.Author.Tests.{ltb-false, leb-true, le-leb, lt-leb, eqb-true, eqb-false, not-false}
+use Rattle.vocabulary.specs.Bytes.{Bytes}
+use Rattle.vocabulary.specs.Ranges.{isUpTo, some}
+use Rattle.vocabulary.specs.RangeLaws.{some-at, some-witness, blocks-each, blocks-all}
+use Rattle.vocabulary.specs.Lists.{isIn, repeats, someOf, All}
+use Rattle.vocabulary.specs.ListLaws.{or-false, and-true, All-map, All-split, All-both, All-getD, someOf-false, isIn-at, once-few, repeats-parts}
+use Rattle.vocabulary.specs.Tests.{passed}
+use Rattle.mesh.specs.Mesh.{top, counted, below, elements, recordCount, firstCell, cellCount, dimension, headOf, elementIn, follow, records, chain, allRecords, wrongCount, headed, wrongIn, wrongAt, leaves, unclosed, bare, bad1, bad2, bad3, bad4, bad5, bad6, bad7, meshLength, meshTests, meshNumber}
+use Rattle.mesh.specs.Meet.{Sizes}
+use Rattle.mesh.specs.Accepted.{Element, Cell, Accepted}
+use Rattle.mesh.proofs.MeetLaws.{outside}
+use Rattle.mesh.proofs.DimensionLaws.{lower-right, below-more}
+use Rattle.mesh.proofs.RecordLaws.{follow-positive}
+use Rattle.mesh.proofs.NumberLaws.{sized}
+
+-- the seven tests of a mesh whose number is 0
+record Passed (m : Bytes) : Type 0 where
+  one : bad1 m ≡ false
+  two : bad2 m ≡ false
+  three : bad3 m ≡ false
+  four : bad4 m ≡ false
+  five : bad5 m ≡ false
+  six : bad6 m ≡ false
+  seven : bad7 m ≡ false
+
+all-passed : (m : Bytes) → meshNumber m ≡ 0 → Passed m
+unfolding meshNumber meshTests
+all-passed m e =
+    let a = passed (meshTests m) tt e in
+    record { one = a .0; two = a .1 .0; three = a .1 .1 .0; four = a .1 .1 .1 .0; five = a .1 .1 .1 .1 .0; six = a .1 .1 .1 .1 .1 .0; seven = a .1 .1 .1 .1 .1 .1 .0 }
+
+-- a test that fails at every number from 1 to n, at one of them
+at-one : (p : ℕ → Bool) (n x : ℕ) → some 1 n p ≡ false → 1 ≤ x → x ≤ n → p x ≡ false
+at-one p n x s l h = let q : 1 + (x - 1) ≡ x = omega arith in rw q at (some-at 1 p n (x - 1) s (omega arith))
+
+module _ (m : Bytes) (p : Passed m) where
+  fine-sizes : Sizes m (top m) (elements m) (recordCount m)
+  fine-sizes = sized m false false (top m) (elements m) (recordCount m) (sym (p .one)) refl (sym (p .two)) refl refl refl refl
+
+  top-least : 1 ≤ top m
+  unfolding bad1
+  top-least =
+      let a = or-false (ltb (length m) 12 || ltb (top m) 1) (ltb 3 (top m)) (p .one) in
+      ltb-false _ _ (or-false (ltb (length m) 12) (ltb (top m) 1) (a .0) .1)
+
+  -- 2: no count is wrong
+  count-right : (k : ℕ) → k < 4 → wrongCount m k ≡ false
+  unfolding bad2
+  count-right k h =
+      let a = or-false (some 0 4 (wrongCount m) || ltb 2000 (elements m)) (ltb 12000 (recordCount m)) (p .two) in
+      let b = or-false (some 0 4 (wrongCount m)) (ltb 2000 (elements m)) (a .0) in
+      let q : 0 + k ≡ k = omega arith in
+      rw q at (some-at 0 (wrongCount m) 4 k (b .0) h)
+
+  counts : (k : ℕ) → k ≤ top m → 1 ≤ counted m k
+  unfolding wrongCount
+  counts k h =
+      let w : eqb (counted m k) 0 ≡ false = rw (le-leb k (top m) h) at (count-right k (omega (arith, fine-sizes .d-high))) in
+      let n : counted m k ≡ 0 → ⊥ = eqb-false (counted m k) 0 w in
+      omega arith
+
+  no-counts : (k : ℕ) → top m < k → k < 4 → counted m k ≡ 0
+  unfolding wrongCount
+  no-counts k h l =
+      let w : ltb 0 (counted m k) ≡ false = rw (lt-leb k (top m) h) at (count-right k l) in
+      omega (arith, ltb-false 0 (counted m k) w)
+
+  long : length m ≡ meshLength m
+  unfolding bad3
+  long = eqb-true _ _ (not-false _ (p .three))
+
+  -- 4
+  parts4 : (some 1 (counted m 0) (headed m) || someOf (allRecords m) (ltb (recordCount m)) ≡ false) × (repeats (allRecords m) ≡ false)
+  unfolding bad4
+  parts4 = or-false (some 1 (counted m 0) (headed m) || someOf (allRecords m) (ltb (recordCount m))) (repeats (allRecords m)) (p .four)
+
+  parts4a : (some 1 (counted m 0) (headed m) ≡ false) × (someOf (allRecords m) (ltb (recordCount m)) ≡ false)
+  parts4a = or-false (some 1 (counted m 0) (headed m)) (someOf (allRecords m) (ltb (recordCount m))) (parts4 .0)
+
+  bare-point : (e : ℕ) → 1 ≤ e → e ≤ counted m 0 → chain m e ≡ []
+  unfolding headed chain records follow
+  bare-point e l h =
+      let z : headOf m e ≡ 0 = (let y : headOf m e ≤ 0 = ltb-false 0 (headOf m e) (at-one (headed m) (counted m 0) e (parts4a .0) l h) in omega arith) in
+      rw z (ended (recordCount m + 1))
+    where
+      ended : (n : ℕ) → map (λ i. elementIn m i) (follow m n 0) ≡ []
+      ended zero = refl
+      ended (suc n) = refl
+
+  low-records : (e : ℕ) → Element m e → All (λ i. ltb (recordCount m) i ≡ false) (records m e)
+  unfolding allRecords
+  low-records e x =
+      let q : 1 + (e - 1) ≡ e = omega (arith, x .low) in
+      rw q at (blocks-each (All (λ i. ltb (recordCount m) i ≡ false)) (All-split _) 1 (records m) (elements m) (e - 1) (omega (arith, x .low, x .high))
+      (someOf-false (ltb (recordCount m)) (allRecords m) (parts4a .1)))
+
+  fine-records : (e : ℕ) → Element m e → All (λ i. (1 ≤ i) × (i ≤ recordCount m)) (records m e)
+  unfolding records
+  fine-records e x =
+      All-map (records m e) (λ i w. (w .0, ltb-false (recordCount m) i (w .1)))
+      (All-both (λ i. 1 ≤ i) (λ i. ltb (recordCount m) i ≡ false) (records m e) (follow-positive m _ _) (low-records e x))
+
+  fine-end : (e : ℕ) → Element m e → length (records m e) ≤ recordCount m
+  unfolding allRecords
+  fine-end e x =
+      let q : 1 + (e - 1) ≡ e = omega (arith, x .low) in
+      once-few (recordCount m) (records m e) (fine-records e x)
+      (rw q at (blocks-each (λ xs. repeats xs ≡ false) repeats-parts 1 (records m) (elements m) (e - 1) (omega (arith, x .low, x .high)) (parts4 .1)))
+
+  few-records : length (allRecords m) ≤ recordCount m
+  unfolding allRecords
+  few-records =
+      once-few (recordCount m) (allRecords m)
+      (blocks-all 1 (records m) (λ i. (1 ≤ i) × (i ≤ recordCount m)) (elements m) (λ j h. fine-records (1 + j) (record { low = omega arith; high = omega arith })))
+      (parts4 .1)
+
+  -- no element is of a dimension above that of the cells
+  none-above : (j k : ℕ) → k + j ≡ 4 → top m < k → below m k ≡ below m 4
+  none-above zero k e h = ap (below m) (omega arith)
+  none-above (suc j) k e h =
+      let z : counted m k ≡ 0 = no-counts k h (omega arith) in
+      let s : below m (suc k) ≡ below m k = (let y : below m (suc k) ≡ below m k + counted m k = below-more m k in omega arith) in
+      sym s ∙ none-above j (suc k) (omega arith) (omega arith)
+
+  last-cells : firstCell m + cellCount m ≡ elements m + 1
+  last-cells =
+      let q : below m (suc (top m)) ≡ below m 4 = none-above (3 - top m) (suc (top m)) (omega (arith, fine-sizes .d-high)) (omega arith) in
+      let y : below m (suc (top m)) ≡ below m (top m) + counted m (top m) = below-more m (top m) in
+      omega arith
+
+  -- 5
+  right-chain : (e : ℕ) → Element m e → (someOf (chain m e) (wrongIn m e) ≡ false) × (repeats (chain m e) ≡ false)
+  unfolding bad5 wrongAt
+  right-chain e x = or-false (someOf (chain m e) (wrongIn m e)) (repeats (chain m e)) (at-one (wrongAt m) (elements m) e (p .five) (x .low) (x .high))
+
+  lower-chain : (e : ℕ) → Element m e → All (λ g. (1 ≤ g) × (g ≤ below m (dimension m e))) (chain m e)
+  unfolding outside isUpTo
+  lower-chain e x =
+      All-map (chain m e)
+      (λ g q.
+      let w = and-true (leb 1 g) (leb g (below m (dimension m e))) (not-false _ (lower-right m e g (fine-sizes .d-high) ∙ q)) in
+      (leb-true 1 g (w .0), leb-true g (below m (dimension m e)) (w .1)))
+      (someOf-false (wrongIn m e) (chain m e) (right-chain e x .0))
+
+  -- 6
+  closed-chain : (e f g : ℕ) → Element m e → isIn f (chain m e) ≡ true → isIn g (chain m f) ≡ true → isIn g (chain m e) ≡ true
+  unfolding bad6 unclosed leaves
+  closed-chain e f g x a b =
+      let u : All (λ y. leaves m e y ≡ false) (chain m e) = someOf-false (leaves m e) (chain m e) (at-one (unclosed m) (elements m) e (p .six) (x .low) (x .high)) in
+      let i = isIn-at f (chain m e) a in
+      let j = isIn-at g (chain m f) b in
+      let w : leaves m e f ≡ false = subst (λ y. leaves m e y ≡ false) (i .place-is) (All-getD _ (chain m e) (i .place) 0 u (i .place-lt)) in
+      let v : not (isIn g (chain m e)) ≡ false =
+      subst (λ y. not (isIn y (chain m e)) ≡ false) (j .place-is) (All-getD _ (chain m f) (j .place) 0 (someOf-false (λ y. not (isIn y (chain m e))) (chain m f) w) (j .place-lt)) in
+      not-false (isIn g (chain m e)) v
+
+  -- 7
+  in-cell : (g : ℕ) → 1 ≤ g → g ≤ below m (top m) → (c : ℕ) × Cell m c × (isIn g (chain m c) ≡ true)
+  unfolding bad7 bare
+  in-cell g l h =
+      let w = some-witness (firstCell m) (λ c. isIn g (chain m c)) (cellCount m) (not-false _ (at-one (bare m) (below m (top m)) g (p .seven) l h)) in
+      (firstCell m + w .0, record { low = omega arith; high = omega (arith, w .1) }, w .2)
+
+-- what an accepted mesh gives
+pub accepted-mesh : (m : Bytes) → meshNumber m ≡ 0 → Accepted m
+accepted-mesh m e =
+    let p = all-passed m e in
+    record {
+      sizes = fine-sizes m p;
+      top-low = top-least m p;
+      some-counted = counts m p;
+      none-counted = no-counts m p;
+      length-is = long m p;
+      cells-in = last-cells m p;
+      point-bare = bare-point m p;
+      records-in = fine-records m p;
+      chains-end = fine-end m p;
+      records-few = few-records m p;
+      chain-lower = lower-chain m p;
+      chain-once = λ x h. right-chain m p x h .1;
+      chain-closed = closed-chain m p;
+      covered = in-cell m p;
+    }

@@ -1,0 +1,3 @@
+// Walks over an accepted mesh, and the reaches of its cells.
+mod inverse;
+mod visits;
