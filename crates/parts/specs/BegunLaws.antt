@@ -1,39 +1,36 @@
 -- Start leaves a state, and so start and all accepted calls do. Assumes nothing.
 use mathlib.Core.Path.{_≡_, refl, sym, ap, ap₂, _∙_, subst, subst₂}
-use mathlib.Core.Logic.{_⊎_, inl, inr, ⊎-elim}
-use mathlib.Core.Bool.{Bool, true, false, not, _&&_, _||_, cond}
-use mathlib.Core.List.{List, [], _∷_, _++_, map}
-use Prim.Native.Nat.{ℕ, zero, suc, _+_, _-_, _*_, _%_, _<_, _≤_}
+use mathlib.Core.Bool.{Bool, true, false, not, _&&_, _||_}
+use mathlib.Core.List.{List, _++_, map}
+use Prim.Native.Nat.{ℕ, suc, _+_, _-_, _*_, _%_, _<_, _≤_}
 use native.Mathlib.Nat.{zero-add}
 use native.Mathlib.Omega.{arith}
 use lib.Dec.{eqb, leb, ltb}
-use lib.IntN.{natAbs}
-use lib.ListN.{length, getD, take, drop, replicate, length-append, length-replicate, length-map}
-use borrow.Author.Tests.{eqb-true, eq-eqb, leb-true, le-leb, ltb-true, ltb-false, lt-ltb, not-false}
+use lib.ListN.{length, getD, take, replicate, length-append, length-replicate, length-map}
+use borrow.Author.Tests.{eq-eqb, le-leb, ltb-false, lt-ltb}
 use Rattle.vocabulary.specs.Bytes.{Bytes, byteAt}
 use Rattle.vocabulary.specs.Lists.{All, someOf}
-use Rattle.vocabulary.specs.ListLaws.{and-intro, or-false, All-map, All-getD, getD-map-any, someOf-has, At}
+use Rattle.vocabulary.specs.ListLaws.{and-intro, or-false, All-map, All-getD, getD-map-any, someOf-has, At, All-of-map}
 use Rattle.vocabulary.specs.Ranges.{isUpTo, every, some, blocks, total}
-use Rattle.vocabulary.specs.RangeLaws.{every-intro, picked-length-le, blocks-cases, blocks-all, blocks-length, total-start, total-turn}
+use Rattle.vocabulary.specs.RangeLaws.{every-intro, picked-length-le, blocks-cases, blocks-all, blocks-length, total-start, total-turn, upTo-intro}
 use Rattle.vocabulary.specs.Tests.{allOf, allOf-intro}
-use Rattle.layout.specs.Words.{wordAt}
-use Rattle.layout.specs.Depths.{four, depthFrom, rangedAt}
+use Rattle.layout.specs.Depths.{four}
 use Rattle.layout.specs.DepthLaws.{depth-four}
-use Rattle.mesh.specs.Mesh.{top, counted, below, elements, recordCount, firstCell, cellCount, bad1, bad2, wrongCount, meshTests}
-use Rattle.mesh.specs.Walks.{Near, reach, steps}
+use Rattle.mesh.specs.Mesh.{top, below, elements, recordCount, firstCell, cellCount, bad1, bad2, wrongCount, meshTests}
+use Rattle.mesh.specs.Walks.{Near, steps}
+use Rattle.mesh.specs.WalkLaws.{reach-own, below-grows, steps-even, reach-layers}
 use Rattle.round.specs.Rules.{bad11}
 use Rattle.round.specs.Rounds.{schemeOf, depthIn}
 use Rattle.round.specs.RoundLaws.{field-depth}
-use Rattle.split.specs.Split.{Split, splitOf, owned, held, owns, holds, imports, exports, locals, localOf, globalOf}
-use Rattle.split.specs.ReachLaws.{All-of-map, below-grows, steps-even, reach-layers, reach-own}
-use Rattle.split.specs.SplitLaws.{Cell, upTo-intro, split-own, order-cells, order-length, own-is, own-number, own-local, import-own, local-back, local-held, reach-held}
-use Rattle.parts.specs.State.{LocalNear, Lists, listsIn, dynamic, partNumber, stepCount, ruleKind, weights, firstOfMesh, cellsOfMesh, importEnd, ownedCount, heldCount, exportEnd, exportCount, globalAt, reachEnd, reachCount, entryAt, exportAt, localReach, listsLength, rises, listsTests, dynamicTests, isState, roundAt, takenPlace, writtenPlace, stateLength}
+use Rattle.split.specs.Split.{Split, splitOf, held, holds, imports, exports, locals, localOf, globalOf}
+use Rattle.split.specs.SplitLaws.{Cell, split-own, order-cells, own-is, own-number, own-local, import-own, local-back, local-held, reach-held}
+use Rattle.parts.specs.State.{LocalNear, partNumber, stepCount, ruleKind, weights, firstOfMesh, cellsOfMesh, importEnd, ownedCount, heldCount, exportEnd, exportCount, globalAt, reachEnd, reachCount, entryAt, exportAt, localReach, listsLength, rises, listsTests, dynamicTests, isState, roundAt, takenPlace, writtenPlace, stateLength}
 use Rattle.parts.specs.StateLaws.{rises-intro, isStateAt, state-at}
 use Rattle.parts.specs.Start.{ownedIn, reachOf, importEnds, exportEnds, reachEnds, exportWords, listsLong}
 use Rattle.parts.specs.FormLaws.{front-length, part-back, steps-back, kind-back, first-back, cells-back, weights-back, import-back, export-back, owned-back, global-back, held-back, ends-back, count-back, entry-back, reach-back, export-word, exports-length}
-use Rattle.parts.specs.Run.{Inputs, schemeIn, startNumberIn, startStateIn, StatesKept}
+use Rattle.parts.specs.Run.{Inputs, startNumberIn, startStateIn, StatesKept}
 use Rattle.parts.specs.RunLaws.{Part}
-use Rattle.parts.specs.StartLaws.{Ready, Begun, started-facts, splitIn, orderIn, frontIn, reach-inside, owner-inside, order-full, deep, deep-length, stateOf, state-dynamic, state-front, state-zero, state-round, state-depth, start-is}
+use Rattle.parts.specs.StartLaws.{Ready, started-facts, splitIn, orderIn, frontIn, reach-inside, owner-inside, order-full, deep, deep-length, stateOf, state-dynamic, state-front, state-zero, state-round, state-depth, start-is}
 use Rattle.parts.specs.KeptLaws.{Fine, local-ranged, write-kept, take-kept, advance-kept}
 
 -- an accepted mesh has few cells

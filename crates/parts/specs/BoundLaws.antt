@@ -1,18 +1,17 @@
 -- How long a state is at most. Assumes nothing.
-use mathlib.Core.Path.{_≡_, refl, sym, ap, _∙_}
-use mathlib.Core.Bool.{Bool, true, false}
-use mathlib.Core.List.{List, [], _∷_, _++_}
-use Prim.Native.Nat.{ℕ, _+_, _*_, _<_, _≤_}
+use mathlib.Core.Path.{_≡_}
+use mathlib.Core.List.{[], _∷_, _++_}
+use Prim.Native.Nat.{ℕ, _<_, _≤_}
 use native.Mathlib.Omega.{arith}
 use lib.ListN.{length}
 use Rattle.vocabulary.specs.Bytes.{Bytes, byteAt}
 use Rattle.vocabulary.specs.Ranges.{total}
-use Rattle.vocabulary.specs.Tests.{passed, firstOf}
+use Rattle.vocabulary.specs.Tests.{passed}
 use Rattle.mesh.specs.Mesh.{cellCount, meshTests}
-use Rattle.split.specs.Split.{Split, splitOf, owned, held, exports, locals, globalOf}
+use Rattle.split.specs.Split.{Split, splitOf, exports}
 use Rattle.split.specs.Lists.{splitTests, sizeTests}
 use Rattle.split.specs.SplitLaws.{map-facts, split-reach, split-own, split-owner, order-length, local-held, export-total}
-use Rattle.parts.specs.Start.{ownedIn, reachOf, reachEnds, exportEnds, listsLong, orderOf, stateSize, sizeNumber}
+use Rattle.parts.specs.Start.{reachEnds, exportEnds, listsLong, stateSize, sizeNumber}
 use Rattle.parts.specs.Run.{StateBound}
 
 -- sixteen numbers export no more than the parts

@@ -1,27 +1,26 @@
 -- Demand 3: every order of calls on the bytes of all parts gives the undivided field. Assumes nothing.
-use mathlib.Core.Path.{_≡_, refl, sym, ap, ap₂, _∙_, subst}
-use mathlib.Core.Logic.{_↔_}
-use mathlib.Core.Bool.{Bool, true, false, not, cond, false≢true}
-use mathlib.Core.List.{List, []}
-use Prim.Native.Nat.{ℕ, _+_, _*_, _<_, _≤_}
+use mathlib.Core.Path.{_≡_, refl, sym, ap, _∙_}
+use mathlib.Core.Bool.{Bool, true, false, cond, false≢true}
+use mathlib.Core.List.{[]}
+use Prim.Native.Nat.{ℕ, _*_}
 use native.Mathlib.Omega.{arith}
-use lib.Dec.{eqb, leb}
-use lib.ListN.{length, drop, take}
+use lib.ListN.{length, drop}
 use Rattle.vocabulary.specs.Bytes.{Bytes}
 use Rattle.vocabulary.specs.Lists.{All}
 use Rattle.vocabulary.specs.Ranges.{isUpTo}
+use Rattle.vocabulary.specs.RangeLaws.{upTo-true}
+use Rattle.vocabulary.specs.ListLaws.{mem-all}
 use Rattle.layout.specs.Words.{word, wordAt}
 use Rattle.layout.specs.Depths.{four}
+use Rattle.layout.specs.DepthLaws.{fours-same}
 use Rattle.mesh.specs.Mesh.{cellCount}
 use Rattle.round.specs.Rounds.{schemeOf, undivided}
 use Rattle.round.specs.RoundLaws.{field-length, undivided-good}
-use Rattle.split.specs.SplitLaws.{upTo-true}
-use Rattle.parts.specs.State.{isState, dynamic, listsIn, listsLength}
+use Rattle.parts.specs.State.{isState}
 use Rattle.parts.specs.Start.{firstState}
-use Rattle.parts.specs.Run.{Call, Collected, World, run, Honest, Inputs, schemeIn, ownerIn, startNumberIn, startStateIn, begin, Run, collectsOf, Right, Gathered, RunTheorem}
-use Rattle.parts.specs.RunLaws.{mem-all}
-use Rattle.parts.specs.WorldLaws.{Holds, Inv, run-inv, field-same}
-use Rattle.parts.specs.StartLaws.{Ready, Begun, started-facts, frontIn, stateOf, start-is, begin-good, parted}
+use Rattle.parts.specs.Run.{Inputs, schemeIn, startNumberIn, startStateIn, begin, Run, collectsOf, Right, Gathered, RunTheorem}
+use Rattle.parts.specs.WorldLaws.{Holds, Inv, run-inv}
+use Rattle.parts.specs.StartLaws.{Ready, started-facts, frontIn, start-is, begin-good, parted}
 
 -- no bytes are no state
 none-state : isState [] ≡ false
@@ -60,7 +59,7 @@ module _ (I : Inputs) (r : Run I) where
 
   gathered-whole : (k : ℕ) (G : Bytes) → Gathered I (collectsOf r) k G → G ≡ undivided (schemeIn I) (I .field) k
   gathered-whole k G v =
-      field-same (cellCount (I .mesh)) G (undivided (schemeIn I) (I .field) k) (v .long) (undivided-length k)
+      fours-same (cellCount (I .mesh)) G (undivided (schemeIn I) (I .field) k) (v .long) (undivided-length k)
       (λ c h.
       let e = v .collected c h in
       let q : Right I (e .0) = mem-all (Right I) (collectsOf r) (e .1) collects-right in

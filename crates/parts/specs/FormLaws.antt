@@ -1,62 +1,27 @@
 -- The lists that start writes are the lists that a call reads: the words of a state by their places, and each of the lists by its index.
 -- Assumes nothing.
-use mathlib.Core.Path.{_≡_, refl, sym, ap, ap₂, _∙_, subst}
-use mathlib.Core.Logic.{_⊎_, inl, inr, ⊎-elim, _≢_}
+use mathlib.Core.Path.{_≡_, sym, ap, ap₂, _∙_, subst}
 use mathlib.Core.Bool.{Bool, true, false, not, _&&_, _||_, cond}
 use mathlib.Core.List.{List, [], _∷_, _++_, map}
 use Prim.Native.Nat.{ℕ, zero, suc, _+_, _-_, _*_, _/_, _%_, _<_, _≤_}
-use native.Mathlib.Nat.{not-suc-le-zero, le-of-suc-le-suc, zero-add, add-zero}
+use native.Mathlib.Nat.{zero-add}
 use native.Mathlib.Omega.{arith}
 use lib.Dec.{eqb, ltb}
-use lib.ListN.{length, getD, take, drop, length-append, length-map, List·getD-append, List·getD-eq-default}
+use lib.ListN.{length, getD, take, drop, length-append, length-map, List·getD-append}
 use lib.Seq.{getD-append-add, getD-take, ext-getD, length-take-le, drop-at}
-use borrow.Author.Tests.{eqb-true, ltb-true, ltb-false, not-false}
+use borrow.Author.Tests.{eqb-true, ltb-false, not-false}
 use Rattle.vocabulary.specs.Bytes.{Bytes, byteAt}
-use Rattle.vocabulary.specs.Lists.{All, joined}
-use Rattle.vocabulary.specs.ListLaws.{or-false, getD-map-any}
+use Rattle.vocabulary.specs.ListLaws.{or-false, getD-map-any, pairs-length, pairs-at}
 use Rattle.vocabulary.specs.Ranges.{some, listed, blocks, total}
-use Rattle.vocabulary.specs.RangeLaws.{some-at, listed-length, listed-at, listed-back, blocks-fit, blocks-at, blocks-length, total-cong, total-fit, total-start, total-turn}
+use Rattle.vocabulary.specs.RangeLaws.{some-at, listed-length, listed-at, listed-back, blocks-fit, blocks-at, blocks-length, total-cong, total-start, total-turn}
+use Rattle.vocabulary.specs.CountLaws.{total-double}
 use Rattle.layout.specs.Words.{word, wordAt, bytesOf}
-use Rattle.layout.specs.WordLaws.{wordAt-none, length-bytesOf, wordAt-bytesOf, bytesOf-append, bytesOf-high, bytesOf-low}
+use Rattle.layout.specs.WordLaws.{length-bytesOf, bytesOf-append, bytesOf-high, bytesOf-low, word-any}
 use Rattle.mesh.specs.Walks.{Near}
 use Rattle.round.specs.Rules.{weightCount, tooHeavy, bad11}
 use Rattle.split.specs.Split.{Split, imports, exports, localOf, globalOf}
-use Rattle.parts.specs.State.{LocalNear, Lists, listsIn, dynamic, partNumber, stepCount, ruleKind, weights, firstOfMesh, cellsOfMesh, importEnd, ownedCount, heldCount, exportEnd, globalAt, reachEnd, entryAt, exportAt, localReach, localExports, listsLength}
+use Rattle.parts.specs.State.{LocalNear, partNumber, stepCount, ruleKind, weights, firstOfMesh, cellsOfMesh, importEnd, ownedCount, heldCount, exportEnd, globalAt, reachEnd, entryAt, exportAt, localReach, localExports}
 use Rattle.parts.specs.Start.{ownedIn, reachOf, importEnds, exportEnds, reachEnds, reachWords, exportWords, listsLong, listsWords}
-
--- ---- words, pairs and sums
-
--- the word of index k, and 0 past the end
-pub word-any : (ws : List ℕ) (k : ℕ) → wordAt (bytesOf ws) k ≡ getD ws k 0
-word-any ws k = go (ltb k (length ws)) refl
-  where
-    go : (b : Bool) → ltb k (length ws) ≡ b → wordAt (bytesOf ws) k ≡ getD ws k 0
-    go true e = wordAt-bytesOf ws k (ltb-true _ _ e)
-    go false e =
-        let h : length ws ≤ k = ltb-false _ _ e in
-        wordAt-none (bytesOf ws) k (omega (arith, length-bytesOf ws)) ∙ sym (List·getD-eq-default ws 0 h)
-
-module _ {A : Type 0} (f g : A → ℕ) where
-  pub pairs-length : (es : List A) → length (joined (map (λ e. f e ∷ g e ∷ []) es)) ≡ 2 * length es
-  unfolding joined
-  pairs-length [] = refl
-  pairs-length (e ∷ es) = omega (arith, pairs-length es)
-
-  pub pairs-at : (es : List A) (t : ℕ) (d : A) → t < length es
-      → (getD (joined (map (λ e. f e ∷ g e ∷ []) es)) (2 * t) 0 ≡ f (getD es t d)) × (getD (joined (map (λ e. f e ∷ g e ∷ []) es)) (2 * t + 1) 0 ≡ g (getD es t d))
-  unfolding joined
-  pairs-at [] t d h = absurd (not-suc-le-zero h)
-  pairs-at (e ∷ es) zero d h = (refl, refl)
-  pairs-at (e ∷ es) (suc t) d h =
-      let p : 2 * suc t ≡ suc (suc (2 * t)) = omega arith in
-      let q : 2 * suc t + 1 ≡ suc (suc (2 * t + 1)) = omega arith in
-      let r = pairs-at es t d (le-of-suc-le-suc h) in
-      (ap (λ x. getD (joined (map (λ e. f e ∷ g e ∷ []) (e ∷ es))) x 0) p ∙ r .0, ap (λ x. getD (joined (map (λ e. f e ∷ g e ∷ []) (e ∷ es))) x 0) q ∙ r .1)
-
-pub total-double : (a n : ℕ) (f g : ℕ → ℕ) → ((x : ℕ) → f x ≡ 2 * g x) → total a n f ≡ 2 * total a n g
-unfolding total
-total-double a zero f g h = refl
-total-double a (suc n) f g h = omega (arith, total-double a n f g h, h (a + n))
 
 -- ---- the words by their places
 

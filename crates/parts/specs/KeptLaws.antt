@@ -1,34 +1,30 @@
 -- An accepted call on a state leaves a state. Assumes nothing.
-use mathlib.Core.Path.{_≡_, refl, sym, ap, ap₂, _∙_, subst, subst₂}
-use mathlib.Core.Logic.{_⊎_, inl, inr, ⊎-elim, _≢_}
-use mathlib.Core.Bool.{Bool, true, false, not, _&&_, cond}
-use mathlib.Core.List.{List, [], _∷_, _++_, map}
-use Prim.Native.Nat.{ℕ, zero, suc, _+_, _-_, _*_, _<_, _≤_}
-use native.Mathlib.Nat.{zero-add}
+use mathlib.Core.Path.{_≡_, refl, sym, ap, _∙_, subst, subst₂}
+use mathlib.Core.Logic.{inl}
+use mathlib.Core.Bool.{Bool, true, false}
+use mathlib.Core.List.{List, map}
+use Prim.Native.Nat.{ℕ, _+_, _-_, _*_, _<_, _≤_}
 use native.Mathlib.Omega.{arith}
-use lib.Dec.{eqb, leb, ltb}
+use lib.Dec.{eqb}
 use lib.IntN.{natAbs}
-use lib.ListN.{length, getD, set, take, drop, length-set}
+use lib.ListN.{length, set, take, drop, length-set}
 use lib.Seq.{getD-set-same, getD-set-other}
-use borrow.Author.Tests.{eqb-true, eqb-false, leb-false, not-false}
+use borrow.Author.Tests.{eqb-true, eqb-false, leb-false}
 use Rattle.vocabulary.specs.Bytes.{Bytes, byteAt}
 use Rattle.vocabulary.specs.ByteLaws.{Place, below, inside, above, place, over-before}
-use Rattle.vocabulary.specs.Lists.{All}
-use Rattle.vocabulary.specs.ListLaws.{cond-has, All-map}
+use Rattle.vocabulary.specs.ListLaws.{cond-has, All-map, All-of-map}
 use Rattle.vocabulary.specs.Ranges.{every}
 use Rattle.vocabulary.specs.RangeLaws.{every-intro}
-use Rattle.vocabulary.specs.Tests.{passed, firstOf}
-use Rattle.layout.specs.Words.{word, wordAt}
+use Rattle.vocabulary.specs.Tests.{passed}
 use Rattle.layout.specs.WordLaws.{word-set}
 use Rattle.layout.specs.Depths.{four, depthFrom, depthOf, rangedAt}
 use Rattle.layout.specs.DepthLaws.{length-four, four-set, depth-four, range-intro, ranged-size}
-use Rattle.round.specs.Rules.{Old, newDepth}
+use Rattle.round.specs.Rules.{Old}
 use Rattle.round.specs.RuleLaws.{Small, new-small, new-length}
 use Rattle.messages.specs.Messages.{fromIn, countIn}
-use Rattle.split.specs.ReachLaws.{All-of-map}
-use Rattle.parts.specs.State.{LocalNear, Lists, listsIn, listsOf, dynamic, ruleKind, weights, heldCount, ownedCount, localReach, isState, roundAt, takenPlace, writtenPlace, depthPlace}
+use Rattle.parts.specs.State.{LocalNear, listsIn, listsOf, dynamic, ruleKind, weights, heldCount, ownedCount, localReach, isState, roundAt, takenPlace, writtenPlace, depthPlace}
 use Rattle.parts.specs.StateLaws.{isStateAt, state-at, Whole, whole-is, still-whole, near-whole, Frame, frame-take, frame-dynamic}
-use Rattle.parts.specs.Calls.{depthAt, writtenIn, takeTestsIn, takenIn, advanceTestsIn, newAt, advancedIn, writeNumber, writeState, takeNumber, takeState, advanceNumber, advanceState}
+use Rattle.parts.specs.Calls.{depthAt, writtenIn, takenIn, advanceTestsIn, newAt, advancedIn, writeNumber, writeState, takeNumber, takeState, advanceNumber, advanceState}
 use Rattle.parts.specs.RunLaws.{Room, room-of, Taken, taken-facts, take-room, take-flag, take-frame, take-word, take-in, take-below, take-above, advance-frame, advance-word, advance-flag, advance-owned, advance-others}
 use Rattle.parts.specs.WorldLaws.{write-part}
 

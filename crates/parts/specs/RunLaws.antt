@@ -1,51 +1,35 @@
 -- Every call keeps the undivided depths: what the lists of all parts must have, what a state holds during a run, and that each call keeps it.
 -- Assumes nothing.
-use mathlib.Core.Path.{_≡_, refl, sym, ap, ap₂, _∙_, subst, subst₂}
-use mathlib.Core.Logic.{_⊎_, inl, inr, ⊎-elim, _≢_}
-use mathlib.Core.Bool.{Bool, true, false, not, _&&_, _||_, cond}
-use mathlib.Core.List.{List, [], _∷_, _++_, map, List·Memᴰ, List·Memᴰ·not-nil, List·Memᴰ·cases-cons}
-use Prim.Native.Nat.{ℕ, zero, suc, _+_, _-_, _*_, _/_, _%_, _<_, _≤_}
-use native.Mathlib.Nat.{not-suc-le-zero, le-of-suc-le-suc, add-zero, zero-add}
+use mathlib.Core.Path.{_≡_, refl, sym, ap, ap₂, _∙_, subst}
+use mathlib.Core.Logic.{_⊎_, inl, ⊎-elim, _≢_}
+use mathlib.Core.Bool.{Bool, true, false, not, _&&_, _||_}
+use mathlib.Core.List.{List, [], _∷_, _++_, map}
+use Prim.Native.Nat.{ℕ, zero, suc, _+_, _-_, _*_, _<_, _≤_}
+use native.Mathlib.Nat.{add-zero}
 use native.Mathlib.Numerals.{add-one}
 use native.Mathlib.Omega.{arith}
-use lib.Dec.{eqb, ltb, leb}
+use lib.Dec.{eqb, ltb}
 use lib.ListN.{length, getD, set, take, drop, replicate, length-append, length-drop, length-set, length-replicate, length-map, getD-replicate, List·getD-append}
-use lib.Seq.{getD-set-other, getD-append-add, take-append-seam}
-use borrow.Author.Tests.{eqb-true, eqb-false, eq-eqb, ltb-true, ltb-false, lt-ltb, not-false}
+use lib.Seq.{getD-set-other, getD-append-add}
+use borrow.Author.Tests.{eqb-true, eqb-false, lt-ltb, not-false}
 use Rattle.vocabulary.specs.Bytes.{Bytes, byteAt, over}
-use Rattle.vocabulary.specs.ByteLaws.{Place, below, inside, above, place, over-length, over-in, over-before, over-after, over-front}
+use Rattle.vocabulary.specs.ByteLaws.{Place, below, inside, above, place, over-length, over-in, over-before, over-after}
 use Rattle.vocabulary.specs.Lists.{All, joined}
-use Rattle.vocabulary.specs.ListLaws.{and-true, and-intro, or-false, or-true, cond-has, All-map, All-getD, map-cong, map-map, getD-map-any}
+use Rattle.vocabulary.specs.ListLaws.{and-true, and-intro, or-false, All-map, All-getD, map-cong, map-map, getD-map-any}
 use Rattle.vocabulary.specs.Ranges.{isUpTo, every, blocks}
-use Rattle.vocabulary.specs.RangeLaws.{every-in}
+use Rattle.vocabulary.specs.RangeLaws.{every-in, upTo-true, upTo-intro}
 use Rattle.vocabulary.specs.Tests.{passed, firstOf}
-use Rattle.layout.specs.Words.{word, wordAt, wordBytes, bytesOf}
-use Rattle.layout.specs.WordLaws.{word-same, word-set, word-before, word-in, word-left, word-back, length-wordBytes, length-bytesOf, wordAt-first}
+use Rattle.layout.specs.Words.{word, wordBytes, bytesOf}
+use Rattle.layout.specs.WordLaws.{word-same, word-set, word-in, word-left, word-back, length-wordBytes, length-bytesOf, wordAt-first}
 use Rattle.layout.specs.Depths.{four, rangedAt}
-use Rattle.layout.specs.DepthLaws.{four-same, length-four, four-four, four-whole, four-set, four-in, four-before, four-after, four-left, four-past, four-drop, four-stored, fours-length, fours-at}
+use Rattle.layout.specs.DepthLaws.{length-four, four-set, four-in, four-before, four-after, four-past, four-drop, four-stored, fours-length, fours-at, joined-at}
 use Rattle.mesh.specs.Walks.{Near}
 use Rattle.round.specs.Rules.{Old}
 use Rattle.round.specs.Rounds.{Scheme, depthIn, oldsIn, newIn, round, undivided}
 use Rattle.messages.specs.Messages.{encode, fromIn, toIn, roundIn, countIn, bad15}
-use Rattle.split.specs.SplitLaws.{upTo-true, upTo-intro}
-use Rattle.parts.specs.State.{LocalNear, Lists, listsIn, listsOf, dynamic, heldCount, ownedCount, importEnd, isState, bad20, roundAt, takenPlace, writtenPlace, depthPlace, stateLength}
-use Rattle.parts.specs.StateLaws.{isStateAt, state-at, Whole, whole-is, Frame, frame-take, frame-dynamic}
-use Rattle.parts.specs.Calls.{importsFrom, exportsTo, depthAt, messageTo, writeTestsIn, writtenIn, takeTestsIn, takenIn, allTaken, allWritten, advanceTestsIn, newAt, advancedIn, collectTestsIn, collectedIn, writeNumber, message, writeState, writeOut, takeNumber, takeState, advanceNumber, advanceState, collectNumber, collectOut}
-
--- ---- small laws
-
-pub mem-all : {A : Type 0} (P : A → Type 0) {x : A} (xs : List A) → List·Memᴰ x xs → All P xs → P x
-mem-all P [] m t = absurd (List·Memᴰ·not-nil m)
-mem-all P (y ∷ ys) m t = ⊎-elim (λ e. subst P (sym e) (t .0)) (λ n. mem-all P ys n (t .1)) (List·Memᴰ·cases-cons m)
-
--- texts of four bytes, one after another
-pub joined-at : (ds : List Bytes) (t : ℕ) → All (λ x. length x ≡ 4) ds → t < length ds → four (joined ds) (4 * t) ≡ getD ds t []
-unfolding joined
-joined-at [] t a h = absurd (not-suc-le-zero h)
-joined-at (x ∷ ds) zero a h = four-left x (joined ds) 0 (omega (arith, a .0)) ∙ four-whole x (a .0)
-joined-at (x ∷ ds) (suc t) a h =
-    let e : 4 * suc t ≡ length x + 4 * t = omega (arith, a .0) in
-    ap (λ n. four (x ++ joined ds) n) e ∙ four-past x (joined ds) (4 * t) ∙ joined-at ds t (a .1) (le-of-suc-le-suc h)
+use Rattle.parts.specs.State.{LocalNear, Lists, listsIn, dynamic, roundAt, takenPlace, writtenPlace, depthPlace, stateLength}
+use Rattle.parts.specs.StateLaws.{Whole, Frame, frame-take, frame-dynamic}
+use Rattle.parts.specs.Calls.{importsFrom, depthAt, messageTo, writtenIn, takeTestsIn, takenIn, allTaken, advanceTestsIn, newAt, advancedIn, collectedIn}
 
 -- ---- what the lists of all parts must have
 

@@ -1,40 +1,39 @@
 -- What an accepted start says of its inputs and leaves: the lists of all parts are as a run needs them, and each state begins right.
 -- Assumes nothing.
-use mathlib.Core.Path.{_≡_, refl, sym, ap, ap₂, _∙_, subst}
-use mathlib.Core.Logic.{_⊎_, inl, inr, ⊎-elim, _≢_}
-use mathlib.Core.Bool.{Bool, true, false, not, _&&_, _||_, cond}
-use mathlib.Core.List.{List, [], _∷_, _++_, map, append-assoc}
-use Prim.Native.Nat.{ℕ, zero, suc, _+_, _-_, _*_, _%_, _<_, _≤_}
-use native.Mathlib.Nat.{zero-add, add-zero}
+use mathlib.Core.Path.{_≡_, sym, ap, ap₂, _∙_, subst}
+use mathlib.Core.Logic.{_⊎_, inl, inr, ⊎-elim}
+use mathlib.Core.Bool.{false, not, _||_, cond}
+use mathlib.Core.List.{List, _++_, map, append-assoc}
+use Prim.Native.Nat.{ℕ, _+_, _-_, _*_, _%_, _<_, _≤_}
+use native.Mathlib.Nat.{add-zero}
 use native.Mathlib.Omega.{arith}
-use lib.Dec.{eqb, ltb, leb}
-use lib.ListN.{length, getD, take, drop, replicate, length-append, length-replicate, length-map, getD-replicate, List·getD-append}
+use lib.Dec.{eqb, ltb}
+use lib.ListN.{length, getD, take, drop, replicate, length-replicate, getD-replicate, List·getD-append}
 use lib.Seq.{getD-append-add, take-append-seam}
-use borrow.Author.Tests.{eqb-true, eq-eqb, ltb-true, ltb-false, not-false}
+use borrow.Author.Tests.{eq-eqb, ltb-false}
 use Rattle.vocabulary.specs.Bytes.{Bytes, byteAt, over}
 use Rattle.vocabulary.specs.ByteLaws.{over-front}
-use Rattle.vocabulary.specs.Lists.{All, everyOf}
-use Rattle.vocabulary.specs.ListLaws.{or-false, and-true, All-map, All-getD, map-cong, map-map, getD-map-any, everyOf-at, At}
-use Rattle.vocabulary.specs.Ranges.{isUpTo, every, blocks, total}
+use Rattle.vocabulary.specs.Lists.{All}
+use Rattle.vocabulary.specs.ListLaws.{or-false, All-map, All-getD, map-cong, map-map, getD-map-any, At, All-of-map, map-id}
+use Rattle.vocabulary.specs.Ranges.{every, blocks, total}
 use Rattle.vocabulary.specs.RangeLaws.{total-turn, total-fit}
-use Rattle.vocabulary.specs.Tests.{passed, firstOf}
-use Rattle.layout.specs.Words.{word, wordAt, bytesOf}
-use Rattle.layout.specs.WordLaws.{word-same, word-past, wordAt-first, length-bytesOf}
+use Rattle.vocabulary.specs.Tests.{passed}
+use Rattle.layout.specs.Words.{word}
+use Rattle.layout.specs.WordLaws.{wordAt-first}
 use Rattle.layout.specs.Depths.{four}
 use Rattle.layout.specs.DepthLaws.{length-four, four-left, four-past, fours-length, fours-at}
-use Rattle.mesh.specs.Mesh.{top, firstCell, cellCount, meshTests}
-use Rattle.mesh.specs.Walks.{Near, reach, steps, bad10, bad13}
+use Rattle.mesh.specs.Mesh.{top, cellCount, meshTests}
+use Rattle.mesh.specs.Walks.{Near, reach, steps, bad10}
 use Rattle.round.specs.Rules.{newDepth, bad11}
-use Rattle.round.specs.Rounds.{Scheme, schemeOf, depthIn, undivided, bad14}
+use Rattle.round.specs.Rounds.{schemeOf, depthIn, undivided, bad14}
 use Rattle.split.specs.Split.{Split, splitOf, ownerAt, owned, imports, exports, locals, localOf, globalOf}
-use Rattle.split.specs.Lists.{bad8, bad9, bad12, splitTests, sizeTests}
-use Rattle.split.specs.ReachLaws.{All-of-map}
-use Rattle.split.specs.SplitLaws.{map-facts, split-reach, split-owner, Cell, order-length, own-is, own-has, own-local, local-back, own-first, import-own, import-at, local-cases, reach-held, imports-none, import-total, ownCells, own-count}
-use Rattle.parts.specs.State.{LocalNear, Lists, listsIn, dynamic, isState, roundAt, takenPlace, depthPlace, stateLength, globalAt, ownedCount, heldCount, importEnd}
-use Rattle.parts.specs.Start.{ownedIn, reachOf, importEnds, listsLong, listsWords, orderOf, stateSize, firstState, startTests, startNumber, startState}
-use Rattle.parts.specs.FormLaws.{front, words-length, front-length, part-back, kind-back, first-back, cells-back, owned-back, held-back, global-back, import-back, reach-back, exports-back, weights-back, toLocal}
+use Rattle.split.specs.Lists.{splitTests, sizeTests}
+use Rattle.split.specs.SplitLaws.{map-facts, split-reach, split-owner, Cell, order-length, own-is, own-has, own-local, local-back, own-first, import-own, import-at, local-cases, reach-held, import-total, ownCells, own-count}
+use Rattle.parts.specs.State.{LocalNear, Lists, listsIn, dynamic, roundAt, takenPlace, depthPlace}
+use Rattle.parts.specs.Start.{ownedIn, importEnds, listsWords, stateSize, firstState, startTests, startNumber, startState}
+use Rattle.parts.specs.FormLaws.{front, words-length, front-length, part-back, kind-back, first-back, cells-back, owned-back, held-back, global-back, import-back, reach-back, exports-back, weights-back}
 use Rattle.parts.specs.Run.{Inputs, schemeIn, ownerIn, startNumberIn, startStateIn}
-use Rattle.parts.specs.RunLaws.{Part, Parted, Block, Good, Undivided, globally}
+use Rattle.parts.specs.RunLaws.{Part, Parted, Block, Good, globally}
 use Rattle.parts.specs.WorldLaws.{ownerOf}
 
 -- ---- what an accepted start says of its inputs
@@ -83,10 +82,6 @@ started-facts I i buffer e =
     }
 
 -- ---- the lists of all parts are as a run needs them
-
-map-id : {A : Type 0} (xs : List A) → map (λ x. x) xs ≡ xs
-map-id [] = refl
-map-id (x ∷ xs) = ap (λ r. x ∷ r) (map-id xs)
 
 abbrev pub splitIn : Inputs → Split
 splitIn I = splitOf (I .mesh) (I .parts) (I .owners) (I .stencil)

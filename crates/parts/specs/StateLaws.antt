@@ -1,29 +1,25 @@
 -- Laws of the form of a state: what the test 20 says of a state, and that it goes by the lists and by what calls change. Assumes nothing.
-use mathlib.Core.Path.{_≡_, refl, sym, ap, _∙_, subst, subst₂}
-use mathlib.Core.Logic.{_⊎_, ⊎-elim}
-use mathlib.Core.Bool.{Bool, true, false, not, _&&_}
-use mathlib.Core.List.{List, [], _∷_, _++_}
+use mathlib.Core.Path.{_≡_, refl, sym, ap, _∙_, subst}
+use mathlib.Core.Logic.{⊎-elim}
+use mathlib.Core.Bool.{Bool, true, _&&_}
 use Prim.Native.Nat.{ℕ, zero, suc, _+_, _-_, _*_, _%_, _<_, _≤_}
 use native.Mathlib.Nat.{zero-add}
 use native.Mathlib.Numerals.{add-one}
 use native.Mathlib.Omega.{arith}
 use lib.Dec.{eqb, leb}
-use lib.IntN.{natAbs}
-use lib.ListN.{length, getD, take}
+use lib.ListN.{length, take}
 use lib.Seq.{getD-take, ext-getD, length-take-le}
-use borrow.Author.Tests.{eqb-true, leb-true, le-leb, not-false}
+use borrow.Author.Tests.{eqb-true, leb-true, le-leb}
 use Rattle.vocabulary.specs.Bytes.{Bytes, byteAt}
 use Rattle.vocabulary.specs.Lists.{All}
-use Rattle.vocabulary.specs.Ranges.{isUpTo, every, listed}
-use Rattle.vocabulary.specs.RangeLaws.{last-or, every-at, every-in, every-intro}
-use Rattle.vocabulary.specs.ListLaws.{and-true, and-intro, All-append}
+use Rattle.vocabulary.specs.Ranges.{isUpTo, every}
+use Rattle.vocabulary.specs.RangeLaws.{last-or, every-in, every-intro, upTo-true, listed-all}
+use Rattle.vocabulary.specs.ListLaws.{and-true, and-intro}
 use Rattle.vocabulary.specs.Tests.{allOf, allOf-true, allOf-intro}
-use Rattle.layout.specs.Words.{word, wordAt}
+use Rattle.layout.specs.Words.{wordAt}
 use Rattle.layout.specs.WordLaws.{word-same}
-use Rattle.layout.specs.Depths.{depthFrom, rangedAt}
-use Rattle.layout.specs.DepthLaws.{ranged-size, range-intro}
-use Rattle.split.specs.SplitLaws.{upTo-true}
-use Rattle.parts.specs.State.{LocalNear, Lists, listsIn, stepCount, reachEnd, reachCount, entryAt, localReach, dynamic, importEnd, ownedCount, heldCount, rises, listsLength, listsTests, dynamicTests, isState, bad20, roundAt, takenPlace, writtenPlace, depthPlace, stateLength}
+use Rattle.layout.specs.Depths.{rangedAt}
+use Rattle.parts.specs.State.{LocalNear, stepCount, reachEnd, reachCount, entryAt, localReach, dynamic, importEnd, ownedCount, heldCount, rises, listsLength, listsTests, dynamicTests, isState, roundAt, takenPlace, writtenPlace, stateLength}
 
 -- a table of ends that never falls
 pub rises-grow : (n : ℕ) (end : ℕ → ℕ) → rises n end ≡ true → (i j : ℕ) → i ≤ j → j ≤ n → end i ≤ end j
@@ -42,12 +38,6 @@ pub rises-intro : (n : ℕ) (end : ℕ → ℕ) → ((j : ℕ) → j < n → end
 unfolding rises
 rises-intro n end f =
     every-intro 0 (λ j. leb (end j) (end (j + 1))) n (λ i h. subst (λ j. leb (end j) (end (j + 1)) ≡ true) (sym (zero-add i)) (le-leb (end i) (end (i + 1)) (f i h)))
-
--- a list by its indices
-pub listed-all : {A : Type 0} (P : A → Type 0) (a n : ℕ) (g : ℕ → A) → ((i : ℕ) → i < n → P (g (a + i))) → All P (listed a n g)
-unfolding listed
-listed-all P a zero g f = tt
-listed-all P a (suc n) g f = All-append P (listed a n g) (g (a + n) ∷ []) (listed-all P a n g (λ i h. f i (omega arith))) (f n (omega arith), tt)
 
 -- ---- the test, by the lists st and the place d where they end
 

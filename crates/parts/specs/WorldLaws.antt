@@ -1,35 +1,33 @@
 -- A run keeps the undivided depths: the invariant of a world, that every step keeps it, and the claims of demand 3 for parts whose lists are
 -- as they must be and whose states begin as they must. Assumes nothing.
 use mathlib.Core.Path.{_≡_, refl, sym, ap, ap₂, _∙_, subst, subst₂}
-use mathlib.Core.Logic.{_⊎_, inl, inr, ⊎-elim, _≢_}
-use mathlib.Core.Bool.{Bool, true, false, not, cond}
-use mathlib.Core.List.{List, [], _∷_, _++_, List·Memᴰ}
-use Prim.Native.Nat.{ℕ, zero, suc, _+_, _-_, _*_, _/_, _%_, _<_, _≤_}
+use mathlib.Core.Logic.{_⊎_, inl, inr}
+use mathlib.Core.Bool.{Bool, true, false, cond}
+use mathlib.Core.List.{List, [], _∷_}
+use Prim.Native.Nat.{ℕ, suc, _+_, _-_, _*_, _/_, _<_, _≤_}
 use native.Mathlib.Omega.{arith}
 use lib.Dec.{eqb, ltb}
 use lib.ListN.{length, getD, take, drop}
-use lib.Seq.{ext-getD, take-append-seam}
+use lib.Seq.{take-append-seam}
 use borrow.Author.Tests.{eqb-true, eq-eqb, ltb-false, not-false}
-use Rattle.vocabulary.specs.Bytes.{Bytes, byteAt, over}
+use Rattle.vocabulary.specs.Bytes.{Bytes, over}
 use Rattle.vocabulary.specs.ByteLaws.{Place, below, inside, above, place, over-front}
 use Rattle.vocabulary.specs.Lists.{All}
-use Rattle.vocabulary.specs.ListLaws.{and-true, cond-has}
+use Rattle.vocabulary.specs.ListLaws.{and-true, cond-has, mem-all}
 use Rattle.vocabulary.specs.Ranges.{isUpTo}
 use Rattle.vocabulary.specs.Tests.{passed, firstOf}
-use Rattle.layout.specs.Words.{wordAt}
+use Rattle.vocabulary.specs.RangeLaws.{upTo-true}
 use Rattle.layout.specs.Depths.{four}
-use Rattle.layout.specs.DepthLaws.{length-four, getD-four}
 use Rattle.mesh.specs.Mesh.{cellCount}
 use Rattle.round.specs.Rules.{Old}
 use Rattle.round.specs.RuleLaws.{new-length}
 use Rattle.round.specs.Rounds.{Scheme, schemeOf, depthIn, undivided}
-use Rattle.messages.specs.Messages.{fromIn, toIn, roundIn, countIn}
-use Rattle.split.specs.SplitLaws.{upTo-true}
-use Rattle.parts.specs.State.{Lists, listsIn, listsOf, dynamic, isState, bad20, roundAt}
+use Rattle.messages.specs.Messages.{fromIn, roundIn}
+use Rattle.parts.specs.State.{Lists, listsIn, listsOf, dynamic, isState, bad20}
 use Rattle.parts.specs.StateLaws.{isStateAt, state-at, whole-is}
 use Rattle.parts.specs.Calls.{exportsTo, messageTo, writeTestsIn, writtenIn, takeTestsIn, takenIn, advanceTestsIn, advancedIn, collectTestsIn, collectedIn, writeNumber, message, writeState, writeOut, takeNumber, takeState, advanceNumber, advanceState, collectNumber, collectOut}
-use Rattle.parts.specs.Run.{Call, write, take-in, advance, collect, Collected, World, put, more, step, run, Fair, Honest, Inputs, schemeIn, ownerIn, Right}
-use Rattle.parts.specs.RunLaws.{mem-all, Part, Parted, Undivided, Good, Room, room-of, RightMessage, taken-facts, write-good, write-right, take-good, advance-taken, advance-good, collect-length, collect-owned, collect-others}
+use Rattle.parts.specs.Run.{Call, write, take-in, advance, collect, World, put, more, step, run, Fair, Honest, Inputs, schemeIn, ownerIn, Right}
+use Rattle.parts.specs.RunLaws.{Part, Parted, Undivided, Good, Room, room-of, RightMessage, taken-facts, write-good, write-right, take-good, advance-taken, advance-good, collect-length, collect-owned, collect-others}
 
 -- the owner of a cell by its global number
 abbrev pub ownerOf : Inputs → ℕ → ℕ
@@ -294,19 +292,3 @@ module _ (I : Inputs) (front : ℕ → Bytes) where
     unfolding run Honest
     run-inv w [] h v = v
     run-inv w (c ∷ cs) h v = run-inv (step w c) cs (h .1) (step-inv w c (h .0) v)
-
--- ---- fields
-
--- fields of n cells with the same depths are one
-pub field-same : (n : ℕ) (G H : Bytes) → length G ≡ 4 * n → length H ≡ 4 * n → ((c : ℕ) → c < n → four G (4 * c) ≡ four H (4 * c)) → G ≡ H
-field-same n G H p q e =
-    ext-getD 0 G H (omega arith)
-    (λ x h.
-    let c : x / 4 < n = omega arith in
-    let y : 4 * (x / 4) + x % 4 ≡ x = omega arith in
-    let k : x % 4 < 4 = omega arith in
-    ap (λ z. byteAt G z) (sym y)
-    ∙ sym (getD-four G (4 * (x / 4)) (x % 4) k)
-    ∙ ap (λ z. byteAt z (x % 4)) (e (x / 4) c)
-    ∙ getD-four H (4 * (x / 4)) (x % 4) k
-    ∙ ap (λ z. byteAt H z) y)

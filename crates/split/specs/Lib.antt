@@ -1,4 +1,3 @@
 pub mod Split
 pub mod Lists
-pub mod ReachLaws
 pub mod SplitLaws

@@ -1,9 +1,9 @@
 -- Laws of reaches: they stay among the cells, a cell is in its own reach at layer 0, and layers are even. Assumes nothing.
-use mathlib.Core.Path.{_≡_, refl, sym, ap, _∙_, subst}
-use mathlib.Core.Logic.{_⊎_, ⊎-elim}
+use mathlib.Core.Path.{_≡_, refl, ap, _∙_, subst}
+use mathlib.Core.Logic.{⊎-elim}
 use mathlib.Core.Bool.{Bool, true, false, not, cond, _||_}
-use mathlib.Core.List.{List, [], _∷_, map}
-use Prim.Native.Nat.{ℕ, zero, suc, _+_, _-_, _%_, _<_, _≤_}
+use mathlib.Core.List.{List}
+use Prim.Native.Nat.{ℕ, zero, suc, _+_, _%_, _<_, _≤_}
 use native.Mathlib.Nat.{add-zero}
 use native.Mathlib.Omega.{arith}
 use lib.Dec.{eqb, ltb}
@@ -11,16 +11,11 @@ use lib.ListN.{length, getD, length-map}
 use borrow.Author.Tests.{eqb-true, eq-eqb, ne-eqb, ltb-true, ltb-false, lt-ltb, not-false}
 use Rattle.vocabulary.specs.Bytes.{Bytes, byteAt}
 use Rattle.vocabulary.specs.Lists.{isIn, someOf, All}
-use Rattle.vocabulary.specs.ListLaws.{or-left, or-false, isIn-at, At, getD-map-any}
+use Rattle.vocabulary.specs.ListLaws.{or-left, or-false, isIn-at, At, All-of-map, getD-map-any}
 use Rattle.vocabulary.specs.Ranges.{picked, every}
-use Rattle.vocabulary.specs.RangeLaws.{Rises, last-or, every-in, picked-passes, picked-all, picked-at, picked-in, picked-rises}
+use Rattle.vocabulary.specs.RangeLaws.{last-or, every-in, picked-passes, picked-all, picked-at, picked-in, picked-rises}
 use Rattle.mesh.specs.Mesh.{top, counted, below, firstCell, cellCount}
 use Rattle.mesh.specs.Walks.{Near, incident, reach, layer, steps, bad10, stepTo, stepsTo, walked}
-
--- what holds of every image holds of the images
-pub All-of-map : {A B : Type 0} (P : B → Type 0) (f : A → B) (xs : List A) → All (λ x. P (f x)) xs → All P (map f xs)
-All-of-map P f [] a = tt
-All-of-map P f (x ∷ xs) a = (a .0, All-of-map P f xs (a .1))
 
 module _ (m st : Bytes) (c : ℕ) where
   abbrev near : ℕ → Near
