@@ -26,9 +26,6 @@ use Rattle.parts.specs.Start.{ownedIn, reachOf, importEnds, exportEnds, 
 -- ---- the words by their places
 
 module _ (S : Split) (i : ℕ) (order : List ℕ) (n kind : ℕ) (v : Bytes) where
-  abbrev O : ℕ
-  O = ownedIn S i
-
   abbrev r8 : List ℕ
   r8 = blocks 1 16 (exportWords S i order)
 
@@ -317,9 +314,6 @@ module _ (S : Split) (i : ℕ) (order : List ℕ) (n kind : ℕ) (v : Bytes) whe
   -- ---- the weights
 
   module _ (rule : bad11 kind n v ≡ false) (short : n ≤ 8) where
-    abbrev wc : ℕ
-    wc = weightCount kind n
-
     rule-parts : (length v ≡ 2 * weightCount kind n) × (some 0 (weightCount kind n) (tooHeavy v) ≡ false)
     unfolding bad11
     rule-parts =

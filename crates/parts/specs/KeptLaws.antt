@@ -66,7 +66,6 @@ module _ (b : Bytes) (s : isState b ≡ true) where
       → ((j : ℕ) → 1 ≤ j → j ≤ 16 → (byteAt b′ (takenPlace (dynamic b) j) ≤ 1) × (byteAt b′ (writtenPlace (dynamic b) j) ≤ 1))
       → ((l : ℕ) → 1 ≤ l → l ≤ heldCount (take (dynamic b) b) → Fine (depthAt (dynamic b) b′ l)) → isState b′ ≡ true
   kept b′ f early flags fine =
-      let d : ℕ = dynamic b in
       let h : dynamic b ≤ length b = omega (arith, whole .long) in
       let e : dynamic b′ ≡ dynamic b = frame-dynamic (dynamic b) b b′ h f (omega (arith, whole .lists-fit)) in
       let t : take (dynamic b′) b′ ≡ take (dynamic b) b = ap (λ n. take n b′) e ∙ frame-take (dynamic b) b b′ h f in

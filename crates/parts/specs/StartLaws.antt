@@ -2,20 +2,19 @@
 -- Assumes nothing.
 use mathlib.Core.Path.{_≡_, sym, ap, ap₂, _∙_, subst}
 use mathlib.Core.Logic.{_⊎_, inl, inr, ⊎-elim}
-use mathlib.Core.Bool.{false, not, _||_, cond}
+use mathlib.Core.Bool.{false, cond}
 use mathlib.Core.List.{List, _++_, map, append-assoc}
-use Prim.Native.Nat.{ℕ, _+_, _-_, _*_, _%_, _<_, _≤_}
+use Prim.Native.Nat.{ℕ, _+_, _-_, _*_, _<_, _≤_}
 use native.Mathlib.Nat.{add-zero}
 use native.Mathlib.Omega.{arith}
-use lib.Dec.{eqb, ltb}
 use lib.ListN.{length, getD, take, drop, replicate, length-replicate, getD-replicate, List·getD-append}
 use lib.Seq.{getD-append-add, take-append-seam}
 use borrow.Author.Tests.{eq-eqb, ltb-false}
 use Rattle.vocabulary.specs.Bytes.{Bytes, byteAt, over}
 use Rattle.vocabulary.specs.ByteLaws.{over-front}
 use Rattle.vocabulary.specs.Lists.{All}
-use Rattle.vocabulary.specs.ListLaws.{or-false, All-map, All-getD, map-cong, map-map, getD-map-any, At, All-of-map, map-id}
-use Rattle.vocabulary.specs.Ranges.{every, blocks, total}
+use Rattle.vocabulary.specs.ListLaws.{All-map, All-getD, map-cong, map-map, getD-map-any, At, All-of-map, map-id}
+use Rattle.vocabulary.specs.Ranges.{blocks, total}
 use Rattle.vocabulary.specs.RangeLaws.{total-turn, total-fit}
 use Rattle.vocabulary.specs.Tests.{passed}
 use Rattle.layout.specs.Words.{word}
@@ -24,6 +23,7 @@ use Rattle.layout.specs.Depths.{four}
 use Rattle.layout.specs.DepthLaws.{length-four, four-left, four-past, fours-length, fours-at}
 use Rattle.mesh.specs.Mesh.{top, cellCount, meshTests}
 use Rattle.mesh.specs.Walks.{Near, reach, steps, bad10}
+use Rattle.mesh.specs.WalkLaws.{steps-few}
 use Rattle.round.specs.Rules.{newDepth, bad11}
 use Rattle.round.specs.Rounds.{schemeOf, depthIn, undivided, bad14}
 use Rattle.split.specs.Split.{Split, splitOf, ownerAt, owned, imports, exports, locals, localOf, globalOf}
@@ -52,15 +52,6 @@ pub record Begun (I : Inputs) (i : ℕ) (buffer : Bytes) : Type 0 where
   pub part : Part (I .parts) i
   pub room : stateSize (I .mesh) (I .parts) (I .owners) i (I .stencil) ≤ length buffer
 
-short-steps : (d : ℕ) (st : Bytes) → bad10 d st ≡ false → steps st ≤ 8
-unfolding bad10 steps
-short-steps d st e =
-    let a = not (eqb (length st % 2) 1) in
-    let b = ltb 9 (length st) in
-    let c = not (every 0 (length st) (λ k. cond (eqb (k % 2) 0) (eqb (byteAt st k) d) (ltb (byteAt st k) d))) in
-    let h : length st ≤ 9 = ltb-false 9 (length st) (or-false a b (or-false (a || b) c e .0) .1) in
-    omega arith
-
 pub started-facts : (I : Inputs) (i : ℕ) (buffer : Bytes) → startNumberIn I i buffer ≡ 0 → Begun I i buffer
 unfolding startNumberIn startNumber startTests splitTests meshTests sizeTests ownerAt
 started-facts I i buffer e =
@@ -73,7 +64,7 @@ started-facts I i buffer e =
         few-parts = b .0;
         owners-in = b .3;
         stencil-good = c .0;
-        short = short-steps (top (I .mesh)) (I .stencil) (c .0);
+        short = steps-few (top (I .mesh)) (I .stencil) (c .0);
         rule = c .1 .0;
         field-good = c .1 .1 .1 .1 .0;
       };

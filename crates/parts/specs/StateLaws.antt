@@ -60,12 +60,12 @@ pub record Whole (st : Bytes) (d : ℕ) (b : Bytes) : Type 0 where
   pub reach-ends : (i j : ℕ) → i ≤ j → j ≤ ownedCount st → reachEnd st i ≤ reachEnd st j
   pub entries : (t : ℕ) → t < reachCount st → (1 ≤ (entryAt st t) .local) × ((entryAt st t) .local ≤ heldCount st)
 
--- of an entry of a reach
-entry-fine : Bytes → ℕ → Bool
-entry-fine st t = let e : LocalNear = entryAt st t in isUpTo (heldCount st) (e .local) && eqb (e .layer % 2) 0 && leb (e .layer) (stepCount st)
+-- what is tested of an entry of a reach, where n is the stencil's steps
+abbrev pub fineEntry : ℕ → ℕ → LocalNear → Bool
+fineEntry held n e = isUpTo held (e .local) && eqb (e .layer % 2) 0 && leb (e .layer) n
 
 pub whole-is : (st : Bytes) (d : ℕ) (b : Bytes) → isStateAt st d b ≡ true → Whole st d b
-unfolding listsTests dynamicTests entry-fine
+unfolding listsTests dynamicTests
 whole-is st d b e =
     let p = and-true (eqb d (listsLength st) && allOf (listsTests st)) (allOf (dynamicTests b d (heldCount st))) e in
     let q = and-true (eqb d (listsLength st)) (allOf (listsTests st)) (p .0) in
@@ -84,7 +84,7 @@ whole-is st d b e =
       ranged = c .1 .1 .1 .0;
       reach-ends = λ i j h k. rises-grow (ownedCount st) (reachEnd st) (and-true (eqb (reachEnd st 0) 0) (rises (ownedCount st) (reachEnd st)) (l .1 .1 .1 .1 .1 .1 .0) .1) i j h k;
       entries = λ t h.
-          let x = every-in 0 (entry-fine st) (reachCount st) t (l .1 .1 .1 .1 .1 .1 .1 .1 .0) (omega arith) (omega arith) in
+          let x = every-in 0 (λ t. fineEntry (heldCount st) (stepCount st) (entryAt st t)) (reachCount st) t (l .1 .1 .1 .1 .1 .1 .1 .1 .0) (omega arith) (omega arith) in
           let p = isUpTo (heldCount st) ((entryAt st t) .local) in
           let q = eqb ((entryAt st t) .layer % 2) 0 in
           let r = leb ((entryAt st t) .layer) (stepCount st) in

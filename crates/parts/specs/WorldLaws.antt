@@ -21,7 +21,7 @@ use Rattle.layout.specs.Depths.{four}
 use Rattle.mesh.specs.Mesh.{cellCount}
 use Rattle.round.specs.Rules.{Old}
 use Rattle.round.specs.RuleLaws.{new-length}
-use Rattle.round.specs.Rounds.{Scheme, schemeOf, depthIn, undivided}
+use Rattle.round.specs.Rounds.{schemeOf, depthIn, undivided}
 use Rattle.messages.specs.Messages.{fromIn, roundIn}
 use Rattle.parts.specs.State.{Lists, listsIn, listsOf, dynamic, isState, bad20}
 use Rattle.parts.specs.StateLaws.{isStateAt, state-at, whole-is}
@@ -92,9 +92,6 @@ written-is b j out e =
 
 -- the lists of part i stand in the bytes `front i`
 module _ (I : Inputs) (front : ℕ → Bytes) where
-  abbrev X : Scheme
-  X = schemeIn I
-
   abbrev pub listsAt : ℕ → Lists
   listsAt i = listsIn (front i)
 

@@ -138,7 +138,6 @@ module _ (S : Split) where
   pub own-number : (i l : ℕ) → 1 ≤ l → l ≤ length (owned S i) → localOf (locals S i) (globalOf (locals S i) l) ≡ l
   unfolding localOf
   own-number i l h k =
-      let xs : List ℕ = ownCells S i in
       let q : l - 1 < length (ownCells S i) = omega (arith, own-count i) in
       let c : ℕ = getD (ownCells S i) (l - 1) 0 in
       let a : At (getD (ownCells S i) (l - 1) 0) (ownCells S i) = record { place = l - 1; place-lt = q; place-is = refl } in
@@ -290,8 +289,6 @@ module _ (S : Split) where
       pub held-length : (i : ℕ) → length (held S i) ≡ length (owned S i) + total 1 (S .parts) (λ j. length (imports S i j))
       unfolding held owned imports owns
       held-length i =
-          let a : ℕ = S .first in
-          let n : ℕ = S .cells in
           picked-halves (S .first) (S .cells) (holds S i) (λ c. eqb (S .owner c) i)
           ∙ ap₂ _+_
           (ap length (picked-cong (S .first) (λ c. holds S i c && eqb (S .owner c) i) (λ c. eqb (S .owner c) i) (S .cells)

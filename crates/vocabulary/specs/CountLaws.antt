@@ -83,7 +83,6 @@ picked-shared a (suc n) P p q o f g =
     last : (b : Bool) → p (a + n) ≡ b → length (cond b ((a + n) ∷ []) []) ≡ total 1 P (λ j. length (cond (q j (a + n)) ((a + n) ∷ []) []))
     last true e =
         let r = f n (omega arith) e in
-        let x : ℕ = o (a + n) in
         let z : 1 + (o (a + n) - 1) ≡ o (a + n) = omega (arith, r .0) in
         sym (total-single 1 P (o (a + n) - 1) (λ j. length (cond (q j (a + n)) ((a + n) ∷ []) [])) (omega (arith, r .0, r .1))
         (λ i h ne. other (1 + i) (q (1 + i) (a + n)) refl (λ t w. let no : ⊥ = omega (arith, r .0) in no))
