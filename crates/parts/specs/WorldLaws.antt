@@ -95,28 +95,35 @@ module _ (I : Inputs) (front : ℕ → Bytes) where
   abbrev pub listsAt : ℕ → Lists
   listsAt i = listsIn (front i)
 
+  abbrev GoodAt : ℕ → ℕ → Bytes → Type 0
+  GoodAt i rd b = Good (schemeIn I) (I .field) (listsIn (front i)) (front i) (length (front i)) rd b
+
+  -- a message that a run may hand on
+  abbrev Sound : Bytes → Type 0
+  Sound x = RightMessage (schemeIn I) (I .field) (I .parts) listsAt x
+
   -- what a state holds, if it is one
   abbrev pub Holds : ℕ → ℕ → Bytes → Type 0
-  Holds i rd b = isState b ≡ true → Part (I .parts) i × Good (schemeIn I) (I .field) (listsIn (front i)) (front i) (length (front i)) rd b
+  Holds i rd b = isState b ≡ true → Part (I .parts) i × GoodAt i rd b
 
   pub record Inv (w : World) : Type 0 where
     pub good : (i : ℕ) → Holds i (w .made i) (w .states i)
-    pub right : All (RightMessage (schemeIn I) (I .field) (I .parts) listsAt) (w .sent)
+    pub right : All Sound (w .sent)
     pub gave : All (Right I) (w .given)
 
   -- a state still has the lists that its part was started with
-  module _ (P : Lists → ℕ → Type 0) (i rd : ℕ) (b : Bytes) (g : Good (schemeIn I) (I .field) (listsIn (front i)) (front i) (length (front i)) rd b) where
+  module _ (P : Lists → ℕ → Type 0) (i rd : ℕ) (b : Bytes) (g : GoodAt i rd b) where
     lists-are : listsOf b ≡ listsIn (front i)
     unfolding listsOf
     lists-are = ap listsIn (ap (λ n. take n b) (g .place-is) ∙ g .front-is)
 
-    turn : P (listsIn (front i)) (length (front i)) → P (listsOf b) (dynamic b)
+    turn : P (listsAt i) (length (front i)) → P (listsOf b) (dynamic b)
     turn = subst₂ P (sym lists-are) (sym (g .place-is))
 
-    back : P (listsOf b) (dynamic b) → P (listsIn (front i)) (length (front i))
+    back : P (listsOf b) (dynamic b) → P (listsAt i) (length (front i))
     back = subst₂ P lists-are (g .place-is)
 
-  room : (i rd : ℕ) (b : Bytes) → isState b ≡ true → Good (schemeIn I) (I .field) (listsIn (front i)) (front i) (length (front i)) rd b → Room (listsIn (front i)) (length (front i)) b
+  room : (i rd : ℕ) (b : Bytes) → isState b ≡ true → GoodAt i rd b → Room (listsAt i) (length (front i)) b
   room i rd b s g =
       let e : isStateAt (front i) (length (front i)) b ≡ true =
       subst₂ (λ n st. isStateAt st n b ≡ true) (g .place-is) (ap (λ n. take n b) (g .place-is) ∙ g .front-is) (sym (state-at b) ∙ s) in
@@ -135,24 +142,24 @@ module _ (I : Inputs) (front : ℕ → Bytes) where
         let g = h s in
         let u = write-part b j out n in (
           g .0,
-          turn (λ L d. Good (schemeIn I) (I .field) (listsIn (front i)) (front i) (length (front i)) rd (writtenIn L d b j)) i rd b (g .1)
-              (write-good (schemeIn I) (I .field) (listsIn (front i)) (front i) (length (front i)) rd b j (u .0) (u .1) (room i rd b s (g .1)) (g .1)),
+          turn (λ L d. GoodAt i rd (writtenIn L d b j)) i rd b (g .1)
+              (write-good (schemeIn I) (I .field) (listsAt i) (front i) (length (front i)) rd b j (u .0) (u .1) (room i rd b s (g .1)) (g .1)),
         ))
         (λ e. h)
 
     write-sends : (i rd : ℕ) (b : Bytes) (j : ℕ) (out : Bytes) → Holds i rd b → writeNumber b j out ≡ 0
-        → RightMessage (schemeIn I) (I .field) (I .parts) listsAt (take (length (message b j)) (writeOut b j out))
+        → Sound (take (length (message b j)) (writeOut b j out))
     unfolding message
     write-sends i rd b j out h n =
         let g = h (write-state b j out n) in
         let u = write-part b j out n in
-        subst (RightMessage (schemeIn I) (I .field) (I .parts) listsAt) (sym (written-is b j out n))
-        (turn (λ L d. RightMessage (schemeIn I) (I .field) (I .parts) listsAt (messageTo L d b j)) i rd b (g .1)
+        subst Sound (sym (written-is b j out n))
+        (turn (λ L d. Sound (messageTo L d b j)) i rd b (g .1)
         (write-right (schemeIn I) (I .field) (ownerOf I) (I .parts) listsAt S i (g .0) (front i) (length (front i)) rd b j (u .0) (u .1) (g .1)))
 
     -- ---- take
 
-    take-holds : (i rd : ℕ) (b x : Bytes) → Holds i rd b → (takeNumber b x ≡ 0 → RightMessage (schemeIn I) (I .field) (I .parts) listsAt x) → Holds i rd (takeState b x)
+    take-holds : (i rd : ℕ) (b x : Bytes) → Holds i rd b → (takeNumber b x ≡ 0 → Sound x) → Holds i rd (takeState b x)
     unfolding takeState takeNumber
     take-holds i rd b x h m =
         cond-has (Holds i rd) (eqb (takeNumber b x) 0) (takenIn (listsOf b) (dynamic b) b x) b
@@ -163,9 +170,9 @@ module _ (I : Inputs) (front : ℕ → Bytes) where
         let L : Lists = listsIn (front i) in
         let d : ℕ = length (front i) in
         let r = m n in
-        let v = taken-facts (listsIn (front i)) (length (front i)) b x (back (λ L d. firstOf (takeTestsIn L d b x) ≡ 0) i rd b (g .1) n) in (
+        let v = taken-facts (listsAt i) (length (front i)) b x (back (λ L d. firstOf (takeTestsIn L d b x) ≡ 0) i rd b (g .1) n) in (
           g .0,
-          turn (λ L d. Good (schemeIn I) (I .field) (listsIn (front i)) (front i) (length (front i)) rd (takenIn L d b x)) i rd b (g .1)
+          turn (λ L d. GoodAt i rd (takenIn L d b x)) i rd b (g .1)
               (take-good (schemeIn I) (I .field) L (front i) d rd b x (room i rd b s (g .1)) v (g .1)
               (λ t k.
               r .depths t k
@@ -186,68 +193,68 @@ module _ (I : Inputs) (front : ℕ → Bytes) where
             let n : advanceNumber b ≡ 0 = eqb-true _ 0 e in
             let s = advance-state b n in
             let g = h s in
-            let t = advance-taken (listsIn (front i)) (length (front i)) b (back (λ L d. firstOf (advanceTestsIn L d b) ≡ 0) i rd b (g .1) n) in (
+            let t = advance-taken (listsAt i) (length (front i)) b (back (λ L d. firstOf (advanceTestsIn L d b) ≡ 0) i rd b (g .1) n) in (
               g .0,
-              turn (λ L d. Good (schemeIn I) (I .field) (listsIn (front i)) (front i) (length (front i)) (suc rd) (advancedIn L d b)) i rd b (g .1)
+              turn (λ L d. GoodAt i (suc rd) (advancedIn L d b)) i rd b (g .1)
                   (advance-good (schemeIn I) (I .field) (new-is-four I) (ownerOf I) (I .parts) listsAt S i (g .0) (front i) (length (front i)) rd b (room i rd b s (g .1)) (g .1) t),
             )
         go false e = h
 
     -- ---- collect
 
-    module _ (i rd : ℕ) (b : Bytes) (part : Part (I .parts) i) (g : Good (schemeIn I) (I .field) (listsIn (front i)) (front i) (length (front i)) rd b)
-        (k : ℕ) (f : Bytes) (e : firstOf (collectTestsIn (listsIn (front i)) (length (front i)) b k f) ≡ 0) where
+    module _ (i rd : ℕ) (b : Bytes) (part : Part (I .parts) i) (g : GoodAt i rd b)
+        (k : ℕ) (f : Bytes) (e : firstOf (collectTestsIn (listsAt i) (length (front i)) b k f) ≡ 0) where
       abbrev L : Lists
       L = listsIn (front i)
 
       same-round : k ≡ rd
       unfolding collectTestsIn
-      same-round = eqb-true _ _ (not-false _ (passed (collectTestsIn (listsIn (front i)) (length (front i)) b k f) tt e .1 .0)) ∙ g .round-is
+      same-round = eqb-true _ _ (not-false _ (passed (collectTestsIn (listsAt i) (length (front i)) b k f) tt e .1 .0)) ∙ g .round-is
 
       wide : 4 * schemeIn I .cells ≤ length f
       unfolding collectTestsIn
       wide =
-          let h : 4 * listsIn (front i) .cells ≤ length f = ltb-false _ _ (passed (collectTestsIn (listsIn (front i)) (length (front i)) b k f) tt e .1 .1 .0) in
+          let h : 4 * listsAt i .cells ≤ length f = ltb-false _ _ (passed (collectTestsIn (listsAt i) (length (front i)) b k f) tt e .1 .1 .0) in
           omega (arith, S .cells-are i part)
 
-      index : (l : ℕ) → 1 ≤ l → l ≤ listsIn (front i) .owned → listsIn (front i) .global l - listsIn (front i) .first < schemeIn I .cells
+      index : (l : ℕ) → 1 ≤ l → l ≤ listsAt i .owned → listsAt i .global l - listsAt i .first < schemeIn I .cells
       index l h q = let c = S .owned-cell i part l h q in omega (arith, c .0, c .1, S .first-is i part)
 
-      fits : (l : ℕ) → 1 ≤ l → l ≤ listsIn (front i) .owned → 4 * (listsIn (front i) .global l - listsIn (front i) .first) + 4 ≤ length f
+      fits : (l : ℕ) → 1 ≤ l → l ≤ listsAt i .owned → 4 * (listsAt i .global l - listsAt i .first) + 4 ≤ length f
       fits l h q = omega (arith, index l h q, wide)
 
-      mine : (l : ℕ) → 1 ≤ l → l ≤ listsIn (front i) .owned → ownerIn I (listsIn (front i) .global l - listsIn (front i) .first) ≡ i
-      mine l h q = ap (λ n. ownerIn I (listsIn (front i) .global l - n)) (S .first-is i part) ∙ S .owned-owner i part l h q
+      mine : (l : ℕ) → 1 ≤ l → l ≤ listsAt i .owned → ownerIn I (listsAt i .global l - listsAt i .first) ≡ i
+      mine l h q = ap (λ n. ownerIn I (listsAt i .global l - n)) (S .first-is i part) ∙ S .owned-owner i part l h q
 
-      apart : (x : ℕ) → (x / 4 < cellCount (I .mesh) → ownerIn I (x / 4) ≡ i → ⊥) → (l : ℕ) → 1 ≤ l → l ≤ listsIn (front i) .owned
-          → Place (4 * (listsIn (front i) .global l - listsIn (front i) .first)) 4 x
-          → (x < 4 * (listsIn (front i) .global l - listsIn (front i) .first)) ⊎ (4 * (listsIn (front i) .global l - listsIn (front i) .first) + 4 ≤ x)
+      apart : (x : ℕ) → (x / 4 < cellCount (I .mesh) → ownerIn I (x / 4) ≡ i → ⊥) → (l : ℕ) → 1 ≤ l → l ≤ listsAt i .owned
+          → Place (4 * (listsAt i .global l - listsAt i .first)) 4 x
+          → (x < 4 * (listsAt i .global l - listsAt i .first)) ⊎ (4 * (listsAt i .global l - listsAt i .first) + 4 ≤ x)
       unfolding schemeOf
       apart x n l h q (below j) = inl j
       apart x n l h q (inside t j p) =
-          let c : x / 4 ≡ listsIn (front i) .global l - listsIn (front i) .first = omega arith in
+          let c : x / 4 ≡ listsAt i .global l - listsAt i .first = omega arith in
           absurd (n (subst (λ y. y < cellCount (I .mesh)) (sym c) (index l h q)) (ap (λ y. ownerIn I y) c ∙ mine l h q))
       apart x n l h q (above j) = inr j
 
-      collect-right : Right I (record { part = i; round = k; made = rd; before = f; field = collectedIn (listsIn (front i)) (length (front i)) b (listsIn (front i) .owned) f })
+      collect-right : Right I (record { part = i; round = k; made = rd; before = f; field = collectedIn (listsAt i) (length (front i)) b (listsAt i .owned) f })
       unfolding schemeOf depthIn
       collect-right = record {
         rounds = same-round;
-        long = collect-length L (length (front i)) b f (listsIn (front i) .owned) fits;
+        long = collect-length L (length (front i)) b f (listsAt i .owned) fits;
         owned = λ c h o.
             let F : ℕ = schemeIn I .first in
             let z : F + c - F ≡ c = omega arith in
             let y = S .holder i part (F + c) (omega arith, omega arith) (ap (λ n. ownerIn I n) z ∙ o) in
-            let p : listsIn (front i) .global (y .0) - listsIn (front i) .first ≡ c = omega (arith, y .3, S .first-is i part) in
-            subst (λ n. four (collectedIn (listsIn (front i)) (length (front i)) b (listsIn (front i) .owned) f) (4 * n) ≡ four (undivided (schemeIn I) (I .field) k) (4 * n)) p
-            (collect-owned L (length (front i)) b f (λ n. four (undivided (schemeIn I) (I .field) k) (4 * n)) (listsIn (front i) .owned) fits
+            let p : listsAt i .global (y .0) - listsAt i .first ≡ c = omega (arith, y .3, S .first-is i part) in
+            subst (λ n. four (collectedIn (listsAt i) (length (front i)) b (listsAt i .owned) f) (4 * n) ≡ four (undivided (schemeIn I) (I .field) k) (4 * n)) p
+            (collect-owned L (length (front i)) b f (λ n. four (undivided (schemeIn I) (I .field) k) (4 * n)) (listsAt i .owned) fits
             (λ l h q.
             g .owned l h q
-            ∙ ap₂ (λ r s. four (undivided (schemeIn I) (I .field) r) (4 * (listsIn (front i) .global l - s))) (sym same-round) (sym (S .first-is i part)))
+            ∙ ap₂ (λ r s. four (undivided (schemeIn I) (I .field) r) (4 * (listsAt i .global l - s))) (sym same-round) (sym (S .first-is i part)))
             (y .0) (y .1) (y .2));
         others = λ x n.
-            collect-others L (length (front i)) b f (listsIn (front i) .owned) fits x
-            (λ l h q. apart x n l h q (place (4 * (listsIn (front i) .global l - listsIn (front i) .first)) 4 x));
+            collect-others L (length (front i)) b f (listsAt i .owned) fits x
+            (λ l h q. apart x n l h q (place (4 * (listsAt i .global l - listsAt i .first)) 4 x));
       }
 
     collect-gives : (i rd : ℕ) (b : Bytes) (k : ℕ) (f : Bytes) → Holds i rd b → collectNumber b k f ≡ 0
@@ -265,12 +272,12 @@ module _ (I : Inputs) (front : ℕ → Bytes) where
     unfolding step Fair
     step-inv w (write i j out) h v = record {
       good = put-has (λ i s. Holds i (w .made i) s) (w .states) i _ (write-holds i (w .made i) (w .states i) j out (v .good i)) (v .good);
-      right = more-all (RightMessage (schemeIn I) (I .field) (I .parts) listsAt) _ _ (w .sent) (write-sends i (w .made i) (w .states i) j out (v .good i)) (v .right);
+      right = more-all Sound _ _ (w .sent) (write-sends i (w .made i) (w .states i) j out (v .good i)) (v .right);
       gave = v .gave;
     }
     step-inv w (take-in i x) h v = record {
       good = put-has (λ i s. Holds i (w .made i) s) (w .states) i _
-          (take-holds i (w .made i) (w .states i) x (v .good i) (λ n. mem-all (RightMessage (schemeIn I) (I .field) (I .parts) listsAt) (w .sent) (h n) (v .right))) (v .good);
+          (take-holds i (w .made i) (w .states i) x (v .good i) (λ n. mem-all Sound (w .sent) (h n) (v .right))) (v .good);
       right = v .right;
       gave = v .gave;
     }
