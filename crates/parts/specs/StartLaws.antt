@@ -118,51 +118,48 @@ module _ (I : Inputs) (R : Ready I) where
     abbrev order : List ℕ
     order = locals (splitIn I) i
 
-    abbrev st : Bytes
-    st = frontIn I i
-
     abbrev L : Lists
     L = listsIn (frontIn I i)
 
-    pub lists-owned : L .owned ≡ ownedIn (splitIn I) i
+    pub lists-owned : L .owned ≡ ownedIn S i
     unfolding listsIn
     lists-owned = owned-back S i order (steps (I .stencil)) (I .kind) (I .weights)
 
-    pub lists-held : L .held ≡ length (orderIn I i)
+    pub lists-held : L .held ≡ length order
     unfolding listsIn
     lists-held = held-back S i order (steps (I .stencil)) (I .kind) (I .weights) (order-full i)
 
-    owned-held : ownedIn (splitIn I) i ≤ length (orderIn I i)
-    owned-held = omega (arith, order-length (splitIn I) i)
+    owned-held : ownedIn S i ≤ length order
+    owned-held = omega (arith, order-length S i)
 
-    pub lists-global : (l : ℕ) → 1 ≤ l → l ≤ length (orderIn I i) → L .global l ≡ globalOf (orderIn I i) l
+    pub lists-global : (l : ℕ) → 1 ≤ l → l ≤ length order → L .global l ≡ globalOf order l
     unfolding listsIn
     lists-global l h k = global-back S i order (steps (I .stencil)) (I .kind) (I .weights) l h k
 
-    pub lists-reach : (l : ℕ) → 1 ≤ l → l ≤ ownedIn (splitIn I) i
-        → L .reach l ≡ map (λ e. record { local = localOf (orderIn I i) (e .cell); layer = e .layer }) (splitIn I .reach (globalOf (orderIn I i) l))
+    pub lists-reach : (l : ℕ) → 1 ≤ l → l ≤ ownedIn S i
+        → L .reach l ≡ map (λ e. record { local = localOf order (e .cell); layer = e .layer }) (S .reach (globalOf order l))
     unfolding listsIn
     lists-reach l h k = reach-back S i order (steps (I .stencil)) (I .kind) (I .weights) (order-full i) l h k
 
-    pub lists-before : (j : ℕ) → 1 ≤ j → j ≤ 16 → L .before j ≡ ownedIn (splitIn I) i + total 1 (j - 1) (λ k. length (imports (splitIn I) i k))
+    pub lists-before : (j : ℕ) → 1 ≤ j → j ≤ 16 → L .before j ≡ ownedIn S i + total 1 (j - 1) (λ k. length (imports S i k))
     unfolding listsIn importEnds
     lists-before j h k = import-back S i order (steps (I .stencil)) (I .kind) (I .weights) (j - 1) (omega arith)
 
-    pub lists-imported : (j : ℕ) → 1 ≤ j → j ≤ 16 → L .imported j ≡ length (imports (splitIn I) i j)
+    pub lists-imported : (j : ℕ) → 1 ≤ j → j ≤ 16 → L .imported j ≡ length (imports S i j)
     unfolding listsIn importEnds
     lists-imported j h k =
         let p : j - 1 + 1 ≡ j = omega arith in
         let q : 1 + (j - 1) ≡ j = omega arith in
-        let g : ℕ → ℕ = λ k. length (imports (splitIn I) i k) in
-        let t : total 1 j (λ k. length (imports (splitIn I) i k)) ≡ total 1 (j - 1) (λ k. length (imports (splitIn I) i k)) + length (imports (splitIn I) i j) =
-        ap (λ x. total 1 x g) (sym p) ∙ total-turn 1 g (j - 1) ∙ ap (λ x. total 1 (j - 1) g + length (imports (splitIn I) i x)) q in
+        let g : ℕ → ℕ = λ k. length (imports S i k) in
+        let t : total 1 j (λ k. length (imports S i k)) ≡ total 1 (j - 1) (λ k. length (imports S i k)) + length (imports S i j) =
+        ap (λ x. total 1 x g) (sym p) ∙ total-turn 1 g (j - 1) ∙ ap (λ x. total 1 (j - 1) g + length (imports S i x)) q in
         omega (
           arith,
           import-back S i order (steps (I .stencil)) (I .kind) (I .weights) (j - 1) (omega arith),
           import-back S i order (steps (I .stencil)) (I .kind) (I .weights) j k,
         )
 
-    pub lists-exports : (j : ℕ) → 1 ≤ j → j ≤ 16 → L .exports j ≡ map (localOf (orderIn I i)) (exports (splitIn I) i j)
+    pub lists-exports : (j : ℕ) → 1 ≤ j → j ≤ 16 → L .exports j ≡ map (localOf order) (exports S i j)
     unfolding listsIn
     lists-exports j h k = exports-back S i order (steps (I .stencil)) (I .kind) (I .weights) (order-full i) j h k
 
@@ -172,41 +169,41 @@ module _ (I : Inputs) (R : Ready I) where
         ap₂ newDepth (kind-back S i order (steps (I .stencil)) (I .kind) (I .weights)) (weights-back S i order (steps (I .stencil)) (I .kind) (I .weights) (R .rule) (R .short))
 
     -- an owned cell
-    owned-is : (l : ℕ) → 1 ≤ l → l ≤ L .owned → Cell (splitIn I) (L .global l) × (splitIn I .owner (L .global l) ≡ i)
+    owned-is : (l : ℕ) → 1 ≤ l → l ≤ L .owned → Cell S (L .global l) × (S .owner (L .global l) ≡ i)
     owned-is l h k =
-        let q : l ≤ ownedIn (splitIn I) i = omega (arith, lists-owned) in
-        subst (λ c. Cell (splitIn I) c × (splitIn I .owner c ≡ i)) (sym (lists-global l h (omega (arith, owned-held)))) (own-is (splitIn I) i l h q)
+        let q : l ≤ ownedIn S i = omega (arith, lists-owned) in
+        subst (λ c. Cell S c × (S .owner c ≡ i)) (sym (lists-global l h (omega (arith, owned-held)))) (own-is S i l h q)
 
-    owned-reach : (l : ℕ) → 1 ≤ l → l ≤ L .owned → All (λ e. At (e .cell) (orderIn I i)) (splitIn I .reach (globalOf (orderIn I i) l))
+    owned-reach : (l : ℕ) → 1 ≤ l → l ≤ L .owned → All (λ e. At (e .cell) order) (S .reach (globalOf order l))
     owned-reach l h k =
-        let q : l ≤ ownedIn (splitIn I) i = omega (arith, lists-owned) in
-        let o = own-is (splitIn I) i l h q in
-        reach-held (splitIn I) reach-inside owner-inside i (globalOf (orderIn I i) l) (o .0) (o .1)
+        let q : l ≤ ownedIn S i = omega (arith, lists-owned) in
+        let o = own-is S i l h q in
+        reach-held S reach-inside owner-inside i (globalOf order l) (o .0) (o .1)
 
     lists-near-held : (l : ℕ) → 1 ≤ l → l ≤ L .owned → All (λ e. (1 ≤ e .local) × (e .local ≤ L .held)) (L .reach l)
     lists-near-held l h k =
-        let q : l ≤ ownedIn (splitIn I) i = omega (arith, lists-owned) in
-        let f : Near → LocalNear = λ e. record { local = localOf (orderIn I i) (e .cell); layer = e .layer } in
-        let es : List Near = splitIn I .reach (globalOf (orderIn I i) l) in
+        let q : l ≤ ownedIn S i = omega (arith, lists-owned) in
+        let f : Near → LocalNear = λ e. record { local = localOf order (e .cell); layer = e .layer } in
+        let es : List Near = S .reach (globalOf order l) in
         subst (All (λ e. (1 ≤ e .local) × (e .local ≤ L .held))) (sym (lists-reach l h q))
         (All-of-map (λ e. (1 ≤ e .local) × (e .local ≤ L .held)) f es
-        (All-map es (λ x a. let b = local-back (splitIn I) i (x .cell) a in (b .0, omega (arith, b .1, lists-held))) (owned-reach l h k)))
+        (All-map es (λ x a. let b = local-back S i (x .cell) a in (b .0, omega (arith, b .1, lists-held))) (owned-reach l h k)))
 
-    lists-near-is : (l : ℕ) → 1 ≤ l → l ≤ L .owned → map (globally L) (L .reach l) ≡ splitIn I .reach (L .global l)
+    lists-near-is : (l : ℕ) → 1 ≤ l → l ≤ L .owned → map (globally L) (L .reach l) ≡ S .reach (L .global l)
     lists-near-is l h k =
-        let q : l ≤ ownedIn (splitIn I) i = omega (arith, lists-owned) in
-        let f : Near → LocalNear = λ e. record { local = localOf (orderIn I i) (e .cell); layer = e .layer } in
-        let es : List Near = splitIn I .reach (globalOf (orderIn I i) l) in
+        let q : l ≤ ownedIn S i = omega (arith, lists-owned) in
+        let f : Near → LocalNear = λ e. record { local = localOf order (e .cell); layer = e .layer } in
+        let es : List Near = S .reach (globalOf order l) in
         ap (map (globally L)) (lists-reach l h q)
         ∙ map-map (globally L) f es
         ∙ map-cong (λ e. globally L (f e)) (λ e. e) es
         (All-map es
         (λ x a.
-        let b = local-back (splitIn I) i (x .cell) a in
-        ap (λ c. record { cell = c; layer = x .layer }) (lists-global (localOf (orderIn I i) (x .cell)) (b .0) (b .1) ∙ b .2))
+        let b = local-back S i (x .cell) a in
+        ap (λ c. record { cell = c; layer = x .layer }) (lists-global (localOf order (x .cell)) (b .0) (b .1) ∙ b .2))
         (owned-reach l h k))
         ∙ map-id es
-        ∙ ap (splitIn I .reach) (sym (lists-global l h (omega (arith, owned-held))))
+        ∙ ap (S .reach) (sym (lists-global l h (omega (arith, owned-held))))
 
     lists-covered : (l : ℕ) → 1 ≤ l → l ≤ L .held → (l ≤ L .owned) ⊎ Block L l
     lists-covered l h k =
@@ -222,13 +219,13 @@ module _ (I : Inputs) (R : Ready I) where
           at-lt = omega (arith, b .3 .1, lists-imported (b .0) (b .1) few);
           is = omega (arith, b .3 .2, lists-before (b .0) (b .1) few);
         }))
-        (local-cases (splitIn I) i l h (omega (arith, lists-held)))
+        (local-cases S i l h (omega (arith, lists-held)))
 
-    lists-export-at : (j t : ℕ) → 1 ≤ j → j ≤ 16 → t < length (imports (splitIn I) j i) → getD (L .exports j) t 0 ≡ localOf (orderIn I i) (getD (imports (splitIn I) j i) t 0)
+    lists-export-at : (j t : ℕ) → 1 ≤ j → j ≤ 16 → t < length (imports S j i) → getD (L .exports j) t 0 ≡ localOf order (getD (imports S j i) t 0)
     unfolding exports
-    lists-export-at j t h k l = ap (λ xs. getD xs t 0) (lists-exports j h k) ∙ getD-map-any (localOf (orderIn I i)) (imports (splitIn I) j i) t 0 0 l
+    lists-export-at j t h k l = ap (λ xs. getD xs t 0) (lists-exports j h k) ∙ getD-map-any (localOf order) (imports S j i) t 0 0 l
 
-    local-least : (c : ℕ) → 1 ≤ localOf (orderIn I i) c
+    local-least : (c : ℕ) → 1 ≤ localOf order c
     unfolding localOf
     local-least c = omega arith
 
@@ -236,20 +233,20 @@ module _ (I : Inputs) (R : Ready I) where
     unfolding exports
     lists-exported j h k =
         subst (All (λ l. (1 ≤ l) × (l ≤ L .owned))) (sym (lists-exports j h k))
-        (All-of-map (λ l. (1 ≤ l) × (l ≤ L .owned)) (localOf (orderIn I i)) (exports (splitIn I) i j)
-        (All-map (exports (splitIn I) i j) (λ c a. (local-least c, omega (arith, own-local (splitIn I) i c a .0, lists-owned))) (import-own (splitIn I) j i)))
+        (All-of-map (λ l. (1 ≤ l) × (l ≤ L .owned)) (localOf order) (exports S i j)
+        (All-map (exports S i j) (λ c a. (local-least c, omega (arith, own-local S i c a .0, lists-owned))) (import-own S j i)))
 
     -- the t-th cell imported from j is the t-th that j exports here
-    lists-import : (j t : ℕ) → 1 ≤ j → j ≤ I .parts → t < L .imported j → L .global (L .before j + 1 + t) ≡ getD (imports (splitIn I) i j) t 0
+    lists-import : (j t : ℕ) → 1 ≤ j → j ≤ I .parts → t < L .imported j → L .global (L .before j + 1 + t) ≡ getD (imports S i j) t 0
     unfolding splitOf
     lists-import j t h k l =
         let few : j ≤ 16 = omega (arith, R .few-parts) in
-        let q : t < length (imports (splitIn I) i j) = omega (arith, lists-imported j h few) in
-        let e : L .before j + 1 + t ≡ ownedIn (splitIn I) i + total 1 (j - 1) (λ k. length (imports (splitIn I) i k)) + 1 + t = omega (arith, lists-before j h few) in
-        let n : ℕ = ownedIn (splitIn I) i + total 1 (j - 1) (λ k. length (imports (splitIn I) i k)) + 1 + t in
+        let q : t < length (imports S i j) = omega (arith, lists-imported j h few) in
+        let e : L .before j + 1 + t ≡ ownedIn S i + total 1 (j - 1) (λ k. length (imports S i k)) + 1 + t = omega (arith, lists-before j h few) in
+        let n : ℕ = ownedIn S i + total 1 (j - 1) (λ k. length (imports S i k)) + 1 + t in
         ap (L .global) e
         ∙ lists-global n (omega arith) (import-fits i j t h k q)
-        ∙ import-at (splitIn I) i j t h k q
+        ∙ import-at S i j t h k q
 
   pub parted : Parted (schemeIn I) (ownerOf I) (I .parts) (λ i. listsIn (frontIn I i))
   unfolding schemeOf splitOf
