@@ -150,7 +150,7 @@ pub cells-end : (m : Bytes) (first cells e v : ℕ) (s₀ s : List ℕ) → s �
     → s ≡ stamp v s₀ (blocks first cells (chain m))
 cells-end m first cells e v s₀ s f g h = let q : e - first ≡ cells = omega arith in rw q at f
 
-isIn-blocks : (g a n : ℕ) (f : ℕ → List ℕ) → isIn g (blocks a n f) ≡ some a n (λ c. isIn g (f c))
+pub isIn-blocks : (g a n : ℕ) (f : ℕ → List ℕ) → isIn g (blocks a n f) ≡ some a n (λ c. isIn g (f c))
 unfolding blocks some isIn
 isIn-blocks g a zero f = refl
 isIn-blocks g a (suc n) f = isIn-append g (blocks a n f) (f (a + n)) ∙ ap (λ b. b || isIn g (f (a + n))) (isIn-blocks g a n f)

@@ -1,3 +1,5 @@
 pub mod LinkLaws
 pub mod TrailLaws
 pub mod VisitLaws
+pub mod StepLaws
+pub mod NoteLaws

@@ -17,12 +17,12 @@ use Rattle.walks.proofs.LinkLaws.{entries, linkAll-count}
 
 -- ---- trails
 
-trail-end : (cell prev : List ℕ) (n : ℕ) → trail cell prev n 0 ≡ []
+pub trail-end : (cell prev : List ℕ) (n : ℕ) → trail cell prev n 0 ≡ []
 unfolding trail
 trail-end cell prev zero = refl
 trail-end cell prev (suc n) = refl
 
-trail-more : (cell prev : List ℕ) (n s : ℕ) → (s ≡ 0 → ⊥) → trail cell prev (suc n) s ≡ getD cell s 0 ∷ trail cell prev n (getD prev s 0)
+pub trail-more : (cell prev : List ℕ) (n s : ℕ) → (s ≡ 0 → ⊥) → trail cell prev (suc n) s ≡ getD cell s 0 ∷ trail cell prev n (getD prev s 0)
 unfolding trail
 trail-more cell prev n s z = simp (ne-eqb s 0 z, trail)
 

@@ -3,6 +3,7 @@ use mathlib.Core.Path.{_≡_, refl, sym, ap, ap₂, _∙_, subst}
 use mathlib.Core.Bool.{Bool, true, false, _||_, _&&_, cond}
 use mathlib.Core.List.{List, [], _∷_, _++_, map}
 use Prim.Native.Nat.{ℕ, zero, suc, _+_, _-_, _≤_, _<_}
+use native.Mathlib.Nat.{zero-add}
 use native.Mathlib.Numerals.{add-one}
 use native.Mathlib.Omega.{arith}
 use lib.Dec.{eqb, ltb, leb}
@@ -12,9 +13,13 @@ use borrow.Author.Tests.{eqb-true, eqb-false, eq-eqb, ne-eqb, lt-ltb, le-ltb, le
 use Rattle.vocabulary.specs.Lists.{isIn, repeats, All}
 use Rattle.vocabulary.specs.ListLaws.{and-right, once-few, All-append, isIn-append, repeats-snoc}
 use Rattle.vocabulary.specs.Bytes.{Bytes}
-use Rattle.mesh.specs.Mesh.{nextOf, follow}
+use Rattle.vocabulary.specs.Ranges.{blocks}
+use Rattle.vocabulary.specs.RangeLaws.{blocks-turn}
+use Rattle.mesh.specs.Mesh.{recordCount, headOf, elementIn, nextOf, follow, records, chain}
 use Rattle.mesh.proofs.FollowLaws.{chain-ended, chain-spent, chain-more}
-use Rattle.walks.specs.Visits.{Gathered, Toward, with, between}
+use Rattle.walks.specs.Visits.{Gathered, Toward, with, between, down, up, Upward}
+use Rattle.walks.specs.Links.{trail}
+use Rattle.walks.proofs.TrailLaws.{trail-end, trail-more}
 
 or-false-right : (a : Bool) → a || false ≡ a
 or-false-right true = refl
@@ -156,3 +161,67 @@ module _ (m : Bytes) (lo hi n k i : ℕ) (f : ℕ → ℕ) where
   pub between-more : (g x : ℕ) → k < n → 1 ≤ i → g ≡ f i → x ≡ nextOf m i
       → between lo hi (map f (follow m (n - k) i)) ≡ between lo hi (g ∷ []) ++ between lo hi (map f (follow m (n - (k + 1)) x))
   between-more g x h z e y = rw (e, y, chain-more m n k i h z) (between-append lo hi (f i ∷ []) (map f (follow m (n - (k + 1)) (nextOf m i))))
+
+-- ---- the loop over a trail
+
+module _ (cell prev : List ℕ) (n k i : ℕ) where
+  pub trail-ended : i < 1 → trail cell prev (n - k) i ≡ []
+  trail-ended h = let z : i ≡ 0 = omega arith in rw z (trail-end cell prev (n - k))
+
+  pub trail-spent : n ≤ k → trail cell prev (n - k) i ≡ []
+  unfolding trail
+  trail-spent h = let z : n - k ≡ 0 = omega arith in rw z
+
+  trail-opened : k < n → 1 ≤ i → trail cell prev (n - k) i ≡ getD cell i 0 ∷ trail cell prev (n - (k + 1)) (getD prev i 0)
+  trail-opened h z = let q : n - k ≡ suc (n - (k + 1)) = omega arith in rw q (trail-more cell prev (n - (k + 1)) i (omega arith))
+
+  pub trail-next : (x y : ℕ) → k < n → 1 ≤ i → x ≡ getD cell i 0 → y ≡ getD prev i 0 → trail cell prev (n - k) i ≡ (x ∷ []) ++ trail cell prev (n - (k + 1)) y
+  trail-next x y h z e f = rw (e, f) (trail-opened h z)
+
+  module _ (A : All (λ y. (1 ≤ y) × (y ≤ 2000)) (trail cell prev (n - k) i)) (h : k < n) (z : 1 ≤ i) where
+    all-opened : All (λ y. (1 ≤ y) × (y ≤ 2000)) (getD cell i 0 ∷ trail cell prev (n - (k + 1)) (getD prev i 0))
+    all-opened = rw (trail-opened h z) at A
+
+    pub trail-low : (x : ℕ) → x ≡ getD cell i 0 → 1 ≤ x
+    trail-low x e = omega (arith, all-opened .0 .0)
+
+    pub trail-high : (x : ℕ) → x ≡ getD cell i 0 → x ≤ 2000
+    trail-high x e = omega (arith, all-opened .0 .1)
+
+    pub trail-rest : (y : ℕ) → y ≡ getD prev i 0 → All (λ y. (1 ≤ y) × (y ≤ 2000)) (trail cell prev (n - (k + 1)) y)
+    trail-rest y e = rw e (all-opened .1)
+
+-- ---- the loops over a list of elements
+
+pub step-start : (found : List ℕ) (g : ℕ → List ℕ) → Toward found 0 [] (with found 0 (blocks 0 0 g))
+unfolding with isIn blocks
+step-start found g = record { each = λ z. refl }
+
+-- the next element's were gathered after those before it
+pub step-turn : (found₀ found found′ : List ℕ) (n n′ j : ℕ) (g : ℕ → List ℕ) (xs : List ℕ) → Toward found n [] (with found₀ 0 (blocks 0 j g)) → xs ≡ g j
+    → Toward found′ n′ [] (with found n xs) → Toward found′ n′ [] (with found₀ 0 (blocks 0 (j + 1) g))
+unfolding with isIn
+step-turn found₀ found found′ n n′ j g xs t e u = record {
+  each = λ z.
+      u .each z
+      ∙ ap (λ b. b || isIn z xs) (sym (or-false-right (isIn z (take n found))) ∙ t .each z)
+      ∙ sym (isIn-append z (blocks 0 j g) xs)
+      ∙ ap (λ (l : List ℕ). isIn z (blocks 0 j g ++ l)) e
+      ∙ ap (isIn z) (sym (rw zero-add at (blocks-turn 0 g j)));
+}
+
+pub step-end : (found₀ found : List ℕ) (n j s : ℕ) (g : ℕ → List ℕ) → j ≤ n → n ≤ j → Toward found s [] (with found₀ 0 (blocks 0 j g)) → Toward found s [] (with found₀ 0 (blocks 0 n g))
+step-end found₀ found n j s g a b t = let q : j ≡ n = omega arith in subst (λ x. Toward found s [] (with found₀ 0 (blocks 0 x g))) q t
+
+pub down-is : (m : Bytes) (r lo hi h x j : ℕ) (from : List ℕ) → r ≡ recordCount m → x ≡ getD from j 0 → h ≡ headOf m x
+    → between lo hi (map (elementIn m) (follow m (r + 1) h)) ≡ down m lo hi from j
+unfolding down chain records
+down-is m r lo hi h x j from re xe he = rw (he, xe, re)
+
+pub up-is : (cell prev last from : List ℕ) (x u j : ℕ) → x ≡ getD from j 0 → u ≡ getD last x 0 → trail cell prev 12001 u ≡ up cell prev last from j
+unfolding up
+up-is cell prev last from x u j xe ue = rw (ue, xe)
+
+pub up-fits : (cell prev last from : List ℕ) (n x u j : ℕ) → Upward cell prev last from n → j < n → x ≡ getD from j 0 → u ≡ getD last x 0
+    → All (λ y. (1 ≤ y) × (y ≤ 2000)) (trail cell prev 12001 u)
+up-fits cell prev last from n x u j U h xe ue = rw (up-is cell prev last from x u j xe ue) (U .each j h)

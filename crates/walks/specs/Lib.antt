@@ -1,2 +1,3 @@
 pub mod Links
 pub mod Visits
+pub mod Walking

@@ -5,7 +5,10 @@ use mathlib.Core.List.{List, [], _∷_}
 use Prim.Native.Nat.{ℕ, _≤_, _<_}
 use lib.Dec.{eqb, ltb, leb}
 use lib.ListN.{length, getD, take}
+use Rattle.vocabulary.specs.Bytes.{Bytes}
 use Rattle.vocabulary.specs.Lists.{isIn, repeats, All}
+use Rattle.mesh.specs.Mesh.{chain}
+use Rattle.walks.specs.Links.{trail}
 
 -- those after lo and up to hi
 unfoldable pub between : ℕ → ℕ → List ℕ → List ℕ
@@ -34,3 +37,15 @@ pub record Toward (found : List ℕ) (n : ℕ) (rest : List ℕ) (p : ℕ → Bo
 -- the first n numbers of `found` and those of ys
 unfoldable pub with : List ℕ → ℕ → List ℕ → ℕ → Bool
 with found n ys z = isIn z (take n found) || isIn z ys
+
+-- what a step down gathers from the j-th of the cells in `from`: the elements of its chain after lo and up to hi
+unfoldable pub down : Bytes → ℕ → ℕ → List ℕ → ℕ → List ℕ
+down m lo hi from j = between lo hi (chain m (getD from j 0))
+
+-- what a step up gathers from the j-th of the elements in `from`: its cells
+unfoldable pub up : List ℕ → List ℕ → List ℕ → List ℕ → ℕ → List ℕ
+up cell prev last from j = trail cell prev 12001 (getD last (getD from j 0) 0)
+
+-- what a step up gathers are elements
+pub record Upward (cell prev last from : List ℕ) (n : ℕ) : Type 0 where
+  pub each : (j : ℕ) → j < n → All (λ y. (1 ≤ y) × (y ≤ 2000)) (up cell prev last from j)

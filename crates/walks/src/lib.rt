@@ -1,3 +1,4 @@
 // Walks over an accepted mesh, and the reaches of its cells.
 mod inverse;
+mod steps;
 mod visits;

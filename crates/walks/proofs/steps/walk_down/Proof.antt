@@ -1,0 +1,17 @@
+-- `walks::steps::walk_down` meets its contract. Assumes nothing.
+use Rattle.walks.proofs.NoteLaws.{begin, gone-down, low-enough}
+use borrow.Author.Needs.{needs}
+use Rattle.walks.proofs.steps.walk_down.Statement.{statement}
+use Rattle.walks.proofs.steps.walk_down.Tie as tie
+
+pub walk-down-spec : {M : Type 1} → statement M
+walk-down-spec =
+    tie.close
+    (tie.spec
+    (λ c κs. search needs)
+    (λ c. search needs)
+    (λ c κs. search needs)
+    (λ c κs. (search needs, search needs, search needs, search needs, search low-enough, search begin))
+    (λ c. search needs)
+    (λ c. search needs)
+    (λ c. (search needs, search gone-down, search needs)))

@@ -1,0 +1,70 @@
+-- What a step of a walk stands on, and what it gathers. No public contract rests on this page. Assumes nothing.
+use mathlib.Core.Path.{_≡_}
+use mathlib.Core.Bool.{Bool, true, false, _&&_, cond}
+use mathlib.Core.List.{List, [], _∷_}
+use Prim.Native.Nat.{ℕ, _+_, _≤_}
+use lib.Dec.{eqb, leb, ltb}
+use lib.ListN.{length, getD, take}
+use Rattle.vocabulary.specs.Bytes.{Bytes}
+use Rattle.vocabulary.specs.Ranges.{picked}
+use Rattle.vocabulary.specs.Lists.{isIn, All}
+use Rattle.mesh.specs.Mesh.{top, below, firstCell, cellCount, chain}
+use Rattle.mesh.specs.Walks.{bad10, stepTo, walked}
+use Rattle.mesh.specs.Accepted.{Accepted, Cell}
+use Rattle.walks.specs.Links.{trail}
+use Rattle.walks.specs.Visits.{Fresh}
+
+-- y is a cell
+unfoldable pub isCell : Bytes → ℕ → Bool
+isCell m y = leb (firstCell m) y && ltb y (firstCell m + cellCount m)
+
+-- an accepted mesh and stencil, with the chains of its cells turned round
+pub record Ground (m st : Bytes) (cell prev last : List ℕ) : Type 0 where
+  pub mesh : Accepted m
+  pub stencil : bad10 (top m) st ≡ false
+  pub told : (x y : ℕ) → x ≤ 2000 → isIn y (trail cell prev 12001 (getD last x 0)) ≡ isCell m y && isIn x (chain m y)
+
+-- the first n numbers of `from` are all cells, or all lower elements
+pub record Cells (m : Bytes) (from : List ℕ) (n : ℕ) : Type 0 where
+  pub each : All (Cell m) (take n from)
+  pub count : length (take n from) ≡ n
+
+pub record Lowers (m : Bytes) (from : List ℕ) (n : ℕ) : Type 0 where
+  pub each : All (λ x. (1 ≤ x) × (x ≤ below m (top m))) (take n from)
+  pub count : length (take n from) ≡ n
+
+-- z is one step of dimension a from one of the first n numbers of `from`
+unfoldable pub stepped : Bytes → ℕ → List ℕ → ℕ → ℕ → Bool
+stepped m a from n z = isIn z (stepTo m a (take n from))
+
+-- ---- layers: one more than the layer of what was walked to, 0 for the rest
+
+unfoldable pub firstMark : List ℕ → ℕ
+firstMark [] = 0
+firstMark (x ∷ xs) = x + 1
+
+-- by walks of at most k steps
+unfoldable pub layerMark : Bytes → Bytes → ℕ → ℕ → ℕ → ℕ
+layerMark m st c k z = firstMark (picked 0 (k + 1) (λ j. isIn z (walked m st c j)))
+
+-- the mark x, or that of step k where there is none and the element is reached
+unfoldable pub noted : ℕ → Bool → ℕ → ℕ
+noted k b x = cond (b && eqb x 0) (k + 1) x
+
+pub record Noted (k : ℕ) (before after : List ℕ) (p : ℕ → Bool) : Type 0 where
+  pub size : length after ≡ length before
+  pub each : (z : ℕ) → getD after z 0 ≡ noted k (p z) (getD before z 0)
+
+-- the first n numbers of `from`
+unfoldable pub among : List ℕ → ℕ → ℕ → Bool
+among from n z = isIn z (take n from)
+
+-- after k steps from c: where the walks end, the layers, and marks below v
+pub record Walk (m st : Bytes) (c k v : ℕ) (marks from layers : List ℕ) (n : ℕ) : Type 0 where
+  pub fresh : Fresh v marks
+  pub room : length from ≡ 2001
+  pub count : length (take n from) ≡ n
+  pub few : n ≤ 2000
+  pub ends : (z : ℕ) → isIn z (take n from) ≡ isIn z (walked m st c k)
+  pub size : length layers ≡ 2001
+  pub layered : (z : ℕ) → getD layers z 0 ≡ layerMark m st c k z
