@@ -2,17 +2,17 @@
 use mathlib.Core.Path.{_≡_, refl, sym, ap, ap₂, _∙_, subst}
 use mathlib.Core.Logic.{_⊎_, ⊎-elim}
 use mathlib.Core.Bool.{Bool, true, false, cond}
-use mathlib.Core.List.{[], _∷_, _++_}
+use mathlib.Core.List.{List, [], _∷_, _++_}
 use Prim.Native.Nat.{ℕ, zero, suc, _+_, _-_, _*_, _/_, _%_, _<_, _≤_}
-use native.Mathlib.Nat.{add-zero, zero-add}
+use native.Mathlib.Nat.{not-suc-le-zero, le-of-suc-le-suc, add-zero, zero-add}
 use native.Mathlib.Omega.{arith}
 use lib.IntN.{ℤ, pos, negsuc, natAbs}
 use lib.Dec.{ltb}
-use lib.ListN.{length, set, take, drop, length-drop, List·getD-append}
+use lib.ListN.{length, getD, set, take, drop, length-drop, List·getD-append}
 use lib.Seq.{getD-append-add, getD-set-other, getD-take, getD-drop, length-take-le, ext-getD}
 use borrow.Author.Tests.{lt-ltb, le-ltb, leb-true, le-leb}
 use Rattle.vocabulary.specs.Bytes.{Bytes, byteAt, over}
-use Rattle.vocabulary.specs.Lists.{All}
+use Rattle.vocabulary.specs.Lists.{All, joined}
 use Rattle.vocabulary.specs.Ranges.{every, blocks}
 use Rattle.vocabulary.specs.RangeLaws.{every-at, rows-length, rows-at, blocks-turn}
 use Rattle.vocabulary.specs.ByteLaws.{over-in, over-before, over-after, over-more}
@@ -124,6 +124,29 @@ fours-of b at n h =
         ∙ getD-four b (at + 4 * (0 + t)) k h
         ∙ ap (λ x. byteAt b x) f
         ∙ sym (getD-take (4 * n) (drop at b) i 0 (omega arith) ∙ getD-drop at b i 0)
+
+-- texts of four bytes, one after another
+pub joined-at : (ds : List Bytes) (t : ℕ) → All (λ x. length x ≡ 4) ds → t < length ds → four (joined ds) (4 * t) ≡ getD ds t []
+unfolding joined
+joined-at [] t a h = absurd (not-suc-le-zero h)
+joined-at (x ∷ ds) zero a h = four-left x (joined ds) 0 (omega (arith, a .0)) ∙ four-whole x (a .0)
+joined-at (x ∷ ds) (suc t) a h =
+    let e : 4 * suc t ≡ length x + 4 * t = omega (arith, a .0) in
+    ap (λ n. four (x ++ joined ds) n) e ∙ four-past x (joined ds) (4 * t) ∙ joined-at ds t (a .1) (le-of-suc-le-suc h)
+
+-- n fours, one after another, are told by their fours
+pub fours-same : (n : ℕ) (G H : Bytes) → length G ≡ 4 * n → length H ≡ 4 * n → ((c : ℕ) → c < n → four G (4 * c) ≡ four H (4 * c)) → G ≡ H
+fours-same n G H p q e =
+    ext-getD 0 G H (omega arith)
+    (λ x h.
+    let c : x / 4 < n = omega arith in
+    let y : 4 * (x / 4) + x % 4 ≡ x = omega arith in
+    let k : x % 4 < 4 = omega arith in
+    ap (λ z. byteAt G z) (sym y)
+    ∙ sym (getD-four G (4 * (x / 4)) (x % 4) k)
+    ∙ ap (λ z. byteAt z (x % 4)) (e (x / 4) c)
+    ∙ getD-four H (4 * (x / 4)) (x % 4) k
+    ∙ ap (λ z. byteAt H z) y)
 
 -- ---- numbers of four bytes
 

@@ -1,11 +1,14 @@
 -- Laws of words in bytes: words written and read back, both ways, and words after a replacement. Assumes nothing.
 use mathlib.Core.Path.{_≡_, refl, sym, ap, ap₂, _∙_, subst}
+use mathlib.Core.Bool.{Bool, true, false}
 use mathlib.Core.List.{List, [], _∷_, _++_}
 use Prim.Native.Nat.{ℕ, zero, suc, _+_, _*_, _/_, _%_, _<_, _≤_}
 use native.Mathlib.Nat.{not-suc-le-zero, le-of-suc-le-suc, div-add-mod', add-zero, zero-add}
 use native.Mathlib.Omega.{arith}
-use lib.ListN.{length, getD, set, List·getD-append}
+use lib.Dec.{ltb}
+use lib.ListN.{length, getD, set, List·getD-append, List·getD-eq-default}
 use lib.Seq.{getD-append-add, getD-set-other, ext-getD}
+use borrow.Author.Tests.{ltb-true, ltb-false}
 use Rattle.vocabulary.specs.Bytes.{Bytes, byteAt, over}
 use Rattle.vocabulary.specs.Lists.{All}
 use Rattle.vocabulary.specs.Ranges.{listed, blocks}
@@ -120,6 +123,16 @@ wordAt-bytesOf (v ∷ vs) (suc i) h =
     let e : 2 * suc i ≡ suc (suc (2 * i)) = omega arith in
     let f : 2 * suc i + 1 ≡ suc (suc (2 * i + 1)) = omega arith in
     ap₂ (λ a b. byteAt (bytesOf (v ∷ vs)) a * 256 + byteAt (bytesOf (v ∷ vs)) b) e f ∙ wordAt-bytesOf vs i (le-of-suc-le-suc h)
+
+-- the word of index k, and 0 past the end
+pub word-any : (ws : List ℕ) (k : ℕ) → wordAt (bytesOf ws) k ≡ getD ws k 0
+word-any ws k = go (ltb k (length ws)) refl
+  where
+    go : (b : Bool) → ltb k (length ws) ≡ b → wordAt (bytesOf ws) k ≡ getD ws k 0
+    go true e = wordAt-bytesOf ws k (ltb-true _ _ e)
+    go false e =
+        let h : length ws ≤ k = ltb-false _ _ e in
+        wordAt-none (bytesOf ws) k (omega (arith, length-bytesOf ws)) ∙ sym (List·getD-eq-default ws 0 h)
 
 -- one more word stored after a list of them
 pub bytesOf-store : (b : Bytes) (at : ℕ) (ws : List ℕ) (v : ℕ) → at + 2 * length ws ≤ length b

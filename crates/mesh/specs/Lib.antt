@@ -2,3 +2,4 @@ pub mod Mesh
 pub mod Walks
 pub mod Meet
 pub mod Accepted
+pub mod WalkLaws

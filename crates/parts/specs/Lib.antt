@@ -2,3 +2,12 @@ pub mod State
 pub mod Calls
 pub mod Start
 pub mod Run
+pub mod StateLaws
+pub mod FormLaws
+pub mod RunLaws
+pub mod WorldLaws
+pub mod StartLaws
+pub mod DemandLaws
+pub mod BoundLaws
+pub mod KeptLaws
+pub mod BegunLaws

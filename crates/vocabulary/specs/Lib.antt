@@ -6,3 +6,4 @@ pub mod ListLaws
 pub mod RangeLaws
 pub mod ScanLaws
 pub mod ByteLaws
+pub mod CountLaws

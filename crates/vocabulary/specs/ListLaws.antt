@@ -3,15 +3,15 @@
 use mathlib.Core.Path.{_≡_, refl, sym, ap, ap₂, _∙_, subst}
 use mathlib.Core.Logic.{_⊎_, inl, inr, ⊎-elim}
 use mathlib.Core.Bool.{Bool, true, false, _&&_, _||_, cond, true≢false, false≢true}
-use mathlib.Core.List.{List, [], _∷_, _++_, map}
-use Prim.Native.Nat.{ℕ, zero, suc, _+_, _<_, _≤_, suc-le-suc}
+use mathlib.Core.List.{List, [], _∷_, _++_, map, List·Memᴰ, List·Memᴰ·not-nil, List·Memᴰ·cases-cons}
+use Prim.Native.Nat.{ℕ, zero, suc, _+_, _*_, _<_, _≤_, suc-le-suc}
 use native.Mathlib.Nat.{not-suc-le-zero, le-of-suc-le-suc, zero-lt-suc}
 use native.Mathlib.Omega.{arith}
 use lib.ListN.{length, getD, length-append, List·getD-append}
 use lib.Seq.{getD-append-add}
 use lib.Dec.{eqb}
 use borrow.Author.Tests.{ne-eqb, eqb-true, eqb-false}
-use Rattle.vocabulary.specs.Lists.{isIn, placeOf, repeats, someOf, everyOf, All}
+use Rattle.vocabulary.specs.Lists.{isIn, placeOf, repeats, someOf, everyOf, joined, All}
 
 -- ---- tests
 
@@ -96,6 +96,11 @@ module _ {A : Type 0} where
   All-intro P [] d f = tt
   All-intro P (x ∷ xs) d f = (f zero (zero-lt-suc (length xs)), All-intro P xs d (λ l h. f (suc l) (suc-le-suc h)))
 
+-- what every element has, a member has
+pub mem-all : {A : Type 0} (P : A → Type 0) {x : A} (xs : List A) → List·Memᴰ x xs → All P xs → P x
+mem-all P [] m t = absurd (List·Memᴰ·not-nil m)
+mem-all P (y ∷ ys) m t = ⊎-elim (λ e. subst P (sym e) (t .0)) (λ n. mem-all P ys n (t .1)) (List·Memᴰ·cases-cons m)
+
 -- ---- maps
 
 module _ {A B : Type 0} where
@@ -116,6 +121,33 @@ module _ {A B : Type 0} where
   getD-map-any f [] n d e h = absurd (not-suc-le-zero h)
   getD-map-any f (x ∷ xs) zero d e h = refl
   getD-map-any f (x ∷ xs) (suc n) d e h = getD-map-any f xs n d e (le-of-suc-le-suc h)
+
+-- what holds of every image holds of the images
+pub All-of-map : {A B : Type 0} (P : B → Type 0) (f : A → B) (xs : List A) → All (λ x. P (f x)) xs → All P (map f xs)
+All-of-map P f [] a = tt
+All-of-map P f (x ∷ xs) a = (a .0, All-of-map P f xs (a .1))
+
+pub map-id : {A : Type 0} (xs : List A) → map (λ x. x) xs ≡ xs
+map-id [] = refl
+map-id (x ∷ xs) = ap (λ r. x ∷ r) (map-id xs)
+
+-- pairs, one after another
+module _ {A : Type 0} (f g : A → ℕ) where
+  pub pairs-length : (es : List A) → length (joined (map (λ e. f e ∷ g e ∷ []) es)) ≡ 2 * length es
+  unfolding joined
+  pairs-length [] = refl
+  pairs-length (e ∷ es) = omega (arith, pairs-length es)
+
+  pub pairs-at : (es : List A) (t : ℕ) (d : A) → t < length es
+      → (getD (joined (map (λ e. f e ∷ g e ∷ []) es)) (2 * t) 0 ≡ f (getD es t d)) × (getD (joined (map (λ e. f e ∷ g e ∷ []) es)) (2 * t + 1) 0 ≡ g (getD es t d))
+  unfolding joined
+  pairs-at [] t d h = absurd (not-suc-le-zero h)
+  pairs-at (e ∷ es) zero d h = (refl, refl)
+  pairs-at (e ∷ es) (suc t) d h =
+      let p : 2 * suc t ≡ suc (suc (2 * t)) = omega arith in
+      let q : 2 * suc t + 1 ≡ suc (suc (2 * t + 1)) = omega arith in
+      let r = pairs-at es t d (le-of-suc-le-suc h) in
+      (ap (λ x. getD (joined (map (λ e. f e ∷ g e ∷ []) (e ∷ es))) x 0) p ∙ r .0, ap (λ x. getD (joined (map (λ e. f e ∷ g e ∷ []) (e ∷ es))) x 0) q ∙ r .1)
 
 -- ---- a number stands in a list
 

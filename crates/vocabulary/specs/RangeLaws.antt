@@ -9,11 +9,11 @@ use native.Mathlib.Numerals.{add-one}
 use native.Mathlib.Omega.{arith}
 use lib.ListN.{length, getD, length-append, List·getD-append}
 use lib.Seq.{getD-append-add, getD-append-seam, ext-getD}
-use lib.Dec.{eqb, ltb}
-use borrow.Author.Tests.{eqb-true, eqb-false, ltb-true, ltb-false, not-true, not-false}
+use lib.Dec.{eqb, ltb, leb}
+use borrow.Author.Tests.{eqb-true, eqb-false, ltb-true, ltb-false, leb-true, le-leb, not-true, not-false}
 use Rattle.vocabulary.specs.Lists.{repeats, All}
 use Rattle.vocabulary.specs.ListLaws.{and-true, and-intro, and-false, or-left, or-right, or-true, or-none, not-both, All-append, All-getD, At, at-left, at-right, repeats-none, map-append}
-use Rattle.vocabulary.specs.Ranges.{picked, every, some, listed, blocks, total}
+use Rattle.vocabulary.specs.Ranges.{isUpTo, picked, every, some, listed, blocks, total}
 
 -- a number below suc n is the last or comes before it
 pub last-or : (i n : ℕ) → i < suc n → (i < n) ⊎ (i ≡ n)
@@ -22,6 +22,15 @@ last-or i n h = go (eqb i n) refl
     go : (b : Bool) → eqb i n ≡ b → (i < n) ⊎ (i ≡ n)
     go true e = inr (eqb-true i n e)
     go false e = let ne : i ≢ n = eqb-false i n e in inl (omega arith)
+
+-- x is from 1 to n
+pub upTo-true : (n x : ℕ) → isUpTo n x ≡ true → (1 ≤ x) × (x ≤ n)
+unfolding isUpTo
+upTo-true n x e = let r = and-true (leb 1 x) (leb x n) e in (leb-true 1 x (r .0), leb-true x n (r .1))
+
+pub upTo-intro : (n x : ℕ) → 1 ≤ x → x ≤ n → isUpTo n x ≡ true
+unfolding isUpTo
+upTo-intro n x h k = and-intro (leb 1 x) (leb x n) (le-leb 1 x h) (le-leb x n k)
 
 -- ---- every
 
@@ -253,6 +262,12 @@ pub listed-map : {A B : Type 0} (f : A → B) (a : ℕ) (g : ℕ → A) (n : ℕ
 unfolding listed
 listed-map f a g zero = refl
 listed-map f a g (suc n) = map-append f (listed a n g) (g (a + n) ∷ []) ∙ ap (λ xs. xs ++ (f (g (a + n)) ∷ [])) (listed-map f a g n)
+
+-- what every element has, by its index
+pub listed-all : {A : Type 0} (P : A → Type 0) (a n : ℕ) (g : ℕ → A) → ((i : ℕ) → i < n → P (g (a + i))) → All P (listed a n g)
+unfolding listed
+listed-all P a zero g f = tt
+listed-all P a (suc n) g f = All-append P (listed a n g) (g (a + n) ∷ []) (listed-all P a n g (λ i h. f i (omega arith))) (f n (omega arith), tt)
 
 -- ---- blocks
 
