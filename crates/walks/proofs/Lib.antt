@@ -4,3 +4,4 @@ pub mod VisitLaws
 pub mod StepLaws
 pub mod NoteLaws
 pub mod WalkLaws
+pub mod TableLaws

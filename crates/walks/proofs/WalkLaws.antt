@@ -25,9 +25,6 @@ use Rattle.walks.specs.Walking.{Ground, Cells, Lowers, Sided, Clear, ste
 
 -- ---- the copy
 
-pub copy-start : (src dst : List ℕ) → take 0 dst ≡ take 0 src
-copy-start src dst = refl
-
 pub copy-turn : (src dst : List ℕ) (j n : ℕ) → j < n → n ≤ length src → j < length dst → take j dst ≡ take j src → take (j + 1) (set dst j (getD src j 0)) ≡ take (j + 1) src
 copy-turn src dst j n h a b e = rw (add-one j) (take-suc-set dst j (getD src j 0) b ∙ ap (λ l. l ++ (getD src j 0 ∷ [])) e ∙ sym (take-suc src j 0 (omega arith)))
 

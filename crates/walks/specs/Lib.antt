@@ -1,3 +1,4 @@
 pub mod Links
 pub mod Visits
 pub mod Walking
+pub mod Tables

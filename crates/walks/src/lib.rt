@@ -1,4 +1,5 @@
 // Walks over an accepted mesh, and the reaches of its cells.
 mod inverse;
 mod steps;
+mod table;
 mod visits;

@@ -2,7 +2,7 @@
 use mathlib.Core.Path.{_≡_, refl}
 use Prim.Native.Nat.{_-_, _≤_}
 use lib.ListN.{length, take}
-use Rattle.walks.proofs.WalkLaws.{copy-start, copy-turn, copy-end}
+use Rattle.walks.proofs.WalkLaws.{copy-turn, copy-end}
 use borrow.Author.Needs.{needs}
 use Rattle.walks.proofs.steps.copy_list.Statement.{statement}
 use Rattle.walks.proofs.steps.copy_list.Tie as tie
@@ -19,7 +19,7 @@ copy-list-spec =
     (tie.spec
     Inv-loop
     μ-loop
-    (λ c. (search needs, refl, search copy-start))
+    (λ c. (search needs, refl, refl))
     (λ c. search needs)
     (λ c. search needs)
     (λ c. search needs)

@@ -1,0 +1,46 @@
+-- The reaches of all cells as a table of words: for each cell in rising order, each cell of its reach, rising, as its place from 0 and its layer.
+-- Assumes nothing.
+use mathlib.Core.Path.{_≡_}
+use mathlib.Core.Bool.{cond}
+use mathlib.Core.List.{List, [], _∷_, map}
+use Prim.Native.Nat.{ℕ, _+_, _-_, _*_, _/_, _%_, _≤_}
+use lib.Dec.{eqb, leb}
+use lib.ListN.{length, getD}
+use Rattle.vocabulary.specs.Bytes.{Bytes, over}
+use Rattle.vocabulary.specs.Ranges.{blocks, total}
+use Rattle.vocabulary.specs.Lists.{joined}
+use Rattle.layout.specs.Words.{bytesOf}
+use Rattle.mesh.specs.Mesh.{firstCell, cellCount}
+use Rattle.mesh.specs.Walks.{Near, reach}
+
+-- the words of an entry
+unfoldable pub placed : ℕ → Near → List ℕ
+placed first e = (e .cell - first) ∷ e .layer ∷ []
+
+-- the words of a cell's reach
+unfoldable pub cellWords : Bytes → Bytes → ℕ → List ℕ
+cellWords m st c = joined (map (placed (firstCell m)) (reach m st c))
+
+-- the words of the reaches of the first n cells, and how many entries those are
+unfoldable pub tableWords : Bytes → Bytes → ℕ → List ℕ
+tableWords m st n = blocks (firstCell m) n (cellWords m st)
+
+unfoldable pub entryCount : Bytes → Bytes → ℕ → ℕ
+entryCount m st n = total (firstCell m) n (λ c. length (reach m st c))
+
+-- a count, as far as it is counted: 8,001 stands for all above 8,000
+unfoldable pub capped : ℕ → ℕ
+capped n = cond (leb n 8000) n 8001
+
+-- ---- how the code writes them
+
+-- the words at place q, by the layers' marks
+unfoldable pub row : List ℕ → ℕ → ℕ → List ℕ
+row layers first q = cond (eqb (getD layers (first + q) 0) 0) [] (q ∷ (getD layers (first + q) 0 - 1) ∷ [])
+
+-- the words ws were written after the first s entries, which makes t of them; both counts are capped, and nothing is said of too many
+pub record Emitted (before after : Bytes) (s t : ℕ) (ws : List ℕ) : Type 0 where
+  pub size : length after ≡ length before
+  pub even : length ws % 2 ≡ 0
+  pub count : t ≡ capped (s + length ws / 2)
+  pub text : t ≤ 8000 → after ≡ over before (4 * s) (bytesOf ws)
