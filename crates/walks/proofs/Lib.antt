@@ -5,3 +5,4 @@ pub mod StepLaws
 pub mod NoteLaws
 pub mod WalkLaws
 pub mod TableLaws
+pub mod ReachLaws

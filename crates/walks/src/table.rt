@@ -1,4 +1,5 @@
 // The reaches of all cells as a table.
+use crate::steps::walk;
 use crate::visits::entry;
 use layout::inner::put_word;
 ghost use mathlib.Core.Path.{_≡_};
@@ -8,7 +9,11 @@ ghost use lib.ListN.{length};
 ghost use Rattle.vocabulary.specs.Bytes.{over};
 ghost use Rattle.vocabulary.specs.Ranges.{blocks};
 ghost use Rattle.layout.specs.Words.{bytesOf};
-ghost use Rattle.walks.specs.Tables.{row, Emitted};
+ghost use Rattle.walks.specs.Tables.{row, Emitted, cellWords};
+ghost use Rattle.walks.specs.Visits.{Fresh};
+ghost use Rattle.walks.specs.Walking.{Ground};
+ghost use Rattle.mesh.specs.Mesh.{elements, recordCount, firstCell, cellCount};
+ghost use Rattle.mesh.specs.Accepted.{Cell};
 
 // Writes entry t.
 fn put_entry(table: &mut [u8], t: usize, place: usize, layer: usize)
@@ -45,4 +50,47 @@ pub fn emit(layers: &[u16], first: usize, cells: usize, table: &mut [u8], t: usi
         s = emit_one(layers, first, q, table, s);
     }
     s
+}
+
+// The entries of the reach of cell c, for a stencil of n steps.
+fn reach_of(
+    m: &[u8],
+    e: usize,
+    r: usize,
+    st: &[u8],
+    n: usize,
+    cell: &[u16],
+    prev: &[u16],
+    last: &[u16],
+    first: usize,
+    cells: usize,
+    c: usize,
+    v: usize,
+    marks: &mut [u16],
+    from: &mut [u16],
+    found: &mut [u16],
+    table: &mut [u8],
+    t: usize,
+) -> usize
+    requires { ⌜ Ground (now m) (now st) (now cell) (now prev) (now last) × (e ≡ elements (now m)) × (r ≡ recordCount (now m)) × (first ≡ firstCell (now m)) × (cells ≡ cellCount (now m)) × Cell (now m) c × (n + 1 ≡ length (now st)) × (n ≤ 8) × (v ≤ 60000) × Fresh v (now marks) × (length (now from) ≡ 2001) × (length (now found) ≡ 2001) × (length (now table) ≡ 32000) × (t ≤ 8001) ⌝ }
+    ensures { λ s. ⌜ Emitted (now (table .entry)) (now (table .exit)) t s (cellWords (now (m .entry)) (now (st .entry)) c) × (s ≤ 8001) × Fresh (v + n) (now (marks .exit)) × (length (now (from .exit)) ≡ 2001) × (length (now (found .exit)) ≡ 2001) ⌝ }
+{
+    let mut layers = [0u16; 2001];
+    walk(
+        m,
+        e,
+        r,
+        st,
+        cell,
+        prev,
+        last,
+        c,
+        n,
+        v,
+        marks,
+        from,
+        found,
+        &mut layers,
+    );
+    emit(&layers, first, cells, table, t)
 }
