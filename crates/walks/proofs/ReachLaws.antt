@@ -5,20 +5,23 @@ use mathlib.Core.List.{List, [], _∷_, _++_, map, append-assoc}
 use Prim.Native.Nat.{ℕ, zero, suc, _+_, _-_, _*_, _/_, _≤_, _<_}
 use native.Mathlib.Nat.{zero-add}
 use native.Mathlib.Omega.{arith}
-use lib.Dec.{eqb, ltb}
-use borrow.Author.Tests.{ne-eqb, lt-ltb}
-use lib.ListN.{length, getD, length-append, replicate, length-replicate}
+use lib.Dec.{eqb, leb, ltb}
+use borrow.Author.Tests.{eqb-true, eqb-false, ne-eqb, lt-ltb, leb-true, leb-false}
+use lib.Seq.{getD-set-same, getD-set-other}
+use lib.ListN.{length, getD, set, length-append, replicate, length-replicate}
 use Rattle.vocabulary.specs.Bytes.{Bytes}
 use Rattle.vocabulary.specs.Ranges.{picked, blocks, total}
-use Rattle.vocabulary.specs.RangeLaws.{blocks-turn}
+use Rattle.vocabulary.specs.RangeLaws.{blocks-turn, total-grows}
 use Rattle.vocabulary.specs.Lists.{isIn, joined}
 use Rattle.vocabulary.specs.ListLaws.{map-append}
 use Rattle.mesh.specs.Mesh.{firstCell, cellCount}
 use Rattle.mesh.specs.Walks.{Near, steps, stepsTo, layer, reach, walked}
 use Rattle.walks.specs.Walking.{firstMark, layerMark, Walk, Clear}
-use Rattle.mesh.specs.Accepted.{Accepted}
+use Rattle.mesh.specs.Accepted.{Accepted, Cell}
 use Rattle.walks.proofs.TrailLaws.{zeros-at}
-use Rattle.walks.specs.Tables.{placed, cellWords, tableWords, entryCount, row, Emitted}
+use Rattle.walks.specs.Tables.{placed, cellWords, tableWords, entryCount, capped, row, Emitted, Ends, Tabled}
+use Rattle.walks.specs.Visits.{Fresh}
+use Rattle.walks.proofs.TableLaws.{capped-low, capped-high, capped-few, emit-none, emit-both}
 
 pub joined-append : {A : Type 0} (xs ys : List (List A)) → joined (xs ++ ys) ≡ joined xs ++ joined ys
 unfolding joined
@@ -105,6 +108,95 @@ first-small m first A e = omega (arith, A .cells-in, A .sizes .n-high)
 pub cells-small : (m : Bytes) (cells : ℕ) → Accepted m → cells ≡ cellCount m → cells < 65536
 cells-small m cells A e = omega (arith, A .cells-in, A .sizes .n-high)
 
+pub cells-few : (m : Bytes) (cells : ℕ) → Accepted m → cells ≡ cellCount m → cells ≤ 2000
+cells-few m cells A e = omega (arith, A .cells-in, A .sizes .n-high)
+
 pub steps-is : (st : Bytes) (n : ℕ) → n + 1 ≡ length st → n ≡ steps st
 unfolding steps
 steps-is st n e = omega arith
+
+-- ---- the loop over the cells
+
+pub fresh : Fresh 1 (replicate 2001 0)
+fresh = record { size = length-replicate {A = ℕ} 2001 0; each = λ y. omega (arith, zeros-at 2001 y) }
+
+pub cell-is : (m : Bytes) (first cells x : ℕ) → first ≡ firstCell m → cells ≡ cellCount m → first ≤ x → x < first + cells → Cell m x
+cell-is m first cells x fe ce l h = record { low = omega arith; high = omega arith }
+
+pub table-start : (m st b : Bytes) (first : ℕ) → Emitted b b 0 0 (tableWords m st (first - first))
+unfolding tableWords blocks
+table-start m st b first = let z : first - first ≡ 0 = omega arith in subst (λ k. Emitted b b 0 0 (blocks (firstCell m) k (cellWords m st))) (sym z) (emit-none b 0 (omega arith))
+
+pub ends-start : (m st : Bytes) (first : ℕ) (ends after : List ℕ) → length ends ≡ 2001 → after ≡ set ends 0 0 → Ends m st after (first - first)
+ends-start m st first ends after r f = record { each = λ j h. let z : j ≡ 0 = omega arith in subst (λ k. getD after k 0 ≡ entryCount m st k) (sym z) (ap (λ (l : List ℕ). getD l 0 0) f ∙ getD-set-same ends 0 0 0 (omega arith) ∙ none) }
+  where
+    none : 0 ≡ entryCount m st 0
+    none = unfold entryCount total in refl
+
+module _ (m st : Bytes) (first x : ℕ) (fe : first ≡ firstCell m) (l : first ≤ x) where
+  next : tableWords m st (x + 1 - first) ≡ tableWords m st (x - first) ++ cellWords m st x
+  unfolding tableWords
+  next =
+      let q : x + 1 - first ≡ x - first + 1 = omega arith in
+      let p : firstCell m + (x - first) ≡ x = omega arith in
+      ap (λ k. blocks (firstCell m) k (cellWords m st)) q ∙ blocks-turn (firstCell m) (cellWords m st) (x - first) ∙ ap (λ c. blocks (firstCell m) (x - first) (cellWords m st) ++ cellWords m st c) p
+
+  pub table-turn : (a b c : Bytes) (t s : ℕ) → length a ≡ 32000 → Emitted a b 0 t (tableWords m st (x - first)) → Emitted b c t s (cellWords m st x) → Emitted a c 0 s (tableWords m st (x + 1 - first))
+  table-turn a b c t s r E F = subst (Emitted a c 0 s) (sym next) (emit-both a b c 0 t s _ _ r E F)
+
+  counted : (a b : Bytes) (s j : ℕ) → Emitted a b 0 s (tableWords m st j) → s ≡ capped (entryCount m st j)
+  counted a b s j E = E .count ∙ ap capped (let q : 0 + length (tableWords m st j) / 2 ≡ entryCount m st j = omega (arith, table-count m st j) in q)
+
+  pub ends-turn : (a b c : Bytes) (t s : ℕ) (ends after : List ℕ) (cells : ℕ) → Accepted m → cells ≡ cellCount m → x < first + cells → length a ≡ 32000 → length ends ≡ 2001 → Emitted a b 0 t (tableWords m st (x - first)) → Emitted b c t s (cellWords m st x)
+      → s ≤ 8000 → Ends m st ends (x - first) → after ≡ set ends (x + 1 - first) s → Ends m st after (x + 1 - first)
+  ends-turn a b c t s ends after cells A ce xh r re E F h N f = record { each = λ j k. ap (λ (q : List ℕ). getD q j 0) f ∙ go j k (eqb j (x + 1 - first)) refl }
+    where
+      sum : s ≡ entryCount m st (x + 1 - first)
+      sum = capped-few (entryCount m st (x + 1 - first)) s (counted a c s (x + 1 - first) (table-turn a b c t s r E F)) h
+
+      go : (j : ℕ) → j ≤ x + 1 - first → (d : Bool) → eqb j (x + 1 - first) ≡ d → getD (set ends (x + 1 - first) s) j 0 ≡ entryCount m st j
+      go j k true e =
+          let q : j ≡ x + 1 - first = eqb-true j (x + 1 - first) e in
+          subst (λ i. getD (set ends (x + 1 - first) s) i 0 ≡ entryCount m st i) (sym q) (getD-set-same ends (x + 1 - first) s 0 (omega (arith, A .cells-in, A .sizes .n-high)) ∙ sum)
+      go j k false e =
+          let n : j ≡ x + 1 - first → ⊥ = eqb-false j (x + 1 - first) e in
+          getD-set-other ends (x + 1 - first) j s 0 n ∙ N .each j (omega arith)
+
+  -- too many already
+  pub table-over : (a b c : Bytes) (t s cells : ℕ) (ends : List ℕ) → length a ≡ 32000 → cells ≡ cellCount m → x < first + cells → Emitted a b 0 t (tableWords m st (x - first)) → Emitted b c t s (cellWords m st x)
+      → 8000 < s → Tabled m st a c ends s
+  table-over a b c t s cells ends r ce h E F k = record {
+    count = all;
+    text = λ q. let z : ⊥ = omega arith in absurd z;
+    ended = λ q. let z : ⊥ = omega arith in absurd z;
+  }
+    where
+      here : s ≡ capped (entryCount m st (x + 1 - first))
+      here = counted a c s (x + 1 - first) (table-turn a b c t s r E F)
+
+      many : 8000 < entryCount m st (x + 1 - first)
+      many = lots (leb (entryCount m st (x + 1 - first)) 8000) refl
+        where
+          lots : (d : Bool) → leb (entryCount m st (x + 1 - first)) 8000 ≡ d → 8000 < entryCount m st (x + 1 - first)
+          lots true e = let z : ⊥ = omega (arith, here, capped-low (entryCount m st (x + 1 - first)) (leb-true _ 8000 e), leb-true (entryCount m st (x + 1 - first)) 8000 e) in absurd z
+          lots false e = leb-false (entryCount m st (x + 1 - first)) 8000 e
+
+      grows : entryCount m st (x + 1 - first) ≤ entryCount m st (cellCount m)
+      grows = unfold entryCount in total-grows (firstCell m) (λ c. length (reach m st c)) (x + 1 - first) (cellCount m) (omega arith)
+
+      all : s ≡ capped (entryCount m st (cellCount m))
+      all = here ∙ capped-high (entryCount m st (x + 1 - first)) many ∙ sym (capped-high (entryCount m st (cellCount m)) (omega (arith, grows, many)))
+
+pub table-end : (m st : Bytes) (first cells x t : ℕ) (a b : Bytes) (ends : List ℕ) → cells ≡ cellCount m → x ≤ first + cells → first + cells ≤ x → first ≤ x
+    → Emitted a b 0 t (tableWords m st (x - first)) → Ends m st ends (x - first) → Tabled m st a b ends t
+table-end m st first cells x t a b ends ce g h l E N = record {
+  count = (E′ .count) ∙ ap capped (let q : 0 + length (tableWords m st (cellCount m)) / 2 ≡ entryCount m st (cellCount m) = omega (arith, table-count m st (cellCount m)) in q);
+  text = E′ .text;
+  ended = λ q. subst (Ends m st ends) all N;
+}
+  where
+    all : x - first ≡ cellCount m
+    all = omega arith
+
+    E′ : Emitted a b 0 t (tableWords m st (cellCount m))
+    E′ = subst (λ k. Emitted a b 0 t (tableWords m st k)) all E

@@ -22,11 +22,11 @@ entry-stored b x y o p l h e f = f ∙ ap (λ (c : Bytes). over c (o + 2) (wordB
 
 -- ---- counts that are capped
 
-capped-low : (n : ℕ) → n ≤ 8000 → capped n ≡ n
+pub capped-low : (n : ℕ) → n ≤ 8000 → capped n ≡ n
 unfolding capped
 capped-low n h = ap (λ b. cond b n 8001) (le-leb n 8000 h)
 
-capped-high : (n : ℕ) → 8000 < n → capped n ≡ 8001
+pub capped-high : (n : ℕ) → 8000 < n → capped n ≡ 8001
 unfolding capped
 capped-high n h = ap (λ b. cond b n 8001) (lt-leb n 8000 h)
 

@@ -44,3 +44,13 @@ pub record Emitted (before after : Bytes) (s t : ℕ) (ws : List ℕ) : Type 0 w
   pub even : length ws % 2 ≡ 0
   pub count : t ≡ capped (s + length ws / 2)
   pub text : t ≤ 8000 → after ≡ over before (4 * s) (bytesOf ws)
+
+-- ends j is the count of entries of the first j cells, for j up to n
+pub record Ends (m st : Bytes) (ends : List ℕ) (n : ℕ) : Type 0 where
+  pub each : (j : ℕ) → j ≤ n → getD ends j 0 ≡ entryCount m st j
+
+-- the reaches of all cells: r entries, unless they are too many, and then nothing is said of the table
+pub record Tabled (m st : Bytes) (before after : Bytes) (ends : List ℕ) (r : ℕ) : Type 0 where
+  pub count : r ≡ capped (entryCount m st (cellCount m))
+  pub text : r ≤ 8000 → after ≡ over before 0 (bytesOf (tableWords m st (cellCount m)))
+  pub ended : r ≤ 8000 → Ends m st ends (cellCount m)

@@ -2,6 +2,7 @@
 use crate::steps::walk;
 use crate::visits::entry;
 use layout::inner::put_word;
+use layout::put_number_at;
 ghost use mathlib.Core.Path.{_≡_};
 ghost use mathlib.Core.List.{[], _∷_};
 ghost use Prim.Native.Nat.{ℕ, _+_, _*_, _<_, _≤_};
@@ -9,7 +10,7 @@ ghost use lib.ListN.{length};
 ghost use Rattle.vocabulary.specs.Bytes.{over};
 ghost use Rattle.vocabulary.specs.Ranges.{blocks};
 ghost use Rattle.layout.specs.Words.{bytesOf};
-ghost use Rattle.walks.specs.Tables.{row, Emitted, cellWords};
+ghost use Rattle.walks.specs.Tables.{row, Emitted, cellWords, Tabled};
 ghost use Rattle.walks.specs.Visits.{Fresh};
 ghost use Rattle.walks.specs.Walking.{Ground};
 ghost use Rattle.mesh.specs.Mesh.{elements, recordCount, firstCell, cellCount};
@@ -93,4 +94,57 @@ fn reach_of(
         &mut layers,
     );
     emit(&layers, first, cells, table, t)
+}
+
+// The reaches of all cells, from the chains turned round.
+fn reach_all(
+    m: &[u8],
+    e: usize,
+    r: usize,
+    st: &[u8],
+    n: usize,
+    cell: &[u16],
+    prev: &[u16],
+    last: &[u16],
+    first: usize,
+    cells: usize,
+    table: &mut [u8],
+    ends: &mut [u16],
+) -> usize
+    requires { ⌜ Ground (now m) (now st) (now cell) (now prev) (now last) × (e ≡ elements (now m)) × (r ≡ recordCount (now m)) × (first ≡ firstCell (now m)) × (cells ≡ cellCount (now m)) × (n + 1 ≡ length (now st)) × (n ≤ 8) × (length (now table) ≡ 32000) × (length (now ends) ≡ 2001) ⌝ }
+    ensures { λ s. ⌜ Tabled (now (m .entry)) (now (st .entry)) (now (table .entry)) (now (table .exit)) (now (ends .exit)) s ⌝ }
+{
+    let mut marks = [0u16; 2001];
+    let mut from = [0u16; 2001];
+    let mut found = [0u16; 2001];
+    let mut t = 0;
+    let mut v = 1;
+    put_number_at(ends, 0, 0);
+    for x in first..first + cells {
+        t = reach_of(
+            m,
+            e,
+            r,
+            st,
+            n,
+            cell,
+            prev,
+            last,
+            first,
+            cells,
+            x,
+            v,
+            &mut marks,
+            &mut from,
+            &mut found,
+            table,
+            t,
+        );
+        if 8000 < t {
+            return t;
+        }
+        v += n;
+        put_number_at(ends, x + 1 - first, t as u16);
+    }
+    t
 }
