@@ -6,3 +6,4 @@ pub mod NoteLaws
 pub mod WalkLaws
 pub mod TableLaws
 pub mod ReachLaws
+pub mod GroundLaws

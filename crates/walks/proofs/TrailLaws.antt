@@ -27,7 +27,7 @@ unfolding trail
 trail-more cell prev n s z = simp (ne-eqb s 0 z, trail)
 
 -- two tables that agree up to entry t, in which each entry leads to an earlier one: the trails are the same, whatever the bound from s on
-trail-same : (cell prev cell′ prev′ : List ℕ) (t : ℕ) → ((s : ℕ) → 1 ≤ s → s ≤ t → getD prev s 0 < s)
+pub trail-same : (cell prev cell′ prev′ : List ℕ) (t : ℕ) → ((s : ℕ) → 1 ≤ s → s ≤ t → getD prev s 0 < s)
     → ((s : ℕ) → 1 ≤ s → s ≤ t → (getD cell′ s 0 ≡ getD cell s 0) × (getD prev′ s 0 ≡ getD prev s 0))
     → (n n′ s : ℕ) → s ≤ n → s ≤ n′ → s ≤ t → trail cell′ prev′ n′ s ≡ trail cell prev n s
 trail-same cell prev cell′ prev′ t low same zero n′ s a b c =
@@ -191,7 +191,7 @@ linked-none P f = record {
   told = λ x y h. sym (f x y);
 }
 
-count-cells : (m : Bytes) (first n : ℕ) → entries (linkCells m first n empty) ≡ length (blocks first n (chain m))
+pub count-cells : (m : Bytes) (first n : ℕ) → entries (linkCells m first n empty) ≡ length (blocks first n (chain m))
 unfolding linkCells blocks
 count-cells m first zero = refl
 count-cells m first (suc n) =
@@ -199,7 +199,7 @@ count-cells m first (suc n) =
     ∙ ap (λ x. x + length (chain m (first + n))) (count-cells m first n)
     ∙ sym (length-append (blocks first n (chain m)) (chain m (first + n)))
 
-linked-cells : (m : Bytes) (first n : ℕ) → length (blocks first n (chain m)) ≤ 12000 → ((j : ℕ) → j < n → All (λ g. g ≤ 2000) (chain m (first + j)))
+pub linked-cells : (m : Bytes) (first n : ℕ) → length (blocks first n (chain m)) ≤ 12000 → ((j : ℕ) → j < n → All (λ g. g ≤ 2000) (chain m (first + j)))
     → LinkedAs (linkCells m first n empty) (pairs m first n)
 unfolding linkCells pairs some
 linked-cells m first zero room a = linked-none _ (λ x y. refl)

@@ -1,9 +1,15 @@
 // The reaches of all cells as a table.
+use crate::inverse::invert;
 use crate::steps::walk;
 use crate::visits::entry;
 use layout::inner::put_word;
 use layout::put_number_at;
+use mesh::inner::cell_count;
+use mesh::inner::elements_of;
+use mesh::inner::first_cell;
+use mesh::inner::record_count;
 ghost use mathlib.Core.Path.{_≡_};
+ghost use mathlib.Core.Bool.{false};
 ghost use mathlib.Core.List.{[], _∷_};
 ghost use Prim.Native.Nat.{ℕ, _+_, _*_, _<_, _≤_};
 ghost use lib.ListN.{length};
@@ -13,8 +19,9 @@ ghost use Rattle.layout.specs.Words.{bytesOf};
 ghost use Rattle.walks.specs.Tables.{row, Emitted, cellWords, Tabled};
 ghost use Rattle.walks.specs.Visits.{Fresh};
 ghost use Rattle.walks.specs.Walking.{Ground};
-ghost use Rattle.mesh.specs.Mesh.{elements, recordCount, firstCell, cellCount};
-ghost use Rattle.mesh.specs.Accepted.{Cell};
+ghost use Rattle.mesh.specs.Mesh.{top, elements, recordCount, firstCell, cellCount};
+ghost use Rattle.mesh.specs.Walks.{bad10};
+ghost use Rattle.mesh.specs.Accepted.{Accepted, Cell};
 
 // Writes entry t.
 fn put_entry(table: &mut [u8], t: usize, place: usize, layer: usize)
@@ -147,4 +154,35 @@ fn reach_all(
         put_number_at(ends, x + 1 - first, t as u16);
     }
     t
+}
+
+// The reaches of all cells under an accepted stencil: how many entries they have, 8,001 for all above 8,000. For each cell in rising order the
+// table has the cells of its reach, rising, as their places from 0 and their layers, and `ends` how many entries there are up to each cell.
+pub fn reach_table(m: &[u8], st: &[u8], table: &mut [u8], ends: &mut [u16]) -> usize
+    requires { ⌜ Accepted (now m) × (bad10 (top (now m)) (now st) ≡ false) × (length (now table) ≡ 32000) × (length (now ends) ≡ 2001) ⌝ }
+    ensures { λ s. ⌜ Tabled (now (m .entry)) (now (st .entry)) (now (table .entry)) (now (table .exit)) (now (ends .exit)) s ⌝ }
+{
+    let e = elements_of(m);
+    let r = record_count(m);
+    let first = first_cell(m);
+    let cells = cell_count(m);
+    let n = st.len() - 1;
+    let mut cell = [0u16; 12001];
+    let mut prev = [0u16; 12001];
+    let mut last = [0u16; 2001];
+    invert(m, e, r, first, cells, &mut cell, &mut prev, &mut last);
+    reach_all(
+        m,
+        e,
+        r,
+        st,
+        n,
+        &cell,
+        &prev,
+        &last,
+        first,
+        cells,
+        table,
+        ends,
+    )
 }

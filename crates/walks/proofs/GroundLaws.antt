@@ -1,0 +1,94 @@
+-- An accepted mesh with the chains of its cells turned round, and an accepted stencil. Assumes nothing.
+use mathlib.Core.Path.{_≡_, refl, sym, ap, ap₂, _∙_, subst}
+use mathlib.Core.Bool.{Bool, true, false, not, _||_, _&&_}
+use mathlib.Core.List.{List, [], _∷_, map}
+use Prim.Native.Nat.{ℕ, zero, suc, _+_, _-_, _%_, _≤_, _<_}
+use native.Mathlib.Omega.{arith}
+use lib.Dec.{eqb, leb, ltb}
+use lib.ListN.{length, getD, length-map, replicate}
+use borrow.Author.Tests.{eqb-true, eq-eqb, le-leb, lt-ltb, leb-true, ltb-true, ltb-false, not-false}
+use Rattle.vocabulary.specs.Bytes.{Bytes}
+use Rattle.vocabulary.specs.Ranges.{some, blocks, every}
+use Rattle.vocabulary.specs.RangeLaws.{some-witness, some-in, blocks-length, blocks-inner, total-cong}
+use Rattle.vocabulary.specs.Lists.{isIn, All}
+use Rattle.vocabulary.specs.ListLaws.{and-true, and-intro, same-test, or-false, All-map}
+use Rattle.mesh.specs.Mesh.{top, below, elements, firstCell, cellCount, dimension, elementIn, records, chain, allRecords}
+use Rattle.mesh.specs.Walks.{bad10}
+use Rattle.mesh.specs.Accepted.{Accepted, Element}
+use Rattle.mesh.proofs.DimensionLaws.{below-rises, dimension-le}
+use Rattle.walks.specs.Links.{Links, links, linkCells, trail}
+use Rattle.walks.specs.Walking.{isCell, Ground}
+use Rattle.walks.proofs.TrailLaws.{Linked, LinkedAs, pairs, empty, linked-cells, trail-same, count-cells}
+use Rattle.walks.proofs.LinkLaws.{entries}
+
+pairs-told : (m : Bytes) (first n x y : ℕ) → pairs m first n x y ≡ (leb first y && ltb y (first + n)) && isIn x (chain m y)
+unfolding pairs
+pairs-told m first n x y = same-test _ _ left right
+  where
+    left : some first n (λ c. isIn x (chain m c) && eqb y c) ≡ true → (leb first y && ltb y (first + n)) && isIn x (chain m y) ≡ true
+    left e =
+        let w = some-witness first (λ c. isIn x (chain m c) && eqb y c) n e in
+        let u = and-true (isIn x (chain m (first + w .0))) (eqb y (first + w .0)) (w .2) in
+        let q : y ≡ first + w .0 = eqb-true y (first + w .0) (u .1) in
+        and-intro _ _ (and-intro _ _ (le-leb first y (omega arith)) (lt-ltb y (first + n) (omega (arith, w .1)))) (ap (λ c. isIn x (chain m c)) q ∙ u .0)
+
+    right : (leb first y && ltb y (first + n)) && isIn x (chain m y) ≡ true → some first n (λ c. isIn x (chain m c) && eqb y c) ≡ true
+    right e =
+        let w = and-true (leb first y && ltb y (first + n)) (isIn x (chain m y)) e in
+        let u = and-true (leb first y) (ltb y (first + n)) (w .0) in
+        some-in first (λ c. isIn x (chain m c) && eqb y c) n y (leb-true first y (u .0)) (ltb-true y (first + n) (u .1)) (and-intro _ _ (w .1) (eq-eqb y y refl))
+
+module _ (m : Bytes) (A : Accepted m) (first cells : ℕ) (fe : first ≡ firstCell m) (ce : cells ≡ cellCount m) where
+  room : length (blocks first cells (chain m)) ≤ 12000
+  unfolding allRecords chain
+  room =
+      let q : 1 + (first - 1) ≡ first = omega (arith, fe) in
+      let a : length (blocks (1 + (first - 1)) cells (records m)) ≤ length (allRecords m) = blocks-inner 1 (records m) (first - 1) cells (elements m) (omega (arith, fe, ce, A .cells-in)) in
+      let b : length (blocks first cells (chain m)) ≡ length (blocks first cells (records m)) =
+      blocks-length first (chain m) cells ∙ total-cong first _ _ cells (λ j k. length-map (records m (first + j)) (elementIn m)) ∙ sym (blocks-length first (records m) cells) in
+      let f : length (blocks (1 + (first - 1)) cells (records m)) ≡ length (blocks first cells (records m)) = ap (λ x. length (blocks x cells (records m))) q in
+      omega (arith, A .records-few, A .sizes .r-high)
+
+  small : (j : ℕ) → j < cells → All (λ g. g ≤ 2000) (chain m (first + j))
+  small j h =
+      All-map (chain m (first + j)) (λ g w. omega (arith, w .1, below-rises m (dimension m (first + j)) 4 (omega (arith, dimension-le m (first + j), A .sizes .d-high)), A .sizes .n-high))
+      (A .chain-lower (first + j) (record { low = omega (arith, fe); high = omega (arith, fe, ce, A .cells-in) }))
+
+  -- the entries of all cells' chains
+  turned : LinkedAs (linkCells m first cells empty) (pairs m first cells)
+  turned = linked-cells m first cells room small
+
+  few : entries (linkCells m first cells empty) ≤ 12000
+  few = omega (arith, count-cells m first cells, room)
+
+  module _ (st : Bytes) (bad : bad10 (top m) st ≡ false) (s : ℕ) (cell prev last : List ℕ) (e : links s cell prev last ≡ linkCells m first cells empty) where
+    K : Linked s cell prev last (pairs m first cells)
+    K = subst (λ L. LinkedAs L (pairs m first cells)) (sym e) turned
+
+    short : s ≤ 12000
+    short = subst (λ L. entries L ≤ 12000) (sym e) few
+
+    pub grounded : Ground m st cell prev last
+    unfolding isCell
+    grounded = record {
+      mesh = A;
+      stencil = bad;
+      told = λ x y h.
+          ap (isIn y) (trail-same cell prev cell prev s (K .falls) (λ i a b. (refl, refl)) s 12001 (getD last x 0) (K .within x) (omega (arith, K .within x, short)) (K .within x))
+          ∙ K .told x y h
+          ∙ pairs-told m first cells x y
+          ∙ ap₂ (λ a b. (leb a y && ltb y (a + b)) && isIn x (chain m y)) fe ce;
+    }
+
+-- ---- the stencil's length
+
+module _ (d : ℕ) (st : Bytes) (bad : bad10 d st ≡ false) where
+  lengths : not (eqb (length st % 2) 1) || ltb 9 (length st) ≡ false
+  unfolding bad10
+  lengths = or-false (not (eqb (length st % 2) 1) || ltb 9 (length st)) (not (every 0 (length st) _)) bad .0
+
+  pub stencil-some : 1 ≤ length st
+  stencil-some = omega (arith, eqb-true (length st % 2) 1 (not-false _ (or-false (not (eqb (length st % 2) 1)) (ltb 9 (length st)) lengths .0)))
+
+  pub stencil-short : length st ≤ 9
+  stencil-short = ltb-false 9 (length st) (or-false (not (eqb (length st % 2) 1)) (ltb 9 (length st)) lengths .1)
