@@ -15,7 +15,7 @@ use Rattle.vocabulary.specs.ListLaws.{or-left, or-false, isIn-at, At, All-of-ma
 use Rattle.vocabulary.specs.Ranges.{picked, every}
 use Rattle.vocabulary.specs.RangeLaws.{last-or, every-in, picked-passes, picked-all, picked-at, picked-in, picked-rises}
 use Rattle.mesh.specs.Mesh.{top, counted, below, firstCell, cellCount}
-use Rattle.mesh.specs.Walks.{Near, incident, reach, layer, steps, bad10, stepTo, stepsTo, walked}
+use Rattle.mesh.specs.Walks.{Near, incident, reach, layer, steps, rightAt, bad10, stepTo, stepsTo, walked}
 
 module _ (m st : Bytes) (c : ℕ) where
   abbrev near : ℕ → Near
@@ -71,15 +71,12 @@ below-grows m j (suc k) h =
 
 -- an accepted stencil
 module _ (d : ℕ) (st : Bytes) (good : bad10 d st ≡ false) where
-  abbrev places : ℕ → Bool
-  places k = cond (eqb (k % 2) 0) (eqb (byteAt st k) d) (ltb (byteAt st k) d)
-
-  stencil-parts : (length st % 2 ≡ 1) × (length st ≤ 9) × (every 0 (length st) places ≡ true)
+  pub stencil-parts : (length st % 2 ≡ 1) × (length st ≤ 9) × (every 0 (length st) (rightAt d st) ≡ true)
   unfolding bad10
   stencil-parts =
       let a = not (eqb (length st % 2) 1) in
       let b = ltb 9 (length st) in
-      let c = not (every 0 (length st) places) in
+      let c = not (every 0 (length st) (rightAt d st)) in
       let p = or-false (a || b) c good in
       let q = or-false a b (p .0) in
       (eqb-true _ _ (not-false _ (q .0)), ltb-false _ _ (q .1), not-false _ (p .1))
@@ -88,18 +85,24 @@ module _ (d : ℕ) (st : Bytes) (good : bad10 d st ≡ false) where
   unfolding steps
   steps-even = omega (arith, stencil-parts .0)
 
+  pub within : (k : ℕ) → k ≤ steps st → k < length st
+  unfolding steps
+  within k h = omega (arith, stencil-parts .0)
+
   pub steps-few : steps st ≤ 8
   unfolding steps
   steps-few = omega (arith, stencil-parts .1)
 
-  -- an odd place has a lower dimension
-  pub stencil-odd : (k : ℕ) → k ≤ steps st → k % 2 ≡ 1 → byteAt st k < d
-  unfolding steps
-  stencil-odd k h e =
-      let q : k < length st = omega (arith, stencil-parts .0) in
-      let p : cond (eqb (k % 2) 0) (eqb (byteAt st k) d) (ltb (byteAt st k) d) ≡ true = every-in 0 places (length st) k (stencil-parts .2) (omega arith) (omega arith) in
-      let z : eqb (k % 2) 0 ≡ false = ne-eqb (k % 2) 0 (λ y. let n : ⊥ = omega arith in n) in
-      ltb-true _ _ (rw z at p)
+  place : (k : ℕ) → k < length st → cond (eqb (k % 2) 0) (eqb (byteAt st k) d) (ltb (byteAt st k) d) ≡ true
+  unfolding rightAt
+  place k h = every-in 0 (rightAt d st) (length st) k (stencil-parts .2) (omega arith) (omega arith)
+
+  -- an odd place has a lower dimension, an even one that of the cells
+  pub stencil-odd : (k : ℕ) → k < length st → k % 2 ≡ 1 → byteAt st k < d
+  stencil-odd k h o = ltb-true (byteAt st k) d (rw (ne-eqb (k % 2) 0 (omega arith)) at (place k h))
+
+  pub stencil-even : (k : ℕ) → k < length st → (k % 2 ≡ 1 → ⊥) → byteAt st k ≡ d
+  stencil-even k h o = eqb-true (byteAt st k) d (rw (eq-eqb (k % 2) 0 (omega arith)) at (place k h))
 
 module _ (m st : Bytes) (c : ℕ) (good : bad10 (top m) st ≡ false) where
   -- a cell is walked to in an even number of steps
@@ -112,7 +115,7 @@ module _ (m st : Bytes) (c : ℕ) (good : bad10 (top m) st ≡ false) where
       low o =
           let a : ℕ = byteAt st (suc k) in
           let t = picked-passes (below m (byteAt st (suc k)) + 1) (λ y. someOf (walked m st c k) (λ e. incident m e y)) (counted m (byteAt st (suc k))) x (isIn-at x (walked m st c (suc k)) e) in
-          let s : byteAt st (suc k) < top m = stencil-odd (top m) st good (suc k) q o in
+          let s : byteAt st (suc k) < top m = stencil-odd (top m) st good (suc k) (within (top m) st good (suc k) q) o in
           let g : below m (suc (byteAt st (suc k))) ≤ below m (top m) = below-grows m (suc (byteAt st (suc k))) (top m) (omega arith) in
           omega (arith, t .1)
 

@@ -19,13 +19,17 @@ incident m e f = isIn e (chain m f) || isIn f (chain m e)
 unfoldable pub steps : Bytes → ℕ
 steps st = length st - 1
 
+-- place k is right: d at every even place and less than d at every odd place
+unfoldable pub rightAt : ℕ → Bytes → ℕ → Bool
+rightAt d st k = cond (eqb (k % 2) 0) (eqb (byteAt st k) d) (ltb (byteAt st k) d)
+
 -- "A stencil is bytes a0, .., an, with n even, n at most 8, d at every even place and less than d at every odd place." A number for d
 -- and the stencil: 10.
 unfoldable pub bad10 : ℕ → Bytes → Bool
 bad10 d st =
     not (eqb (length st % 2) 1)
     || ltb 9 (length st)
-    || not (every 0 (length st) (λ k. cond (eqb (k % 2) 0) (eqb (byteAt st k) d) (ltb (byteAt st k) d)))
+    || not (every 0 (length st) (rightAt d st))
 
 -- ---- walks
 

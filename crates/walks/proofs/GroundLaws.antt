@@ -79,16 +79,3 @@ module _ (m : Bytes) (A : Accepted m) (first cells : ℕ) (fe : first ≡ firstC
           ∙ pairs-told m first cells x y
           ∙ ap₂ (λ a b. (leb a y && ltb y (a + b)) && isIn x (chain m y)) fe ce;
     }
-
--- ---- the stencil's length
-
-module _ (d : ℕ) (st : Bytes) (bad : bad10 d st ≡ false) where
-  lengths : not (eqb (length st % 2) 1) || ltb 9 (length st) ≡ false
-  unfolding bad10
-  lengths = or-false (not (eqb (length st % 2) 1) || ltb 9 (length st)) (not (every 0 (length st) _)) bad .0
-
-  pub stencil-some : 1 ≤ length st
-  stencil-some = omega (arith, eqb-true (length st % 2) 1 (not-false _ (or-false (not (eqb (length st % 2) 1)) (ltb 9 (length st)) lengths .0)))
-
-  pub stencil-short : length st ≤ 9
-  stencil-short = ltb-false 9 (length st) (or-false (not (eqb (length st % 2) 1)) (ltb 9 (length st)) lengths .1)

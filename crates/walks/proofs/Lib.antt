@@ -7,3 +7,4 @@ pub mod WalkLaws
 pub mod TableLaws
 pub mod ReachLaws
 pub mod GroundLaws
+pub mod StencilLaws

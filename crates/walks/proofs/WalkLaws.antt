@@ -17,6 +17,7 @@ use Rattle.vocabulary.specs.Lists.{isIn, All}
 use Rattle.vocabulary.specs.ListLaws.{All-map, or-false, isIn-at, at-isIn, All-intro, At}
 use Rattle.mesh.specs.Mesh.{top, counted, below, elements, firstCell, cellCount}
 use Rattle.mesh.specs.Walks.{bad10, stepTo, walked}
+use Rattle.mesh.specs.WalkLaws.{stencil-odd, stencil-even}
 use Rattle.mesh.specs.Accepted.{Accepted, Cell}
 use Rattle.mesh.proofs.DimensionLaws.{below-rises, below-more}
 use Rattle.walks.proofs.StepLaws.{someOf-like}
@@ -33,26 +34,12 @@ copy-end src dst j n g h e = let q : j ≡ n = omega arith in subst (λ i. take 
 
 -- ---- the stencil
 
-module _ (m st : Bytes) (bad : bad10 (top m) st ≡ false) (k : ℕ) (h : k < length st) where
-  place : cond (eqb (k % 2) 0) (eqb (byteAt st k) (top m)) (ltb (byteAt st k) (top m)) ≡ true
-  unfolding bad10
-  place =
-      let a = or-false (not (eqb (length st % 2) 1) || ltb 9 (length st)) (not (every 0 (length st) _)) bad in
-      let q : 0 + k ≡ k = omega arith in
-      rw q at (every-at 0 _ (length st) k (not-false _ (a .1)) h)
-
-  pub stencil-odd : k % 2 ≡ 1 → byteAt st k < top m
-  stencil-odd o = ltb-true (byteAt st k) (top m) (rw (ne-eqb (k % 2) 0 (omega arith)) at place)
-
-  pub stencil-even : (k % 2 ≡ 1 → ⊥) → byteAt st k ≡ top m
-  stencil-even o = eqb-true (byteAt st k) (top m) (rw (eq-eqb (k % 2) 0 (omega arith)) at place)
-
 pub dimension-down : (m st : Bytes) (cell prev last : List ℕ) (k a : ℕ) → Ground m st cell prev last → k < length st → k % 2 ≡ 1 → a ≡ byteAt st k → a < top m
-dimension-down m st cell prev last k a G h o e = omega (arith, stencil-odd m st (G .stencil) k h o)
+dimension-down m st cell prev last k a G h o e = omega (arith, stencil-odd (top m) st (G .stencil) k h o)
 
 pub stepped-up : (m st : Bytes) (cell prev last from found : List ℕ) (k n s : ℕ) → Ground m st cell prev last → k < length st → (k % 2 ≡ 1 → ⊥)
     → Toward found s [] (stepped m (top m) from n) → Toward found s [] (stepped m (byteAt st k) from n)
-stepped-up m st cell prev last from found k n s G h o t = rw (stencil-even m st (G .stencil) k h o) t
+stepped-up m st cell prev last from found k n s G h o t = rw (stencil-even (top m) st (G .stencil) k h o) t
 
 pub stepped-down : (m st : Bytes) (from found : List ℕ) (k a n s : ℕ) → a ≡ byteAt st k → Toward found s [] (stepped m a from n) → Toward found s [] (stepped m (byteAt st k) from n)
 stepped-down m st from found k a n s e t = rw e at t
@@ -78,7 +65,7 @@ module _ (m st : Bytes) (A : Accepted m) (bad : bad10 (top m) st ≡ false) (c :
       only true q e = subst (Cell m) (sym (eqb-true z c q)) C
       only false q e = let n : _≡_ {A = ℕ} 0 1 = cc in absurd (omega arith)
   walked-even (suc k) z h o e =
-      let d : byteAt st (suc k) ≡ top m = stencil-even m st bad (suc k) h (omega arith) in
+      let d : byteAt st (suc k) ≡ top m = stencil-even (top m) st bad (suc k) h (omega arith) in
       let w = range (byteAt st (suc k)) z (walked m st c k) e in
       record {
         low = subst (λ a. below m a + 1 ≤ z) d (w .0);
@@ -89,7 +76,7 @@ module _ (m st : Bytes) (A : Accepted m) (bad : bad10 (top m) st ≡ false) (c :
   unfolding walked
   walked-odd zero z h o e = let n : ⊥ = omega arith in absurd n
   walked-odd (suc k) z h o e =
-      let d : byteAt st (suc k) < top m = stencil-odd m st bad (suc k) h o in
+      let d : byteAt st (suc k) < top m = stencil-odd (top m) st bad (suc k) h o in
       let w = range (byteAt st (suc k)) z (walked m st c k) e in
       (omega (arith, w .0), omega (arith, w .1, below-more m (byteAt st (suc k)), below-rises m (suc (byteAt st (suc k))) (top m) (omega arith)))
 

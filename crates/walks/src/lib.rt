@@ -1,5 +1,8 @@
-// Walks over an accepted mesh, and the reaches of its cells.
+// Walks over an accepted mesh, and the reaches of its cells. What supposes an accepted mesh and stencil is in `inner`.
+pub mod inner;
 mod inverse;
+mod stencil;
 mod steps;
-mod table;
 mod visits;
+
+pub use stencil::bad_stencil;

@@ -1,4 +1,4 @@
--- `walks::table::emit` meets its contract. The invariant: the entries of the first q places are written. Assumes nothing.
+-- `walks::inner::emit` meets its contract. The invariant: the entries of the first q places are written. Assumes nothing.
 use mathlib.Core.Path.{_≡_, refl}
 use Prim.Native.Nat.{_-_, _≤_}
 use lib.ListN.{length}
@@ -6,8 +6,8 @@ use Rattle.vocabulary.specs.Ranges.{blocks}
 use Rattle.walks.specs.Tables.{row, Emitted}
 use Rattle.walks.proofs.TableLaws.{emit-start, emit-turn, emit-end}
 use borrow.Author.Needs.{needs}
-use Rattle.walks.proofs.table.emit.Statement.{statement}
-use Rattle.walks.proofs.table.emit.Tie as tie
+use Rattle.walks.proofs.inner.emit.Statement.{statement}
+use Rattle.walks.proofs.inner.emit.Tie as tie
 
 abbrev Inv-loop : tie.InvT-loop
 Inv-loop layers first cells table₀ t s₀ q₀ table s q = (q ≤ cells) × (s ≤ 8001) × (length table ≡ length table₀) × Emitted table₀ table t s (blocks 0 q (row layers first))

@@ -1,8 +1,8 @@
--- `walks::table::put_entry` meets its contract. Assumes nothing.
+-- `walks::inner::put_entry` meets its contract. Assumes nothing.
 use Rattle.walks.proofs.TableLaws.{entry-stored}
 use borrow.Author.Needs.{needs}
-use Rattle.walks.proofs.table.put_entry.Statement.{statement}
-use Rattle.walks.proofs.table.put_entry.Tie as tie
+use Rattle.walks.proofs.inner.put_entry.Statement.{statement}
+use Rattle.walks.proofs.inner.put_entry.Tie as tie
 
 pub put-entry-spec : {M : Type 1} → statement M
 put-entry-spec =

@@ -1,9 +1,9 @@
--- `walks::table::reach_of` meets its contract. Assumes nothing.
+-- `walks::inner::reach_of` meets its contract. Assumes nothing.
 use native.Mathlib.Omega.{arith}
 use Rattle.walks.proofs.ReachLaws.{emitted-cell, clear, first-small, cells-small, steps-is}
 use borrow.Author.Needs.{needs}
-use Rattle.walks.proofs.table.reach_of.Statement.{statement}
-use Rattle.walks.proofs.table.reach_of.Tie as tie
+use Rattle.walks.proofs.inner.reach_of.Statement.{statement}
+use Rattle.walks.proofs.inner.reach_of.Tie as tie
 
 pub reach-of-spec : {M : Type 1} → statement M
 reach-of-spec =

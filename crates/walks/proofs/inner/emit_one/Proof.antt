@@ -1,8 +1,8 @@
--- `walks::table::emit_one` meets its contract. Assumes nothing.
+-- `walks::inner::emit_one` meets its contract. Assumes nothing.
 use Rattle.walks.proofs.TableLaws.{emit-skip, emit-full, emit-put}
 use borrow.Author.Needs.{needs}
-use Rattle.walks.proofs.table.emit_one.Statement.{statement}
-use Rattle.walks.proofs.table.emit_one.Tie as tie
+use Rattle.walks.proofs.inner.emit_one.Statement.{statement}
+use Rattle.walks.proofs.inner.emit_one.Tie as tie
 
 pub emit-one-spec : {M : Type 1} → statement M
 emit-one-spec =
