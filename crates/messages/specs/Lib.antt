@@ -1,3 +1,4 @@
 pub mod Messages
 pub mod Heads
 pub mod MessageLaws
+pub mod HeadLaws

@@ -5,7 +5,7 @@ use layout::inner::depths_in_range;
 use layout::word_at;
 ghost use mathlib.Core.Path.{_≡_};
 ghost use Rattle.messages.specs.Messages.{bad15};
-ghost use Rattle.messages.specs.Heads.{headOf};
+ghost use Rattle.messages.specs.Heads.{headOf, numberOf};
 
 // The words of a message. Its depths stay where they are, `count` of them from byte 8 on.
 pub struct Head {
@@ -48,4 +48,14 @@ pub fn read(b: &[u8]) -> Reading
         round: word_at(b, 2),
         count: word_at(b, 3),
     })
+}
+
+// The number of a refusal, and 0 of a message: for the `else` of a caller who takes the message by `let`.
+pub fn refusal_of(r: Reading) -> u32
+    ensures { λ n. ⌜ n ≡ numberOf r ⌝ }
+{
+    match r {
+        Reading::Message(_) => 0,
+        Reading::Refused(number) => number,
+    }
 }
