@@ -9,13 +9,14 @@ use lib.Dec.{eqb, ltb}
 use lib.ListN.{length, getD, take, drop, length-append, length-drop, take-append-drop}
 use lib.Seq.{getD-take, length-take-le, take-all}
 use borrow.Author.Tests.{le-ltb, ltb-false, eq-eqb, eqb-true, not-false}
-use Rattle.vocabulary.specs.Bytes.{Bytes, byteAt}
+use Rattle.vocabulary.specs.Bytes.{Bytes, over}
+use Rattle.vocabulary.specs.ByteLaws.{over-more}
 use Rattle.vocabulary.specs.Lists.{All, joined}
 use Rattle.vocabulary.specs.Ranges.{every, listed, blocks}
-use Rattle.vocabulary.specs.ListLaws.{All-getD, All-map, All-split, or-false}
+use Rattle.vocabulary.specs.ListLaws.{All-getD, All-map, All-append, All-split, joined-all, or-false}
 use Rattle.vocabulary.specs.RangeLaws.{every-intro, listed-length, listed-back}
 use Rattle.layout.specs.Words.{word, wordAt, words, bytesOf}
-use Rattle.layout.specs.WordLaws.{word-same, wordAt-first, length-bytesOf, bytesOf-words, words-same}
+use Rattle.layout.specs.WordLaws.{word-same, wordAt-first, length-bytesOf, bytesOf-bytes, bytesOf-words, words-same}
 use Rattle.layout.specs.Depths.{four, depthOf, inRange, rangedAt}
 use Rattle.layout.specs.DepthLaws.{four-past, joined-at, joined-length, joined-fours, depth-four}
 use Rattle.messages.specs.Messages.{Message, encode, fromIn, toIn, roundIn, countIn, bad15, Reading, read, refused, reading}
@@ -46,6 +47,19 @@ module _ (x : Message) where
   pub encode-count : countIn (encode x) ≡ length (x .depths)
   unfolding encode
   encode-count = wordAt-first (wordsOf x) (joined (x .depths)) 3 (omega arith)
+
+  -- written to a buffer: its words, and the depths behind them
+  pub encode-over : (out : Bytes) → 8 ≤ length out
+      → over (over out 0 (bytesOf (x .from ∷ x .to ∷ x .round ∷ length (x .depths) ∷ []))) 8 (joined (x .depths)) ≡ over out 0 (encode x)
+  unfolding encode bytesOf
+  encode-over out h = over-more out 0 (bytesOf (wordsOf x)) (omega arith) (joined (x .depths))
+
+  -- they are bytes
+  pub encode-bytes : x .from < 65536 → x .to < 65536 → x .round < 65536 → length (x .depths) < 65536 → All (All (λ y. y < 256)) (x .depths)
+      → All (λ y. y < 256) (encode x)
+  unfolding encode
+  encode-bytes p q r s a =
+      All-append (λ y. y < 256) (bytesOf (wordsOf x)) (joined (x .depths)) (bytesOf-bytes (wordsOf x) (p, (q, (r, (s, tt))))) (joined-all (λ y. y < 256) (x .depths) a)
 
   module _ (a : All (λ z. length z ≡ 4) (x .depths)) where
     pub encode-length : length (encode x) ≡ 8 + 4 * length (x .depths)
@@ -104,10 +118,11 @@ module _ (b : Bytes) (e : bad15 b ≡ false) where
   good-ranged = not-false _ (parts15 .2)
 
   -- its depths are the bytes from 8 on
+  pub good-rest : take (4 * countIn b) (drop 8 b) ≡ drop 8 b
+  good-rest = take-all (4 * countIn b) (drop 8 b) (omega (arith, good-length, length-drop 8 b))
+
   pub good-depths : joined (listed 0 (countIn b) (λ t. four b (8 + 4 * t))) ≡ drop 8 b
-  good-depths =
-      joined-fours b 8 (countIn b) (omega (arith, good-length))
-      ∙ take-all (4 * countIn b) (drop 8 b) (omega (arith, good-length, length-drop 8 b))
+  good-depths = joined-fours b 8 (countIn b) (omega (arith, good-length)) ∙ good-rest
 
 -- the message that they are read as
 abbrev pub messageIn : Bytes → Message
@@ -162,3 +177,7 @@ read-once b x a r = go (bad15 b) refl r
     go : (t : Bool) → bad15 b ≡ t → cond t (refused 15) (read (messageIn b)) ≡ read x → b ≡ encode x
     go true e p = absurd (true≢false (sym (ap isRead p)))
     go false e p = sym (message-back b e a) ∙ ap (λ y. encode y) (ap (held x) p)
+
+-- two messages with the same bytes are one
+pub encode-once : (x y : Message) → All Sound (x .depths) → All Sound (y .depths) → encode x ≡ encode y → x ≡ y
+encode-once x y a c e = ap (held x) (sym (read-back x a) ∙ ap (λ b. reading b) e ∙ read-back y c)

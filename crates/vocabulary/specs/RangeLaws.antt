@@ -282,6 +282,9 @@ unfolding joined listed blocks
 joined-listed a g zero = refl
 joined-listed a g (suc n) = joined-last (listed a n g) (g (a + n)) ∙ ap (λ r. r ++ g (a + n)) (joined-listed a g n)
 
+pub joined-mapped : {A B : Type 0} (f : A → List B) (a : ℕ) (g : ℕ → A) (n : ℕ) → joined (map f (listed a n g)) ≡ blocks a n (λ x. f (g x))
+joined-mapped f a g n = ap (λ xs. joined xs) (listed-map f a g n) ∙ joined-listed a (λ x. f (g x)) n
+
 -- the blocks of the first k numbers, then those of j more
 pub blocks-split : {A : Type 0} (a : ℕ) (g : ℕ → List A) (k j : ℕ) → blocks a (k + j) g ≡ blocks a k g ++ blocks (a + k) j g
 unfolding blocks
