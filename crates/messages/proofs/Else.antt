@@ -1,5 +1,5 @@
 -- What a caller learns in the `else` of `let Reading::Message(h) = r else`: there the reader refused, with 15. Assumes nothing.
-use mathlib.Core.Path.{_≡_, refl, sym, ap, _∙_}
+use mathlib.Core.Path.{_≡_, refl, _∙_}
 use mathlib.Core.Bool.{true}
 use mathlib.Core.List.{[], _∷_}
 use Prim.Native.Nat.{ℕ}

@@ -1,8 +1,8 @@
 -- Laws of messages: one written is read back, no other bytes are read as it, and what an accepted message has. Assumes nothing.
 use mathlib.Core.Path.{_≡_, refl, sym, ap, ap₂, _∙_, subst}
 use mathlib.Core.Bool.{Bool, true, false, not, _||_, cond, true≢false}
-use mathlib.Core.List.{List, [], _∷_, _++_, append-assoc}
-use Prim.Native.Nat.{ℕ, zero, suc, _+_, _*_, _≤_, _<_}
+use mathlib.Core.List.{List, [], _∷_, _++_}
+use Prim.Native.Nat.{ℕ, _+_, _*_, _≤_, _<_}
 use native.Mathlib.Nat.{zero-add}
 use native.Mathlib.Omega.{arith}
 use lib.Dec.{eqb, ltb}
@@ -12,10 +12,10 @@ use borrow.Author.Tests.{le-ltb, ltb-false, eq-eqb, eqb-true, not-false}
 use Rattle.vocabulary.specs.Bytes.{Bytes, over}
 use Rattle.vocabulary.specs.ByteLaws.{over-more}
 use Rattle.vocabulary.specs.Lists.{All, joined}
-use Rattle.vocabulary.specs.Ranges.{every, listed, blocks}
+use Rattle.vocabulary.specs.Ranges.{every, listed}
 use Rattle.vocabulary.specs.ListLaws.{All-getD, All-map, All-append, All-split, joined-all, or-false}
 use Rattle.vocabulary.specs.RangeLaws.{every-intro, listed-length, listed-back}
-use Rattle.layout.specs.Words.{word, wordAt, words, bytesOf}
+use Rattle.layout.specs.Words.{wordAt, words, bytesOf}
 use Rattle.layout.specs.WordLaws.{word-same, wordAt-first, length-bytesOf, bytesOf-bytes, bytesOf-words, words-same}
 use Rattle.layout.specs.Depths.{four, depthOf, inRange, rangedAt}
 use Rattle.layout.specs.DepthLaws.{four-past, joined-at, joined-length, joined-fours, depth-four}
