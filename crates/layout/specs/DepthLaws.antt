@@ -8,13 +8,13 @@ use native.Mathlib.Nat.{not-suc-le-zero, le-of-suc-le-suc, add-zero, zero-add}
 use native.Mathlib.Omega.{arith}
 use lib.IntN.{ℤ, pos, negsuc, natAbs}
 use lib.Dec.{ltb}
-use lib.ListN.{length, getD, set, take, drop, length-drop, List·getD-append}
+use lib.ListN.{length, getD, set, take, drop, length-append, length-drop, List·getD-append}
 use lib.Seq.{getD-append-add, getD-set-other, getD-take, getD-drop, length-take-le, ext-getD}
 use borrow.Author.Tests.{lt-ltb, le-ltb, leb-true, le-leb}
 use Rattle.vocabulary.specs.Bytes.{Bytes, byteAt, over}
 use Rattle.vocabulary.specs.Lists.{All, joined}
-use Rattle.vocabulary.specs.Ranges.{every, blocks}
-use Rattle.vocabulary.specs.RangeLaws.{every-at, rows-length, rows-at, blocks-turn}
+use Rattle.vocabulary.specs.Ranges.{every, listed, blocks}
+use Rattle.vocabulary.specs.RangeLaws.{every-at, rows-length, rows-at, blocks-turn, joined-listed}
 use Rattle.vocabulary.specs.ByteLaws.{over-in, over-before, over-after, over-more}
 use Rattle.layout.specs.Words.{word}
 use Rattle.layout.specs.WordLaws.{word-same}
@@ -133,6 +133,15 @@ joined-at (x ∷ ds) zero a h = four-left x (joined ds) 0 (omega (arith, a .0)) 
 joined-at (x ∷ ds) (suc t) a h =
     let e : 4 * suc t ≡ length x + 4 * t = omega (arith, a .0) in
     ap (λ n. four (x ++ joined ds) n) e ∙ four-past x (joined ds) (4 * t) ∙ joined-at ds t (a .1) (le-of-suc-le-suc h)
+
+pub joined-length : (ds : List Bytes) → All (λ x. length x ≡ 4) ds → length (joined ds) ≡ 4 * length ds
+unfolding joined
+joined-length [] a = refl
+joined-length (x ∷ ds) a = omega (arith, length-append x (joined ds), a .0, joined-length ds (a .1))
+
+-- the fours of a part, joined, are the part
+pub joined-fours : (b : Bytes) (at n : ℕ) → at + 4 * n ≤ length b → joined (listed 0 n (λ k. four b (at + 4 * k))) ≡ take (4 * n) (drop at b)
+joined-fours b at n h = joined-listed 0 (λ k. four b (at + 4 * k)) n ∙ fours-of b at n h
 
 -- n fours, one after another, are told by their fours
 pub fours-same : (n : ℕ) (G H : Bytes) → length G ≡ 4 * n → length H ≡ 4 * n → ((c : ℕ) → c < n → four G (4 * c) ≡ four H (4 * c)) → G ≡ H

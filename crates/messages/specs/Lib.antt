@@ -1,1 +1,4 @@
 pub mod Messages
+pub mod Heads
+pub mod MessageLaws
+pub mod HeadLaws

@@ -1,1 +1,61 @@
-// Messages: their definitions stand in specs/.
+// Messages. Here stands the reader, which takes any bytes; what supposes room for a message is in `inner`.
+pub mod inner;
+
+use layout::inner::depths_in_range;
+use layout::word_at;
+ghost use mathlib.Core.Path.{_≡_};
+ghost use Rattle.messages.specs.Messages.{bad15};
+ghost use Rattle.messages.specs.Heads.{headOf, numberOf};
+
+// The words of a message. Its depths stay where they are, `count` of them from byte 8 on.
+pub struct Head {
+    pub from: usize,
+    pub to: usize,
+    pub round: usize,
+    pub count: usize,
+}
+
+// What reading gives: the message, or the number of its refusal.
+pub enum Reading {
+    Message(Head),
+    Refused(u32),
+}
+
+// Whether the bytes are to be refused, with number 15.
+fn bad_message(b: &[u8]) -> bool
+    ensures { λ r. ⌜ r ≡ bad15 (now (b .entry)) ⌝ }
+{
+    if b.len() < 8 {
+        return true;
+    }
+    let count = word_at(b, 3);
+    if b.len() != 8 + 4 * count {
+        return true;
+    }
+    !depths_in_range(b, 8, count)
+}
+
+// Reads a message out of any bytes.
+pub fn read(b: &[u8]) -> Reading
+    ensures { λ r. ⌜ r ≡ headOf (now (b .entry)) ⌝ }
+{
+    if bad_message(b) {
+        return Reading::Refused(15);
+    }
+    Reading::Message(Head {
+        from: word_at(b, 0),
+        to: word_at(b, 1),
+        round: word_at(b, 2),
+        count: word_at(b, 3),
+    })
+}
+
+// The number of a refusal, and 0 of a message: for the `else` of a caller who takes the message by `let`.
+pub fn refusal_of(r: Reading) -> u32
+    ensures { λ n. ⌜ n ≡ numberOf r ⌝ }
+{
+    match r {
+        Reading::Message(_) => 0,
+        Reading::Refused(number) => number,
+    }
+}

@@ -127,6 +127,12 @@ pub All-of-map : {A B : Type 0} (P : B → Type 0) (f : A → B) (xs : List A) �
 All-of-map P f [] a = tt
 All-of-map P f (x ∷ xs) a = (a .0, All-of-map P f xs (a .1))
 
+-- what every element of every list has
+pub joined-all : {A : Type 0} (P : A → Type 0) (xs : List (List A)) → All (All P) xs → All P (joined xs)
+unfolding joined
+joined-all P [] a = tt
+joined-all P (x ∷ xs) a = All-append P x (joined xs) (a .0) (joined-all P xs (a .1))
+
 pub map-id : {A : Type 0} (xs : List A) → map (λ x. x) xs ≡ xs
 map-id [] = refl
 map-id (x ∷ xs) = ap (λ r. x ∷ r) (map-id xs)

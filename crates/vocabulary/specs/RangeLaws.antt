@@ -11,7 +11,7 @@ use lib.ListN.{length, getD, length-append, List·getD-append}
 use lib.Seq.{getD-append-add, getD-append-seam, ext-getD}
 use lib.Dec.{eqb, ltb, leb}
 use borrow.Author.Tests.{eqb-true, eqb-false, ltb-true, ltb-false, leb-true, le-leb, not-true, not-false}
-use Rattle.vocabulary.specs.Lists.{repeats, All}
+use Rattle.vocabulary.specs.Lists.{repeats, joined, All}
 use Rattle.vocabulary.specs.ListLaws.{and-true, and-intro, and-false, or-left, or-right, or-true, or-none, not-both, All-append, All-getD, At, at-left, at-right, repeats-none, map-append}
 use Rattle.vocabulary.specs.Ranges.{isUpTo, picked, every, some, listed, blocks, total}
 
@@ -270,6 +270,20 @@ listed-all P a zero g f = tt
 listed-all P a (suc n) g f = All-append P (listed a n g) (g (a + n) ∷ []) (listed-all P a n g (λ i h. f i (omega arith))) (f n (omega arith), tt)
 
 -- ---- blocks
+
+-- the lists of a range, joined
+joined-last : {A : Type 0} (xs : List (List A)) (x : List A) → joined (xs ++ (x ∷ [])) ≡ joined xs ++ x
+unfolding joined
+joined-last [] x = append-nil x
+joined-last (y ∷ ys) x = ap (λ r. y ++ r) (joined-last ys x) ∙ sym (append-assoc y (joined ys) x)
+
+pub joined-listed : {A : Type 0} (a : ℕ) (g : ℕ → List A) (n : ℕ) → joined (listed a n g) ≡ blocks a n g
+unfolding joined listed blocks
+joined-listed a g zero = refl
+joined-listed a g (suc n) = joined-last (listed a n g) (g (a + n)) ∙ ap (λ r. r ++ g (a + n)) (joined-listed a g n)
+
+pub joined-mapped : {A B : Type 0} (f : A → List B) (a : ℕ) (g : ℕ → A) (n : ℕ) → joined (map f (listed a n g)) ≡ blocks a n (λ x. f (g x))
+joined-mapped f a g n = ap (λ xs. joined xs) (listed-map f a g n) ∙ joined-listed a (λ x. f (g x)) n
 
 -- the blocks of the first k numbers, then those of j more
 pub blocks-split : {A : Type 0} (a : ℕ) (g : ℕ → List A) (k j : ℕ) → blocks a (k + j) g ≡ blocks a k g ++ blocks (a + k) j g

@@ -1,0 +1,55 @@
+-- What the reader answers by the tests that it makes one after the other, and four words stored one after the other. Assumes nothing.
+use mathlib.Core.Path.{_≡_, sym, ap, _∙_}
+use mathlib.Core.Bool.{Bool, true, false, not}
+use mathlib.Core.List.{[], _∷_}
+use Prim.Native.Nat.{ℕ, _+_, _*_, _≤_, _<_}
+use native.Mathlib.Omega.{arith}
+use lib.ListN.{length}
+use borrow.Author.Tests.{lt-ltb, le-ltb, eq-eqb, ne-eqb}
+use Rattle.vocabulary.specs.Bytes.{Bytes, over}
+use Rattle.vocabulary.specs.Ranges.{every}
+use Rattle.vocabulary.specs.ByteLaws.{over-more}
+use Rattle.layout.specs.Words.{wordAt, wordBytes, bytesOf}
+use Rattle.layout.specs.Depths.{rangedAt}
+use Rattle.messages.specs.Messages.{bad15}
+use Rattle.messages.specs.Heads.{headOf}
+use Rattle.messages.specs.declared.Reading.the-variants.{Message, Refused}
+
+-- ---- 15
+
+module _ (b : Bytes) where
+  pub too-short : length b < 8 → true ≡ bad15 b
+  unfolding bad15
+  too-short h = simp (lt-ltb _ _ h)
+
+  module _ (n : ℕ) (h : 8 ≤ length b) (e : n ≡ wordAt b 3) where
+    pub other-length : (length b ≡ 8 + 4 * n → ⊥) → true ≡ bad15 b
+    unfolding bad15
+    other-length k = simp (le-ltb _ _ h, sym e, ne-eqb _ _ k)
+
+    pub ranged-depths : (t : Bool) → length b ≡ 8 + 4 * n → t ≡ every 0 n (rangedAt b 8) → not t ≡ bad15 b
+    unfolding bad15
+    ranged-depths t k r = simp (le-ltb _ _ h, sym e, eq-eqb _ _ k, sym r)
+
+-- ---- the answer
+
+module _ (b : Bytes) (t : Bool) (r : t ≡ bad15 b) where
+  pub not-read : t ≡ true → Refused 15 ≡ headOf b
+  unfolding headOf
+  not-read e = simp (sym r, e)
+
+  pub is-read : (f g k n : ℕ) → t ≡ false → f ≡ wordAt b 0 → g ≡ wordAt b 1 → k ≡ wordAt b 2 → n ≡ wordAt b 3
+      → Message (record { from = f; to = g; round = k; count = n }) ≡ headOf b
+  unfolding headOf
+  is-read f g k n e p q s u = simp (sym r, e, sym p, sym q, sym s, sym u)
+
+-- ---- the four words of a head
+
+module _ (b x y z w : Bytes) (f g k n : ℕ) (h : 8 ≤ length b) where
+  pub head-stores : x ≡ over b 0 (wordBytes f) → y ≡ over x 2 (wordBytes g) → z ≡ over y 4 (wordBytes k) → w ≡ over z 6 (wordBytes n)
+      → w ≡ over b 0 (bytesOf (f ∷ g ∷ k ∷ n ∷ []))
+  unfolding wordBytes bytesOf
+  head-stores p q r s =
+      let q' : y ≡ over b 0 (bytesOf (f ∷ g ∷ [])) = q ∙ ap (λ (c : Bytes). over c 2 (wordBytes g)) p ∙ over-more b 0 (wordBytes f) (omega arith) (wordBytes g) in
+      let r' : z ≡ over b 0 (bytesOf (f ∷ g ∷ k ∷ [])) = r ∙ ap (λ (c : Bytes). over c 4 (wordBytes k)) q' ∙ over-more b 0 (bytesOf (f ∷ g ∷ [])) (omega arith) (wordBytes k) in
+      s ∙ ap (λ (c : Bytes). over c 6 (wordBytes n)) r' ∙ over-more b 0 (bytesOf (f ∷ g ∷ k ∷ [])) (omega arith) (wordBytes n)

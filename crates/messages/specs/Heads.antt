@@ -1,0 +1,36 @@
+-- What the code's reader answers: the words of a message, or 15. Assumes nothing.
+use mathlib.Core.Bool.{cond}
+use Prim.Native.Nat.{ℕ, _+_, _*_}
+use Rattle.vocabulary.specs.Bytes.{Bytes}
+use Rattle.vocabulary.specs.Ranges.{listed}
+use Rattle.layout.specs.Depths.{four}
+use Rattle.messages.specs.Messages.{read, refused, fromIn, toIn, roundIn, countIn, bad15}
+use Rattle.messages.specs.Messages as paper
+use Rattle.messages.specs.declared.Reading.{Reading}
+use Rattle.messages.specs.declared.Reading.the-variants.{Message, Refused}
+
+unfoldable pub headOf : Bytes → Reading
+headOf b =
+    cond (bad15 b) (Refused 15)
+    (Message (record {
+      from = fromIn b;
+      to = toIn b;
+      round = roundIn b;
+      count = countIn b;
+    }))
+
+-- the number of document 01, and 0 where there is a message
+abbrev pub numberOf : Reading → ℕ
+numberOf (Message h) = 0
+numberOf (Refused number) = number
+
+-- what the answer says of the bytes b that were read: the depths are the bytes from 8 on
+unfoldable pub meant : Bytes → Reading → paper.Reading
+meant b (Message h) =
+    read (record {
+      from = h .from;
+      to = h .to;
+      round = h .round;
+      depths = listed 0 (h .count) (λ t. four b (8 + 4 * t));
+    })
+meant b (Refused number) = refused number
