@@ -7,19 +7,20 @@ use native.Mathlib.Nat.{sub-zero}
 use native.Mathlib.Numerals.{add-one}
 use native.Mathlib.Omega.{arith}
 use lib.Dec.{eqb, leb}
-use lib.ListN.{length, getD, set, replicate, length-set, List·getD-eq-default}
-use lib.Seq.{getD-set-same, getD-set-other, set-out}
+use lib.ListN.{length, getD, set, replicate, length-set}
+use lib.Seq.{getD-set-same, getD-set-other}
 use borrow.Author.Tests.{eqb-true, eqb-false, eq-eqb, ne-eqb, leb-true, not-false}
 use Rattle.vocabulary.specs.Bytes.{Bytes}
 use Rattle.vocabulary.specs.Ranges.{isUpTo, some, blocks}
 use Rattle.vocabulary.specs.RangeLaws.{some-at, blocks-turn, blocks-all}
 use Rattle.vocabulary.specs.ScanLaws.{some-stop-from, some-turn-from, some-end-from}
 use Rattle.vocabulary.specs.Lists.{isIn, someOf, All}
-use Rattle.vocabulary.specs.ListLaws.{isIn-append, someOf-cong, someOf-false, All-intro, All-map, or-false, and-true}
+use Rattle.vocabulary.specs.ListLaws.{or-nothing, isIn-append, someOf-cong, someOf-false, All-intro, All-map, or-false, and-true}
 use Rattle.mesh.specs.Mesh.{counted, elements, recordCount, below, dimension, headOf, elementIn, follow, records, chain, wrongIn, wrongAt, leaves, unclosed, bare, bad5, bad6, bad7}
 use Rattle.mesh.specs.Meet.{Sizes, Under, stamp, unlike, leavesBy}
 use Rattle.mesh.proofs.MeetLaws.{outside}
-use Rattle.mesh.proofs.DimensionLaws.{below-more, below-rises, lower-right, lower-small, dimension-le}
+use Rattle.mesh.proofs.DimensionLaws.{below-more, lower-right, lower-small, dimension-le}
+use Rattle.mesh.specs.WalkLaws.{below-grows}
 use Rattle.mesh.proofs.ElementLaws.{set-under, under-none}
 
 -- ---- one mark
@@ -56,16 +57,12 @@ unfolding stamp
 stamp-under v s [] u = u
 stamp-under v s (x ∷ xs) u = stamp-under v (set s x v) xs (set-under v x s u)
 
-or-nothing : (a b : Bool) → b ≡ false → a || b ≡ a
-or-nothing true b e = refl
-or-nothing false b e = e
-
 -- from marks below v
 fresh-stamp : (v g : ℕ) (s xs : List ℕ) → Under v s → All (λ x. x < 2001) xs → unlike v (stamp v s xs) g ≡ not (isIn g xs)
 unfolding unlike
 fresh-stamp v g s xs u a =
     ap not (stamp-told v g s xs (All-map xs (λ x h. omega (arith, u .size)) a)
-    ∙ or-nothing (isIn g xs) (eqb (getD s g 0) v) (ne-eqb _ v (λ q. let z : ⊥ = omega (arith, u .each g) in z)))
+    ∙ ap (λ b. isIn g xs || b) (ne-eqb (getD s g 0) v (λ q. let z : ⊥ = omega (arith, u .each g) in z)) ∙ or-nothing (isIn g xs))
 
 -- ---- test 6
 
@@ -161,7 +158,7 @@ module _ (m : Bytes) (d n r : ℕ) (z : Sizes m d n r) (w : bad5 m ≡ false) (l
   cells-in : low + cells ≤ n
   cells-in =
       let q : below m (d + 1) ≡ low + cells = ap (below m) (add-one d) ∙ below-more m d ∙ (let y : below m d + counted m d ≡ low + cells = omega arith in y) in
-      omega (arith, below-rises m (d + 1) 4 (omega (arith, z .d-high)), z .n-is)
+      omega (arith, below-grows m (d + 1) 4 (omega (arith, z .d-high)), z .n-is)
 
   bare-told : (g : ℕ) → unlike 1 s g ≡ bare m g
   unfolding bare

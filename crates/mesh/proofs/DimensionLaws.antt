@@ -11,6 +11,7 @@ use borrow.Author.Tests.{ltb-true, ltb-false, lt-ltb, le-ltb, le-leb, lt-leb, eq
 use Rattle.vocabulary.specs.Bytes.{Bytes}
 use Rattle.vocabulary.specs.Ranges.{isUpTo, picked}
 use Rattle.vocabulary.specs.RangeLaws.{picked-length-le}
+use Rattle.mesh.specs.WalkLaws.{below-grows}
 use Rattle.mesh.specs.Mesh.{top, counted, below, elements, dimension, wrongIn}
 use Rattle.mesh.proofs.MeetLaws.{outside}
 
@@ -70,14 +71,6 @@ pub below-more : (m : Bytes) (k : ℕ) → below m (suc k) ≡ below m k + count
 unfolding below
 below-more m k = refl
 
-pub below-rises : (m : Bytes) (j k : ℕ) → j ≤ k → below m j ≤ below m k
-below-rises m j zero h = let q : j ≡ 0 = omega arith in omega (arith, ap (below m) q)
-below-rises m j (suc k) h = go (eqb j (suc k)) refl (λ q. below-rises m j k q)
-  where
-    go : (b : Bool) → eqb j (suc k) ≡ b → (j ≤ k → below m j ≤ below m k) → below m j ≤ below m (suc k)
-    go true e ih = omega (arith, ap (below m) (eqb-true j (suc k) e))
-    go false e ih = let p : j ≡ suc k → ⊥ = eqb-false j (suc k) e in omega (arith, ih (omega arith), below-more m k)
-
 module _ (m : Bytes) (e : ℕ) where
   pub dimension-le : dimension m e ≤ top m
   unfolding dimension
@@ -86,11 +79,11 @@ module _ (m : Bytes) (e : ℕ) where
   -- from 1 to d: e comes after all elements below dimension k exactly where its dimension is k or more
   pub after-below : (k : ℕ) → 1 ≤ k → k ≤ top m → below m k < e → k ≤ dimension m e
   unfolding dimension passed
-  after-below k l h = threshold (below m) (below-rises m) e (top m) k l h .0
+  after-below k l h = threshold (below m) (below-grows m) e (top m) k l h .0
 
   pub below-after : (k : ℕ) → 1 ≤ k → k ≤ top m → k ≤ dimension m e → below m k < e
   unfolding dimension passed
-  below-after k l h = threshold (below m) (below-rises m) e (top m) k l h .1
+  below-after k l h = threshold (below m) (below-grows m) e (top m) k l h .1
 
 -- e comes after all elements below dimension k
 pub record Past (m : Bytes) (e k : ℕ) : Type 0 where
@@ -140,7 +133,7 @@ pub lower-told : (m : Bytes) (e k r : ℕ) → k ≡ dimension m e → r ≡ bel
 lower-told m e k r f g = g ∙ ap (below m) f
 
 pub lower-small : (m : Bytes) (d low k : ℕ) → low ≡ below m k → k ≤ d → d ≤ 3 → low ≤ elements m
-lower-small m d low k le g h = omega (arith, below-rises m k 4 (omega arith))
+lower-small m d low k le g h = omega (arith, below-grows m k 4 (omega arith))
 
 -- ---- what may stand in the chain of e: the elements below its dimension
 
@@ -149,7 +142,7 @@ unfolding outside isUpTo wrongIn
 lower-right m e g high = go (eqb g 0) refl (ltb (below m (dimension m e)) g) refl
   where
     within : below m (dimension m e) ≤ elements m
-    within = below-rises m (dimension m e) 4 (omega (arith, dimension-le m e))
+    within = below-grows m (dimension m e) 4 (omega (arith, dimension-le m e))
 
     go : (z : Bool) → eqb g 0 ≡ z → (b : Bool) → ltb (below m (dimension m e)) g ≡ b
         → not (leb 1 g && leb g (below m (dimension m e))) ≡ z || ltb (elements m) g || leb (dimension m e) (dimension m g)

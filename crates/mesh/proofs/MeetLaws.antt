@@ -10,7 +10,7 @@ use lib.Seq.{getD-set-same, getD-set-other}
 use borrow.Author.Tests.{leb-true, eqb-true, eqb-false, eq-eqb, ne-eqb}
 use Rattle.vocabulary.specs.Ranges.{isUpTo}
 use Rattle.vocabulary.specs.Lists.{isIn, repeats, someOf}
-use Rattle.vocabulary.specs.ListLaws.{and-true, or-right}
+use Rattle.vocabulary.specs.ListLaws.{eqb-swap, and-true, or-right}
 use Rattle.mesh.specs.Meet.{Met, met, meet}
 
 abbrev pub told : Met → Bool
@@ -58,13 +58,6 @@ exchange true b c d = refl
 exchange false true true d = refl
 exchange false true false d = refl
 exchange false false c d = refl
-
-eqb-swap : (x y : ℕ) → eqb x y ≡ eqb y x
-eqb-swap x y = go (eqb y x) refl
-  where
-    go : (b : Bool) → eqb y x ≡ b → eqb x y ≡ b
-    go true e = eq-eqb x y (sym (eqb-true y x e))
-    go false e = ne-eqb x y (λ q. eqb-false y x e (sym q))
 
 -- one more among those done
 among-more : (i : ℕ) (done xs : List ℕ) → someOf xs (among (i ∷ done)) ≡ isIn i xs || someOf xs (among done)

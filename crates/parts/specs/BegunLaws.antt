@@ -30,7 +30,7 @@ use Rattle.parts.specs.Start.{ownedIn, reachOf, importEnds, exportEnds, 
 use Rattle.parts.specs.FormLaws.{front-length, part-back, steps-back, kind-back, first-back, cells-back, weights-back, import-back, export-back, owned-back, global-back, held-back, ends-back, count-back, entry-back, reach-back, export-word, exports-length}
 use Rattle.parts.specs.Run.{Inputs, startNumberIn, startStateIn, StatesKept}
 use Rattle.parts.specs.RunLaws.{Part}
-use Rattle.parts.specs.StartLaws.{Ready, started-facts, splitIn, orderIn, frontIn, reach-inside, owner-inside, order-full, deep, deep-length, stateOf, state-dynamic, state-front, state-zero, state-round, state-depth, start-is}
+use Rattle.parts.specs.StartLaws.{Ready, started-facts, splitIn, frontIn, reach-inside, owner-inside, order-full, deep, deep-length, stateOf, state-dynamic, state-front, state-zero, state-round, state-depth, start-is}
 use Rattle.parts.specs.KeptLaws.{Fine, local-ranged, write-kept, take-kept, advance-kept}
 
 -- an accepted mesh has few cells

@@ -10,7 +10,7 @@ use native.Mathlib.Omega.{arith}
 use lib.ListN.{length, getD, length-append, List·getD-append}
 use lib.Seq.{getD-append-add}
 use lib.Dec.{eqb}
-use borrow.Author.Tests.{ne-eqb, eqb-true, eqb-false}
+use borrow.Author.Tests.{eq-eqb, ne-eqb, eqb-true, eqb-false}
 use Rattle.vocabulary.specs.Lists.{isIn, placeOf, repeats, someOf, everyOf, joined, All}
 
 -- ---- tests
@@ -45,6 +45,22 @@ or-right false b e = e
 pub or-true : (a b : Bool) → a || b ≡ true → (a ≡ true) ⊎ (b ≡ true)
 or-true true b e = inl refl
 or-true false b e = inr e
+
+pub or-nothing : (a : Bool) → a || false ≡ a
+or-nothing true = refl
+or-nothing false = refl
+
+pub or-always : (a : Bool) → a || true ≡ true
+or-always true = refl
+or-always false = refl
+
+pub or-assoc : (a b c : Bool) → (a || b) || c ≡ a || (b || c)
+or-assoc true b c = refl
+or-assoc false b c = refl
+
+pub or-swap : (a b : Bool) → a || b ≡ b || a
+or-swap true b = sym (or-always b)
+or-swap false b = sym (or-nothing b)
 
 pub or-none : (a b : Bool) → a ≡ false → b ≡ false → a || b ≡ false
 or-none a b e f = ap₂ _||_ e f
@@ -415,6 +431,15 @@ repeats-left (x ∷ xs) ys e =
 
 pub repeats-parts : (xs ys : List ℕ) → repeats (xs ++ ys) ≡ false → (repeats xs ≡ false) × (repeats ys ≡ false)
 repeats-parts xs ys e = (repeats-left xs ys e, repeats-right xs ys e)
+
+-- ---- equality of numbers, either way round
+
+pub eqb-swap : (x y : ℕ) → eqb x y ≡ eqb y x
+eqb-swap x y = go (eqb y x) refl
+  where
+    go : (b : Bool) → eqb y x ≡ b → eqb x y ≡ b
+    go true e = eq-eqb x y (sym (eqb-true y x e))
+    go false e = ne-eqb x y (λ q. eqb-false y x e (sym q))
 
 -- ---- one list after another
 

@@ -1,22 +1,23 @@
 -- An accepted mesh with the chains of its cells turned round, and an accepted stencil. Assumes nothing.
 use mathlib.Core.Path.{_≡_, refl, sym, ap, ap₂, _∙_, subst}
-use mathlib.Core.Bool.{Bool, true, false, not, _||_, _&&_}
-use mathlib.Core.List.{List, [], _∷_, map}
-use Prim.Native.Nat.{ℕ, zero, suc, _+_, _-_, _%_, _≤_, _<_}
+use mathlib.Core.Bool.{true, false, _&&_}
+use mathlib.Core.List.{List}
+use Prim.Native.Nat.{ℕ, _+_, _-_, _≤_, _<_}
 use native.Mathlib.Omega.{arith}
 use lib.Dec.{eqb, leb, ltb}
-use lib.ListN.{length, getD, length-map, replicate}
-use borrow.Author.Tests.{eqb-true, eq-eqb, le-leb, lt-ltb, leb-true, ltb-true, ltb-false, not-false}
+use lib.ListN.{length, getD, length-map}
+use borrow.Author.Tests.{eqb-true, eq-eqb, le-leb, lt-ltb, leb-true, ltb-true}
 use Rattle.vocabulary.specs.Bytes.{Bytes}
-use Rattle.vocabulary.specs.Ranges.{some, blocks, every}
+use Rattle.vocabulary.specs.Ranges.{some, blocks}
 use Rattle.vocabulary.specs.RangeLaws.{some-witness, some-in, blocks-length, blocks-inner, total-cong}
 use Rattle.vocabulary.specs.Lists.{isIn, All}
-use Rattle.vocabulary.specs.ListLaws.{and-true, and-intro, same-test, or-false, All-map}
-use Rattle.mesh.specs.Mesh.{top, below, elements, firstCell, cellCount, dimension, elementIn, records, chain, allRecords}
+use Rattle.vocabulary.specs.ListLaws.{and-true, and-intro, same-test, All-map}
+use Rattle.mesh.specs.Mesh.{top, elements, firstCell, cellCount, dimension, elementIn, records, chain, allRecords}
 use Rattle.mesh.specs.Walks.{bad10}
-use Rattle.mesh.specs.Accepted.{Accepted, Element}
-use Rattle.mesh.proofs.DimensionLaws.{below-rises, dimension-le}
-use Rattle.walks.specs.Links.{Links, links, linkCells, trail}
+use Rattle.mesh.specs.Accepted.{Accepted}
+use Rattle.mesh.proofs.DimensionLaws.{dimension-le}
+use Rattle.mesh.specs.WalkLaws.{below-grows}
+use Rattle.walks.specs.Links.{links, linkCells}
 use Rattle.walks.specs.Walking.{isCell, Ground}
 use Rattle.walks.proofs.TrailLaws.{Linked, LinkedAs, pairs, empty, linked-cells, trail-same, count-cells}
 use Rattle.walks.proofs.LinkLaws.{entries}
@@ -51,7 +52,7 @@ module _ (m : Bytes) (A : Accepted m) (first cells : ℕ) (fe : first ≡ firstC
 
   small : (j : ℕ) → j < cells → All (λ g. g ≤ 2000) (chain m (first + j))
   small j h =
-      All-map (chain m (first + j)) (λ g w. omega (arith, w .1, below-rises m (dimension m (first + j)) 4 (omega (arith, dimension-le m (first + j), A .sizes .d-high)), A .sizes .n-high))
+      All-map (chain m (first + j)) (λ g w. omega (arith, w .1, below-grows m (dimension m (first + j)) 4 (omega (arith, dimension-le m (first + j), A .sizes .d-high)), A .sizes .n-high))
       (A .chain-lower (first + j) (record { low = omega (arith, fe); high = omega (arith, fe, ce, A .cells-in) }))
 
   -- the entries of all cells' chains

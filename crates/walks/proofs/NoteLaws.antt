@@ -1,8 +1,8 @@
 -- Steps and layers as the code makes them. Assumes nothing.
-use mathlib.Core.Path.{_≡_, refl, sym, ap, ap₂, _∙_, subst}
+use mathlib.Core.Path.{_≡_, refl, sym, ap, _∙_, subst}
 use mathlib.Core.Bool.{Bool, true, false, _||_, _&&_, cond}
 use mathlib.Core.List.{List, [], _∷_, _++_}
-use Prim.Native.Nat.{ℕ, zero, suc, _+_, _-_, _≤_, _<_}
+use Prim.Native.Nat.{ℕ, _+_, _≤_, _<_}
 use native.Mathlib.Numerals.{add-one}
 use native.Mathlib.Omega.{arith}
 use lib.Dec.{eqb}
@@ -12,13 +12,13 @@ use borrow.Author.Tests.{eqb-true, eqb-false, eq-eqb, ne-eqb}
 use Rattle.vocabulary.specs.Bytes.{Bytes}
 use Rattle.vocabulary.specs.Ranges.{blocks}
 use Rattle.vocabulary.specs.Lists.{isIn, repeats, All}
-use Rattle.vocabulary.specs.ListLaws.{isIn-append, All-getD}
+use Rattle.vocabulary.specs.ListLaws.{or-nothing, eqb-swap, isIn-append, All-getD}
 use Rattle.mesh.specs.Mesh.{top, below}
 use Rattle.mesh.specs.Accepted.{Accepted}
 use Rattle.walks.specs.Visits.{Fresh, Gathered, Toward, with, down, up, Upward}
 use Rattle.walks.specs.Walking.{Ground, Cells, Lowers, stepped, noted, Noted, among}
 use Rattle.walks.proofs.StepLaws.{down-told, up-told, upward}
-use Rattle.mesh.proofs.DimensionLaws.{below-rises}
+use Rattle.mesh.specs.WalkLaws.{below-grows}
 
 -- nothing gathered yet
 pub begin : (v : ℕ) (marks found : List ℕ) → Fresh v marks → length found ≡ 2001 → Gathered v marks found 0
@@ -94,20 +94,9 @@ notes-turn k y j n from l₀ l₁ l₂ c h e A B = record {
   size = B .size ∙ A .size;
   each = λ z.
       B .each z ∙ ap (noted k (eqb y z)) (A .each z) ∙ twice k (isIn z (take j from)) (eqb y z) (getD l₀ z 0)
-      ∙ ap (λ b. noted k b (getD l₀ z 0)) (ap (λ b. isIn z (take j from) || b) (swap z ∙ sym (or-nothing (eqb z y))) ∙ sym (ap (isIn z) longer ∙ isIn-append z (take j from) (y ∷ [])));
+      ∙ ap (λ b. noted k b (getD l₀ z 0)) (ap (λ b. isIn z (take j from) || b) (eqb-swap y z ∙ sym (or-nothing (eqb z y))) ∙ sym (ap (isIn z) longer ∙ isIn-append z (take j from) (y ∷ [])));
 }
   where
-    or-nothing : (b : Bool) → b || false ≡ b
-    or-nothing true = refl
-    or-nothing false = refl
-
-    swap : (z : ℕ) → eqb y z ≡ eqb z y
-    swap z = go (eqb z y) refl
-      where
-        go : (b : Bool) → eqb z y ≡ b → eqb y z ≡ b
-        go true q = eq-eqb y z (sym (eqb-true z y q))
-        go false q = ne-eqb y z (λ w. eqb-false z y q (sym w))
-
     fits : j < length from
     fits = omega (arith, c, length-take n from)
 
@@ -122,7 +111,7 @@ pub note-fits : (k y j n : ℕ) (from l₀ l₁ : List ℕ) (p : ℕ → Bool) �
 note-fits k y j n from l₀ l₁ p c a h e N = omega (arith, N .size, All-getD (λ y. y < length l₀) (take n from) j 0 a (omega arith), getD-take n from j 0 h)
 
 pub low-enough : (m : Bytes) (a hi : ℕ) → Accepted m → a < top m → hi ≡ below m (a + 1) → hi ≤ 2000
-low-enough m a hi A h e = omega (arith, below-rises m (a + 1) 4 (omega (arith, A .sizes .d-high)), A .sizes .n-high)
+low-enough m a hi A h e = omega (arith, below-grows m (a + 1) 4 (omega (arith, A .sizes .d-high)), A .sizes .n-high)
 
 pub upwards : (m st : Bytes) (cell prev last from : List ℕ) (n : ℕ) → Ground m st cell prev last → Lowers m from n → Upward cell prev last from n
 upwards m st cell prev last from n G L = upward m (G .mesh) st cell prev last from n G L

@@ -1,23 +1,23 @@
 -- What the steps of the code gather is what a step of a walk reaches. Assumes nothing.
-use mathlib.Core.Path.{_≡_, refl, sym, ap, ap₂, _∙_, subst}
+use mathlib.Core.Path.{_≡_, refl, sym, ap, ap₂, _∙_}
 use mathlib.Core.Bool.{Bool, true, false, _||_, _&&_, cond}
-use mathlib.Core.List.{List, [], _∷_, _++_}
-use Prim.Native.Nat.{ℕ, zero, suc, _+_, _-_, _≤_, _<_}
-use native.Mathlib.Nat.{zero-add}
+use mathlib.Core.List.{List, [], _∷_}
+use Prim.Native.Nat.{ℕ, suc, _+_, _≤_, _<_}
 use native.Mathlib.Omega.{arith}
 use lib.Dec.{eqb, ltb, leb}
 use lib.ListN.{length, getD, take}
 use lib.Seq.{getD-take}
-use borrow.Author.Tests.{eqb-true, eqb-false, eq-eqb, ne-eqb, lt-ltb, le-ltb, le-leb, lt-leb, ltb-true, ltb-false, leb-true, leb-false}
+use borrow.Author.Tests.{eqb-true, lt-ltb, le-leb, ltb-true, leb-true}
 use Rattle.vocabulary.specs.Bytes.{Bytes}
 use Rattle.vocabulary.specs.Ranges.{picked, some, blocks}
 use Rattle.vocabulary.specs.RangeLaws.{some-none, some-has, some-witness, some-cong, picked-in, picked-passes}
-use Rattle.vocabulary.specs.Lists.{isIn, someOf, All}
-use Rattle.vocabulary.specs.ListLaws.{All-intro, isIn-append, isIn-at, at-isIn, not-isIn, isIn-not, and-true, and-intro, same-test, someOf-cong, someOf-has, someOf-witness, All-map, All-getD, At}
-use Rattle.mesh.specs.Mesh.{top, counted, below, elements, firstCell, cellCount, dimension, chain}
+use Rattle.vocabulary.specs.Lists.{isIn, someOf}
+use Rattle.vocabulary.specs.ListLaws.{or-nothing, All-intro, isIn-at, at-isIn, not-isIn, and-true, and-intro, same-test, someOf-cong, someOf-has, someOf-witness, All-map, All-getD}
+use Rattle.mesh.specs.Mesh.{top, counted, below, firstCell, cellCount, dimension, chain}
 use Rattle.mesh.specs.Walks.{incident, stepTo}
-use Rattle.mesh.specs.Accepted.{Accepted, Cell, Element}
-use Rattle.mesh.proofs.DimensionLaws.{below-rises, below-more, dimension-le}
+use Rattle.mesh.specs.Accepted.{Accepted, Cell}
+use Rattle.mesh.proofs.DimensionLaws.{below-more, dimension-le}
+use Rattle.mesh.specs.WalkLaws.{below-grows}
 use Rattle.mesh.proofs.ClosureLaws.{isIn-blocks}
 use Rattle.walks.specs.Links.{trail}
 use Rattle.walks.specs.Visits.{between, down, up, Upward}
@@ -102,8 +102,8 @@ module _ (m : Bytes) (A : Accepted m) where
   no-cell x y l h c =
       not-isIn y (chain m x) (λ a.
       let w = All-getD (λ g. (1 ≤ g) × (g ≤ below m (dimension m x))) (chain m x) (a .place) 0
-      (A .chain-lower x (record { low = l; high = omega (arith, below-rises m (top m) 4 (omega (arith, A .sizes .d-high))) })) (a .place-lt) in
-      let z : ⊥ = omega (arith, w .1, a .place-is, below-rises m (dimension m x) (top m) (dimension-le m x), c .low) in z)
+      (A .chain-lower x (record { low = l; high = omega (arith, below-grows m (top m) 4 (omega (arith, A .sizes .d-high))) })) (a .place-lt) in
+      let z : ⊥ = omega (arith, w .1, a .place-is, below-grows m (dimension m x) (top m) (dimension-le m x), c .low) in z)
 
   from-cell : (x y : ℕ) → 1 ≤ x → x ≤ below m (top m) → Cell m y → incident m y x ≡ isIn x (chain m y)
   unfolding incident
@@ -112,10 +112,6 @@ module _ (m : Bytes) (A : Accepted m) where
   to-cell : (x y : ℕ) → 1 ≤ x → x ≤ below m (top m) → Cell m y → incident m x y ≡ isIn x (chain m y)
   unfolding incident
   to-cell x y l h c = ap (λ b. isIn x (chain m y) || b) (no-cell x y l h c) ∙ or-nothing (isIn x (chain m y))
-    where
-      or-nothing : (b : Bool) → b || false ≡ b
-      or-nothing true = refl
-      or-nothing false = refl
 
   -- ---- down
 
@@ -146,7 +142,7 @@ module _ (m : Bytes) (A : Accepted m) where
       go true e =
           let w = and-true (ltb lo z) (leb z hi) e in
           let l : 1 ≤ z = omega (arith, ltb-true lo z (w .0)) in
-          let h : z ≤ below m (top m) = omega (arith, leb-true z hi (w .1), he, below-rises m (a + 1) (top m) (omega arith)) in
+          let h : z ≤ below m (top m) = omega (arith, leb-true z hi (w .1), he, below-grows m (a + 1) (top m) (omega arith)) in
           ap₂ _&&_ (sym range) (someOf-cong _ _ (take n from) (All-map (take n from) (λ y c. sym (from-cell z y l h c)) (C .each)))
       go false e =
           ap (λ b. b && someOf (take n from) (λ e. isIn z (chain m e))) e
@@ -159,7 +155,7 @@ module _ (m : Bytes) (A : Accepted m) where
     lower-at j h = rw (← getD-take n from j 0 h) (All-getD (λ x. (1 ≤ x) × (x ≤ below m (top m))) (take n from) j 0 (L .each) (omega (arith, L .count)))
 
     lower-small : (j : ℕ) → j < n → getD from j 0 ≤ 2000
-    lower-small j h = omega (arith, lower-at j h .1, below-rises m (top m) 4 (omega (arith, A .sizes .d-high)), A .sizes .n-high)
+    lower-small j h = omega (arith, lower-at j h .1, below-grows m (top m) 4 (omega (arith, A .sizes .d-high)), A .sizes .n-high)
 
     pub up-told : (z : ℕ) → isIn z (blocks 0 n (up cell prev last from)) ≡ stepped m (top m) from n z
     unfolding stepped stepTo up isCell

@@ -1,16 +1,17 @@
 -- From an element the trail of its entries leads to exactly the cells whose chains have it. Assumes nothing.
-use mathlib.Core.Path.{_≡_, refl, sym, ap, ap₂, _∙_, subst}
+use mathlib.Core.Path.{_≡_, refl, sym, ap, ap₂, _∙_}
 use mathlib.Core.Bool.{Bool, true, false, _||_, _&&_}
 use mathlib.Core.List.{List, [], _∷_}
-use Prim.Native.Nat.{ℕ, zero, suc, _+_, _-_, _≤_, _<_}
+use Prim.Native.Nat.{ℕ, zero, suc, _+_, _≤_, _<_}
 use native.Mathlib.Omega.{arith}
 use lib.Dec.{eqb}
 use lib.ListN.{length, getD, set, length-set, length-append, replicate, length-replicate}
 use lib.Seq.{getD-set-same, getD-set-other}
-use borrow.Author.Tests.{eqb-true, eqb-false, eq-eqb, ne-eqb}
+use borrow.Author.Tests.{eqb-true, eqb-false, ne-eqb}
 use Rattle.vocabulary.specs.Bytes.{Bytes}
 use Rattle.vocabulary.specs.Ranges.{some, blocks}
 use Rattle.vocabulary.specs.Lists.{isIn, All}
+use Rattle.vocabulary.specs.ListLaws.{or-swap}
 use Rattle.mesh.specs.Mesh.{chain}
 use Rattle.walks.specs.Links.{Links, links, link, linkAll, linkCells, trail}
 use Rattle.walks.proofs.LinkLaws.{entries, linkAll-count}
@@ -165,12 +166,6 @@ linked-all c (links t cell prev last) P (g ∷ gs) K room a =
 -- element x stands in the chain of cell y, of the n cells from `first` on
 unfoldable pub pairs : Bytes → ℕ → ℕ → ℕ → ℕ → Bool
 pairs m first n x y = some first n (λ c. isIn x (chain m c) && eqb y c)
-
-or-swap : (a b : Bool) → a || b ≡ b || a
-or-swap true true = refl
-or-swap true false = refl
-or-swap false true = refl
-or-swap false false = refl
 
 pub zeros-at : (n i : ℕ) → _≡_ {A = ℕ} (getD (replicate n 0) i 0) 0
 zeros-at zero i = refl

@@ -2,7 +2,7 @@
 use mathlib.Core.Path.{_≡_, refl, sym, ap, ap₂, _∙_, subst}
 use mathlib.Core.Bool.{Bool, true, false, _||_, _&&_, cond}
 use mathlib.Core.List.{List, [], _∷_, _++_, map}
-use Prim.Native.Nat.{ℕ, zero, suc, _+_, _-_, _≤_, _<_}
+use Prim.Native.Nat.{ℕ, suc, _+_, _-_, _≤_, _<_}
 use native.Mathlib.Nat.{zero-add}
 use native.Mathlib.Numerals.{add-one}
 use native.Mathlib.Omega.{arith}
@@ -10,8 +10,8 @@ use lib.Dec.{eqb, ltb, leb}
 use lib.ListN.{length, getD, set, take, length-set, length-append}
 use lib.Seq.{getD-set-same, getD-set-other, take-suc-set}
 use borrow.Author.Tests.{eqb-true, eqb-false, eq-eqb, ne-eqb, lt-ltb, le-ltb, le-leb, lt-leb}
-use Rattle.vocabulary.specs.Lists.{isIn, repeats, All}
-use Rattle.vocabulary.specs.ListLaws.{and-right, once-few, All-append, isIn-append, repeats-snoc}
+use Rattle.vocabulary.specs.Lists.{isIn, All}
+use Rattle.vocabulary.specs.ListLaws.{or-nothing, or-always, or-assoc, and-right, once-few, All-append, isIn-append, repeats-snoc}
 use Rattle.vocabulary.specs.Bytes.{Bytes}
 use Rattle.vocabulary.specs.Ranges.{blocks}
 use Rattle.vocabulary.specs.RangeLaws.{blocks-turn}
@@ -20,14 +20,6 @@ use Rattle.mesh.proofs.FollowLaws.{chain-ended, chain-spent, chain-more}
 use Rattle.walks.specs.Visits.{Gathered, Toward, with, between, down, up, Upward}
 use Rattle.walks.specs.Links.{trail}
 use Rattle.walks.proofs.TrailLaws.{trail-end, trail-more}
-
-or-false-right : (a : Bool) → a || false ≡ a
-or-false-right true = refl
-or-false-right false = refl
-
-or-true-right : (a : Bool) → a || true ≡ true
-or-true-right true = refl
-or-true-right false = refl
 
 -- how many there can be
 pub few : (v n : ℕ) (marks found : List ℕ) → Gathered v marks found n → n ≤ 2000
@@ -43,7 +35,7 @@ module _ (v y n : ℕ) (marks found : List ℕ) (G : Gathered v marks found n) w
       here = sym (G .marked y) ∙ eq-eqb (getD marks y 0) v (sym e ∙ f)
 
       go : (z : ℕ) (b : Bool) → eqb z y ≡ b → isIn z (take n found) || false ≡ isIn z (take n found) || (b || false)
-      go z true q = or-false-right (isIn z (take n found)) ∙ ap (λ k. isIn k (take n found)) (eqb-true z y q) ∙ here ∙ sym (or-true-right (isIn z (take n found)))
+      go z true q = or-nothing (isIn z (take n found)) ∙ ap (λ k. isIn k (take n found)) (eqb-true z y q) ∙ here ∙ sym (or-always (isIn z (take n found)))
       go z false q = refl
 
   module _ (x : ℕ) (xe : x ≡ getD marks y 0) (new : x ≡ v → ⊥) (low : 1 ≤ y) (high : y ≤ 2000) (marks′ found′ : List ℕ)
@@ -80,12 +72,12 @@ module _ (v y n : ℕ) (marks found : List ℕ) (G : Gathered v marks found n) w
         under z false q = omega (arith, at z, getD-set-other marks y z v 0 (eqb-false z y q), G .top z)
 
         mark : (z : ℕ) (b : Bool) → eqb z y ≡ b → eqb (getD marks′ z 0) v ≡ isIn z (take n found) || (b || false)
-        mark z true q = eq-eqb (getD marks′ z 0) v (at z ∙ ap (λ k. getD (set marks y v) k 0) (eqb-true z y q) ∙ same) ∙ sym (or-true-right (isIn z (take n found)))
-        mark z false q = ap (λ k. eqb k v) (at z ∙ getD-set-other marks y z v 0 (eqb-false z y q)) ∙ G .marked z ∙ sym (or-false-right (isIn z (take n found)))
+        mark z true q = eq-eqb (getD marks′ z 0) v (at z ∙ ap (λ k. getD (set marks y v) k 0) (eqb-true z y q) ∙ same) ∙ sym (or-always (isIn z (take n found)))
+        mark z false q = ap (λ k. eqb k v) (at z ∙ getD-set-other marks y z v 0 (eqb-false z y q)) ∙ G .marked z ∙ sym (or-nothing (isIn z (take n found)))
 
     pub visit-adds : Toward found′ (n + 1) [] (with found n (y ∷ []))
     unfolding with isIn
-    visit-adds = record { each = λ z. or-false-right (isIn z (take (n + 1) found′)) ∙ ap (isIn z) longer ∙ isIn-append z (take n found) (y ∷ []) }
+    visit-adds = record { each = λ z. or-nothing (isIn z (take (n + 1) found′)) ∙ ap (isIn z) longer ∙ isIn-append z (take n found) (y ∷ []) }
 
     pub visit-few : n + 1 ≤ 2000
     visit-few = few v (n + 1) marks′ found′ visit-new
@@ -136,16 +128,12 @@ pub toward-turn : (found found′ : List ℕ) (n n′ : ℕ) (rest xs ys : List 
 unfolding with isIn
 toward-turn found found′ n n′ rest xs ys p e t u = record {
   each = λ z.
-      ap (λ b. b || isIn z ys) (sym (or-false-right (isIn z (take n′ found′))) ∙ u .each z)
+      ap (λ b. b || isIn z ys) (sym (or-nothing (isIn z (take n′ found′))) ∙ u .each z)
       ∙ or-assoc (isIn z (take n found)) (isIn z xs) (isIn z ys)
       ∙ ap (λ b. isIn z (take n found) || b) (sym (isIn-append z xs ys))
       ∙ ap (λ (l : List ℕ). isIn z (take n found) || isIn z l) (sym e)
       ∙ t .each z;
 }
-  where
-    or-assoc : (a b c : Bool) → (a || b) || c ≡ a || (b || c)
-    or-assoc true b c = refl
-    or-assoc false b c = refl
 
 -- ---- the loop over a chain
 
@@ -204,7 +192,7 @@ unfolding with isIn
 step-turn found₀ found found′ n n′ j g xs t e u = record {
   each = λ z.
       u .each z
-      ∙ ap (λ b. b || isIn z xs) (sym (or-false-right (isIn z (take n found))) ∙ t .each z)
+      ∙ ap (λ b. b || isIn z xs) (sym (or-nothing (isIn z (take n found))) ∙ t .each z)
       ∙ sym (isIn-append z (blocks 0 j g) xs)
       ∙ ap (λ (l : List ℕ). isIn z (blocks 0 j g ++ l)) e
       ∙ ap (isIn z) (sym (rw zero-add at (blocks-turn 0 g j)));

@@ -1,25 +1,25 @@
 -- A walk of k steps is a walk of k - 1 steps and one step more, as the code makes it. Assumes nothing.
 use mathlib.Core.Path.{_≡_, refl, sym, ap, ap₂, _∙_, subst}
-use mathlib.Core.Bool.{Bool, true, false, not, _||_, _&&_, cond}
+use mathlib.Core.Bool.{Bool, true, false, _||_, _&&_, cond}
 use mathlib.Core.List.{List, [], _∷_, _++_}
 use Prim.Native.Nat.{ℕ, zero, suc, _+_, _-_, _%_, _≤_, _<_}
-use native.Mathlib.Nat.{zero-add}
 use native.Mathlib.Numerals.{add-one}
 use native.Mathlib.Omega.{arith}
-use lib.Dec.{eqb, ltb}
-use lib.ListN.{length, getD, set, take, length-set, length-take}
-use lib.Seq.{take-suc, take-suc-set, take-set-le}
-use borrow.Author.Tests.{eqb-true, eqb-false, eq-eqb, ne-eqb, not-false, ltb-true}
+use lib.Dec.{eqb}
+use lib.ListN.{length, getD, set, take, length-set}
+use lib.Seq.{take-suc, take-suc-set}
+use borrow.Author.Tests.{eqb-true, ne-eqb}
 use Rattle.vocabulary.specs.Bytes.{Bytes, byteAt}
-use Rattle.vocabulary.specs.Ranges.{picked, every}
-use Rattle.vocabulary.specs.RangeLaws.{every-at, picked-passes, picked-cong}
+use Rattle.vocabulary.specs.Ranges.{picked}
+use Rattle.vocabulary.specs.RangeLaws.{picked-passes, picked-cong}
 use Rattle.vocabulary.specs.Lists.{isIn, All}
-use Rattle.vocabulary.specs.ListLaws.{All-map, or-false, isIn-at, at-isIn, All-intro, At}
-use Rattle.mesh.specs.Mesh.{top, counted, below, elements, firstCell, cellCount}
+use Rattle.vocabulary.specs.ListLaws.{or-nothing, eqb-swap, All-map, isIn-at, at-isIn, All-intro}
+use Rattle.mesh.specs.Mesh.{top, counted, below}
 use Rattle.mesh.specs.Walks.{bad10, stepTo, walked}
 use Rattle.mesh.specs.WalkLaws.{stencil-odd, stencil-even}
 use Rattle.mesh.specs.Accepted.{Accepted, Cell}
-use Rattle.mesh.proofs.DimensionLaws.{below-rises, below-more}
+use Rattle.mesh.proofs.DimensionLaws.{below-more}
+use Rattle.mesh.specs.WalkLaws.{below-grows}
 use Rattle.walks.proofs.StepLaws.{someOf-like}
 use Rattle.walks.specs.Visits.{Fresh, Gathered, Toward}
 use Rattle.walks.specs.Walking.{Ground, Cells, Lowers, Sided, Clear, stepped, firstMark, layerMark, noted, Noted, among, Walk}
@@ -78,7 +78,7 @@ module _ (m st : Bytes) (A : Accepted m) (bad : bad10 (top m) st ≡ false) (c :
   walked-odd (suc k) z h o e =
       let d : byteAt st (suc k) < top m = stencil-odd (top m) st bad (suc k) h o in
       let w = range (byteAt st (suc k)) z (walked m st c k) e in
-      (omega (arith, w .0), omega (arith, w .1, below-more m (byteAt st (suc k)), below-rises m (suc (byteAt st (suc k))) (top m) (omega arith)))
+      (omega (arith, w .0), omega (arith, w .1, below-more m (byteAt st (suc k)), below-grows m (suc (byteAt st (suc k))) (top m) (omega arith)))
 
   -- each of the first n numbers is where a walk ends
   each-of : (P : ℕ → Type 0) (k n : ℕ) (from : List ℕ) → ((z : ℕ) → isIn z (take n from) ≡ isIn z (walked m st c k)) → ((z : ℕ) → isIn z (walked m st c k) ≡ true → P z)
@@ -128,10 +128,6 @@ layer-more m st c k z =
 
 -- ---- no step, and one step more
 
-or-nothing : (b : Bool) → b || false ≡ b
-or-nothing true = refl
-or-nothing false = refl
-
 module _ (m st : Bytes) (c k v : ℕ) (marks from layers from′ layers′ : List ℕ) where
   pub walk-none : k ≡ 0 → Fresh v marks → length from ≡ 2001 → Clear layers → from′ ≡ set from 0 c → Noted 0 layers layers′ (eqb c)
       → Walk m st c k (v + k) marks from′ layers′ 1
@@ -149,15 +145,8 @@ module _ (m st : Bytes) (c k v : ℕ) (marks from layers from′ layers′ : Lis
       front : take 1 from′ ≡ c ∷ []
       front = ap (take 1) f ∙ take-suc-set from 0 c (omega arith)
 
-      swap : (z : ℕ) → eqb c z ≡ eqb z c
-      swap z = go (eqb z c) refl
-        where
-          go : (b : Bool) → eqb z c ≡ b → eqb c z ≡ b
-          go true q = eq-eqb c z (sym (eqb-true z c q))
-          go false q = ne-eqb c z (λ w. eqb-false z c q (sym w))
-
       first : (z : ℕ) → noted 0 (eqb c z) 0 ≡ layerMark m st c 0 z
-      first z = ap (λ b. noted 0 b 0) (swap z) ∙ go (eqb z c) refl
+      first z = ap (λ b. noted 0 b 0) (eqb-swap c z) ∙ go (eqb z c) refl
         where
           go : (b : Bool) → eqb z c ≡ b → noted 0 b 0 ≡ layerMark m st c 0 z
           go true q = unfold noted layerMark firstMark picked walked isIn in sym (ap (λ b. firstMark (cond (b || false) (0 ∷ []) [])) q)

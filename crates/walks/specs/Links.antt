@@ -2,7 +2,7 @@
 -- in proofs/ tie it to the definitions. Assumes nothing.
 --
 -- Each element of a cell's chain is an entry, numbered from 1: the cell, and the entry before it that has the same element.
-use mathlib.Core.Bool.{Bool, true, false}
+use mathlib.Core.Bool.{true, false}
 use mathlib.Core.List.{List, [], _∷_}
 use Prim.Native.Nat.{ℕ, zero, suc, _+_}
 use lib.Dec.{eqb}

@@ -1,18 +1,17 @@
 -- The worked examples of document 01 that it marks (P), as entries of one table under one theorem, all by computation over the definitions.
 -- Assumes nothing.
 use mathlib.Core.Path.{_≡_, refl, sym, subst}
-use mathlib.Core.Bool.{Bool, true, false, cond}
 use mathlib.Core.List.{List, [], _∷_, _++_, map, List·Memᴰ, List·Memᴰ·head, List·Memᴰ·tail}
 use Prim.Native.Nat.{ℕ, zero, suc, _*_, _<_, _≤_}
 use Prim.Native.String.{String}
 use native.Mathlib.Omega.{arith}
 use lib.IntN.{ℤ, pos, negsuc}
 use lib.ListN.{length, take, replicate}
-use Rattle.vocabulary.specs.Bytes.{byteAt, Bytes, over}
+use Rattle.vocabulary.specs.Bytes.{Bytes, over}
 use Rattle.vocabulary.specs.Lists.{isIn, placeOf, joined, repeats, someOf, everyOf}
 use Rattle.vocabulary.specs.Ranges.{isUpTo, picked, every, some, listed, blocks, total}
 use Rattle.layout.specs.Answers.{answer}
-use Rattle.layout.specs.Depths.{depthOf, four, numberFrom, signed, unsigned, depthFrom, numberBytes, depthBytes, inRange, rangedAt}
+use Rattle.layout.specs.Depths.{four, numberFrom, signed, unsigned, depthFrom, numberBytes, depthBytes, inRange, rangedAt}
 use Rattle.layout.specs.Words.{word, wordAt, words, wordBytes, bytesOf}
 use Rattle.mesh.specs.Meet.{meet, stamp, unlike, leavesBy}
 use Rattle.mesh.specs.Mesh.{below, dimension, elementIn, nextOf, follow, records, chain, allRecords, bad1, wrongCount, bad2, meshLength, bad3, headed, bad4, wrongIn, wrongAt, bad5, leaves, unclosed, bad6, bare, bad7, meshTests, meshNumber, checkAnswer}
@@ -22,7 +21,7 @@ use Rattle.round.specs.Rules.{weightCount, tooHeavy, bad11, weight, depthSum, w
 use Rattle.round.specs.Update.{entries, oldsAt}
 use Rattle.messages.specs.Heads.{headOf, meant}
 use Rattle.messages.specs.Messages.{encode, bad15, reading}
-use Rattle.split.specs.Lists.{copied-range, shared-range, exposed-range, private-range, exports-to, imports-from, local-order, halo-cells, interior-cells, Wanted, bad8, bad9, bad12, splitTests, sizeTests, others, listOf, listWords, listTests, listNumber, listAnswer, listOut}
+use Rattle.split.specs.Lists.{imports-from, interior-cells, Wanted, bad8, bad9, bad12, splitTests, sizeTests, others, listOf, listWords, listTests, listNumber, listAnswer, listOut}
 use Rattle.split.specs.Split.{ownerAt, splitOf, owns, owned, reaches, holds, held, imports, exports, inside, interior, halo, locals, localOf, globalOf, cellsAt, holdsLower, touches, another, isCopied, isShared, isExposed, isPrivate, range}
 use Rattle.parts.specs.Calls.{importsFrom, exportsTo, messageTo, writeTestsIn, writtenIn, takeTestsIn, takenIn, allTaken, allWritten, advanceTestsIn, newAt, advancedIn, collectTestsIn, collectedIn, writeNumber, message, writeAnswer, writeState, writeOut, takeNumber, takeAnswer, takeState, advanceNumber, advanceAnswer, advanceState, collectNumber, collectAnswer, collectOut}
 use Rattle.parts.specs.Run.{ownerIn, Gathered, schemeIn, collectsOf, Run, Inputs, World, Collected, collect, advance, take-in, write, Call, put, more, step, run, Fair, Honest, startNumberIn, startStateIn, begin, StateBound}

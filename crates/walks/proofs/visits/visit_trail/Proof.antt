@@ -1,6 +1,6 @@
 -- `walks::visits::visit_trail` meets its contract. The invariant: what was gathered with what is left of the trail is what is wanted. Assumes nothing.
 use mathlib.Core.Path.{_≡_, refl}
-use Prim.Native.Nat.{_-_, _<_, _≤_}
+use Prim.Native.Nat.{_-_, _≤_}
 use native.Mathlib.Nat.{sub-zero}
 use lib.ListN.{length}
 use Rattle.vocabulary.specs.Lists.{All}
