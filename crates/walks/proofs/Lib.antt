@@ -5,6 +5,7 @@ pub mod StepLaws
 pub mod NoteLaws
 pub mod WalkLaws
 pub mod TableLaws
+pub mod SizeLaws
 pub mod ReachLaws
 pub mod GroundLaws
 pub mod StencilLaws
