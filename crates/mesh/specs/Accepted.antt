@@ -14,7 +14,7 @@ pub record Element (m : Bytes) (e : ℕ) : Type 0 where
   pub low : 1 ≤ e
   pub high : e ≤ elements m
 
--- g is a cell of the mesh
+-- c is a cell of the mesh
 pub record Cell (m : Bytes) (c : ℕ) : Type 0 where
   pub low : firstCell m ≤ c
   pub high : c < firstCell m + cellCount m
