@@ -2,3 +2,5 @@ pub mod Refusals
 pub mod Registers
 pub mod Reaches
 pub mod Chosen
+pub mod UndividedLaws
+pub mod CallLaws

@@ -4,3 +4,4 @@ pub mod Rounds
 pub mod Update
 pub mod UpdateLaws
 pub mod RoundLaws
+pub mod Rows

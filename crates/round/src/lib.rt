@@ -1,8 +1,10 @@
 // Rules, fields and the undivided round. Here stand the functions that take any bytes; those that suppose something are in `inner`.
 pub mod inner;
+mod undivided;
 
 use layout::inner::depths_in_range;
 use layout::word_at;
+pub use undivided::undivided_round;
 ghost use mathlib.Core.Path.{_≡_};
 ghost use Rattle.vocabulary.specs.Ranges.{some};
 ghost use Rattle.round.specs.Rules.{tooHeavy, bad11};

@@ -219,10 +219,14 @@ unfolding listed
 listed-cong a f g zero h = refl
 listed-cong a f g (suc n) h = ap₂ (λ xs x. xs ++ (x ∷ [])) (listed-cong a f g n (λ i k. h i (omega arith))) (h n (omega arith))
 
-pub blocks-cong : {A : Type 0} (a : ℕ) (f g : ℕ → List A) (n : ℕ) → ((i : ℕ) → i < n → f (a + i) ≡ g (a + i)) → blocks a n f ≡ blocks a n g
+-- the same lists, whatever the numbers they are made of
+pub blocks-moved : {A : Type 0} (a b : ℕ) (f g : ℕ → List A) (n : ℕ) → ((i : ℕ) → i < n → f (a + i) ≡ g (b + i)) → blocks a n f ≡ blocks b n g
 unfolding blocks
-blocks-cong a f g zero h = refl
-blocks-cong a f g (suc n) h = ap₂ (λ xs ys. xs ++ ys) (blocks-cong a f g n (λ i k. h i (omega arith))) (h n (omega arith))
+blocks-moved a b f g zero h = refl
+blocks-moved a b f g (suc n) h = ap₂ _++_ (blocks-moved a b f g n (λ i k. h i (omega arith))) (h n (omega arith))
+
+pub blocks-cong : {A : Type 0} (a : ℕ) (f g : ℕ → List A) (n : ℕ) → ((i : ℕ) → i < n → f (a + i) ≡ g (a + i)) → blocks a n f ≡ blocks a n g
+blocks-cong a f g n h = blocks-moved a a f g n h
 
 pub total-cong : (a : ℕ) (f g : ℕ → ℕ) (n : ℕ) → ((i : ℕ) → i < n → f (a + i) ≡ g (a + i)) → total a n f ≡ total a n g
 unfolding total

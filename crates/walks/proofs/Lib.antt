@@ -6,6 +6,7 @@ pub mod NoteLaws
 pub mod WalkLaws
 pub mod TableLaws
 pub mod SizeLaws
+pub mod RowLaws
 pub mod ReachLaws
 pub mod GroundLaws
 pub mod StencilLaws

@@ -1,0 +1,74 @@
+-- Calls of the undivided round, one after another, each on what the one before it left: k calls give the undivided field after k rounds.
+-- Assumes nothing.
+use mathlib.Core.Path.{_≡_, refl, sym, ap, _∙_}
+use mathlib.Core.Bool.{false}
+use mathlib.Core.List.{List, [], _∷_}
+use Prim.Native.Nat.{ℕ, zero, suc, _*_}
+use lib.Dec.{ltb}
+use lib.ListN.{length}
+use Rattle.vocabulary.specs.Bytes.{Bytes, over}
+use Rattle.vocabulary.specs.ByteLaws.{over-whole}
+use Rattle.vocabulary.specs.Lists.{All}
+use Rattle.vocabulary.specs.Tests.{Test, refuse, firstOf, passed, passed-append, firstOf-right, none-holds}
+use Rattle.mesh.specs.Mesh.{top, cellCount, meshTests}
+use Rattle.mesh.specs.Walks.{steps, bad10, bad13}
+use Rattle.round.specs.Rules.{bad11}
+use Rattle.round.specs.Rounds.{schemeOf, round, undivided, bad14, roundTests, roundNumber, roundOut}
+use Rattle.round.specs.RoundLaws.{undivided-good, field-length}
+
+-- the fields that k calls with the buffer `out` leave
+unfoldable pub calls : Bytes → Bytes → ℕ → Bytes → Bytes → Bytes → ℕ → Bytes
+calls m st kind v f out zero = f
+calls m st kind v f out (suc k) = roundOut m st kind v (calls m st kind v f out k) out
+
+module _ (m st : Bytes) (kind : ℕ) (v out : Bytes) where
+  -- the tests after those of the mesh
+  abbrev later : Bytes → List Test
+  later g =
+      refuse 10 (bad10 (top m) st)
+      ∷ refuse 11 (bad11 kind (steps st) v)
+      ∷ refuse 13 (bad13 m st)
+      ∷ refuse 14 (bad14 (cellCount m) g)
+      ∷ refuse 16 (ltb (length out) (4 * cellCount m))
+      ∷ []
+
+  round-done : (g : Bytes) → roundNumber m st kind v g out ≡ 0 → roundOut m st kind v g out ≡ over out 0 (round (schemeOf m st kind v) g)
+  unfolding roundOut
+  round-done g e = simp e
+
+  module _ (f : Bytes) (room : length out ≡ 4 * cellCount m) (first : roundNumber m st kind v f out ≡ 0) where
+    halves : (firstOf (meshTests m) ≡ 0) × (firstOf (later f) ≡ 0)
+    unfolding roundNumber roundTests meshTests
+    halves = passed-append (meshTests m) (later f) tt first
+
+    mesh-passed : All (λ t. t .holds ≡ false) (meshTests m)
+    unfolding meshTests
+    mesh-passed = passed (meshTests m) tt (halves .0)
+
+    later-passed : All (λ t. t .holds ≡ false) (later f)
+    later-passed = passed (later f) tt (halves .1)
+
+    field-kept : (k : ℕ) → bad14 (cellCount m) (undivided (schemeOf m st kind v) f k) ≡ false
+    unfolding schemeOf
+    field-kept k = undivided-good m st kind v f k (later-passed .1 .1 .1 .0)
+
+    -- no test but 14 looks at the field, so every one of the calls is accepted
+    pub accepted-again : (k : ℕ) → roundNumber m st kind v (undivided (schemeOf m st kind v) f k) out ≡ 0
+    unfolding roundNumber roundTests
+    accepted-again k =
+        let a = later-passed in
+        let g : Bytes = undivided (schemeOf m st kind v) f k in
+        firstOf-right (meshTests m) (later g) mesh-passed
+        ∙ none-holds (later g) (a .0, (a .1 .0, (a .1 .1 .0, (field-kept k, (a .1 .1 .1 .1 .0, tt)))))
+
+    round-length : (k : ℕ) → length (round (schemeOf m st kind v) (undivided (schemeOf m st kind v) f k)) ≡ length out
+    unfolding undivided
+    round-length k = field-length (cellCount m) _ (field-kept (suc k)) ∙ sym room
+
+    pub calls-undivided : (k : ℕ) → calls m st kind v f out k ≡ undivided (schemeOf m st kind v) f k
+    unfolding calls undivided
+    calls-undivided zero = refl
+    calls-undivided (suc k) =
+        ap (λ g. roundOut m st kind v g out) (calls-undivided k)
+        ∙ round-done (undivided (schemeOf m st kind v) f k) (accepted-again k)
+        ∙ over-whole out (round (schemeOf m st kind v) (undivided (schemeOf m st kind v) f k)) (round-length k)

@@ -1,0 +1,247 @@
+-- The undivided round by the rows of the table of the reaches, and its number by the tests that the code makes one after the other.
+-- Assumes nothing.
+use mathlib.Core.Path.{_≡_, refl, sym, ap, ap₂, _∙_}
+use mathlib.Core.Bool.{Bool, true, false}
+use mathlib.Core.List.{List, map}
+use Prim.Native.Nat.{ℕ, _+_, _-_, _*_, _%_, _≤_, _<_}
+use native.Mathlib.Nat.{zero-add}
+use native.Mathlib.Omega.{arith}
+use lib.Dec.{ltb}
+use lib.IntN.{ℤ}
+use lib.Signed.{mag}
+use mir.Syntax.{w32}
+use mir.Val.{toZ, ofZ}
+use lib.ListN.{length, getD, length-map}
+use borrow.Author.Tests.{ne-eqb, lt-ltb, le-ltb}
+use Rattle.vocabulary.specs.Bytes.{Bytes, over}
+use Rattle.vocabulary.specs.ByteLaws.{over-none}
+use Rattle.vocabulary.specs.Lists.{All}
+use Rattle.vocabulary.specs.ListLaws.{All-getD, getD-map-any}
+use Rattle.vocabulary.specs.Ranges.{listed, blocks}
+use Rattle.vocabulary.specs.RangeLaws.{listed-back, blocks-moved}
+use Rattle.vocabulary.specs.Tests.{passed, firstOf-left, firstOf-right}
+use Rattle.layout.specs.Depths.{four, depthBytes}
+use Rattle.layout.specs.DepthLaws.{length-four, fours-store}
+use Rattle.layout.specs.Answers.{answer}
+use Rattle.layout.specs.AnswerLaws.{answer-done, answer-refused}
+use Rattle.layout.specs.declared.Answer.{Answer}
+use Rattle.layout.specs.declared.Answer.the-variants.{Done, Refused}
+use Rattle.mesh.specs.Mesh.{top, firstCell, cellCount, meshTests, meshNumber}
+use Rattle.mesh.specs.Walks.{Near, reach, steps, bad10, bad13}
+use Rattle.mesh.specs.WalkLaws.{reach-in, reach-own, reach-layers}
+use Rattle.walks.specs.Tables.{Tabled}
+use Rattle.walks.proofs.SizeLaws.{table-refused}
+use Rattle.walks.proofs.RowLaws.{row-fits, row-size, row-cell, row-layer, table-length}
+use Rattle.round.specs.Rules.{newDepth, bad11}
+use Rattle.round.specs.RuleLaws.{new-length}
+use Rattle.round.specs.Rounds.{Scheme, schemeOf, depthIn, newIn, round, bad14, roundTests, roundNumber, roundAnswer, roundOut}
+use Rattle.round.specs.RoundLaws.{field-length, field-ranged, placed, olds-placed}
+use Rattle.round.specs.Update.{entryAt, entries, oldsAt, Ready}
+use Rattle.round.specs.UpdateLaws.{ready-from}
+use Rattle.round.specs.Rows.{rowNew, Row, Rows}
+use Rattle.round.proofs.Registers.{depth-held}
+
+-- ---- one row
+
+module _ (kind : ℕ) (v table : Bytes) (ends : List ℕ) (f : Bytes) (j from to : ℕ) (fe : from ≡ getD ends j 0) (te : to ≡ getD ends (j + 1) 0) where
+  pub row-ready : Row kind v table ends f j → Ready kind v table (4 * from) (to - from) f 0 j
+  row-ready r = rw (fe, te) (r .ready)
+
+  -- z is what the update gave, in its register
+  pub row-returned : (z : ℤ) → mag z < 2147483648 → depthBytes z ≡ newDepth kind v (four f (0 + 4 * j)) (oldsAt f 0 (entries table (4 * from) (to - from)))
+      → depthBytes (toZ w32 (ofZ w32 z)) ≡ rowNew kind v table ends f j
+  unfolding rowNew
+  row-returned z h e = ap depthBytes (depth-held z z h refl) ∙ rw (fe, te) at e
+
+-- ---- the rows, one after the other
+
+pub row-each : (kind : ℕ) (v table : Bytes) (ends : List ℕ) (cells : ℕ) (f : Bytes) (j : ℕ) → Rows kind v table ends cells f → j < cells → Row kind v table ends f j
+row-each kind v table ends cells f j r h = r .each j h
+
+module _ (kind : ℕ) (v table : Bytes) (ends : List ℕ) (f : Bytes) (b : Bytes) (cells : ℕ) (room : 4 * cells ≤ length b) where
+  row-four : (j : ℕ) → length (rowNew kind v table ends f j) ≡ 4
+  unfolding rowNew
+  row-four j = new-length kind v _ _ (length-four f (0 + 4 * j))
+
+  pub renew-start : b ≡ over b 0 (blocks 0 0 (rowNew kind v table ends f))
+  unfolding blocks
+  renew-start = sym (over-none b 0)
+
+  -- z is what `new_at` gave, in its register
+  pub renew-turn : (x y : Bytes) (j : ℕ) (z : ℤ) → mag z < 2147483648 → j < cells → x ≡ over b 0 (blocks 0 j (rowNew kind v table ends f)) → depthBytes z ≡ rowNew kind v table ends f j
+      → y ≡ over x (4 * j) (depthBytes (toZ w32 (ofZ w32 z))) → y ≡ over b 0 (blocks 0 (j + 1) (rowNew kind v table ends f))
+  renew-turn x y j z m h e p q =
+      q
+      ∙ ap₂ (λ (w : Bytes) (d : Bytes). over w (4 * j) d) e (ap depthBytes (depth-held z z m refl) ∙ p)
+      ∙ ap₂ (λ o i. over (over b 0 (blocks 0 j (rowNew kind v table ends f))) o (rowNew kind v table ends f i)) (sym (zero-add (4 * j))) (sym (zero-add j))
+      ∙ fours-store 0 j (rowNew kind v table ends f) (λ k l. row-four (0 + k)) b 0 (omega arith)
+
+  pub renew-end : (x : Bytes) (j : ℕ) → j ≤ cells → cells ≤ j → x ≡ over b 0 (blocks 0 j (rowNew kind v table ends f)) → x ≡ over b 0 (blocks 0 cells (rowNew kind v table ends f))
+  renew-end x j g h e = let q : j ≡ cells = omega arith in rw q at e
+
+-- ---- the rows of the table that the walks made
+
+module _ (m st : Bytes) (kind : ℕ) (v f before table : Bytes) (ends : List ℕ) (r : ℕ) (made : Tabled m st before table ends r) (few : r ≤ 8000) (room : length before ≡ 32000) where
+  module _ (j : ℕ) (h : j < cellCount m) where
+    size : getD ends (j + 1) 0 - getD ends j 0 ≡ length (reach m st (firstCell m + j))
+    size = omega (arith, row-size m st before table ends r made few room j h)
+
+    entry-is : (t : ℕ) → t < length (reach m st (firstCell m + j))
+        → entryAt table (4 * getD ends j 0) t ≡ placed (firstCell m) (getD (reach m st (firstCell m + j)) t (record { cell = 0; layer = 0 }))
+    entry-is t k =
+        ap₂ (λ a b. record { cell = a; layer = b })
+        (row-cell m st before table ends r made few room j t (record { cell = 0; layer = 0 }) h k)
+        (row-layer m st before table ends r made few room j t (record { cell = 0; layer = 0 }) h k)
+
+    row-entries : entries table (4 * getD ends j 0) (getD ends (j + 1) 0 - getD ends j 0) ≡ map (placed (firstCell m)) (reach m st (firstCell m + j))
+    unfolding entries
+    row-entries =
+        let es : List Near = reach m st (firstCell m + j) in
+        let l : length (map (placed (firstCell m)) es) ≡ length es = length-map es (placed (firstCell m)) in
+        ap (λ n. listed 0 n (entryAt table (4 * getD ends j 0))) (size ∙ sym l)
+        ∙ listed-back 0 (entryAt table (4 * getD ends j 0)) (map (placed (firstCell m)) es) (record { cell = 0; layer = 0 })
+        (λ i k.
+        let q : i < length es = omega arith in
+        ap (entryAt table (4 * getD ends j 0)) (zero-add i)
+        ∙ entry-is i q
+        ∙ sym (getD-map-any (placed (firstCell m)) es i (record { cell = 0; layer = 0 }) (record { cell = 0; layer = 0 }) q))
+
+    -- the new depth by the row is the new depth of the cell
+    row-new : rowNew kind v table ends f j ≡ newIn (schemeOf m st kind v) f (firstCell m + j)
+    unfolding rowNew newIn schemeOf depthIn
+    row-new =
+        let S : Scheme = schemeOf m st kind v in
+        let p : 0 + 4 * j ≡ 4 * (firstCell m + j - firstCell m) = omega arith in
+        ap₂ (λ x os. newDepth kind v x os) (ap (four f) p) (ap (oldsAt f 0) row-entries ∙ olds-placed S f (reach m st (firstCell m + j)))
+
+  pub rows-round : blocks 0 (cellCount m) (rowNew kind v table ends f) ≡ round (schemeOf m st kind v) f
+  unfolding round schemeOf
+  rows-round =
+      blocks-moved 0 (firstCell m) (rowNew kind v table ends f) (newIn (schemeOf m st kind v) f) (cellCount m)
+      (λ i h. ap (rowNew kind v table ends f) (zero-add i) ∙ row-new i h)
+
+  module _ (stencil : bad10 (top m) st ≡ false) (rule : bad11 kind (steps st) v ≡ false) where
+    row-is-ready : bad14 (cellCount m) f ≡ false → (j : ℕ) → j < cellCount m → Row kind v table ends f j
+    row-is-ready field j h =
+        let es : List Near = reach m st (firstCell m + j) in
+        let z : getD ends (j + 1) 0 - getD ends j 0 ≡ length es = size j h in
+        let o = reach-own m st (firstCell m + j) (omega arith) (omega arith) in
+        record {
+          rises = omega (arith, row-size m st before table ends r made few room j h);
+          ready = ready-from kind v table (4 * getD ends j 0) (getD ends (j + 1) 0 - getD ends j 0) f 0 j (cellCount m) (steps st) rule
+              (omega (arith, row-fits m st before table ends r made few room j h))
+              (omega (arith, row-fits m st before table ends r made few room j h, table-length m st before table ends r made few room))
+              (omega (arith, field-length (cellCount m) f field))
+              (field-ranged (cellCount m) f field)
+              h
+              (λ t k.
+              let q : t < length es = omega arith in
+              let w = All-getD (λ (e : Near). (firstCell m ≤ e .cell) × (e .cell < firstCell m + cellCount m)) es t (record { cell = 0; layer = 0 }) (reach-in m st (firstCell m + j)) q in
+              omega (arith, row-cell m st before table ends r made few room j t (record { cell = 0; layer = 0 }) h q, w .0, w .1))
+              (λ t k.
+              let q : t < length es = omega arith in
+              let w = All-getD (λ (e : Near). (e .layer % 2 ≡ 0) × (e .layer ≤ steps st)) es t (record { cell = 0; layer = 0 }) (reach-layers m st (firstCell m + j) stencil) q in
+              omega (arith, row-layer m st before table ends r made few room j t (record { cell = 0; layer = 0 }) h q, w .1))
+              (o .0)
+              (omega (arith, o .1))
+              (row-layer m st before table ends r made few room j (o .0) (record { cell = 0; layer = 0 }) h (o .1) ∙ ap (λ (e : Near). e .layer) (o .2));
+        }
+
+    pub rows-ready : (cells : ℕ) → cells ≡ cellCount m → cells < 65536 → (b : Bool) → b ≡ bad14 cells f → b ≡ false → Rows kind v table ends cells f
+    rows-ready cells ce q b be bf = record { few = q; each = λ j h. row-is-ready (ap (λ n. bad14 n f) (sym ce) ∙ sym be ∙ bf) j (omega arith) }
+
+-- ---- the answer, test by test
+
+pub rule-good : (kind : ℕ) (st v : Bytes) (b : Bool) → b ≡ bad11 kind (length st - 1) v → b ≡ false → bad11 kind (steps st) v ≡ false
+unfolding steps
+rule-good kind st v b q t = sym q ∙ t
+
+module _ (m st : Bytes) (kind : ℕ) (v f out : Bytes) where
+  -- what the call leaves where it answers r and out is x
+  abbrev pub Answered : Answer → Bytes → Type 0
+  Answered r x = (r ≡ roundAnswer m st kind v f out) × (x ≡ roundOut m st kind v f out)
+
+  refused : (n : ℕ) → roundNumber m st kind v f out ≡ n → (n ≡ 0 → ⊥) → Answered (Refused n) out
+  unfolding roundAnswer roundOut
+  refused n e z = (answer-refused n (cellCount m) z ∙ ap (λ k. answer k (cellCount m)) (sym e), simp (e, ne-eqb n 0 z))
+
+  done : (x : Bytes) → roundNumber m st kind v f out ≡ 0 → x ≡ over out 0 (round (schemeOf m st kind v) f) → Answered (Done (cellCount m)) x
+  unfolding roundAnswer roundOut
+  done x e q = (answer-done (roundNumber m st kind v f out) (cellCount m) e, simp (e, q))
+
+  mesh-passed : meshNumber m ≡ 0 → All (λ t. t .holds ≡ false) (meshTests m)
+  unfolding meshNumber meshTests
+  mesh-passed e = passed (meshTests m) tt e
+
+  -- tests after those of an accepted mesh
+  module _ (mesh : meshNumber m ≡ 0) where
+    number-10 : bad10 (top m) st ≡ true → roundNumber m st kind v f out ≡ 10
+    unfolding roundNumber roundTests
+    number-10 a = firstOf-right (meshTests m) _ (mesh-passed mesh) ∙ simp a
+
+    module _ (ten : bad10 (top m) st ≡ false) where
+      number-11 : bad11 kind (steps st) v ≡ true → roundNumber m st kind v f out ≡ 11
+      unfolding roundNumber roundTests
+      number-11 a = firstOf-right (meshTests m) _ (mesh-passed mesh) ∙ simp (ten, a)
+
+      module _ (eleven : bad11 kind (steps st) v ≡ false) where
+        number-13 : bad13 m st ≡ true → roundNumber m st kind v f out ≡ 13
+        unfolding roundNumber roundTests
+        number-13 a = firstOf-right (meshTests m) _ (mesh-passed mesh) ∙ simp (ten, eleven, a)
+
+        module _ (thirteen : bad13 m st ≡ false) where
+          number-14 : bad14 (cellCount m) f ≡ true → roundNumber m st kind v f out ≡ 14
+          unfolding roundNumber roundTests
+          number-14 a = firstOf-right (meshTests m) _ (mesh-passed mesh) ∙ simp (ten, eleven, thirteen, a)
+
+          module _ (fourteen : bad14 (cellCount m) f ≡ false) where
+            number-16 : length out < 4 * cellCount m → roundNumber m st kind v f out ≡ 16
+            unfolding roundNumber roundTests
+            number-16 h = firstOf-right (meshTests m) _ (mesh-passed mesh) ∙ simp (ten, eleven, thirteen, fourteen, lt-ltb _ _ h)
+
+            number-none : 4 * cellCount m ≤ length out → roundNumber m st kind v f out ≡ 0
+            unfolding roundNumber roundTests
+            number-none h = firstOf-right (meshTests m) _ (mesh-passed mesh) ∙ simp (ten, eleven, thirteen, fourteen, le-ltb _ _ h)
+
+  number-mesh : (n : ℕ) → n ≡ meshNumber m → (n ≡ 0 → ⊥) → roundNumber m st kind v f out ≡ n
+  unfolding roundNumber roundTests meshNumber
+  number-mesh n e z = firstOf-left (meshTests m) _ (λ q. z (e ∙ q)) ∙ sym e
+
+  pub told-mesh : (n : ℕ) → n ≡ meshNumber m → (n ≡ 0 → ⊥) → Answered (Refused n) out
+  told-mesh n e z = refused n (number-mesh n e z) z
+
+  module _ (mesh : meshNumber m ≡ 0) where
+    pub told-10 : (d : ℕ) (b : Bool) → d ≡ top m → b ≡ bad10 d st → b ≡ true → Answered (Refused 10) out
+    told-10 d b p q t = refused 10 (number-10 mesh (ap (λ k. bad10 k st) (sym p) ∙ sym q ∙ t)) (λ z. omega (arith, z))
+
+    module _ (ten : bad10 (top m) st ≡ false) where
+      pub told-11 : (b : Bool) → b ≡ bad11 kind (length st - 1) v → b ≡ true → Answered (Refused 11) out
+      unfolding steps
+      told-11 b q t = refused 11 (number-11 mesh ten (sym q ∙ t)) (λ z. omega (arith, z))
+
+      module _ (eleven : bad11 kind (steps st) v ≡ false) (before table : Bytes) (ends : List ℕ) (r : ℕ) (made : Tabled m st before table ends r) where
+        thirteen : bad13 m st ≡ ltb 8000 r
+        thirteen = sym (table-refused m st before table ends r made)
+
+        pub told-13 : 8000 < r → Answered (Refused 13) out
+        told-13 h = refused 13 (number-13 mesh ten eleven (thirteen ∙ lt-ltb _ _ h)) (λ z. omega (arith, z))
+
+        module _ (few : r ≤ 8000) (cells : ℕ) (ce : cells ≡ cellCount m) (b : Bool) (be : b ≡ bad14 cells f) where
+          in-size : bad13 m st ≡ false
+          in-size = thirteen ∙ le-ltb _ _ few
+
+          fourteen : bad14 (cellCount m) f ≡ b
+          fourteen = ap (λ n. bad14 n f) (sym ce) ∙ sym be
+
+          pub told-14 : b ≡ true → Answered (Refused 14) out
+          told-14 t = refused 14 (number-14 mesh ten eleven in-size (fourteen ∙ t)) (λ z. omega (arith, z))
+
+          module _ (bf : b ≡ false) where
+            pub told-16 : length out < 4 * cells → Answered (Refused 16) out
+            told-16 h = refused 16 (number-16 mesh ten eleven in-size (fourteen ∙ bf) (omega arith)) (λ z. omega (arith, z))
+
+            pub told-done : length before ≡ 32000 → 4 * cells ≤ length out → (x : Bytes) → x ≡ over out 0 (blocks 0 cells (rowNew kind v table ends f)) → Answered (Done cells) x
+            told-done room h x e =
+                rw ce
+                (done x (number-none mesh ten eleven in-size (fourteen ∙ bf) (omega arith))
+                (e ∙ ap (λ n. over out 0 (blocks 0 n (rowNew kind v table ends f))) ce ∙ ap (over out 0) (rows-round m st kind v f before table ends r made few room)))
