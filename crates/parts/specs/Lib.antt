@@ -1,4 +1,5 @@
 pub mod State
+pub mod Checks
 pub mod Calls
 pub mod Start
 pub mod Run

@@ -1,9 +1,8 @@
 -- The byte form of a part's state, and the refusal 20. docs/LAYOUTS.md has it as a table. Assumes nothing.
 --
 -- A state is first its lists, which start writes once, all words; and then, from the place d on, what calls change; word 0 has how many words
--- come before d. Local
--- numbers run from 1, and so do the numbers of parts, 1 to 16. A table of ends has at j how many entries belong to the numbers up to j, so
--- those of j are the ones after end (j − 1), up to end j.
+-- come before d. Local numbers run from 1, and so do the numbers of parts, 1 to 16. A table of ends has at j how many entries belong to the
+-- numbers up to j, so those of j are the ones after end (j − 1), up to end j.
 use mathlib.Core.Bool.{Bool, not, _&&_}
 use mathlib.Core.List.{List, [], _∷_}
 use Prim.Native.Nat.{ℕ, _+_, _-_, _*_, _%_}
@@ -165,6 +164,22 @@ listsOf b = listsIn (take (dynamic b) b)
 unfoldable pub rises : ℕ → (ℕ → ℕ) → Bool
 rises n end = every 0 n (λ j. leb (end j) (end (j + 1)))
 
+-- a held cell is one of the mesh's
+abbrev pub globalFine : Bytes → ℕ → Bool
+globalFine b l = leb (firstOfMesh b) (globalAt b l) && ltb (globalAt b l) (firstOfMesh b + cellsOfMesh b)
+
+-- an entry of a reach names a held cell, at an even layer that the stencil has
+abbrev pub entryFine : Bytes → ℕ → Bool
+entryFine b t = isUpTo (heldCount b) ((entryAt b t) .local) && eqb ((entryAt b t) .layer % 2) 0 && leb ((entryAt b t) .layer) (stepCount b)
+
+-- an owned cell is in its own reach, at layer 0
+abbrev pub ownFound : Bytes → ℕ → Bool
+ownFound b l = someOf (localReach b l) (λ e. eqb (e .local) l && eqb (e .layer) 0)
+
+-- an exported cell is owned
+abbrev pub exportFine : Bytes → ℕ → Bool
+exportFine b t = isUpTo (ownedCount b) (exportAt b t)
+
 -- tests of the lists b
 unfoldable pub listsTests : Bytes → List Bool
 listsTests b =
@@ -175,18 +190,22 @@ listsTests b =
     ∷ rises 16 (importEnd b)
     ∷ (eqb (exportEnd b 0) 0 && rises 16 (exportEnd b))
     ∷ (eqb (reachEnd b 0) 0 && rises (ownedCount b) (reachEnd b))
-    ∷ every 1 (heldCount b) (λ l. leb (firstOfMesh b) (globalAt b l) && ltb (globalAt b l) (firstOfMesh b + cellsOfMesh b))
-    ∷ every 0 (reachCount b) (λ t. let e : LocalNear = entryAt b t in isUpTo (heldCount b) (e .local) && eqb (e .layer % 2) 0 && leb (e .layer) (stepCount b))
-    ∷ every 1 (ownedCount b) (λ l. someOf (localReach b l) (λ e. eqb (e .local) l && eqb (e .layer) 0))
-    ∷ every 0 (exportCount b) (λ t. isUpTo (ownedCount b) (exportAt b t))
+    ∷ every 1 (heldCount b) (globalFine b)
+    ∷ every 0 (reachCount b) (entryFine b)
+    ∷ every 1 (ownedCount b) (ownFound b)
+    ∷ every 0 (exportCount b) (exportFine b)
     ∷ []
+
+-- the flags of part j are 0 or 1
+abbrev pub flagsFine : Bytes → ℕ → ℕ → Bool
+flagsFine b d j = leb (byteAt b (takenPlace d j)) 1 && leb (byteAt b (writtenPlace d j)) 1
 
 -- tests of what calls change, in the state b whose lists end at d and hold n cells
 unfoldable pub dynamicTests : Bytes → ℕ → ℕ → List Bool
 dynamicTests b d n =
     leb (stateLength d n) (length b)
     ∷ leb (roundAt b d) 60000
-    ∷ every 1 16 (λ j. leb (byteAt b (takenPlace d j)) 1 && leb (byteAt b (writtenPlace d j)) 1)
+    ∷ every 1 16 (flagsFine b d)
     ∷ every 0 n (rangedAt b (d + 34))
     ∷ []
 

@@ -1,0 +1,22 @@
+-- `parts::lists::entry_fine` meets its contract. Assumes nothing.
+use Rattle.parts.proofs.ListChecks.{entry-low, entry-high, entry-odd, entry-rest}
+use borrow.Author.Needs.{needs}
+use Rattle.parts.proofs.lists.entry_fine.Statement.{statement}
+use Rattle.parts.proofs.lists.entry_fine.Tie as tie
+
+pub entry-fine-spec : {M : Type 1} → statement M
+entry-fine-spec =
+    tie.close
+    (tie.spec
+    (λ c. search needs)
+    (λ c. search needs)
+    (λ c. search needs)
+    (λ c. search needs)
+    (λ c κs. search needs)
+    (λ c. search needs)
+    (λ c κs. search needs)
+    (λ c. search entry-low)
+    (λ c. search entry-high)
+    (λ c. search entry-odd)
+    (λ c κs. search needs)
+    (λ c. search entry-rest))

@@ -1,0 +1,18 @@
+-- `parts::lists::export_fine` meets its contract. Assumes nothing.
+use Rattle.parts.proofs.ListChecks.{export-low, export-rest}
+use borrow.Author.Needs.{needs}
+use Rattle.parts.proofs.lists.export_fine.Statement.{statement}
+use Rattle.parts.proofs.lists.export_fine.Tie as tie
+
+pub export-fine-spec : {M : Type 1} → statement M
+export-fine-spec =
+    tie.close
+    (tie.spec
+    (λ c. search needs)
+    (λ c. search needs)
+    (λ c. search needs)
+    (λ c. search needs)
+    (λ c. search needs)
+    (λ c κs. search needs)
+    (λ c. search export-low)
+    (λ c. search export-rest))

@@ -1,0 +1,132 @@
+// Whether the lists of a state are as its form asks. `lists` are the bytes before what calls change.
+use layout::word_at;
+use round::bad_rule;
+ghost use mathlib.Core.Path.{_≡_};
+ghost use Prim.Native.Nat.{ℕ, _+_, _*_, _<_, _≤_};
+ghost use lib.Dec.{leb};
+ghost use lib.ListN.{length};
+ghost use Rattle.vocabulary.specs.Ranges.{every};
+ghost use Rattle.vocabulary.specs.Tests.{allOf};
+ghost use Rattle.layout.specs.Words.{wordAt};
+ghost use Rattle.parts.specs.State.{globalFine, entryFine, ownFound, exportFine, listsTests, listsLength};
+ghost use Rattle.parts.specs.Checks.{Counts, fineAt, ownEntry, headTests, endTests, entryTests};
+
+// Whether the end after the one at word k is at least as great.
+fn rises_at(lists: &[u8], k: usize) -> bool
+    requires { ⌜ k < 1000000 ⌝ }
+    ensures { λ r. ⌜ r ≡ leb (wordAt (now (lists .entry)) k) (wordAt (now (lists .entry)) (k + 1)) ⌝ }
+{
+    word_at(lists, k) <= word_at(lists, k + 1)
+}
+
+fn global_fine(lists: &[u8], l: usize) -> bool
+    requires { ⌜ l < 65536 ⌝ }
+    ensures { λ r. ⌜ r ≡ globalFine (now (lists .entry)) l ⌝ }
+{
+    let first = word_at(lists, 9);
+    let g = word_at(lists, 44 + l);
+    if g < first {
+        return false;
+    }
+    g < first + word_at(lists, 10)
+}
+
+fn entry_fine(lists: &[u8], held: usize, owned: usize, reached: usize, t: usize) -> bool
+    requires { ⌜ Counts (now lists) held owned reached × (t < 65536) ⌝ }
+    ensures { λ r. ⌜ r ≡ entryFine (now (lists .entry)) t ⌝ }
+{
+    let k = 46 + held + owned + 2 * t;
+    let l = word_at(lists, k);
+    let layer = word_at(lists, k + 1);
+    if l < 1 {
+        return false;
+    }
+    if held < l {
+        return false;
+    }
+    if layer % 2 != 0 {
+        return false;
+    }
+    layer <= word_at(lists, 2)
+}
+
+// Whether entry t is that of cell l itself.
+fn own_entry(lists: &[u8], held: usize, owned: usize, reached: usize, l: usize, t: usize) -> bool
+    requires { ⌜ Counts (now lists) held owned reached × (t < 65536) ⌝ }
+    ensures { λ r. ⌜ r ≡ ownEntry (now (lists .entry)) l t ⌝ }
+{
+    let k = 46 + held + owned + 2 * t;
+    if word_at(lists, k) != l {
+        return false;
+    }
+    word_at(lists, k + 1) == 0
+}
+
+fn own_found(lists: &[u8], held: usize, owned: usize, reached: usize, l: usize) -> bool
+    requires { ⌜ Counts (now lists) held owned reached × (1 ≤ l) × (l < 65536) ⌝ }
+    ensures { λ r. ⌜ r ≡ ownFound (now (lists .entry)) l ⌝ }
+{
+    let from = word_at(lists, 45 + held + (l - 1));
+    let to = word_at(lists, 45 + held + l);
+    for t in from..to {
+        if own_entry(lists, held, owned, reached, l, t) {
+            return true;
+        }
+    }
+    false
+}
+
+fn export_fine(lists: &[u8], held: usize, owned: usize, reached: usize, t: usize) -> bool
+    requires { ⌜ Counts (now lists) held owned reached × (t < 65536) ⌝ }
+    ensures { λ r. ⌜ r ≡ exportFine (now (lists .entry)) t ⌝ }
+{
+    let l = word_at(lists, 46 + held + owned + 2 * reached + t);
+    if l < 1 {
+        return false;
+    }
+    l <= owned
+}
+
+// What is tested at each number of a range, by the test's own number.
+fn fine_at(
+    which: usize,
+    lists: &[u8],
+    held: usize,
+    owned: usize,
+    reached: usize,
+    x: usize,
+) -> bool
+    requires { ⌜ Counts (now lists) held owned reached × (x < 65536) × (which ≡ 5 → 1 ≤ x) ⌝ }
+    ensures { λ r. ⌜ r ≡ fineAt which (now (lists .entry)) x ⌝ }
+{
+    match which {
+        0 => rises_at(lists, 11 + x),
+        1 => rises_at(lists, 28 + x),
+        2 => rises_at(lists, 45 + held + x),
+        3 => global_fine(lists, x),
+        4 => entry_fine(lists, held, owned, reached, x),
+        5 => own_found(lists, held, owned, reached, x),
+        _ => export_fine(lists, held, owned, reached, x),
+    }
+}
+
+// Whether a test holds at n numbers from a on.
+fn all_fine(
+    which: usize,
+    lists: &[u8],
+    held: usize,
+    owned: usize,
+    reached: usize,
+    a: usize,
+    n: usize,
+) -> bool
+    requires { ⌜ Counts (now lists) held owned reached × (a ≤ 1) × (n < 65535) × (which ≡ 5 → 1 ≤ a) ⌝ }
+    ensures { λ r. ⌜ r ≡ every a n (fineAt which (now (lists .entry))) ⌝ }
+{
+    for x in a..a + n {
+        if !fine_at(which, lists, held, owned, reached, x) {
+            return false;
+        }
+    }
+    true
+}
