@@ -1,5 +1,5 @@
 -- `parts::lists::entry_fine` meets its contract. Assumes nothing.
-use Rattle.parts.proofs.ListChecks.{entry-low, entry-high, entry-odd, entry-rest}
+use Rattle.parts.proofs.ListChecks.{entry-outside, entry-odd, entry-rest}
 use borrow.Author.Needs.{needs}
 use Rattle.parts.proofs.lists.entry_fine.Statement.{statement}
 use Rattle.parts.proofs.lists.entry_fine.Tie as tie
@@ -15,8 +15,8 @@ entry-fine-spec =
     (λ c κs. search needs)
     (λ c. search needs)
     (λ c κs. search needs)
-    (λ c. search entry-low)
-    (λ c. search entry-high)
+    (λ c κs. search needs)
+    (λ c. search entry-outside)
     (λ c. search entry-odd)
     (λ c κs. search needs)
     (λ c. search entry-rest))

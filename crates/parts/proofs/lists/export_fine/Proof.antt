@@ -1,5 +1,5 @@
 -- `parts::lists::export_fine` meets its contract. Assumes nothing.
-use Rattle.parts.proofs.ListChecks.{export-low, export-rest}
+use Rattle.parts.proofs.ListChecks.{export-told}
 use borrow.Author.Needs.{needs}
 use Rattle.parts.proofs.lists.export_fine.Statement.{statement}
 use Rattle.parts.proofs.lists.export_fine.Tie as tie
@@ -14,5 +14,5 @@ export-fine-spec =
     (λ c. search needs)
     (λ c. search needs)
     (λ c κs. search needs)
-    (λ c. search export-low)
-    (λ c. search export-rest))
+    (λ c κs. search needs)
+    (λ c. search export-told))
