@@ -1,2 +1,4 @@
 pub mod ListChecks
 pub mod StateChecks
+pub mod OpenedLaws
+pub mod CollectLaws

@@ -1,15 +1,16 @@
 -- How the code makes the tests of a state's lists: in three groups, and those that go over a range by one loop. No public contract rests on
 -- this page. Assumes nothing.
 use mathlib.Core.Path.{_≡_}
-use mathlib.Core.Bool.{Bool, not, _&&_}
+use mathlib.Core.Bool.{Bool, true, not, _&&_}
 use mathlib.Core.List.{List, [], _∷_}
 use Prim.Native.Nat.{ℕ, zero, suc, _+_, _%_, _<_}
 use lib.Dec.{eqb, leb}
+use lib.ListN.{take}
 use Rattle.vocabulary.specs.Bytes.{Bytes}
 use Rattle.vocabulary.specs.Ranges.{isUpTo, every}
 use Rattle.layout.specs.Words.{wordAt}
 use Rattle.round.specs.Rules.{bad11}
-use Rattle.parts.specs.State.{partNumber, stepCount, ruleKind, weights, importEnd, ownedCount, heldCount, exportEnd, exportCount, reachEnd, reachCount, LocalNear, entryAt, localReach, globalFine, entryFine, ownFound, exportFine, rises}
+use Rattle.parts.specs.State.{partNumber, stepCount, ruleKind, weights, importEnd, ownedCount, heldCount, exportEnd, exportCount, reachEnd, reachCount, LocalNear, entryAt, localReach, dynamic, isState, globalFine, entryFine, ownFound, exportFine, rises}
 
 -- the lists b in three groups
 abbrev pub headTests : Bytes → List Bool
@@ -57,3 +58,10 @@ pub record Counts (b : Bytes) (held owned reached : ℕ) : Type 0 where
   pub held-small : held < 65536
   pub owned-small : owned < 65536
   pub reached-small : reached < 65536
+
+-- b begins with a state, whose lists end at d
+pub record Opened (lists : Bytes) (d : ℕ) (b : Bytes) : Type 0 where
+  pub lists-are : lists ≡ take d b
+  pub place-is : d ≡ dynamic b
+  pub place-small : d < 131072
+  pub state : isState b ≡ true

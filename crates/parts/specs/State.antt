@@ -168,9 +168,12 @@ rises n end = every 0 n (λ j. leb (end j) (end (j + 1)))
 abbrev pub globalFine : Bytes → ℕ → Bool
 globalFine b l = leb (firstOfMesh b) (globalAt b l) && ltb (globalAt b l) (firstOfMesh b + cellsOfMesh b)
 
--- an entry of a reach names a held cell, at an even layer that the stencil has
+-- an entry of a reach names one of the held cells, at an even layer of at most n
+abbrev pub fineEntry : ℕ → ℕ → LocalNear → Bool
+fineEntry held n e = isUpTo held (e .local) && eqb (e .layer % 2) 0 && leb (e .layer) n
+
 abbrev pub entryFine : Bytes → ℕ → Bool
-entryFine b t = isUpTo (heldCount b) ((entryAt b t) .local) && eqb ((entryAt b t) .layer % 2) 0 && leb ((entryAt b t) .layer) (stepCount b)
+entryFine b t = fineEntry (heldCount b) (stepCount b) (entryAt b t)
 
 -- an owned cell is in its own reach, at layer 0
 abbrev pub ownFound : Bytes → ℕ → Bool

@@ -1,15 +1,15 @@
 -- Laws of the form of a state: what the test 20 says of a state, and that it goes by the lists and by what calls change. Assumes nothing.
 use mathlib.Core.Path.{_≡_, refl, sym, ap, _∙_, subst}
 use mathlib.Core.Logic.{⊎-elim}
-use mathlib.Core.Bool.{Bool, true, _&&_}
+use mathlib.Core.Bool.{Bool, true, false, _&&_}
 use Prim.Native.Nat.{ℕ, zero, suc, _+_, _-_, _*_, _%_, _<_, _≤_}
 use native.Mathlib.Nat.{zero-add}
 use native.Mathlib.Numerals.{add-one}
 use native.Mathlib.Omega.{arith}
-use lib.Dec.{eqb, leb}
+use lib.Dec.{eqb, ltb, leb}
 use lib.ListN.{length, take}
 use lib.Seq.{getD-take, ext-getD, length-take-le}
-use borrow.Author.Tests.{eqb-true, leb-true, le-leb}
+use borrow.Author.Tests.{eqb-true, ltb-true, leb-true, le-leb, not-true}
 use Rattle.vocabulary.specs.Bytes.{Bytes, byteAt}
 use Rattle.vocabulary.specs.Lists.{All}
 use Rattle.vocabulary.specs.Ranges.{isUpTo, every}
@@ -19,7 +19,8 @@ use Rattle.vocabulary.specs.Tests.{allOf, allOf-true, allOf-intro}
 use Rattle.layout.specs.Words.{wordAt}
 use Rattle.layout.specs.WordLaws.{word-same}
 use Rattle.layout.specs.Depths.{rangedAt}
-use Rattle.parts.specs.State.{LocalNear, stepCount, reachEnd, reachCount, entryAt, localReach, dynamic, importEnd, ownedCount, heldCount, rises, listsLength, listsTests, dynamicTests, isState, roundAt, takenPlace, writtenPlace, stateLength}
+use Rattle.round.specs.Rules.{bad11}
+use Rattle.parts.specs.State.{LocalNear, stepCount, ruleKind, weights, firstOfMesh, cellsOfMesh, globalAt, exportEnd, exportCount, exportAt, globalFine, entryFine, ownFound, exportFine, reachEnd, reachCount, entryAt, localReach, dynamic, importEnd, ownedCount, heldCount, rises, listsLength, listsTests, dynamicTests, isState, roundAt, takenPlace, writtenPlace, stateLength}
 
 -- a table of ends that never falls
 pub rises-grow : (n : ℕ) (end : ℕ → ℕ) → rises n end ≡ true → (i j : ℕ) → i ≤ j → j ≤ n → end i ≤ end j
@@ -59,10 +60,13 @@ pub record Whole (st : Bytes) (d : ℕ) (b : Bytes) : Type 0 where
   pub ranged : every 0 (heldCount st) (rangedAt b (d + 34)) ≡ true
   pub reach-ends : (i j : ℕ) → i ≤ j → j ≤ ownedCount st → reachEnd st i ≤ reachEnd st j
   pub entries : (t : ℕ) → t < reachCount st → (1 ≤ (entryAt st t) .local) × ((entryAt st t) .local ≤ heldCount st)
-
--- what is tested of an entry of a reach, where n is the stencil's steps
-abbrev pub fineEntry : ℕ → ℕ → LocalNear → Bool
-fineEntry held n e = isUpTo held (e .local) && eqb (e .layer % 2) 0 && leb (e .layer) n
+  pub steps-few : stepCount st ≤ 8
+  pub rule : bad11 (ruleKind st) (stepCount st) (weights st) ≡ false
+  pub globals : (l : ℕ) → 1 ≤ l → l ≤ heldCount st → (firstOfMesh st ≤ globalAt st l) × (globalAt st l < firstOfMesh st + cellsOfMesh st)
+  pub layers : (t : ℕ) → t < reachCount st → (entryAt st t) .layer ≤ stepCount st
+  pub owns : (l : ℕ) → 1 ≤ l → l ≤ ownedCount st → ownFound st l ≡ true
+  pub export-ends : (i j : ℕ) → i ≤ j → j ≤ 16 → exportEnd st i ≤ exportEnd st j
+  pub exported : (t : ℕ) → t < exportCount st → (1 ≤ exportAt st t) × (exportAt st t ≤ ownedCount st)
 
 pub whole-is : (st : Bytes) (d : ℕ) (b : Bytes) → isStateAt st d b ≡ true → Whole st d b
 unfolding listsTests dynamicTests
@@ -84,11 +88,27 @@ whole-is st d b e =
       ranged = c .1 .1 .1 .0;
       reach-ends = λ i j h k. rises-grow (ownedCount st) (reachEnd st) (and-true (eqb (reachEnd st 0) 0) (rises (ownedCount st) (reachEnd st)) (l .1 .1 .1 .1 .1 .1 .0) .1) i j h k;
       entries = λ t h.
-          let x = every-in 0 (λ t. fineEntry (heldCount st) (stepCount st) (entryAt st t)) (reachCount st) t (l .1 .1 .1 .1 .1 .1 .1 .1 .0) (omega arith) (omega arith) in
+          let x = every-in 0 (entryFine st) (reachCount st) t (l .1 .1 .1 .1 .1 .1 .1 .1 .0) (omega arith) (omega arith) in
           let p = isUpTo (heldCount st) ((entryAt st t) .local) in
           let q = eqb ((entryAt st t) .layer % 2) 0 in
           let r = leb ((entryAt st t) .layer) (stepCount st) in
           upTo-true (heldCount st) ((entryAt st t) .local) (and-true p q (and-true (p && q) r x .0) .0);
+      steps-few = leb-true _ _ (and-true (eqb (stepCount st % 2) 0) (leb (stepCount st) 8) (l .1 .0) .1);
+      rule = not-true _ (l .1 .1 .0);
+      globals = λ x h k.
+          let r = and-true (leb (firstOfMesh st) (globalAt st x)) (ltb (globalAt st x) (firstOfMesh st + cellsOfMesh st))
+          (every-in 1 (globalFine st) (heldCount st) x (l .1 .1 .1 .1 .1 .1 .1 .0) h (omega arith)) in
+          (leb-true _ _ (r .0), ltb-true _ _ (r .1));
+      layers = λ t h.
+          let x = every-in 0 (entryFine st) (reachCount st) t (l .1 .1 .1 .1 .1 .1 .1 .1 .0) (omega arith) (omega arith) in
+          let p = isUpTo (heldCount st) ((entryAt st t) .local) in
+          let q = eqb ((entryAt st t) .layer % 2) 0 in
+          let r = leb ((entryAt st t) .layer) (stepCount st) in
+          leb-true _ _ (and-true (p && q) r x .1);
+      owns = λ x h k. every-in 1 (ownFound st) (ownedCount st) x (l .1 .1 .1 .1 .1 .1 .1 .1 .1 .0) h (omega arith);
+      export-ends = λ i j h k. rises-grow 16 (exportEnd st) (and-true (eqb (exportEnd st 0) 0) (rises 16 (exportEnd st)) (l .1 .1 .1 .1 .1 .0) .1) i j h k;
+      exported = λ t h.
+          upTo-true (ownedCount st) (exportAt st t) (every-in 0 (exportFine st) (exportCount st) t (l .1 .1 .1 .1 .1 .1 .1 .1 .1 .1 .0) (omega arith) (omega arith));
     }
 
 -- every entry of an owned cell's reach is held
