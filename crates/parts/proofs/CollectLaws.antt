@@ -16,7 +16,7 @@ use Rattle.layout.specs.declared.Answer.the-variants.{Done, Refused}
 use Rattle.parts.specs.State.{Lists, listsIn, listsOf, dynamic, roundAt, firstOfMesh, cellsOfMesh, globalAt, ownedCount, heldCount, isState, bad20}
 use Rattle.parts.specs.Calls.{collectedIn, collectTestsIn, collectNumber, collectAnswer, collectOut}
 use Rattle.parts.specs.Checks.{Opened}
-use Rattle.parts.proofs.OpenedLaws.{whole, own-few, long, good-state, not-state, four-cut}
+use Rattle.parts.proofs.OpenedLaws.{lists-is, whole, own-few, long, good-state, not-state, four-cut}
 
 -- ---- the loop
 
@@ -92,13 +92,9 @@ module _ (b : Bytes) (k : ℕ) (f : Bytes) where
     told-28 z = refused 28 (number-28 z) (λ z. omega (arith, z))
 
     module _ (rk : r ≡ k) (cells : ℕ) (ce : cells ≡ wordAt st 10) where
-      lists-is : listsOf b ≡ listsIn st
-      unfolding listsOf
-      lists-is = ap listsIn (ap (λ x. take x b) (sym (o .place-is)) ∙ sym (o .lists-are))
-
       cells-is : listsOf b .cells ≡ cells
       unfolding listsIn
-      cells-is = ap (λ (L : Lists). L .cells) lists-is ∙ sym ce
+      cells-is = ap (λ (L : Lists). L .cells) (lists-is st d b o) ∙ sym ce
 
       number-16 : length f < 4 * cells → collectNumber b k f ≡ 16
       unfolding collectNumber collectTestsIn
@@ -113,7 +109,7 @@ module _ (b : Bytes) (k : ℕ) (f : Bytes) where
 
       own-is : (owned : ℕ) → owned ≡ wordAt st 11 → listsOf b .owned ≡ owned
       unfolding listsIn
-      own-is owned oe = ap (λ (L : Lists). L .owned) lists-is ∙ sym oe
+      own-is owned oe = ap (λ (L : Lists). L .owned) (lists-is st d b o) ∙ sym oe
 
       pub told-done : 4 * cells ≤ length f → (owned : ℕ) → owned ≡ wordAt st 11 → (x : Bytes) → x ≡ collectedIn (listsIn st) d b owned f → Answered (Done owned) x
       told-done h owned oe x e =
@@ -121,7 +117,7 @@ module _ (b : Bytes) (k : ℕ) (f : Bytes) where
           let q : listsOf b .owned ≡ owned = own-is owned oe in (
             ap Done (sym q) ∙ done-answer z,
             e
-                ∙ ap₂ (λ (L : Lists) n. collectedIn L d b n f) (sym lists-is) (sym q)
+                ∙ ap₂ (λ (L : Lists) n. collectedIn L d b n f) (sym (lists-is st d b o)) (sym q)
                 ∙ ap (λ p. collectedIn (listsOf b) p b (listsOf b .owned) f) (o .place-is)
                 ∙ done-out z,
           )

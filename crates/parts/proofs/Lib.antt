@@ -2,3 +2,4 @@ pub mod ListChecks
 pub mod StateChecks
 pub mod OpenedLaws
 pub mod CollectLaws
+pub mod TakeLaws

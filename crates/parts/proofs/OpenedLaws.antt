@@ -13,7 +13,7 @@ use Rattle.vocabulary.specs.Ranges.{blocks}
 use Rattle.layout.specs.Words.{wordAt}
 use Rattle.layout.specs.Depths.{four}
 use Rattle.layout.specs.DepthLaws.{fours-of}
-use Rattle.parts.specs.State.{dynamic, heldCount, ownedCount, isState, bad20}
+use Rattle.parts.specs.State.{listsIn, listsOf, dynamic, heldCount, ownedCount, isState, bad20}
 use Rattle.parts.specs.StateLaws.{Whole, isStateAt, state-at, whole-is}
 use Rattle.parts.specs.Checks.{Opened}
 
@@ -30,14 +30,24 @@ module _ (st : Bytes) (d : ℕ) (b : Bytes) (o : Opened st d b) where
   pub long : d + 34 + 4 * heldCount st ≤ length b
   long = whole .long
 
--- the state that a call found by its test
-pub opened : (b : Bytes) (x : ℕ) (u : Bool) → u ≡ isState b → not u ≡ false → x ≡ wordAt b 0 → x < 65536 → Opened (take (2 * x - 0) (drop 0 b)) (2 * x) b
-opened b x u ue uf e s =
-    let p : 2 * x - 0 ≡ 2 * x = omega arith in
-    record { lists-are = ap (λ k. take k b) p; place-is = ap (λ k. 2 * k) e; place-small = omega arith; state = sym ue ∙ not-false u uf }
+  pub lists-is : listsOf b ≡ listsIn st
+  unfolding listsOf
+  lists-is = ap listsIn (ap (λ x. take x b) (sym (o .place-is)) ∙ sym (o .lists-are))
 
-pub opened-room : (b : Bytes) (x : ℕ) (u : Bool) → u ≡ isState b → not u ≡ false → x ≡ wordAt b 0 → x < 65536 → 2 * x ≤ length b
-opened-room b x u ue uf e s = omega (arith, long (take (2 * x - 0) (drop 0 b)) (2 * x) b (opened b x u ue uf e s))
+-- the first d bytes, as they are cut
+pub cut : (b : Bytes) (d : ℕ) → take (d - 0) (drop 0 b) ≡ take d b
+cut b d = let p : d - 0 ≡ d = omega arith in ap (λ k. take k b) p
+
+-- the state that a call found by its test
+module _ (b : Bytes) (x : ℕ) (u : Bool) (ue : u ≡ isState b) (uf : not u ≡ false) (e : x ≡ wordAt b 0) (s : x < 65536) where
+  pub opened-here : Opened (take (2 * x) b) (2 * x) b
+  opened-here = record { lists-are = refl; place-is = ap (λ k. 2 * k) e; place-small = omega arith; state = sym ue ∙ not-false u uf }
+
+  pub opened : Opened (take (2 * x - 0) (drop 0 b)) (2 * x) b
+  opened = record { lists-are = cut b (2 * x); place-is = ap (λ k. 2 * k) e; place-small = omega arith; state = sym ue ∙ not-false u uf }
+
+  pub opened-room : 2 * x ≤ length b
+  opened-room = omega (arith, long (take (2 * x) b) (2 * x) b opened-here)
 
 pub not-state : (b : Bytes) (u : Bool) → u ≡ isState b → not u ≡ true → bad20 b ≡ true
 unfolding bad20

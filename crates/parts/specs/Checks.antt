@@ -1,16 +1,18 @@
 -- How the code makes the tests of a state's lists: in three groups, and those that go over a range by one loop. No public contract rests on
 -- this page. Assumes nothing.
 use mathlib.Core.Path.{_≡_}
-use mathlib.Core.Bool.{Bool, true, not, _&&_}
+use mathlib.Core.Bool.{Bool, true, not, _&&_, _||_}
 use mathlib.Core.List.{List, [], _∷_}
 use Prim.Native.Nat.{ℕ, zero, suc, _+_, _%_, _<_}
 use lib.Dec.{eqb, leb}
 use lib.ListN.{take}
-use Rattle.vocabulary.specs.Bytes.{Bytes}
+use Rattle.vocabulary.specs.Bytes.{Bytes, byteAt}
 use Rattle.vocabulary.specs.Ranges.{isUpTo, every}
+use Rattle.vocabulary.specs.Tests.{refuse, firstOf}
 use Rattle.layout.specs.Words.{wordAt}
 use Rattle.round.specs.Rules.{bad11}
-use Rattle.parts.specs.State.{partNumber, stepCount, ruleKind, weights, importEnd, ownedCount, heldCount, exportEnd, exportCount, reachEnd, reachCount, LocalNear, entryAt, localReach, dynamic, isState, globalFine, entryFine, ownFound, exportFine, rises}
+use Rattle.parts.specs.State.{Lists, roundAt, takenPlace, partNumber, stepCount, ruleKind, weights, importEnd, ownedCount, heldCount, exportEnd, exportCount, reachEnd, reachCount, LocalNear, entryAt, localReach, dynamic, isState, globalFine, entryFine, ownFound, exportFine, rises}
+use Rattle.parts.specs.Calls.{importsFrom}
 
 -- the lists b in three groups
 abbrev pub headTests : Bytes → List Bool
@@ -65,3 +67,16 @@ pub record Opened (lists : Bytes) (d : ℕ) (b : Bytes) : Type 0 where
   pub place-is : d ≡ dynamic b
   pub place-small : d < 131072
   pub state : isState b ≡ true
+
+-- take's tests of a message's words, in the order in which they are tried
+unfoldable pub wrongSender : Lists → ℕ → ℕ → ℕ → Bool
+wrongSender L from to count = not (eqb to (L .part)) || not (importsFrom L from) || not (eqb count (L .imported from))
+
+unfoldable pub takeRest : Lists → ℕ → Bytes → ℕ → ℕ → ℕ → ℕ → ℕ
+takeRest L d b from to round count =
+    firstOf (
+      refuse 21 (wrongSender L from to count)
+          ∷ refuse 22 (not (eqb round (roundAt b d)))
+          ∷ refuse 23 (eqb (byteAt b (takenPlace d from)) 1)
+          ∷ []
+    )

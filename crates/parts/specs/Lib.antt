@@ -1,6 +1,6 @@
 pub mod State
-pub mod Checks
 pub mod Calls
+pub mod Checks
 pub mod Start
 pub mod Run
 pub mod StateLaws

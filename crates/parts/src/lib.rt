@@ -2,6 +2,8 @@
 mod collecting;
 mod lists;
 mod state;
+mod taking;
 
 pub use collecting::collect;
 pub use state::is_state;
+pub use taking::take;

@@ -3,7 +3,7 @@ use layout::word_at;
 use round::bad_rule;
 ghost use mathlib.Core.Path.{_≡_};
 ghost use mathlib.Core.Bool.{not};
-ghost use Prim.Native.Nat.{ℕ, _+_, _*_, _<_, _≤_};
+ghost use Prim.Native.Nat.{ℕ, _+_, _-_, _*_, _<_, _≤_};
 ghost use lib.Dec.{leb};
 ghost use lib.ListN.{length, take, drop};
 ghost use Rattle.vocabulary.specs.Ranges.{isUpTo, every};
@@ -29,6 +29,16 @@ fn rises_at(lists: &[u8], k: usize) -> bool
     ensures { λ r. ⌜ r ≡ leb (wordAt (now (lists .entry)) k) (wordAt (now (lists .entry)) (k + 1)) ⌝ }
 {
     word_at(lists, k) <= word_at(lists, k + 1)
+}
+
+// How many entries belong to a number, by the ends at words k and k + 1.
+pub fn between(lists: &[u8], k: usize) -> usize
+    requires { ⌜ k < 1000000 ⌝ }
+    ensures { λ r. ⌜ (r ≡ wordAt (now (lists .entry)) (k + 1) - wordAt (now (lists .entry)) k) × (r < 65536) ⌝ }
+{
+    let from = word_at(lists, k);
+    let to = word_at(lists, k + 1);
+    if to < from { 0 } else { to - from }
 }
 
 fn global_fine(lists: &[u8], l: usize) -> bool

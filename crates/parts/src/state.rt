@@ -6,7 +6,7 @@ use layout::inner::word_in;
 use layout::word_at;
 ghost use mathlib.Core.Path.{_≡_};
 ghost use Prim.Native.Nat.{ℕ, _+_, _*_, _<_, _≤_};
-ghost use lib.ListN.{length};
+ghost use lib.ListN.{length, set};
 ghost use Rattle.vocabulary.specs.Ranges.{every};
 ghost use Rattle.vocabulary.specs.Tests.{allOf};
 ghost use Rattle.parts.specs.State.{flagsFine, dynamicTests, isState};
@@ -78,4 +78,12 @@ pub fn is_state(b: &[u8]) -> bool
         return false;
     }
     state_fine(&b[0..d], b, d)
+}
+
+// Sets the flag at a place.
+pub fn set_flag(b: &mut [u8], at: usize)
+    requires { ⌜ at < length (now b) ⌝ }
+    ensures { λ _. ⌜ now (b .exit) ≡ set (now (b .entry)) at 1 ⌝ }
+{
+    b[at] = 1;
 }
