@@ -3,3 +3,4 @@ pub mod StateChecks
 pub mod OpenedLaws
 pub mod CollectLaws
 pub mod TakeLaws
+pub mod WriteLaws

@@ -38,6 +38,9 @@ module _ (st : Bytes) (d : ℕ) (b : Bytes) (o : Opened st d b) where
 pub cut : (b : Bytes) (d : ℕ) → take (d - 0) (drop 0 b) ≡ take d b
 cut b d = let p : d - 0 ≡ d = omega arith in ap (λ k. take k b) p
 
+pub opened-cut : (b : Bytes) (d : ℕ) → Opened (take d b) d b → Opened (take (d - 0) (drop 0 b)) d b
+opened-cut b d o = record { lists-are = cut b d; place-is = o .place-is; place-small = o .place-small; state = o .state }
+
 -- the state that a call found by its test
 module _ (b : Bytes) (x : ℕ) (u : Bool) (ue : u ≡ isState b) (uf : not u ≡ false) (e : x ≡ wordAt b 0) (s : x < 65536) where
   pub opened-here : Opened (take (2 * x) b) (2 * x) b

@@ -1,17 +1,18 @@
 -- How the code makes the tests of a state's lists: in three groups, and those that go over a range by one loop. No public contract rests on
 -- this page. Assumes nothing.
 use mathlib.Core.Path.{_≡_}
-use mathlib.Core.Bool.{Bool, true, not, _&&_, _||_}
+use mathlib.Core.Bool.{Bool, true, not, _&&_, _||_, cond}
 use mathlib.Core.List.{List, [], _∷_}
 use Prim.Native.Nat.{ℕ, zero, suc, _+_, _%_, _<_}
 use lib.Dec.{eqb, leb}
-use lib.ListN.{take}
+use lib.ListN.{length, take}
 use Rattle.vocabulary.specs.Bytes.{Bytes, byteAt}
 use Rattle.vocabulary.specs.Ranges.{isUpTo, every}
 use Rattle.vocabulary.specs.Tests.{refuse, firstOf}
 use Rattle.layout.specs.Words.{wordAt}
+use Rattle.layout.specs.Depths.{four}
 use Rattle.round.specs.Rules.{bad11}
-use Rattle.parts.specs.State.{Lists, roundAt, takenPlace, partNumber, stepCount, ruleKind, weights, importEnd, ownedCount, heldCount, exportEnd, exportCount, reachEnd, reachCount, LocalNear, entryAt, localReach, dynamic, isState, globalFine, entryFine, ownFound, exportFine, rises}
+use Rattle.parts.specs.State.{Lists, roundAt, takenPlace, depthPlace, exportAt, partNumber, stepCount, ruleKind, weights, importEnd, ownedCount, heldCount, exportEnd, exportCount, reachEnd, reachCount, LocalNear, entryAt, localReach, dynamic, isState, globalFine, entryFine, ownFound, exportFine, rises}
 use Rattle.parts.specs.Calls.{importsFrom}
 
 -- the lists b in three groups
@@ -80,3 +81,11 @@ takeRest L d b from to round count =
           ∷ refuse 23 (eqb (byteAt b (takenPlace d from)) 1)
           ∷ []
     )
+
+-- how many depths go to part j: none where j is no part
+unfoldable pub sentTo : Lists → ℕ → ℕ
+sentTo L j = cond (isUpTo 16 j) (length (L .exports j)) 0
+
+-- the depth of export entry x
+unfoldable pub sentAt : Bytes → ℕ → Bytes → ℕ → Bytes
+sentAt st d b x = four b (depthPlace d (exportAt st x))

@@ -3,7 +3,9 @@ mod collecting;
 mod lists;
 mod state;
 mod taking;
+mod writing;
 
 pub use collecting::collect;
 pub use state::is_state;
 pub use taking::take;
+pub use writing::write;
