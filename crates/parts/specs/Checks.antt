@@ -3,8 +3,8 @@
 use mathlib.Core.Path.{_≡_}
 use mathlib.Core.Bool.{Bool, true, not, _&&_, _||_, cond}
 use mathlib.Core.List.{List, [], _∷_}
-use Prim.Native.Nat.{ℕ, zero, suc, _+_, _%_, _<_}
-use lib.Dec.{eqb, leb}
+use Prim.Native.Nat.{ℕ, zero, suc, _+_, _-_, _%_, _<_}
+use lib.Dec.{eqb, ltb, leb}
 use lib.ListN.{length, take}
 use Rattle.vocabulary.specs.Bytes.{Bytes, byteAt}
 use Rattle.vocabulary.specs.Ranges.{isUpTo, every}
@@ -13,7 +13,7 @@ use Rattle.layout.specs.Words.{wordAt}
 use Rattle.layout.specs.Depths.{four}
 use Rattle.round.specs.Rules.{bad11}
 use Rattle.parts.specs.State.{Lists, roundAt, takenPlace, depthPlace, exportAt, partNumber, stepCount, ruleKind, weights, importEnd, ownedCount, heldCount, exportEnd, exportCount, reachEnd, reachCount, LocalNear, entryAt, localReach, dynamic, isState, globalFine, entryFine, ownFound, exportFine, rises}
-use Rattle.parts.specs.Calls.{importsFrom}
+use Rattle.parts.specs.Calls.{importsFrom, allTaken, allWritten}
 
 -- the lists b in three groups
 abbrev pub headTests : Bytes → List Bool
@@ -89,3 +89,11 @@ sentTo L j = cond (isUpTo 16 j) (length (L .exports j)) 0
 -- the depth of export entry x
 unfoldable pub sentAt : Bytes → ℕ → Bytes → ℕ → Bytes
 sentAt st d b x = four b (depthPlace d (exportAt st x))
+
+-- there is nothing between the ends that stand at words `ends` + j and the next, or the flag at `flags` + j is set
+unfoldable pub settledAt : Bytes → Bytes → ℕ → ℕ → ℕ → Bool
+settledAt st b ends flags j = not (ltb 0 (wordAt st (ends + j + 1) - wordAt st (ends + j))) || eqb (byteAt b (flags + j)) 1
+
+-- advance's tests after 20, in the order in which they are tried
+unfoldable pub advanceRest : Lists → ℕ → Bytes → ℕ
+advanceRest L d b = firstOf (refuse 24 (not (allTaken L d b)) ∷ refuse 25 (not (allWritten L d b)) ∷ refuse 26 (leb 60000 (roundAt b d)) ∷ [])

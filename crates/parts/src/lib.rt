@@ -1,10 +1,12 @@
 // Part states, the five calls and runs: their definitions stand in specs/.
+mod advancing;
 mod collecting;
 mod lists;
 mod state;
 mod taking;
 mod writing;
 
+pub use advancing::advance;
 pub use collecting::collect;
 pub use state::is_state;
 pub use taking::take;
