@@ -54,7 +54,7 @@ module _ (st : Bytes) (d : ℕ) (b : Bytes) (o : Opened st d b) where
   w : Whole st d b
   w = whole st d b o
 
-  lists-length : length st ≡ d
+  pub lists-length : length st ≡ d
   lists-length = ap length (o .lists-are) ∙ length-take-le d b (omega (arith, long st d b o))
 
   -- a word's count of entries is small, since the lists are no longer than their bytes

@@ -76,10 +76,10 @@ wrongSender L from to count = not (eqb to (L .part)) || not (importsFrom L from)
 unfoldable pub takeRest : Lists → ℕ → Bytes → ℕ → ℕ → ℕ → ℕ → ℕ
 takeRest L d b from to round count =
     firstOf (
-      refuse 21 (wrongSender L from to count)
-          ∷ refuse 22 (not (eqb round (roundAt b d)))
-          ∷ refuse 23 (eqb (byteAt b (takenPlace d from)) 1)
-          ∷ []
+    refuse 21 (wrongSender L from to count)
+    ∷ refuse 22 (not (eqb round (roundAt b d)))
+    ∷ refuse 23 (eqb (byteAt b (takenPlace d from)) 1)
+    ∷ []
     )
 
 -- how many depths go to part j: none where j is no part

@@ -103,14 +103,7 @@ fn export_fine(lists: &[u8], held: usize, owned: usize, reached: usize, t: usize
 }
 
 // What is tested at each number of a range, by the test's own number.
-fn fine_at(
-    which: usize,
-    lists: &[u8],
-    held: usize,
-    owned: usize,
-    reached: usize,
-    x: usize,
-) -> bool
+fn fine_at(which: usize, lists: &[u8], held: usize, owned: usize, reached: usize, x: usize) -> bool
     requires { ⌜ Counts (now lists) held owned reached × (x < 65536) × (which ≡ 5 → 1 ≤ x) ⌝ }
     ensures { λ r. ⌜ r ≡ fineAt which (now (lists .entry)) x ⌝ }
 {

@@ -39,14 +39,7 @@ fn wrong_sender(lists: &[u8], from: usize, to: usize, count: usize) -> bool
 }
 
 // The number of the first of take's tests of a message's words that holds, and 0 where none does.
-fn take_rest(
-    b: &[u8],
-    d: usize,
-    from: usize,
-    to: usize,
-    round: usize,
-    count: usize,
-) -> u32
+fn take_rest(b: &[u8], d: usize, from: usize, to: usize, round: usize, count: usize) -> u32
     requires { ⌜ Opened (take d (now b)) d (now b) ⌝ }
     ensures { λ r. ⌜ r ≡ takeRest (listsIn (take d (now (b .entry)))) d (now (b .entry)) from to round count ⌝ }
 {
