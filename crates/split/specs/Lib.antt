@@ -1,3 +1,4 @@
 pub mod Split
 pub mod Lists
 pub mod SplitLaws
+pub mod Sorting

@@ -1,1 +1,6 @@
-// Part maps and the lists of parts: their definitions stand in specs/.
+// Part maps, and the lists of the parts. Here stand the calls that take any bytes and numbers; what supposes an accepted mesh is in `inner`.
+mod maps;
+
+pub use maps::bad_map;
+pub use maps::bad_shares;
+pub use maps::is_part;

@@ -1,0 +1,66 @@
+// The tests 8 and 9.
+use layout::byte_at;
+use mesh::inner::cell_count;
+ghost use mathlib.Core.Path.{_≡_};
+ghost use mathlib.Core.List.{[]};
+ghost use lib.ListN.{length};
+ghost use Rattle.vocabulary.specs.Ranges.{isUpTo, every, some};
+ghost use Rattle.split.specs.Split.{splitOf};
+ghost use Rattle.split.specs.Lists.{bad8, bad9};
+ghost use Rattle.split.specs.Sorting.{ownerRight, ownsAt};
+
+// Whether i is one of the parts.
+pub fn is_part(parts: u32, i: u32) -> bool
+    ensures { λ b. ⌜ b ≡ isUpTo parts i ⌝ }
+{
+    1 <= i && i <= parts
+}
+
+fn owners_right(parts: u32, owners: &[u8]) -> bool
+    ensures { λ b. ⌜ b ≡ every 0 (length (now (owners .entry))) (ownerRight parts (now (owners .entry))) ⌝ }
+{
+    for k in 0..owners.len() {
+        if !is_part(parts, byte_at(owners, k) as u32) {
+            return false;
+        }
+    }
+    true
+}
+
+// Whether the number of parts or the map is to be refused, with number 8. A part that a call names is tried by `is_part`.
+pub fn bad_map(m: &[u8], parts: u32, owners: &[u8]) -> bool
+    ensures { λ b. ⌜ b ≡ bad8 (now (m .entry)) parts (now (owners .entry)) [] ⌝ }
+{
+    if !is_part(16, parts) {
+        return true;
+    }
+    if owners.len() != cell_count(m) {
+        return true;
+    }
+    !owners_right(parts, owners)
+}
+
+// Whether part i owns one of the first n cells.
+fn owns_some(owners: &[u8], n: usize, i: u32) -> bool
+    ensures { λ b. ⌜ b ≡ some 0 n (ownsAt (now (owners .entry)) i) ⌝ }
+{
+    for k in 0..n {
+        if byte_at(owners, k) as u32 == i {
+            return true;
+        }
+    }
+    false
+}
+
+// Whether a part owns no cell, number 9. The stencil does not matter to it.
+pub fn bad_shares(m: &[u8], parts: u32, owners: &[u8]) -> bool
+    ensures { λ b. ⌜ b ≡ bad9 (splitOf (now (m .entry)) parts (now (owners .entry)) []) ⌝ }
+{
+    let cells = cell_count(m);
+    for k in 0..parts {
+        if !owns_some(owners, cells, k + 1) {
+            return true;
+        }
+    }
+    false
+}
