@@ -9,3 +9,4 @@ pub mod SizeLaws
 pub mod ReachLaws
 pub mod GroundLaws
 pub mod StencilLaws
+pub mod RowLaws
