@@ -1,1 +1,3 @@
 pub mod MapLaws
+pub mod HeldLaws
+pub mod PreparedLaws

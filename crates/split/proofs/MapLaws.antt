@@ -1,6 +1,6 @@
 -- What the tests 8 and 9 answer, by the tests that the code makes one after the other. Assumes nothing.
-use mathlib.Core.Path.{_≡_, refl, sym, ap, _∙_}
-use mathlib.Core.Bool.{Bool, true, false, not, _||_, _&&_}
+use mathlib.Core.Path.{_≡_, refl, sym, ap, ap₂, _∙_}
+use mathlib.Core.Bool.{Bool, true, false, not, _||_, _&&_, cond}
 use mathlib.Core.List.{List, [], _∷_}
 use Prim.Native.Nat.{ℕ, zero, suc, _+_, _-_, _≤_, _<_}
 use native.Mathlib.Nat.{zero-add}
@@ -13,9 +13,11 @@ use Rattle.vocabulary.specs.Ranges.{isUpTo, every, some, picked}
 use Rattle.vocabulary.specs.RangeLaws.{every-at, every-intro, some-has, some-none, some-witness, some-at, some-more, picked-none, picked-at, every-stop, every-turn, some-stop, some-turn}
 use Rattle.vocabulary.specs.Lists.{everyOf}
 use Rattle.vocabulary.specs.ListLaws.{everyOf-at, everyOf-intro, everyOf-true, All-intro, same-test, not-both}
-use Rattle.mesh.specs.Mesh.{firstCell, cellCount}
+use Rattle.vocabulary.specs.Tests.{Test, refuse, firstOf, passed, firstOf-left, firstOf-right}
+use Rattle.mesh.specs.Mesh.{top, firstCell, cellCount, meshTests, meshNumber}
+use Rattle.mesh.specs.Walks.{bad10}
 use Rattle.split.specs.Split.{splitOf, ownerAt, owns, owned}
-use Rattle.split.specs.Lists.{bad8, bad9}
+use Rattle.split.specs.Lists.{bad8, bad9, splitTests, splitNumber}
 use Rattle.split.specs.Sorting.{ownerRight, ownsAt}
 
 pub part-told : (parts i : ℕ) → 1 ≤ i → leb i parts ≡ isUpTo parts i
@@ -108,3 +110,81 @@ module _ (m : Bytes) (parts : ℕ) (owners : Bytes) where
   pub share-end : (k : ℕ) → k ≤ parts → parts ≤ k → some 1 k (ownsNone m parts owners) ≡ false → false ≡ bad9 (splitOf m parts owners [])
   unfolding bad9 ownsNone splitOf
   share-end k g h s = let q : k ≡ parts = omega arith in sym (rw q at s)
+
+shares-any : (m : Bytes) (parts : ℕ) (owners st : Bytes) → bad9 (splitOf m parts owners []) ≡ bad9 (splitOf m parts owners st)
+unfolding bad9 owned owns splitOf
+shares-any m parts owners st = refl
+
+-- a map that is right by itself, and parts named that are there
+pub named-fine : (m : Bytes) (parts : ℕ) (owners : Bytes) (i j : ℕ) → bad8 m parts owners [] ≡ false → isUpTo parts i ≡ true → isUpTo parts j ≡ true
+    → bad8 m parts owners (i ∷ j ∷ []) ≡ false
+unfolding bad8 everyOf
+named-fine m parts owners i j e f g = ap₂ (λ x y. not (isUpTo 16 parts) || not (x && (y && true)) || not (eqb (length owners) (cellCount m)) || not (everyOf owners (isUpTo parts))) f g ∙ e
+
+-- ---- the number by the tests up to 10
+
+module _ (m : Bytes) (parts : ℕ) (owners : Bytes) (i j : ℕ) (st : Bytes) (n : ℕ) (ne : n ≡ meshNumber m) where
+  pub split-mesh : (n ≡ 0 → ⊥) → n ≡ splitNumber m parts owners (i ∷ j ∷ []) st
+  unfolding splitNumber splitTests meshNumber
+  split-mesh h = ne ∙ sym (firstOf-left (meshTests m) _ (λ z. h (ne ∙ z)))
+
+  module _ (z : n ≡ 0) where
+    abbrev rest : List Test
+    rest = refuse 8 (bad8 m parts owners (i ∷ j ∷ [])) ∷ refuse 9 (bad9 (splitOf m parts owners st)) ∷ refuse 10 (bad10 (top m) st) ∷ []
+
+    later : splitNumber m parts owners (i ∷ j ∷ []) st ≡ firstOf rest
+    unfolding splitNumber splitTests meshNumber meshTests
+    later = firstOf-right (meshTests m) rest (passed (meshTests m) tt (sym ne ∙ z))
+
+    eighth : bad8 m parts owners (i ∷ j ∷ []) ≡ true → 8 ≡ splitNumber m parts owners (i ∷ j ∷ []) st
+    eighth e = sym (later ∙ ap (λ t. cond t 8 (cond (bad9 (splitOf m parts owners st)) 9 (cond (bad10 (top m) st) 10 0))) e)
+
+    module _ (a : Bool) (ae : a ≡ bad8 m parts owners []) where
+      pub split-map : a ≡ true → 8 ≡ splitNumber m parts owners (i ∷ j ∷ []) st
+      split-map t = eighth (unfold bad8 everyOf in more (not (isUpTo 16 parts)) (not (isUpTo parts i && (isUpTo parts j && true))) (not (eqb (length owners) (cellCount m))) (not (everyOf owners (isUpTo parts))) (sym (unfold bad8 everyOf in ae) ∙ t))
+        where
+          more : (a b c d : Bool) → a || false || c || d ≡ true → a || b || c || d ≡ true
+          more true b c d e = refl
+          more false true c d e = refl
+          more false false c d e = e
+
+      module _ (af : a ≡ false) (b : Bool) (be : b ≡ isUpTo parts i) where
+        pub split-part : not b ≡ true → 8 ≡ splitNumber m parts owners (i ∷ j ∷ []) st
+        split-part t = eighth (unfold bad8 everyOf in wrong (not (isUpTo 16 parts)) (isUpTo parts i) (isUpTo parts j && true) (not (eqb (length owners) (cellCount m))) (not (everyOf owners (isUpTo parts))) (sym be ∙ not-true b t))
+          where
+            wrong : (a x y c d : Bool) → x ≡ false → a || not (x && y) || c || d ≡ true
+            wrong true x y c d e = refl
+            wrong false x y c d e = ap (λ x. not (x && y) || c || d) e
+
+        module _ (bf : not b ≡ false) (c : Bool) (ce : c ≡ isUpTo parts j) where
+          pub split-other : not c ≡ true → 8 ≡ splitNumber m parts owners (i ∷ j ∷ []) st
+          split-other t = eighth (unfold bad8 everyOf in wrong (not (isUpTo 16 parts)) (isUpTo parts i) (isUpTo parts j) (not (eqb (length owners) (cellCount m))) (not (everyOf owners (isUpTo parts))) (sym ce ∙ not-true c t))
+            where
+              wrong : (a x y c d : Bool) → y ≡ false → a || not (x && (y && true)) || c || d ≡ true
+              wrong true x y c d e = refl
+              wrong false true y c d e = ap (λ y. not (y && true) || c || d) e
+              wrong false false y c d e = refl
+
+          module _ (cf : not c ≡ false) where
+            fine : bad8 m parts owners (i ∷ j ∷ []) ≡ false
+            fine = named-fine m parts owners i j (sym ae ∙ af) (sym be ∙ not-false b bf) (sym ce ∙ not-false c cf)
+
+            module _ (d : Bool) (de : d ≡ bad9 (splitOf m parts owners [])) where
+              ninth : d ≡ bad9 (splitOf m parts owners st)
+              ninth = de ∙ shares-any m parts owners st
+
+              pub split-share : d ≡ true → 9 ≡ splitNumber m parts owners (i ∷ j ∷ []) st
+              split-share t = sym (later ∙ ap₂ (λ x y. cond x 8 (cond y 9 (cond (bad10 (top m) st) 10 0))) fine (sym ninth ∙ t))
+
+              module _ (df : d ≡ false) (k : ℕ) (ke : k ≡ top m) (e : Bool) (ee : e ≡ bad10 k st) where
+                tenth : e ≡ bad10 (top m) st
+                tenth = ee ∙ ap (λ x. bad10 x st) ke
+
+                last : splitNumber m parts owners (i ∷ j ∷ []) st ≡ cond e 10 0
+                last = later ∙ ap₂ (λ x y. cond x 8 (cond y 9 (cond (bad10 (top m) st) 10 0))) fine (sym ninth ∙ df) ∙ ap (λ x. cond x 10 0) (sym tenth)
+
+                pub split-stencil : e ≡ true → 10 ≡ splitNumber m parts owners (i ∷ j ∷ []) st
+                split-stencil t = sym (last ∙ ap (λ x. cond x 10 0) t)
+
+                pub split-passed : e ≡ false → 0 ≡ splitNumber m parts owners (i ∷ j ∷ []) st
+                split-passed t = sym (last ∙ ap (λ x. cond x 10 0) t)

@@ -1,12 +1,15 @@
-// The tests 8 and 9.
+// The tests 8 and 9, and the number of a call by the tests up to 10.
 use layout::byte_at;
 use mesh::inner::cell_count;
+use mesh::inner::top_of;
+use mesh::mesh_number;
+use walks::bad_stencil;
 ghost use mathlib.Core.Path.{_≡_};
-ghost use mathlib.Core.List.{[]};
+ghost use mathlib.Core.List.{[], _∷_};
 ghost use lib.ListN.{length};
 ghost use Rattle.vocabulary.specs.Ranges.{isUpTo, every, some};
 ghost use Rattle.split.specs.Split.{splitOf};
-ghost use Rattle.split.specs.Lists.{bad8, bad9};
+ghost use Rattle.split.specs.Lists.{bad8, bad9, splitNumber};
 ghost use Rattle.split.specs.Sorting.{ownerRight, ownsAt};
 
 // Whether i is one of the parts.
@@ -63,4 +66,30 @@ pub fn bad_shares(m: &[u8], parts: u32, owners: &[u8]) -> bool
         }
     }
     false
+}
+
+// The number of the first test up to 10 that refuses a call which names the parts i and j, and 0 where none does.
+pub fn split_number(m: &[u8], parts: u32, owners: &[u8], i: u32, j: u32, st: &[u8]) -> u32
+    ensures { λ r. ⌜ r ≡ splitNumber (now (m .entry)) parts (now (owners .entry)) (i ∷ j ∷ []) (now (st .entry)) ⌝ }
+{
+    let number = mesh_number(m);
+    if number != 0 {
+        return number;
+    }
+    if bad_map(m, parts, owners) {
+        return 8;
+    }
+    if !is_part(parts, i) {
+        return 8;
+    }
+    if !is_part(parts, j) {
+        return 8;
+    }
+    if bad_shares(m, parts, owners) {
+        return 9;
+    }
+    if bad_stencil(top_of(m), st) {
+        return 10;
+    }
+    0
 }
