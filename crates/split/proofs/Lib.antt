@@ -8,3 +8,4 @@ pub mod ChosenLaws
 pub mod GivingLaws
 pub mod ListedLaws
 pub mod CallLaws
+pub mod OrderLaws
