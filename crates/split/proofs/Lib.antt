@@ -9,3 +9,4 @@ pub mod GivingLaws
 pub mod ListedLaws
 pub mod CallLaws
 pub mod OrderLaws
+pub mod UnitLaws

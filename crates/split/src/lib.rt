@@ -6,6 +6,7 @@ mod maps;
 mod ranges;
 mod sorts;
 mod tables;
+mod units;
 
 pub use calls::copied_range;
 pub use calls::exports;
@@ -20,3 +21,5 @@ pub use maps::bad_map;
 pub use maps::bad_shares;
 pub use maps::is_part;
 pub use maps::split_number;
+pub use units::Global;
+pub use units::Local;
