@@ -2,11 +2,11 @@
 use mathlib.Core.Path.{_≡_, refl, sym, ap, ap₂, _∙_, subst}
 use mathlib.Core.Bool.{Bool, true, false, not, _&&_, _||_, cond}
 use mathlib.Core.List.{List, [], _∷_, _++_}
-use Prim.Native.Nat.{ℕ, _+_, _*_, _≤_, _<_}
+use Prim.Native.Nat.{ℕ, _+_, _*_, _≤_}
 use native.Mathlib.Omega.{arith}
 use lib.Dec.{T, eqb, ltb}
 use lib.ListN.{length, replicate, length-replicate}
-use borrow.Author.Tests.{eqb-true, eq-eqb, ne-eqb, not-false}
+use borrow.Author.Tests.{eq-eqb, ne-eqb, not-false}
 use Rattle.vocabulary.specs.Bytes.{Bytes, over}
 use Rattle.vocabulary.specs.Ranges.{isUpTo}
 use Rattle.vocabulary.specs.RangeLaws.{upTo-true}
@@ -18,13 +18,13 @@ use Rattle.layout.specs.Answers.{answer}
 use Rattle.layout.specs.declared.Answer.{Answer}
 use Rattle.layout.specs.declared.Answer.the-variants.{Done, Refused}
 use Rattle.mesh.specs.Mesh.{top, cellCount, meshTests, meshNumber}
-use Rattle.mesh.specs.Walks.{bad10, bad13}
+use Rattle.mesh.specs.Walks.{bad10}
 use Rattle.mesh.specs.Accepted.{Accepted}
 use Rattle.mesh.proofs.AcceptedLaws.{accepted-mesh}
 use Rattle.walks.proofs.TrailLaws.{zeros-at}
 use Rattle.split.specs.Split.{splitOf}
 use Rattle.split.specs.Lists as Lists
-use Rattle.split.specs.Lists.{bad8, bad9, bad12, splitTests, sizeTests, splitNumber, sizesNumber, others, listOf, listWords, listTests, listNumber, listAnswer, listOut}
+use Rattle.split.specs.Lists.{bad8, bad9, splitTests, sizeTests, splitNumber, sizesNumber, others, listOf, listWords, listTests, listNumber, listAnswer, listOut}
 use Rattle.split.specs.Sorting.{Blank, Prepared}
 use Rattle.split.specs.Giving.{meant, chosen, givenNumber, givenAnswer, givenOut, namedWords, namedTests, namedAnswer, namedOut}
 use Rattle.split.specs.declared.lists.Wanted.{Wanted}

@@ -1,16 +1,15 @@
 -- The lists that the code chooses are those of the definitions. Assumes nothing.
 use mathlib.Core.Path.{_≡_, refl, sym, ap, ap₂, _∙_, subst}
-use mathlib.Core.Bool.{Bool, true, false, not, _&&_, _||_, cond}
+use mathlib.Core.Bool.{Bool, true, false, not, _&&_, cond}
 use mathlib.Core.List.{List, [], _∷_, _++_}
-use Prim.Native.Nat.{ℕ, zero, suc, _+_, _-_, _*_, _≤_, _<_}
-use native.Mathlib.Nat.{zero-add}
+use Prim.Native.Nat.{ℕ, suc, _+_, _-_, _≤_, _<_}
 use native.Mathlib.Omega.{arith}
 use lib.Dec.{eqb, ltb}
 use lib.ListN.{length, getD}
-use borrow.Author.Tests.{eqb-true, eqb-false, eq-eqb, ne-eqb, not-true, not-false, ltb-true, ltb-false}
+use borrow.Author.Tests.{eqb-true, eqb-false, eq-eqb, ne-eqb, not-true, ltb-true}
 use Rattle.vocabulary.specs.Bytes.{Bytes, byteAt}
-use Rattle.vocabulary.specs.Ranges.{picked, some, blocks}
-use Rattle.vocabulary.specs.RangeLaws.{picked-cong, picked-all, picked-length-le, blocks-cong, some-in, some-witness, some-cong}
+use Rattle.vocabulary.specs.Ranges.{picked, some}
+use Rattle.vocabulary.specs.RangeLaws.{picked-cong, picked-all, picked-length-le, blocks-cong, some-in, some-witness}
 use Rattle.vocabulary.specs.Lists.{All, someOf}
 use Rattle.vocabulary.specs.ListLaws.{and-true, and-intro, same-test, All-map, All-getD, someOf-has, someOf-witness, someOf-cong, cond-has}
 use Rattle.mesh.specs.Mesh.{top, counted, below, firstCell, cellCount}
@@ -19,7 +18,7 @@ use Rattle.mesh.specs.WalkLaws.{below-grows}
 use Rattle.split.specs.Split.{Split, splitOf, ownerAt, owns, holds, held, inside, imports, exports, interior, halo, locals, cellsAt, holdsLower, touches, another, isCopied, isShared, isExposed, isPrivate, range}
 use Rattle.split.specs.SplitLaws.{local-held, split-reach, split-own, split-owner}
 use Rattle.split.specs.Lists.{listOf}
-use Rattle.split.specs.Sorting.{ownsAt, heldAt, insideAt, sortAt, sorted, cellsOf, localsOf, elsewhereAt, sideAt, someSide, lowerSort, rangeOf, Prepared}
+use Rattle.split.specs.Sorting.{ownsAt, heldAt, sortAt, sorted, cellsOf, localsOf, elsewhereAt, sideAt, someSide, lowerSort, rangeOf, Prepared}
 use Rattle.split.specs.Giving.{meant, chosen}
 use Rattle.split.specs.declared.lists.Wanted.{Wanted}
 use Rattle.split.specs.declared.lists.Wanted.the-variants.{Interior, Halo, Locals, Imports, Exports, Private, Exposed, Shared, Copied}

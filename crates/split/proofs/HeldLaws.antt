@@ -1,18 +1,18 @@
 -- Counts of held cells, and the matrix of the held cells, which is what the definitions say. Assumes nothing.
 use mathlib.Core.Path.{_≡_, refl, sym, ap, ap₂, _∙_, subst}
-use mathlib.Core.Bool.{Bool, true, false, not, _&&_, _||_, cond}
-use mathlib.Core.List.{List, [], _∷_, _++_, map}
+use mathlib.Core.Bool.{Bool, true, false, _&&_, _||_, cond}
+use mathlib.Core.List.{List, [], _∷_, map}
 use Prim.Native.Nat.{ℕ, zero, suc, _+_, _-_, _*_, _≤_, _<_}
 use native.Mathlib.Nat.{zero-add}
 use native.Mathlib.Omega.{arith}
 use lib.Dec.{eqb, ltb}
 use lib.ListN.{length, getD, length-append, length-map}
-use borrow.Author.Tests.{eqb-true, eq-eqb, ne-eqb}
+use borrow.Author.Tests.{eqb-true, eq-eqb}
 use Rattle.vocabulary.specs.Bytes.{Bytes, byteAt}
 use Rattle.vocabulary.specs.Ranges.{picked, some, total}
 use Rattle.vocabulary.specs.RangeLaws.{some-in, some-witness, total-start, total-turn, total-cong, picked-all, picked-in, picked-passes}
-use Rattle.vocabulary.specs.Lists.{All, someOf}
-use Rattle.vocabulary.specs.ListLaws.{and-true, and-intro, same-test, All-getD, All-of-map, someOf-has, someOf-witness, getD-map-any, At}
+use Rattle.vocabulary.specs.Lists.{All}
+use Rattle.vocabulary.specs.ListLaws.{and-true, and-intro, same-test, All-getD, All-of-map, someOf-has, someOf-witness, getD-map-any}
 use Rattle.mesh.specs.Mesh.{firstCell, cellCount}
 use Rattle.mesh.specs.Walks.{Near, layer, stepsTo, reach}
 use Rattle.mesh.specs.Accepted.{Accepted}

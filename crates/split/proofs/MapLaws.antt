@@ -2,17 +2,17 @@
 use mathlib.Core.Path.{_≡_, refl, sym, ap, ap₂, _∙_}
 use mathlib.Core.Bool.{Bool, true, false, not, _||_, _&&_, cond}
 use mathlib.Core.List.{List, [], _∷_}
-use Prim.Native.Nat.{ℕ, zero, suc, _+_, _-_, _≤_, _<_}
+use Prim.Native.Nat.{ℕ, _+_, _-_, _≤_, _<_}
 use native.Mathlib.Nat.{zero-add}
 use native.Mathlib.Omega.{arith}
 use lib.Dec.{eqb, leb}
 use lib.ListN.{length}
-use borrow.Author.Tests.{le-leb, lt-leb, eq-eqb, ne-eqb, not-true, not-false, eqb-true}
+use borrow.Author.Tests.{le-leb, lt-leb, eq-eqb, ne-eqb, not-true, not-false}
 use Rattle.vocabulary.specs.Bytes.{Bytes, byteAt}
 use Rattle.vocabulary.specs.Ranges.{isUpTo, every, some, picked}
-use Rattle.vocabulary.specs.RangeLaws.{every-at, every-intro, some-has, some-none, some-witness, some-at, some-more, picked-none, picked-at, every-stop, every-turn, some-stop, some-turn}
+use Rattle.vocabulary.specs.RangeLaws.{every-at, every-intro, some-has, some-witness, some-at, some-more, picked-none, picked-at, every-stop, every-turn, some-stop, some-turn}
 use Rattle.vocabulary.specs.Lists.{everyOf}
-use Rattle.vocabulary.specs.ListLaws.{everyOf-at, everyOf-intro, everyOf-true, All-intro, same-test, not-both}
+use Rattle.vocabulary.specs.ListLaws.{everyOf-at, everyOf-intro, All-intro, same-test}
 use Rattle.vocabulary.specs.Tests.{Test, refuse, firstOf, passed, firstOf-left, firstOf-right}
 use Rattle.mesh.specs.Mesh.{top, firstCell, cellCount, meshTests, meshNumber}
 use Rattle.mesh.specs.Walks.{bad10}

@@ -2,7 +2,7 @@
 -- each once, so that local numbers and held cells go one to one. Assumes nothing.
 use mathlib.Core.Path.{_≡_, refl, sym, ap, _∙_, subst}
 use mathlib.Core.Logic.{_⊎_, ⊎-elim, _≢_}
-use mathlib.Core.Bool.{Bool, true, false, not, _&&_, cond}
+use mathlib.Core.Bool.{Bool, true, false, not, _&&_}
 use mathlib.Core.List.{List, []}
 use Prim.Native.Nat.{ℕ, _+_, _-_, _≤_, _<_}
 use native.Mathlib.Omega.{arith}
@@ -10,13 +10,13 @@ use lib.Dec.{eqb, ltb}
 use lib.ListN.{length, getD}
 use borrow.Author.Tests.{eqb-true, eqb-false, eq-eqb, not-true}
 use Rattle.vocabulary.specs.Bytes.{Bytes}
-use Rattle.vocabulary.specs.Lists.{All, repeats}
+use Rattle.vocabulary.specs.Lists.{repeats}
 use Rattle.vocabulary.specs.ListLaws.{At, and-true, repeats-none, repeats-once, cond-has, someOf-has}
 use Rattle.vocabulary.specs.Ranges.{picked, total}
 use Rattle.vocabulary.specs.RangeLaws.{Rises, picked-rises, picked-passes, picked-in, rises-once}
 use Rattle.mesh.specs.Mesh.{top, counted, below}
 use Rattle.split.specs.Split.{Split, owns, owned, reaches, holds, held, imports, exports, interior, halo, locals, localOf, globalOf, range}
-use Rattle.split.specs.SplitLaws.{Cell, order-length, own-is, own-number, local-back, local-cases, import-at}
+use Rattle.split.specs.SplitLaws.{Cell, own-is, own-number, local-back, local-cases, import-at}
 
 -- ---- rising lists
 

@@ -1,19 +1,18 @@
 -- The prepared tables say what the definitions say. Assumes nothing.
-use mathlib.Core.Path.{_≡_, refl, sym, ap, ap₂, _∙_, subst}
-use mathlib.Core.Bool.{Bool, true, false, not, _&&_, _||_, cond}
-use mathlib.Core.List.{List, [], _∷_, map}
-use Prim.Native.Nat.{ℕ, zero, suc, _+_, _-_, _*_, _≤_, _<_}
+use mathlib.Core.Path.{_≡_, sym, ap, ap₂, _∙_}
+use mathlib.Core.Bool.{Bool, true, false, not, _||_, cond}
+use mathlib.Core.List.{List, [], map}
+use Prim.Native.Nat.{ℕ, _+_, _-_, _*_, _≤_, _<_}
 use native.Mathlib.Omega.{arith}
 use lib.Dec.{eqb, ltb}
 use lib.ListN.{length, getD, drop}
 use borrow.Author.Tests.{eqb-true, lt-ltb, le-ltb, not-false}
 use Rattle.vocabulary.specs.Bytes.{Bytes, byteAt, over}
 use Rattle.vocabulary.specs.ByteLaws.{over-front}
-use Rattle.vocabulary.specs.Ranges.{isUpTo, every, blocks, total}
+use Rattle.vocabulary.specs.Ranges.{isUpTo, every, total}
 use Rattle.vocabulary.specs.RangeLaws.{every-at, every-intro, blocks-at, total-turn, total-grows, upTo-true}
-use Rattle.vocabulary.specs.Lists.{everyOf, joined}
+use Rattle.vocabulary.specs.Lists.{everyOf}
 use Rattle.vocabulary.specs.ListLaws.{same-test, or-false, everyOf-at, everyOf-intro, All-intro, pairs-at}
-use Rattle.vocabulary.specs.Tests.{firstOf}
 use Rattle.layout.specs.Words.{wordAt, bytesOf}
 use Rattle.layout.specs.WordLaws.{wordAt-first}
 use Rattle.mesh.specs.Mesh.{top, firstCell, cellCount}

@@ -1,16 +1,15 @@
 -- Sorts of lower elements as the code tells them. Assumes nothing.
 use mathlib.Core.Path.{_≡_, refl, sym, ap, ap₂, _∙_, subst}
 use mathlib.Core.Bool.{Bool, true, false, not, _&&_, _||_, cond}
-use mathlib.Core.List.{List, [], _∷_, _++_}
-use Prim.Native.Nat.{ℕ, zero, suc, _+_, _-_, _*_, _≤_, _<_}
-use native.Mathlib.Nat.{zero-add}
+use mathlib.Core.List.{List, [], _∷_}
+use Prim.Native.Nat.{ℕ, zero, suc, _+_, _-_, _≤_, _<_}
 use native.Mathlib.Omega.{arith}
 use lib.Dec.{eqb}
-use lib.ListN.{length, getD, set}
+use lib.ListN.{getD, set}
 use borrow.Author.Tests.{eq-eqb, ne-eqb}
 use Rattle.vocabulary.specs.Bytes.{Bytes, byteAt}
-use Rattle.vocabulary.specs.Ranges.{some, blocks}
-use Rattle.vocabulary.specs.RangeLaws.{some-has, some-more, some-start}
+use Rattle.vocabulary.specs.Ranges.{some}
+use Rattle.vocabulary.specs.RangeLaws.{some-has, some-more}
 use Rattle.vocabulary.specs.Lists.{someOf}
 use Rattle.walks.specs.Links.{trail}
 use Rattle.walks.proofs.TrailLaws.{trail-end, trail-more}

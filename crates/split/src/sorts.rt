@@ -5,7 +5,7 @@ use layout::number_at;
 use layout::put_number_at;
 use layout::word_at;
 ghost use mathlib.Core.Path.{_≡_};
-ghost use Prim.Native.Nat.{ℕ, _+_, _≤_, _<_};
+ghost use Prim.Native.Nat.{_+_, _≤_, _<_};
 ghost use Rattle.vocabulary.specs.Ranges.{blocks};
 ghost use Rattle.split.specs.Sorting.{entryOwned, insideAt, sortAt, sorted, cellsOf, localsOf, Added};
 

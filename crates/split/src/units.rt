@@ -2,7 +2,7 @@
 // numbers in local order.
 use layout::number_at;
 ghost use mathlib.Core.Path.{_≡_};
-ghost use Prim.Native.Nat.{ℕ, _≤_, _<_};
+ghost use Prim.Native.Nat.{_≤_, _<_};
 ghost use lib.ListN.{length, take};
 ghost use Rattle.vocabulary.specs.Lists.{placeOf};
 ghost use Rattle.split.specs.Split.{localOf, globalOf};

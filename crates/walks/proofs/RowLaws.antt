@@ -1,8 +1,8 @@
 -- The marks that the code makes in the rows of a matrix are those of the reaches. Assumes nothing.
 use mathlib.Core.Path.{_≡_, refl, sym, ap, ap₂, _∙_, subst}
-use mathlib.Core.Bool.{Bool, true, false, not, _&&_, _||_, cond}
+use mathlib.Core.Bool.{Bool, true, false, not, _&&_, _||_}
 use mathlib.Core.List.{List, [], _∷_}
-use Prim.Native.Nat.{ℕ, zero, suc, _+_, _-_, _*_, _≤_, _<_}
+use Prim.Native.Nat.{ℕ, suc, _+_, _-_, _*_, _≤_, _<_}
 use native.Mathlib.Nat.{zero-add}
 use native.Mathlib.Numerals.{add-one}
 use native.Mathlib.Omega.{arith}
@@ -15,12 +15,10 @@ use Rattle.vocabulary.specs.Ranges.{some, picked}
 use Rattle.vocabulary.specs.RangeLaws.{some-cong}
 use Rattle.vocabulary.specs.Lists.{isIn}
 use Rattle.vocabulary.specs.ListLaws.{or-nothing, or-assoc, or-always, and-right}
-use Rattle.mesh.specs.Mesh.{top, elements, recordCount, firstCell, cellCount}
-use Rattle.mesh.specs.Walks.{bad10, steps, stepsTo, walked}
-use Rattle.mesh.specs.Accepted.{Accepted, Cell}
-use Rattle.mesh.specs.WalkLaws.{stencil-parts}
-use Rattle.walks.specs.Visits.{Fresh}
-use Rattle.walks.specs.Walking.{Ground, firstMark, layerMark, Walk}
+use Rattle.mesh.specs.Mesh.{firstCell, cellCount}
+use Rattle.mesh.specs.Walks.{stepsTo, walked}
+use Rattle.mesh.specs.Accepted.{Cell}
+use Rattle.walks.specs.Walking.{firstMark, layerMark, Walk}
 use Rattle.walks.specs.Rows.{walkedTo, reachMark, rowMarks, Marks, layerAt, layersAt, layerOf, Site, Space, Swept}
 use Rattle.walks.proofs.ReachLaws.{fresh, steps-is}
 

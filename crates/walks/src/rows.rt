@@ -9,7 +9,7 @@ use mesh::inner::first_cell;
 use mesh::inner::record_count;
 ghost use mathlib.Core.Path.{_≡_};
 ghost use mathlib.Core.Bool.{false};
-ghost use Prim.Native.Nat.{ℕ, _+_, _<_, _≤_};
+ghost use Prim.Native.Nat.{_+_, _<_, _≤_};
 ghost use lib.ListN.{set};
 ghost use Rattle.mesh.specs.Mesh.{top, cellCount};
 ghost use Rattle.mesh.specs.Walks.{bad10};

@@ -1,6 +1,5 @@
 -- `split::maps::is_part` meets its contract. Assumes nothing.
 use Rattle.split.proofs.MapLaws.{part-low, part-told}
-use borrow.Author.Needs.{needs}
 use Rattle.split.proofs.maps.is_part.Statement.{statement}
 use Rattle.split.proofs.maps.is_part.Tie as tie
 

@@ -1,8 +1,8 @@
--- `split::ranges::is_elsewhere` meets its contract. Assumes nothing.
+-- `split::tables::is_elsewhere` meets its contract. Assumes nothing.
 use Rattle.split.proofs.RangeSorts.{self-elsewhere, other-elsewhere}
 use borrow.Author.Needs.{needs}
-use Rattle.split.proofs.ranges.is_elsewhere.Statement.{statement}
-use Rattle.split.proofs.ranges.is_elsewhere.Tie as tie
+use Rattle.split.proofs.tables.is_elsewhere.Statement.{statement}
+use Rattle.split.proofs.tables.is_elsewhere.Tie as tie
 
 pub is-elsewhere-spec : {M : Type 1} → statement M
 is-elsewhere-spec =
