@@ -142,7 +142,7 @@ module _ (m : Bytes) (parts : ℕ) (owners st table : Bytes) (ends : List ℕ) (
         (λ q h. let l : 0 + q < cellCount m = omega arith in ap (λ b. cond b ((firstCell m + (0 + q)) ∷ []) []) (ap (λ x. eqb x k) (sort-told (0 + q) l) ∙ f (0 + q) l))
         ∙ blocks-picked (firstCell m) (cellCount m) p
 
-    interior-is : cellsOf owners table ends held′ i (firstCell m) (cellCount m) 17 ≡ interior S i
+    pub interior-is : cellsOf owners table ends held′ i (firstCell m) (cellCount m) 17 ≡ interior S i
     unfolding interior owns splitOf
     interior-is =
         sorted-is 17 (λ c. eqb (S .owner c) i && inside S i c)
@@ -150,7 +150,7 @@ module _ (m : Bytes) (parts : ℕ) (owners st table : Bytes) (ends : List ℕ) (
         is-interior (eqb (byteAt owners q) i) (inside S i (firstCell m + q)) (holds S i (firstCell m + q)) (byteAt owners q) (omega (arith, owner-in q h .1, few))
         ∙ ap (λ o. eqb o i && inside S i (firstCell m + q)) (sym (owner-at q)))
 
-    halo-is : cellsOf owners table ends held′ i (firstCell m) (cellCount m) 18 ≡ halo S i
+    pub halo-is : cellsOf owners table ends held′ i (firstCell m) (cellCount m) 18 ≡ halo S i
     unfolding halo owns splitOf
     halo-is =
         sorted-is 18 (λ c. eqb (S .owner c) i && not (inside S i c))
@@ -158,7 +158,7 @@ module _ (m : Bytes) (parts : ℕ) (owners st table : Bytes) (ends : List ℕ) (
         is-halo (eqb (byteAt owners q) i) (inside S i (firstCell m + q)) (holds S i (firstCell m + q)) (byteAt owners q) (omega (arith, owner-in q h .1, few))
         ∙ ap (λ o. eqb o i && not (inside S i (firstCell m + q))) (sym (owner-at q)))
 
-    imports-are : (j : ℕ) → 1 ≤ j → j ≤ 16 → cellsOf owners table ends held′ i (firstCell m) (cellCount m) j ≡ imports S i j
+    pub imports-are : (j : ℕ) → 1 ≤ j → j ≤ 16 → cellsOf owners table ends held′ i (firstCell m) (cellCount m) j ≡ imports S i j
     unfolding imports owns splitOf
     imports-are j low top =
         sorted-is j (λ c. not (eqb i j) && eqb (S .owner c) j && holds S i c)
@@ -166,7 +166,7 @@ module _ (m : Bytes) (parts : ℕ) (owners st table : Bytes) (ends : List ℕ) (
         is-import (inside S i (firstCell m + q)) (holds S i (firstCell m + q)) (byteAt owners q) i j low top
         ∙ ap (λ o. not (eqb i j) && eqb o j && holds S i (firstCell m + q)) (sym (owner-at q)))
 
-    locals-are : localsOf owners table ends held′ i (firstCell m) (cellCount m) parts ≡ locals S i
+    pub locals-are : localsOf owners table ends held′ i (firstCell m) (cellCount m) parts ≡ locals S i
     unfolding localsOf locals splitOf
     locals-are =
         ap₂ _++_ interior-is
@@ -296,7 +296,7 @@ module _ (m : Bytes) (parts : ℕ) (owners st table : Bytes) (ends : List ℕ) (
       some-of e =
           omega (arith, picked-length-le (below m k + 1) p (counted m k), more, below-grows m (k + 1) 4 (omega (arith, ltb-true k (top m) e, R .mesh .sizes .d-high)), R .mesh .sizes .n-high)
 
-  locals-few : (i : ℕ) → length (locals S i) ≤ 2000
+  pub locals-few : (i : ℕ) → length (locals S i) ≤ 2000
   locals-few i =
       subst (λ n. n ≤ 2000)
       (sym (local-held S (split-reach m parts owners st) (split-owner m parts owners st owner-in) (split-own m parts owners st) i))
