@@ -31,7 +31,7 @@ use Rattle.mesh.specs.Walks.{Near, reach, steps, bad10, bad13}
 use Rattle.mesh.specs.WalkLaws.{reach-in, reach-own, reach-layers}
 use Rattle.walks.specs.Tables.{Tabled}
 use Rattle.walks.proofs.SizeLaws.{table-refused}
-use Rattle.walks.proofs.RowLaws.{row-fits, row-size, row-cell, row-layer, table-length}
+use Rattle.walks.proofs.EntryLaws.{row-fits, row-size, row-cell, row-layer, table-length}
 use Rattle.round.specs.Rules.{newDepth, bad11}
 use Rattle.round.specs.RuleLaws.{new-length}
 use Rattle.round.specs.Rounds.{Scheme, schemeOf, depthIn, newIn, round, bad14, roundTests, roundNumber, roundAnswer, roundOut}

@@ -1,3 +1,5 @@
 pub mod Split
 pub mod Lists
 pub mod SplitLaws
+pub mod Sorting
+pub mod Giving

@@ -43,6 +43,13 @@ splitTests m parts owners named st =
 unfoldable pub sizeTests : Bytes → ℕ → Bytes → Bytes → List Test
 sizeTests m parts owners st = refuse 12 (bad12 (splitOf m parts owners st)) ∷ refuse 13 (bad13 m st) ∷ []
 
+-- the numbers of the two, apart
+unfoldable pub splitNumber : Bytes → ℕ → Bytes → List ℕ → Bytes → ℕ
+splitNumber m parts owners named st = firstOf (splitTests m parts owners named st)
+
+unfoldable pub sizesNumber : Bytes → ℕ → Bytes → Bytes → ℕ
+sizesNumber m parts owners st = firstOf (sizeTests m parts owners st)
+
 -- the lists of a part that can be asked for: an import or export list names the other part, a range its dimension
 pub data Wanted : Type 0 where
   interior-cells halo-cells local-order : Wanted

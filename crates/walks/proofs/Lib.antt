@@ -6,7 +6,8 @@ pub mod NoteLaws
 pub mod WalkLaws
 pub mod TableLaws
 pub mod SizeLaws
-pub mod RowLaws
+pub mod EntryLaws
 pub mod ReachLaws
 pub mod GroundLaws
 pub mod StencilLaws
+pub mod RowLaws

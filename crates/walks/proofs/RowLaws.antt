@@ -1,111 +1,157 @@
--- The rows of the table of the reaches: where the entries of a cell stand, and what they say. Assumes nothing.
-use mathlib.Core.Path.{_≡_, sym, ap, _∙_}
-use mathlib.Core.List.{List}
-use Prim.Native.Nat.{ℕ, _+_, _-_, _*_, _≤_, _<_}
+-- The marks that the code makes in the rows of a matrix are those of the reaches. Assumes nothing.
+use mathlib.Core.Path.{_≡_, refl, sym, ap, ap₂, _∙_, subst}
+use mathlib.Core.Bool.{Bool, true, false, not, _&&_, _||_}
+use mathlib.Core.List.{List, [], _∷_}
+use Prim.Native.Nat.{ℕ, suc, _+_, _-_, _*_, _≤_, _<_}
 use native.Mathlib.Nat.{zero-add}
 use native.Mathlib.Numerals.{add-one}
 use native.Mathlib.Omega.{arith}
-use lib.ListN.{length, getD}
-use Rattle.vocabulary.specs.Bytes.{Bytes, over}
-use Rattle.vocabulary.specs.ByteLaws.{over-length}
-use Rattle.vocabulary.specs.Ranges.{total}
-use Rattle.vocabulary.specs.RangeLaws.{blocks-length, blocks-at, total-fit}
-use Rattle.vocabulary.specs.CountLaws.{total-double}
-use Rattle.vocabulary.specs.ListLaws.{pairs-length, pairs-at}
-use Rattle.layout.specs.Words.{word, wordAt, bytesOf}
-use Rattle.layout.specs.WordLaws.{word-in, length-bytesOf, wordAt-bytesOf}
+use lib.Dec.{eqb, ltb}
+use lib.ListN.{length, getD, set, length-set, replicate, length-replicate}
+use lib.Seq.{getD-set-same, getD-set-other}
+use borrow.Author.Tests.{eqb-true, eqb-false, eq-eqb, ne-eqb, lt-ltb}
+use Rattle.vocabulary.specs.Bytes.{Bytes, byteAt}
+use Rattle.vocabulary.specs.Ranges.{some, picked}
+use Rattle.vocabulary.specs.RangeLaws.{some-cong}
+use Rattle.vocabulary.specs.Lists.{isIn}
+use Rattle.vocabulary.specs.ListLaws.{or-nothing, or-assoc, or-always, and-right}
 use Rattle.mesh.specs.Mesh.{firstCell, cellCount}
-use Rattle.mesh.specs.Walks.{Near, reach}
-use Rattle.walks.specs.Tables.{placed, cellWords, tableWords, entryCount, Tabled}
-use Rattle.walks.proofs.TableLaws.{capped-few}
+use Rattle.mesh.specs.Walks.{stepsTo, walked}
+use Rattle.mesh.specs.Accepted.{Cell}
+use Rattle.walks.specs.Walking.{firstMark, layerMark, Walk}
+use Rattle.walks.specs.Rows.{walkedTo, reachMark, rowMarks, Marks, layerAt, layersAt, layerOf, Site, Space, Swept}
+use Rattle.walks.proofs.ReachLaws.{fresh, steps-is}
 
-word-back : (ws : List ℕ) (i : ℕ) → i < length ws → word (bytesOf ws) (2 * i) ≡ getD ws i 0
-unfolding wordAt
-word-back ws i h = wordAt-bytesOf ws i h
+-- ---- one place
 
--- ---- the words of the first cells
+module _ (layers : List ℕ) (first base q x : ℕ) (before : Bytes) (e : x ≡ getD layers (first + q) 0) where
+  pub place-bare : x ≡ 0 → Marks before before (layerOf layers first base q)
+  unfolding layerOf layerAt
+  place-bare h = record {
+    size = refl;
+    each = λ z l.
+        sym (ap (λ b. eqb (byteAt before z) 1 || b) (and-right (eqb (base + q) z) _ (ap not (eq-eqb (getD layers (first + q) 0) 0 (sym e ∙ h)))) ∙ or-nothing (eqb (byteAt before z) 1));
+  }
 
-module _ (m st : Bytes) where
-  row-length : (c : ℕ) → length (cellWords m st c) ≡ 2 * length (reach m st c)
-  unfolding cellWords placed
-  row-length c = pairs-length (λ (e : Near). e .cell - firstCell m) (λ (e : Near). e .layer) (reach m st c)
+  pub place-marked : (after : Bytes) → (x ≡ 0 → ⊥) → after ≡ set before (base + q) 1 → Marks before after (layerOf layers first base q)
+  unfolding layerOf layerAt
+  place-marked after h f = record {
+    size = ap length f ∙ length-set before (base + q) 1;
+    each = λ z l.
+        ap (λ (b : Bytes). eqb (byteAt b z) 1) f ∙ go z l (eqb (base + q) z) refl ∙ ap (λ b. eqb (byteAt before z) 1 || (eqb (base + q) z && b)) (sym (ap not (ne-eqb (getD layers (first + q) 0) 0 (λ w. h (e ∙ w)))));
+  }
+    where
+      go : (z : ℕ) → z < length before → (b : Bool) → eqb (base + q) z ≡ b → eqb (byteAt (set before (base + q) 1) z) 1 ≡ eqb (byteAt before z) 1 || (b && true)
+      go z l true w =
+          let p : base + q ≡ z = eqb-true (base + q) z w in
+          ap (λ i. eqb (byteAt (set before (base + q) 1) i) 1) (sym p) ∙ ap (λ y. eqb y 1) (getD-set-same before (base + q) 1 0 (omega arith)) ∙ sym (or-always (eqb (byteAt before z) 1))
+      go z l false w = ap (λ y. eqb y 1) (getD-set-other before (base + q) z 1 0 (λ p. eqb-false (base + q) z w (sym p))) ∙ sym (or-nothing (eqb (byteAt before z) 1))
 
-  row-pair : (c t : ℕ) (none : Near) → t < length (reach m st c)
-      → (getD (cellWords m st c) (2 * t) 0 ≡ getD (reach m st c) t none .cell - firstCell m) × (getD (cellWords m st c) (2 * t + 1) 0 ≡ getD (reach m st c) t none .layer)
-  unfolding cellWords placed
-  row-pair c t none h = pairs-at (λ (e : Near). e .cell - firstCell m) (λ (e : Near). e .layer) (reach m st c) t none h
+-- ---- marks one after another
 
-  words-length : (n : ℕ) → length (tableWords m st n) ≡ 2 * entryCount m st n
-  unfolding tableWords entryCount
-  words-length n =
-      blocks-length (firstCell m) (cellWords m st) n
-      ∙ total-double (firstCell m) n (λ c. length (cellWords m st c)) (λ c. length (reach m st c)) row-length
+pub marks-none : (b : Bytes) (p : ℕ → Bool) → ((z : ℕ) → p z ≡ false) → Marks b b p
+marks-none b p f = record { size = refl; each = λ z l. sym (ap (λ c. eqb (byteAt b z) 1 || c) (f z) ∙ or-nothing (eqb (byteAt b z) 1)) }
 
-  -- one cell more
-  pub count-more : (j : ℕ) → entryCount m st (j + 1) ≡ entryCount m st j + length (reach m st (firstCell m + j))
-  unfolding entryCount total
-  count-more j = ap (λ n. total (firstCell m) n (λ c. length (reach m st c))) (add-one j)
+pub marks-both : (a b c : Bytes) (p q r : ℕ → Bool) → ((z : ℕ) → r z ≡ p z || q z) → Marks a b p → Marks b c q → Marks a c r
+marks-both a b c p q r f P Q = record {
+  size = Q .size ∙ P .size;
+  each = λ z l.
+      Q .each z (omega (arith, P .size)) ∙ ap (λ x. x || q z) (P .each z l) ∙ or-assoc (eqb (byteAt a z) 1) (p z) (q z) ∙ ap (λ x. eqb (byteAt a z) 1 || x) (sym (f z));
+}
 
-  count-fits : (n j : ℕ) → j < n → entryCount m st j + length (reach m st (firstCell m + j)) ≤ entryCount m st n
-  unfolding entryCount
-  count-fits n j h = total-fit (firstCell m) (λ c. length (reach m st c)) n j h
+marks-as : (a b : Bytes) (p q : ℕ → Bool) → ((z : ℕ) → p z ≡ q z) → Marks a b p → Marks a b q
+marks-as a b p q f P = record { size = P .size; each = λ z l. P .each z l ∙ ap (λ x. eqb (byteAt a z) 1 || x) (f z) }
 
-  word-in-row : (n j s : ℕ) → j < n → s < 2 * length (reach m st (firstCell m + j)) → getD (tableWords m st n) (length (tableWords m st j) + s) 0 ≡ getD (cellWords m st (firstCell m + j)) s 0
-  unfolding tableWords
-  word-in-row n j s h k = blocks-at (firstCell m) (cellWords m st) n j s 0 h (omega (arith, row-length (firstCell m + j)))
+some-next : (n : ℕ) (p : ℕ → Bool) → some 0 (n + 1) p ≡ some 0 n p || p n
+unfolding some
+some-next n p = rw add-one (ap (λ x. some 0 n p || p x) (zero-add n))
 
-  word-of : (n j s : ℕ) → j < n → s < 2 * length (reach m st (firstCell m + j)) → getD (tableWords m st n) (2 * entryCount m st j + s) 0 ≡ getD (cellWords m st (firstCell m + j)) s 0
-  word-of n j s h k =
-      ap (λ x. getD (tableWords m st n) (x + s) 0) (sym (words-length j))
-      ∙ word-in-row n j s h k
+-- ---- a row
 
--- ---- a table that was written
+module _ (layers : List ℕ) (first base : ℕ) where
+  pub row-start : (b : Bytes) → Marks b b (layersAt layers first base 0)
+  row-start b = marks-none b (layersAt layers first base 0) (λ z. unfold layersAt some in refl)
 
-module _ (m st before after : Bytes) (ends : List ℕ) (r : ℕ) (table : Tabled m st before after ends r) (few : r ≤ 8000) (room : length before ≡ 32000) where
-  pub counted-few : entryCount m st (cellCount m) ≤ 8000
-  counted-few = omega (arith, capped-few (entryCount m st (cellCount m)) r (table .count) few)
+  pub row-turn : (q : ℕ) (a b c : Bytes) → Marks a b (layersAt layers first base q) → Marks b c (layerOf layers first base q) → Marks a c (layersAt layers first base (q + 1))
+  row-turn q a b c P Q = marks-both a b c (layersAt layers first base q) (layerOf layers first base q) (layersAt layers first base (q + 1)) (λ z. unfold layersAt layerOf in some-next q (layerAt layers first base z)) P Q
 
-  pub table-length : length after ≡ 32000
-  table-length =
-      let ws : List ℕ = tableWords m st (cellCount m) in
-      let e : after ≡ over before 0 (bytesOf ws) = table .text few in
-      ap length e ∙ over-length before 0 (bytesOf ws) (omega (arith, counted-few, length-bytesOf ws, words-length m st (cellCount m))) ∙ room
+  pub row-end : (q cells : ℕ) (a b : Bytes) → q ≤ cells → cells ≤ q → Marks a b (layersAt layers first base q) → Marks a b (layersAt layers first base cells)
+  row-end q cells a b g h P = let e : q ≡ cells = omega arith in subst (λ k. Marks a b (layersAt layers first base k)) e P
 
-  pub row-start : (j : ℕ) → j ≤ cellCount m → getD ends j 0 ≡ entryCount m st j
-  row-start j h = table .ended few .each j h
+-- ---- a cell
 
-  pub row-fits : (j : ℕ) → j < cellCount m → getD ends j 0 + length (reach m st (firstCell m + j)) ≤ 8000
-  row-fits j h = omega (arith, counted-few, row-start j (omega arith), count-fits m st (cellCount m) j h)
+marked-by : (ks : List ℕ) → not (eqb (firstMark ks) 0) ≡ ltb 0 (length ks)
+unfolding firstMark
+marked-by [] = refl
+marked-by (k ∷ ks) = ap not (ne-eqb (k + 1) 0 (omega arith)) ∙ sym (lt-ltb 0 (suc (length ks)) (omega arith))
 
-  -- how many entries a cell has
-  pub row-size : (j : ℕ) → j < cellCount m → getD ends (j + 1) 0 ≡ getD ends j 0 + length (reach m st (firstCell m + j))
-  row-size j h = omega (arith, row-start j (omega arith), row-start (j + 1) (omega arith), count-more m st j)
+module _ (m st : Bytes) (cell prev last : List ℕ) (e r first cells n : ℕ) (S : Site m st cell prev last e r first cells n) where
+  pub reach-marked : (c v k base : ℕ) (marks from layers : List ℕ) (a b : Bytes) → Walk m st c n v marks from layers k → Marks a b (layersAt layers first base cells)
+      → Marks a b (reachMark m st base c)
+  reach-marked c v k base marks from layers a b W P = marks-as a b (layersAt layers first base cells) (reachMark m st base c) same P
+    where
+      mark : (z : ℕ) → getD layers z 0 ≡ firstMark (stepsTo m st c z)
+      mark z = W .layered z ∙ (unfold layerMark stepsTo in ap (λ x. firstMark (picked 0 (x + 1) (λ j. isIn z (walked m st c j)))) (steps-is st n (S .n-is)))
 
-  -- the word of index i of the table
-  word-is : (i : ℕ) → i < 2 * entryCount m st (cellCount m) → word after (2 * i) ≡ getD (tableWords m st (cellCount m)) i 0
-  word-is i h =
-      let ws : List ℕ = tableWords m st (cellCount m) in
-      let l : length (bytesOf ws) ≡ 2 * length ws = length-bytesOf ws in
-      let k : length ws ≡ 2 * entryCount m st (cellCount m) = words-length m st (cellCount m) in
-      let e : after ≡ over before 0 (bytesOf ws) = table .text few in
-      ap (λ (b : Bytes). word b (2 * i)) e
-      ∙ ap (word (over before 0 (bytesOf ws))) (sym (zero-add (2 * i)))
-      ∙ word-in before 0 (bytesOf ws) (omega (arith, counted-few)) (2 * i) (omega arith)
-      ∙ word-back ws i (omega arith)
+      each : (z q : ℕ) → layerAt layers first base z q ≡ eqb (base + q) z && walkedTo m st c (firstCell m + q)
+      each z q =
+          unfold layerAt walkedTo in ap (λ x. eqb (base + q) z && x)
+          (ap (λ x. not (eqb (getD layers (x + q) 0) 0)) (S .first-is) ∙ ap (λ x. not (eqb x 0)) (mark (firstCell m + q)) ∙ marked-by (stepsTo m st c (firstCell m + q)))
 
-  module _ (j t : ℕ) (none : Near) (h : j < cellCount m) (k : t < length (reach m st (firstCell m + j))) where
-    pub row-cell : word after (4 * getD ends j 0 + 4 * t) ≡ getD (reach m st (firstCell m + j)) t none .cell - firstCell m
-    row-cell =
-        let p : 4 * getD ends j 0 + 4 * t ≡ 2 * (2 * entryCount m st j + 2 * t) = omega (arith, row-start j (omega arith)) in
-        ap (word after) p
-        ∙ word-is (2 * entryCount m st j + 2 * t) (omega (arith, count-fits m st (cellCount m) j h))
-        ∙ word-of m st (cellCount m) j (2 * t) h (omega arith)
-        ∙ row-pair m st (firstCell m + j) t none k .0
+      same : (z : ℕ) → layersAt layers first base cells z ≡ reachMark m st base c z
+      same z =
+          unfold layersAt reachMark in ap (λ k. some 0 k (layerAt layers first base z)) (S .cells-is)
+          ∙ some-cong 0 (layerAt layers first base z) (λ q. eqb (base + q) z && walkedTo m st c (firstCell m + q)) (cellCount m) (λ q h. each z (0 + q))
 
-    pub row-layer : word after (4 * getD ends j 0 + 4 * t + 2) ≡ getD (reach m st (firstCell m + j)) t none .layer
-    row-layer =
-        let p : 4 * getD ends j 0 + 4 * t + 2 ≡ 2 * (2 * entryCount m st j + (2 * t + 1)) = omega (arith, row-start j (omega arith)) in
-        ap (word after) p
-        ∙ word-is (2 * entryCount m st j + (2 * t + 1)) (omega (arith, count-fits m st (cellCount m) j h))
-        ∙ word-of m st (cellCount m) j (2 * t + 1) h (omega arith)
-        ∙ row-pair m st (firstCell m + j) t none k .1
+  pub site-first : first < 65536
+  site-first = omega (arith, S .first-is, S .ground .mesh .cells-in, S .ground .mesh .sizes .n-high)
+
+  pub site-cells : cells ≤ 2000
+  site-cells = omega (arith, S .cells-is, S .ground .mesh .cells-in, S .ground .mesh .sizes .n-high)
+
+  pub space-after : (c v k : ℕ) (marks from found layers : List ℕ) → Walk m st c n (v + n) marks from layers k → length found ≡ 2001 → Space (v + n) marks from found
+  space-after c v k marks from found layers W l = record { fresh = W .fresh; from-long = W .room; found-long = l }
+
+  -- ---- all cells
+
+  module _ (rows : Bytes) where
+    pub sweep-cell : (x v : ℕ) (marks from found : List ℕ) (a b : Bytes) → Swept m st rows first x v marks from found a b → x < first + cells → Cell m x
+    sweep-cell x v marks from found a b W h = record { low = omega (arith, W .low, S .first-is); high = omega (arith, S .first-is, S .cells-is) }
+
+    pub sweep-low : (x v : ℕ) (marks from found : List ℕ) (a b : Bytes) → Swept m st rows first x v marks from found a b → x < first + cells → v ≤ 20000
+    sweep-low x v marks from found a b W h = omega (arith, W .turns, site-cells)
+
+    sweep-next : (x w base : ℕ) → first ≤ x → w ≡ byteAt rows (x - first) → base ≡ 2000 * w → (z : ℕ) → rowMarks m st rows (x + 1 - first) z ≡ rowMarks m st rows (x - first) z || reachMark m st base x z
+    unfolding rowMarks
+    sweep-next x w base low we be z =
+        let l : x + 1 - first ≡ x - first + 1 = omega arith in
+        let p : firstCell m + (x - first) ≡ x = omega (arith, S .first-is) in
+        let y : 2000 * byteAt rows (x - first) ≡ base = omega arith in
+        ap (λ k. some 0 k (λ k. reachMark m st (2000 * byteAt rows k) (firstCell m + k) z)) l
+        ∙ some-next (x - first) (λ k. reachMark m st (2000 * byteAt rows k) (firstCell m + k) z)
+        ∙ ap₂ (λ y d. some 0 (x - first) (λ k. reachMark m st (2000 * byteAt rows k) (firstCell m + k) z) || reachMark m st y d z) y p
+
+    pub sweep-turn : (x v w base : ℕ) (marks from found marks′ from′ found′ : List ℕ) (a b c : Bytes) → Swept m st rows first x v marks from found a b
+        → w ≡ byteAt rows (x - first) → base ≡ 2000 * w → Marks b c (reachMark m st base x) → Space (v + n) marks′ from′ found′
+        → Swept m st rows first (x + 1) (v + n) marks′ from′ found′ a c
+    sweep-turn x v w base marks from found marks′ from′ found′ a b c W we be Q s = record {
+      low = omega (arith, W .low);
+      turns = omega (arith, W .low, W .turns, S .n-few);
+      space = s;
+      marked = marks-both a b c (rowMarks m st rows (x - first)) (reachMark m st base x) (rowMarks m st rows (x + 1 - first)) (sweep-next x w base (W .low) we be) (W .marked) Q;
+    }
+
+    pub sweep-end : (x v : ℕ) (marks from found : List ℕ) (a b : Bytes) → Swept m st rows first x v marks from found a b → x ≤ first + cells → first + cells ≤ x
+        → Marks a b (rowMarks m st rows (cellCount m))
+    sweep-end x v marks from found a b W g h = let e : x - first ≡ cellCount m = omega (arith, S .cells-is) in subst (λ k. Marks a b (rowMarks m st rows k)) e (W .marked)
+
+pub sweep-start : (m st rows : Bytes) (first : ℕ) (marks from found : List ℕ) (a : Bytes) → Space 1 marks from found → Swept m st rows first first 1 marks from found a a
+sweep-start m st rows first marks from found a s = record {
+  low = omega arith;
+  turns = omega arith;
+  space = s;
+  marked = marks-none a (rowMarks m st rows (first - first)) (λ z. let e : first - first ≡ 0 = omega arith in rw e (unfold rowMarks some in refl));
+}
+
+pub space-start : Space 1 (replicate 2001 0) (replicate 2001 0) (replicate 2001 0)
+space-start = record { fresh = fresh; from-long = length-replicate {A = ℕ} 2001 0; found-long = length-replicate {A = ℕ} 2001 0 }

@@ -1,5 +1,6 @@
-// The reaches of all cells as a table.
-use crate::inverse::invert;
+// The reaches of all cells as a table, and as marks in rows.
+pub use crate::inverse::invert;
+pub use crate::rows::mark_reaches;
 use crate::steps::walk;
 use crate::visits::entry;
 use layout::inner::put_word;

@@ -1,0 +1,190 @@
+-- What the tests 8 and 9 answer, by the tests that the code makes one after the other. Assumes nothing.
+use mathlib.Core.Path.{_≡_, refl, sym, ap, ap₂, _∙_}
+use mathlib.Core.Bool.{Bool, true, false, not, _||_, _&&_, cond}
+use mathlib.Core.List.{List, [], _∷_}
+use Prim.Native.Nat.{ℕ, _+_, _-_, _≤_, _<_}
+use native.Mathlib.Nat.{zero-add}
+use native.Mathlib.Omega.{arith}
+use lib.Dec.{eqb, leb}
+use lib.ListN.{length}
+use borrow.Author.Tests.{le-leb, lt-leb, eq-eqb, ne-eqb, not-true, not-false}
+use Rattle.vocabulary.specs.Bytes.{Bytes, byteAt}
+use Rattle.vocabulary.specs.Ranges.{isUpTo, every, some, picked}
+use Rattle.vocabulary.specs.RangeLaws.{every-at, every-intro, some-has, some-witness, some-at, some-more, picked-none, picked-at, every-stop, every-turn, some-stop, some-turn}
+use Rattle.vocabulary.specs.Lists.{everyOf}
+use Rattle.vocabulary.specs.ListLaws.{everyOf-at, everyOf-intro, All-intro, same-test}
+use Rattle.vocabulary.specs.Tests.{Test, refuse, firstOf, passed, firstOf-left, firstOf-right}
+use Rattle.mesh.specs.Mesh.{top, firstCell, cellCount, meshTests, meshNumber}
+use Rattle.mesh.specs.Walks.{bad10}
+use Rattle.split.specs.Split.{splitOf, ownerAt, owns, owned}
+use Rattle.split.specs.Lists.{bad8, bad9, splitTests, splitNumber}
+use Rattle.split.specs.Sorting.{ownerRight, ownsAt}
+
+pub part-told : (parts i : ℕ) → 1 ≤ i → leb i parts ≡ isUpTo parts i
+unfolding isUpTo
+part-told parts i h = simp (le-leb 1 i h)
+
+pub part-low : (parts i : ℕ) → i < 1 → leb 1 i ≡ isUpTo parts i
+unfolding isUpTo
+part-low parts i h = simp (lt-leb 1 i h)
+
+-- ---- 8
+
+module _ (parts : ℕ) (owners : Bytes) (k w : ℕ) (b : Bool) (q : w ≡ byteAt owners k) (e : b ≡ isUpTo parts w) where
+  right-here : b ≡ ownerRight parts owners k
+  unfolding ownerRight
+  right-here = e ∙ ap (isUpTo parts) q
+
+  pub owner-wrong : (n : ℕ) → k < n → not b ≡ true → false ≡ every 0 n (ownerRight parts owners)
+  owner-wrong n h t = every-stop (ownerRight parts owners) n k b h right-here t
+
+  pub owner-turn : every 0 k (ownerRight parts owners) ≡ true → not b ≡ false → every 0 (k + 1) (ownerRight parts owners) ≡ true
+  owner-turn i t = every-turn (ownerRight parts owners) k k b i right-here t
+
+all-right : (parts : ℕ) (owners : Bytes) → every 0 (length owners) (ownerRight parts owners) ≡ everyOf owners (isUpTo parts)
+unfolding ownerRight
+all-right parts owners =
+    same-test _ _
+    (λ e. everyOf-intro (isUpTo parts) owners (All-intro (λ x. isUpTo parts x ≡ true) owners 0 (λ l h. ap (λ k. isUpTo parts (byteAt owners k)) (sym (zero-add l)) ∙ every-at 0 (λ k. isUpTo parts (byteAt owners k)) (length owners) l e h)))
+    (λ e. every-intro 0 (λ k. isUpTo parts (byteAt owners k)) (length owners) (λ l h. ap (λ k. isUpTo parts (byteAt owners k)) (zero-add l) ∙ everyOf-at (isUpTo parts) owners 0 l e h))
+
+module _ (m : Bytes) (parts : ℕ) (owners : Bytes) (a : Bool) (p : a ≡ isUpTo 16 parts) where
+  pub map-parts : not a ≡ true → true ≡ bad8 m parts owners []
+  unfolding bad8
+  map-parts t = simp (sym p, not-true a t)
+
+  module _ (n : ℕ) (q : n ≡ cellCount m) where
+    pub map-length : not a ≡ false → (length owners ≡ n → ⊥) → true ≡ bad8 m parts owners []
+    unfolding bad8 everyOf
+    map-length t h = simp (sym p, not-false a t, ne-eqb (length owners) (cellCount m) (λ e. h (e ∙ sym q)))
+
+    pub map-owners : (b : Bool) → not a ≡ false → length owners ≡ n → b ≡ every 0 (length owners) (ownerRight parts owners) → not b ≡ bad8 m parts owners []
+    unfolding bad8 everyOf
+    map-owners b t h e = simp (sym p, not-false a t, eq-eqb (length owners) (cellCount m) (h ∙ q), sym (e ∙ all-right parts owners))
+
+-- ---- 9
+
+module _ (owners : Bytes) (i k w : ℕ) (q : w ≡ byteAt owners k) where
+  pub owns-found : (n : ℕ) → k < n → w ≡ i → true ≡ some 0 n (ownsAt owners i)
+  unfolding ownsAt
+  owns-found n h e = some-stop (ownsAt owners i) n k (ownsAt owners i k) h refl (eq-eqb (byteAt owners k) i (sym q ∙ e))
+
+  pub owns-turn : some 0 k (ownsAt owners i) ≡ false → (w ≡ i → ⊥) → some 0 (k + 1) (ownsAt owners i) ≡ false
+  unfolding ownsAt
+  owns-turn s n = some-turn (ownsAt owners i) k k (ownsAt owners i k) s refl (ne-eqb (byteAt owners k) i (λ e. n (q ∙ e)))
+
+-- part i owns none of the cells
+unfoldable pub ownsNone : Bytes → ℕ → Bytes → ℕ → Bool
+ownsNone m parts owners i = eqb (length (owned (splitOf m parts owners []) i)) 0
+
+module _ (m : Bytes) (parts : ℕ) (owners : Bytes) where
+  none-told : (i : ℕ) → ownsNone m parts owners i ≡ not (some 0 (cellCount m) (ownsAt owners i))
+  unfolding ownsNone owned owns splitOf ownerAt ownsAt
+  none-told i = go (some 0 (cellCount m) (ownsAt owners i)) refl
+    where
+      place : (k : ℕ) → firstCell m + k - firstCell m ≡ k
+      place k = omega arith
+
+      go : (b : Bool) → some 0 (cellCount m) (ownsAt owners i) ≡ b → eqb (length (picked (firstCell m) (cellCount m) (λ c. eqb (byteAt owners (c - firstCell m)) i))) 0 ≡ not b
+      go true e =
+          let w = some-witness 0 (ownsAt owners i) (cellCount m) e in
+          let a = picked-at (firstCell m) (λ c. eqb (byteAt owners (c - firstCell m)) i) (cellCount m) (w .0) (w .1) (ap (λ x. eqb (byteAt owners x) i) (place (w .0) ∙ sym (zero-add (w .0))) ∙ w .2) in
+          ne-eqb (length (picked (firstCell m) (cellCount m) (λ c. eqb (byteAt owners (c - firstCell m)) i))) 0 (λ z. let n : ⊥ = omega (arith, a .place-lt) in n)
+      go false e =
+          ap (λ xs. eqb (length xs) 0)
+          (picked-none (firstCell m) (λ c. eqb (byteAt owners (c - firstCell m)) i) (cellCount m) (λ k h. ap (λ x. eqb (byteAt owners x) i) (place k ∙ sym (zero-add k)) ∙ some-at 0 (ownsAt owners i) (cellCount m) k e h))
+
+  module _ (n : ℕ) (ce : n ≡ cellCount m) (k : ℕ) (b : Bool) (e : b ≡ some 0 n (ownsAt owners (k + 1))) where
+    told : ownsNone m parts owners (1 + k) ≡ not b
+    told =
+        let q : 1 + k ≡ k + 1 = omega arith in
+        ap (ownsNone m parts owners) q ∙ none-told (k + 1) ∙ ap not (ap (λ x. some 0 x (ownsAt owners (k + 1))) (sym ce) ∙ sym e)
+
+    pub share-none : k < parts → not b ≡ true → true ≡ bad9 (splitOf m parts owners [])
+    unfolding bad9 ownsNone splitOf
+    share-none h t = sym (some-has 1 (ownsNone m parts owners) parts k h (told ∙ t))
+
+    pub share-turn : some 1 k (ownsNone m parts owners) ≡ false → not b ≡ false → some 1 (k + 1) (ownsNone m parts owners) ≡ false
+    share-turn s t = some-more 1 (ownsNone m parts owners) k s (told ∙ t)
+
+  pub share-end : (k : ℕ) → k ≤ parts → parts ≤ k → some 1 k (ownsNone m parts owners) ≡ false → false ≡ bad9 (splitOf m parts owners [])
+  unfolding bad9 ownsNone splitOf
+  share-end k g h s = let q : k ≡ parts = omega arith in sym (rw q at s)
+
+shares-any : (m : Bytes) (parts : ℕ) (owners st : Bytes) → bad9 (splitOf m parts owners []) ≡ bad9 (splitOf m parts owners st)
+unfolding bad9 owned owns splitOf
+shares-any m parts owners st = refl
+
+-- a map that is right by itself, and parts named that are there
+pub named-fine : (m : Bytes) (parts : ℕ) (owners : Bytes) (i j : ℕ) → bad8 m parts owners [] ≡ false → isUpTo parts i ≡ true → isUpTo parts j ≡ true
+    → bad8 m parts owners (i ∷ j ∷ []) ≡ false
+unfolding bad8 everyOf
+named-fine m parts owners i j e f g = ap₂ (λ x y. not (isUpTo 16 parts) || not (x && (y && true)) || not (eqb (length owners) (cellCount m)) || not (everyOf owners (isUpTo parts))) f g ∙ e
+
+-- ---- the number by the tests up to 10
+
+module _ (m : Bytes) (parts : ℕ) (owners : Bytes) (i j : ℕ) (st : Bytes) (n : ℕ) (ne : n ≡ meshNumber m) where
+  pub split-mesh : (n ≡ 0 → ⊥) → n ≡ splitNumber m parts owners (i ∷ j ∷ []) st
+  unfolding splitNumber splitTests meshNumber
+  split-mesh h = ne ∙ sym (firstOf-left (meshTests m) _ (λ z. h (ne ∙ z)))
+
+  module _ (z : n ≡ 0) where
+    abbrev rest : List Test
+    rest = refuse 8 (bad8 m parts owners (i ∷ j ∷ [])) ∷ refuse 9 (bad9 (splitOf m parts owners st)) ∷ refuse 10 (bad10 (top m) st) ∷ []
+
+    later : splitNumber m parts owners (i ∷ j ∷ []) st ≡ firstOf rest
+    unfolding splitNumber splitTests meshNumber meshTests
+    later = firstOf-right (meshTests m) rest (passed (meshTests m) tt (sym ne ∙ z))
+
+    eighth : bad8 m parts owners (i ∷ j ∷ []) ≡ true → 8 ≡ splitNumber m parts owners (i ∷ j ∷ []) st
+    eighth e = sym (later ∙ ap (λ t. cond t 8 (cond (bad9 (splitOf m parts owners st)) 9 (cond (bad10 (top m) st) 10 0))) e)
+
+    module _ (a : Bool) (ae : a ≡ bad8 m parts owners []) where
+      pub split-map : a ≡ true → 8 ≡ splitNumber m parts owners (i ∷ j ∷ []) st
+      split-map t = eighth (unfold bad8 everyOf in more (not (isUpTo 16 parts)) (not (isUpTo parts i && (isUpTo parts j && true))) (not (eqb (length owners) (cellCount m))) (not (everyOf owners (isUpTo parts))) (sym (unfold bad8 everyOf in ae) ∙ t))
+        where
+          more : (a b c d : Bool) → a || false || c || d ≡ true → a || b || c || d ≡ true
+          more true b c d e = refl
+          more false true c d e = refl
+          more false false c d e = e
+
+      module _ (af : a ≡ false) (b : Bool) (be : b ≡ isUpTo parts i) where
+        pub split-part : not b ≡ true → 8 ≡ splitNumber m parts owners (i ∷ j ∷ []) st
+        split-part t = eighth (unfold bad8 everyOf in wrong (not (isUpTo 16 parts)) (isUpTo parts i) (isUpTo parts j && true) (not (eqb (length owners) (cellCount m))) (not (everyOf owners (isUpTo parts))) (sym be ∙ not-true b t))
+          where
+            wrong : (a x y c d : Bool) → x ≡ false → a || not (x && y) || c || d ≡ true
+            wrong true x y c d e = refl
+            wrong false x y c d e = ap (λ x. not (x && y) || c || d) e
+
+        module _ (bf : not b ≡ false) (c : Bool) (ce : c ≡ isUpTo parts j) where
+          pub split-other : not c ≡ true → 8 ≡ splitNumber m parts owners (i ∷ j ∷ []) st
+          split-other t = eighth (unfold bad8 everyOf in wrong (not (isUpTo 16 parts)) (isUpTo parts i) (isUpTo parts j) (not (eqb (length owners) (cellCount m))) (not (everyOf owners (isUpTo parts))) (sym ce ∙ not-true c t))
+            where
+              wrong : (a x y c d : Bool) → y ≡ false → a || not (x && (y && true)) || c || d ≡ true
+              wrong true x y c d e = refl
+              wrong false true y c d e = ap (λ y. not (y && true) || c || d) e
+              wrong false false y c d e = refl
+
+          module _ (cf : not c ≡ false) where
+            fine : bad8 m parts owners (i ∷ j ∷ []) ≡ false
+            fine = named-fine m parts owners i j (sym ae ∙ af) (sym be ∙ not-false b bf) (sym ce ∙ not-false c cf)
+
+            module _ (d : Bool) (de : d ≡ bad9 (splitOf m parts owners [])) where
+              ninth : d ≡ bad9 (splitOf m parts owners st)
+              ninth = de ∙ shares-any m parts owners st
+
+              pub split-share : d ≡ true → 9 ≡ splitNumber m parts owners (i ∷ j ∷ []) st
+              split-share t = sym (later ∙ ap₂ (λ x y. cond x 8 (cond y 9 (cond (bad10 (top m) st) 10 0))) fine (sym ninth ∙ t))
+
+              module _ (df : d ≡ false) (k : ℕ) (ke : k ≡ top m) (e : Bool) (ee : e ≡ bad10 k st) where
+                tenth : e ≡ bad10 (top m) st
+                tenth = ee ∙ ap (λ x. bad10 x st) ke
+
+                last : splitNumber m parts owners (i ∷ j ∷ []) st ≡ cond e 10 0
+                last = later ∙ ap₂ (λ x y. cond x 8 (cond y 9 (cond (bad10 (top m) st) 10 0))) fine (sym ninth ∙ df) ∙ ap (λ x. cond x 10 0) (sym tenth)
+
+                pub split-stencil : e ≡ true → 10 ≡ splitNumber m parts owners (i ∷ j ∷ []) st
+                split-stencil t = sym (last ∙ ap (λ x. cond x 10 0) t)
+
+                pub split-passed : e ≡ false → 0 ≡ splitNumber m parts owners (i ∷ j ∷ []) st
+                split-passed t = sym (last ∙ ap (λ x. cond x 10 0) t)

@@ -1,0 +1,139 @@
+-- The prepared tables say what the definitions say. Assumes nothing.
+use mathlib.Core.Path.{_≡_, sym, ap, ap₂, _∙_}
+use mathlib.Core.Bool.{Bool, true, false, not, _||_, cond}
+use mathlib.Core.List.{List, [], map}
+use Prim.Native.Nat.{ℕ, _+_, _-_, _*_, _≤_, _<_}
+use native.Mathlib.Omega.{arith}
+use lib.Dec.{eqb, ltb}
+use lib.ListN.{length, getD, drop}
+use borrow.Author.Tests.{eqb-true, lt-ltb, le-ltb, not-false}
+use Rattle.vocabulary.specs.Bytes.{Bytes, byteAt, over}
+use Rattle.vocabulary.specs.ByteLaws.{over-front}
+use Rattle.vocabulary.specs.Ranges.{isUpTo, every, total}
+use Rattle.vocabulary.specs.RangeLaws.{every-at, every-intro, blocks-at, total-turn, total-grows, upTo-true}
+use Rattle.vocabulary.specs.Lists.{everyOf}
+use Rattle.vocabulary.specs.ListLaws.{same-test, or-false, everyOf-at, everyOf-intro, All-intro, pairs-at}
+use Rattle.layout.specs.Words.{wordAt, bytesOf}
+use Rattle.layout.specs.WordLaws.{wordAt-first}
+use Rattle.mesh.specs.Mesh.{top, firstCell, cellCount}
+use Rattle.mesh.specs.Walks.{Near, reach, bad10, bad13}
+use Rattle.mesh.specs.Accepted.{Accepted}
+use Rattle.walks.specs.Tables.{placed, cellWords, tableWords, entryCount, Ends, Tabled}
+use Rattle.walks.specs.Rows.{rowMarks, Marks}
+use Rattle.walks.proofs.ReachLaws.{cell-count, table-count}
+use Rattle.walks.proofs.SizeLaws.{table-refused}
+use Rattle.split.specs.Split.{splitOf, ownerAt, owns, inside}
+use Rattle.split.specs.Lists.{bad8, bad12, sizeTests, sizesNumber}
+use Rattle.split.specs.Sorting.{ownsAt, rowCount, entryOwned, insideAt, Blank, Prepared}
+use Rattle.split.proofs.HeldLaws.{matrix-told, held-is}
+
+-- ---- an accepted map
+
+pub map-right : (m : Bytes) (parts : ℕ) (owners : Bytes) → bad8 m parts owners [] ≡ false
+    → (1 ≤ parts) × (parts ≤ 16) × (length owners ≡ cellCount m) × ((k : ℕ) → k < cellCount m → (1 ≤ byteAt owners k) × (byteAt owners k ≤ parts))
+unfolding bad8 everyOf
+map-right m parts owners e =
+    let a = not (isUpTo 16 parts) in
+    let c = not (eqb (length owners) (cellCount m)) in
+    let d = not (everyOf owners (isUpTo parts)) in
+    let p = or-false (a || false || c) d e in
+    let q = or-false (a || false) c (p .0) in
+    let r = or-false a false (q .0) in
+    let l : length owners ≡ cellCount m = eqb-true _ _ (not-false _ (q .1)) in
+    let u = upTo-true 16 parts (not-false _ (r .0)) in (
+      u .0,
+      u .1,
+      l,
+      λ k h. upTo-true parts (byteAt owners k) (everyOf-at (isUpTo parts) owners 0 k (not-false _ (p .1)) (omega arith)),
+    )
+
+-- ---- the table of the reaches
+
+table-word : (before table : Bytes) (ws : List ℕ) (k : ℕ) → table ≡ over before 0 (bytesOf ws) → k < length ws → wordAt table k ≡ getD ws k 0
+table-word before table ws k e h =
+    ap (λ (b : Bytes). wordAt b k) (e ∙ over-front before (bytesOf ws)) ∙ wordAt-first ws (drop (length (bytesOf ws)) before) k h
+
+entry-words : (m st : Bytes) (c t : ℕ) (d : Near) → t < length (reach m st c)
+    → (getD (cellWords m st c) (2 * t) 0 ≡ getD (reach m st c) t d .cell - firstCell m) × (getD (cellWords m st c) (2 * t + 1) 0 ≡ getD (reach m st c) t d .layer)
+unfolding cellWords placed
+entry-words m st c t d h = pairs-at (λ (e : Near). e .cell - firstCell m) (λ (e : Near). e .layer) (reach m st c) t d h
+
+count-more : (m st : Bytes) (q : ℕ) → entryCount m st (q + 1) ≡ entryCount m st q + length (reach m st (firstCell m + q))
+unfolding entryCount
+count-more m st q = total-turn (firstCell m) (λ c. length (reach m st c)) q
+
+-- a word of a cell's reach stands in the table
+cell-word : (m st : Bytes) (q u : ℕ) → q < cellCount m → u < length (cellWords m st (firstCell m + q))
+    → getD (tableWords m st (cellCount m)) (2 * entryCount m st q + u) 0 ≡ getD (cellWords m st (firstCell m + q)) u 0
+cell-word m st q u h k =
+    ap (λ n. getD (tableWords m st (cellCount m)) (n + u) 0) (sym (table-count m st q))
+    ∙ (unfold tableWords in blocks-at (firstCell m) (cellWords m st) (cellCount m) q u 0 h k)
+
+cell-fits : (m st : Bytes) (q u : ℕ) → q < cellCount m → u < length (cellWords m st (firstCell m + q)) → 2 * entryCount m st q + u < length (tableWords m st (cellCount m))
+cell-fits m st q u h k =
+    let g : entryCount m st (q + 1) ≤ entryCount m st (cellCount m) = unfold entryCount in total-grows (firstCell m) (λ c. length (reach m st c)) (q + 1) (cellCount m) (omega arith) in
+    omega (arith, cell-count m st (firstCell m + q), table-count m st (cellCount m), count-more m st q)
+
+module _ (m st before table : Bytes) (e : table ≡ over before 0 (bytesOf (tableWords m st (cellCount m)))) where
+  word-is : (q u x : ℕ) → q < cellCount m → u < length (cellWords m st (firstCell m + q)) → x ≡ 2 * entryCount m st q + u → wordAt table x ≡ getD (cellWords m st (firstCell m + q)) u 0
+  word-is q u x h k xe = ap (λ z. wordAt table z) xe ∙ table-word before table (tableWords m st (cellCount m)) (2 * entryCount m st q + u) e (cell-fits m st q u h k) ∙ cell-word m st q u h k
+
+  pub entries-are : (q t : ℕ) (d : Near) → q < cellCount m → t < length (reach m st (firstCell m + q))
+      → (wordAt table (2 * (entryCount m st q + t)) ≡ getD (reach m st (firstCell m + q)) t d .cell - firstCell m)
+      × (wordAt table (2 * (entryCount m st q + t) + 1) ≡ getD (reach m st (firstCell m + q)) t d .layer)
+  entries-are q t d h k =
+      let w = entry-words m st (firstCell m + q) t d k in (
+        word-is q (2 * t) (2 * (entryCount m st q + t)) h (omega (arith, cell-count m st (firstCell m + q))) (omega arith) ∙ w .0,
+        word-is q (2 * t + 1) (2 * (entryCount m st q + t) + 1) h (omega (arith, cell-count m st (firstCell m + q))) (omega arith) ∙ w .1,
+      )
+
+  every-list : {A : Type 0} (a : ℕ) (p : ℕ → Bool) (xs : List A) (d : A) (r : A → Bool) → ((t : ℕ) → t < length xs → p (a + t) ≡ r (getD xs t d)) → every a (length xs) p ≡ everyOf xs r
+  every-list a p xs d r f =
+      same-test _ _ (λ s. everyOf-intro r xs (All-intro (λ x. r x ≡ true) xs d (λ t h. sym (f t h) ∙ every-at a p (length xs) t s h)))
+      (λ s. every-intro a p (length xs) (λ t h. f t h ∙ everyOf-at r xs d t s h))
+
+  pub insides-are : (parts : ℕ) (owners : Bytes) (ends : List ℕ) → Ends m st ends (cellCount m) → (i q : ℕ) → q < cellCount m
+      → insideAt owners table ends i q ≡ inside (splitOf m parts owners st) i (firstCell m + q)
+  unfolding insideAt entryOwned ownsAt inside owns splitOf ownerAt
+  insides-are parts owners ends E i q h =
+      let a : getD ends q 0 ≡ entryCount m st q = E .each q (omega arith) in
+      let b : getD ends (q + 1) 0 ≡ entryCount m st (q + 1) = E .each (q + 1) (omega arith) in
+      let n : getD ends (q + 1) 0 - getD ends q 0 ≡ length (reach m st (firstCell m + q)) = omega (arith, count-more m st q) in
+      let d : Near = record { cell = 0; layer = 0 } in
+      ap₂ (λ x y. every x y (λ t. eqb (byteAt owners (wordAt table (2 * t))) i)) a n
+      ∙ every-list (entryCount m st q) (λ t. eqb (byteAt owners (wordAt table (2 * t))) i) (reach m st (firstCell m + q)) d (λ e. eqb (byteAt owners (e .cell - firstCell m)) i)
+      (λ t k. ap (λ x. eqb (byteAt owners x) i) (entries-are q t d h k .0))
+
+-- ---- the tests 12 and 13
+
+module _ (m : Bytes) (parts : ℕ) (owners st : Bytes) (A : Accepted m) (right : bad8 m parts owners [] ≡ false) (before held : Bytes) (B : Blank before)
+    (M : Marks before held (rowMarks m st owners (cellCount m))) (n s : ℕ) (ne : n ≡ cellCount m) (se : s ≡ total 1 parts (rowCount held n)) where
+  twelfth : ltb 4096 s ≡ bad12 (splitOf m parts owners st)
+  twelfth = held-is m parts owners st A before held B M n s ne (map-right m parts owners right .1) se
+
+  pub sizes-held : 4096 < s → 12 ≡ sizesNumber m parts owners st
+  unfolding sizesNumber sizeTests
+  sizes-held h = sym (ap (λ b. cond b 12 (cond (bad13 m st) 13 0)) (sym twelfth ∙ lt-ltb 4096 s h))
+
+  module _ (h : s ≤ 4096) (start table : Bytes) (ends : List ℕ) (r : ℕ) (T : Tabled m st start table ends r) where
+    last : sizesNumber m parts owners st ≡ cond (ltb 8000 r) 13 0
+    unfolding sizesNumber sizeTests
+    last = ap₂ (λ a b. cond a 12 (cond b 13 0)) (sym twelfth ∙ le-ltb 4096 s h) (sym (table-refused m st start table ends r T))
+
+    pub sizes-reached : 8000 < r → 13 ≡ sizesNumber m parts owners st
+    sizes-reached k = sym (last ∙ ap (λ b. cond b 13 0) (lt-ltb 8000 r k))
+
+    module _ (k : r ≤ 8000) where
+      pub sizes-passed : 0 ≡ sizesNumber m parts owners st
+      sizes-passed = sym (last ∙ ap (λ b. cond b 13 0) (le-ltb 8000 r k))
+
+      pub prepared : bad10 (top m) st ≡ false → Prepared m parts owners st table ends held
+      prepared stencil = record {
+        mesh = A;
+        map = right;
+        stencil = stencil;
+        ended = T .ended k;
+        entries = entries-are m st start table (T .text k);
+        holding = matrix-told m parts owners st A before held B M;
+        insides = insides-are m st start table (T .text k) parts owners ends (T .ended k);
+      }

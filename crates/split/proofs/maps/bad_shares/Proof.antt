@@ -1,0 +1,32 @@
+-- `split::maps::bad_shares` meets its contract. The invariant: each part so far owns a cell. Assumes nothing.
+use mathlib.Core.Path.{_≡_}
+use mathlib.Core.Bool.{false}
+use Prim.Native.Nat.{_-_, _≤_}
+use Rattle.vocabulary.specs.Ranges.{some}
+use Rattle.vocabulary.specs.RangeLaws.{some-start}
+use Rattle.split.proofs.MapLaws.{ownsNone, share-none, share-turn, share-end}
+use borrow.Author.Needs.{needs}
+use Rattle.split.proofs.maps.bad_shares.Statement.{statement}
+use Rattle.split.proofs.maps.bad_shares.Tie as tie
+
+abbrev Inv-loop : tie.InvT-loop
+Inv-loop m parts owners cells k₀ k = (k ≤ parts) × (some 1 k (ownsNone m parts owners) ≡ false)
+
+abbrev μ-loop : tie.MeasureT-loop
+μ-loop m parts owners cells k₀ k = parts - k
+
+pub bad-shares-spec : {M : Type 1} → statement M
+bad-shares-spec =
+    tie.close
+    (tie.spec
+    Inv-loop
+    μ-loop
+    (λ c κs. search needs)
+    (λ c. (search needs, search some-start))
+    (λ c. search needs)
+    (λ c κs. search needs)
+    (λ c. search share-none)
+    (λ c. search needs)
+    (λ c. search needs)
+    (λ c. (search needs, search share-turn))
+    (λ c. search share-end))

@@ -1,0 +1,34 @@
+-- `split::maps::owners_right` meets its contract. The invariant: the owners so far are parts. Assumes nothing.
+use mathlib.Core.Path.{_≡_, refl}
+use mathlib.Core.Bool.{true}
+use Prim.Native.Nat.{_-_, _≤_}
+use lib.ListN.{length}
+use Rattle.vocabulary.specs.Ranges.{every}
+use Rattle.vocabulary.specs.RangeLaws.{every-none, every-end}
+use Rattle.split.specs.Sorting.{ownerRight}
+use Rattle.split.proofs.MapLaws.{owner-wrong, owner-turn}
+use borrow.Author.Needs.{needs}
+use Rattle.split.proofs.maps.owners_right.Statement.{statement}
+use Rattle.split.proofs.maps.owners_right.Tie as tie
+
+abbrev Inv-loop : tie.InvT-loop
+Inv-loop parts owners k₀ k-end k = (k-end ≡ length owners) × (k ≤ length owners) × (every 0 k (ownerRight parts owners) ≡ true)
+
+abbrev μ-loop : tie.MeasureT-loop
+μ-loop parts owners k₀ k-end k = k-end - k
+
+pub owners-right-spec : {M : Type 1} → statement M
+owners-right-spec =
+    tie.close
+    (tie.spec
+    Inv-loop
+    μ-loop
+    (λ c. (refl, search needs, search every-none))
+    (λ c κs. search needs)
+    (λ c. search needs)
+    (λ c κs. search needs)
+    (λ c. search owner-wrong)
+    (λ c. search needs)
+    (λ c. search needs)
+    (λ c. (search needs, search needs, search owner-turn))
+    (λ c. search every-end))

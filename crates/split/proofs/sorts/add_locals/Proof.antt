@@ -1,0 +1,15 @@
+-- `split::sorts::add_locals` meets its contract. Assumes nothing.
+use Rattle.split.proofs.SortLaws.{locals-added}
+use borrow.Author.Needs.{needs}
+use Rattle.split.proofs.sorts.add_locals.Statement.{statement}
+use Rattle.split.proofs.sorts.add_locals.Tie as tie
+
+pub add-locals-spec : {M : Type 1} → statement M
+add-locals-spec =
+    tie.close
+    (tie.spec
+    (λ c κs. search needs)
+    (λ c κs. search needs)
+    (λ c κs. search needs)
+    (λ c. search needs)
+    (λ c. search locals-added))

@@ -1,0 +1,13 @@
+-- `split::tables::is_elsewhere` meets its contract. Assumes nothing.
+use Rattle.split.proofs.RangeSorts.{self-elsewhere, other-elsewhere}
+use borrow.Author.Needs.{needs}
+use Rattle.split.proofs.tables.is_elsewhere.Statement.{statement}
+use Rattle.split.proofs.tables.is_elsewhere.Tie as tie
+
+pub is-elsewhere-spec : {M : Type 1} → statement M
+is-elsewhere-spec =
+    tie.close
+    (tie.spec
+    (λ c. search self-elsewhere)
+    (λ c κs. search needs)
+    (λ c. search other-elsewhere))

@@ -1,0 +1,95 @@
+// The tests 8 and 9, and the number of a call by the tests up to 10.
+use layout::byte_at;
+use mesh::inner::cell_count;
+use mesh::inner::top_of;
+use mesh::mesh_number;
+use walks::bad_stencil;
+ghost use mathlib.Core.Path.{_≡_};
+ghost use mathlib.Core.List.{[], _∷_};
+ghost use lib.ListN.{length};
+ghost use Rattle.vocabulary.specs.Ranges.{isUpTo, every, some};
+ghost use Rattle.split.specs.Split.{splitOf};
+ghost use Rattle.split.specs.Lists.{bad8, bad9, splitNumber};
+ghost use Rattle.split.specs.Sorting.{ownerRight, ownsAt};
+
+// Whether i is one of the parts.
+pub fn is_part(parts: u32, i: u32) -> bool
+    ensures { λ b. ⌜ b ≡ isUpTo parts i ⌝ }
+{
+    1 <= i && i <= parts
+}
+
+fn owners_right(parts: u32, owners: &[u8]) -> bool
+    ensures { λ b. ⌜ b ≡ every 0 (length (now (owners .entry))) (ownerRight parts (now (owners .entry))) ⌝ }
+{
+    for k in 0..owners.len() {
+        if !is_part(parts, byte_at(owners, k) as u32) {
+            return false;
+        }
+    }
+    true
+}
+
+// Whether the number of parts or the map is to be refused, with number 8. A part that a call names is tried by `is_part`.
+pub fn bad_map(m: &[u8], parts: u32, owners: &[u8]) -> bool
+    ensures { λ b. ⌜ b ≡ bad8 (now (m .entry)) parts (now (owners .entry)) [] ⌝ }
+{
+    if !is_part(16, parts) {
+        return true;
+    }
+    if owners.len() != cell_count(m) {
+        return true;
+    }
+    !owners_right(parts, owners)
+}
+
+// Whether part i owns one of the first n cells.
+fn owns_some(owners: &[u8], n: usize, i: u32) -> bool
+    ensures { λ b. ⌜ b ≡ some 0 n (ownsAt (now (owners .entry)) i) ⌝ }
+{
+    for k in 0..n {
+        if byte_at(owners, k) as u32 == i {
+            return true;
+        }
+    }
+    false
+}
+
+// Whether a part owns no cell, number 9. The stencil does not matter to it.
+pub fn bad_shares(m: &[u8], parts: u32, owners: &[u8]) -> bool
+    ensures { λ b. ⌜ b ≡ bad9 (splitOf (now (m .entry)) parts (now (owners .entry)) []) ⌝ }
+{
+    let cells = cell_count(m);
+    for k in 0..parts {
+        if !owns_some(owners, cells, k + 1) {
+            return true;
+        }
+    }
+    false
+}
+
+// The number of the first test up to 10 that refuses a call which names the parts i and j, and 0 where none does.
+pub fn split_number(m: &[u8], parts: u32, owners: &[u8], i: u32, j: u32, st: &[u8]) -> u32
+    ensures { λ r. ⌜ r ≡ splitNumber (now (m .entry)) parts (now (owners .entry)) (i ∷ j ∷ []) (now (st .entry)) ⌝ }
+{
+    let number = mesh_number(m);
+    if number != 0 {
+        return number;
+    }
+    if bad_map(m, parts, owners) {
+        return 8;
+    }
+    if !is_part(parts, i) {
+        return 8;
+    }
+    if !is_part(parts, j) {
+        return 8;
+    }
+    if bad_shares(m, parts, owners) {
+        return 9;
+    }
+    if bad_stencil(top_of(m), st) {
+        return 10;
+    }
+    0
+}
