@@ -2,6 +2,7 @@ pub mod State
 pub mod Calls
 pub mod Checks
 pub mod Start
+pub mod Starting
 pub mod Run
 pub mod StateLaws
 pub mod FormLaws

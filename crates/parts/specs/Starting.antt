@@ -1,0 +1,66 @@
+-- How start finds the lists of a part: from the owners, the table of the reaches with its ends, the matrix of the held cells, and the part's
+-- local order. No public contract rests on this page; the laws in proofs/ tie it to the definitions of Start. Assumes nothing.
+use mathlib.Core.Path.{_≡_}
+use mathlib.Core.List.{List, [], _∷_, _++_, map}
+use Prim.Native.Nat.{ℕ, _+_, _-_, _*_, _≤_, _<_}
+use lib.ListN.{length, getD, take}
+use Rattle.vocabulary.specs.Bytes.{Bytes, over}
+use Rattle.vocabulary.specs.Ranges.{listed, blocks, total}
+use Rattle.layout.specs.Words.{wordAt, bytesOf}
+use Rattle.split.specs.Split.{localOf}
+use Rattle.split.specs.Sorting.{cellsOf}
+
+module _ (owners table : Bytes) (ends : List ℕ) (held : Bytes) (i first cells : ℕ) where
+  -- what part i imports from j, and exports to j
+  abbrev pub gotFrom : ℕ → List ℕ
+  gotFrom j = cellsOf owners table ends held i first cells j
+
+  abbrev pub sentFrom : ℕ → List ℕ
+  sentFrom j = cellsOf owners table ends held j first cells i
+
+  -- ends of the imports after `owned` cells, and of the exports
+  unfoldable pub gotEnds : ℕ → ℕ → ℕ
+  gotEnds owned j = owned + total 1 j (λ k. length (gotFrom k))
+
+  unfoldable pub sentEnds : ℕ → ℕ
+  sentEnds j = total 1 j (λ k. length (sentFrom k))
+
+  -- exports to j as local numbers, by the first n numbers of the order
+  unfoldable pub sentWords : List ℕ → ℕ → ℕ → List ℕ
+  sentWords order n j = map (localOf (take n order)) (sentFrom j)
+
+module _ (table : Bytes) (ends : List ℕ) (first : ℕ) (order : List ℕ) where
+  -- the place of local cell l, and how many entries its reach has
+  unfoldable pub placeAt : ℕ → ℕ
+  placeAt l = getD order (l - 1) 0 - first
+
+  unfoldable pub rowSize : ℕ → ℕ
+  rowSize l = getD ends (placeAt l + 1) 0 - getD ends (placeAt l) 0
+
+  unfoldable pub rowEnds : ℕ → ℕ
+  rowEnds l = total 1 l rowSize
+
+  -- entry t of the table in local numbers, by the first n numbers of the order, and all entries of local cell l
+  unfoldable pub entryWords : ℕ → ℕ → List ℕ
+  entryWords n t = localOf (take n order) (first + wordAt table (2 * t)) ∷ wordAt table (2 * t + 1) ∷ []
+
+  unfoldable pub rowWords : ℕ → ℕ → List ℕ
+  rowWords n l = blocks (getD ends (placeAt l) 0) (rowSize l) (entryWords n)
+
+-- all words of the lists of part i, of which n cells are held and `owned` owned, for a stencil of `steps` steps and a rule
+unfoldable pub startWords : Bytes → Bytes → List ℕ → Bytes → ℕ → ℕ → ℕ → List ℕ → ℕ → ℕ → ℕ → ℕ → Bytes → List ℕ
+startWords owners table ends held i first cells order n owned steps kind v =
+    ((46 + n + owned + 2 * rowEnds table ends first order owned + sentEnds owners table ends held i first cells 16) ∷ i ∷ steps ∷ kind ∷ [])
+    ++ (listed 0 5 (wordAt v)
+    ++ ((first ∷ cells ∷ [])
+    ++ (listed 0 17 (gotEnds owners table ends held i first cells owned)
+    ++ (listed 0 17 (sentEnds owners table ends held i first cells)
+    ++ (take n order
+    ++ (listed 0 (owned + 1) (rowEnds table ends first order)
+    ++ (blocks 1 owned (rowWords table ends first order n)
+    ++ blocks 1 16 (sentWords owners table ends held i first cells order n))))))))
+
+-- the words ws stand in b from word s on, which makes t of them, and nothing else has changed
+pub record Put (before after : Bytes) (s t : ℕ) (ws : List ℕ) : Type 0 where
+  pub count : t ≡ s + length ws
+  pub text : after ≡ over before (2 * s) (bytesOf ws)
