@@ -6,3 +6,4 @@ pub mod TakeLaws
 pub mod WriteLaws
 pub mod RenewLaws
 pub mod AdvanceLaws
+pub mod StartWords
