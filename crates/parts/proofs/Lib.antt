@@ -6,4 +6,6 @@ pub mod TakeLaws
 pub mod WriteLaws
 pub mod RenewLaws
 pub mod AdvanceLaws
+pub mod PutLaws
+pub mod StartCounts
 pub mod StartWords

@@ -2,7 +2,7 @@
 -- local order. No public contract rests on this page; the laws in proofs/ tie it to the definitions of Start. Assumes nothing.
 use mathlib.Core.Path.{_≡_}
 use mathlib.Core.List.{List, [], _∷_, _++_, map}
-use Prim.Native.Nat.{ℕ, _+_, _-_, _*_, _≤_, _<_}
+use Prim.Native.Nat.{ℕ, zero, suc, _+_, _-_, _*_, _≤_, _<_}
 use lib.ListN.{length, getD, take}
 use Rattle.vocabulary.specs.Bytes.{Bytes, over}
 use Rattle.vocabulary.specs.Ranges.{listed, blocks, total}
@@ -29,6 +29,10 @@ module _ (owners table : Bytes) (ends : List ℕ) (held : Bytes) (i first cells 
   unfoldable pub sentWords : List ℕ → ℕ → ℕ → List ℕ
   sentWords order n j = map (localOf (take n order)) (sentFrom j)
 
+-- entry t of the table in local numbers, by the first n numbers of the order
+unfoldable pub entryWords : Bytes → ℕ → List ℕ → ℕ → ℕ → List ℕ
+entryWords table first order n t = localOf (take n order) (first + wordAt table (2 * t)) ∷ wordAt table (2 * t + 1) ∷ []
+
 module _ (table : Bytes) (ends : List ℕ) (first : ℕ) (order : List ℕ) where
   -- the place of local cell l, and how many entries its reach has
   unfoldable pub placeAt : ℕ → ℕ
@@ -40,12 +44,9 @@ module _ (table : Bytes) (ends : List ℕ) (first : ℕ) (order : List ℕ) wher
   unfoldable pub rowEnds : ℕ → ℕ
   rowEnds l = total 1 l rowSize
 
-  -- entry t of the table in local numbers, by the first n numbers of the order, and all entries of local cell l
-  unfoldable pub entryWords : ℕ → ℕ → List ℕ
-  entryWords n t = localOf (take n order) (first + wordAt table (2 * t)) ∷ wordAt table (2 * t + 1) ∷ []
-
+  -- all entries of local cell l, by the first n numbers of the order
   unfoldable pub rowWords : ℕ → ℕ → List ℕ
-  rowWords n l = blocks (getD ends (placeAt l) 0) (rowSize l) (entryWords n)
+  rowWords n l = blocks (getD ends (placeAt l) 0) (rowSize l) (entryWords table first order n)
 
 -- all words of the lists of part i, of which n cells are held and `owned` owned, for a stencil of `steps` steps and a rule
 unfoldable pub startWords : Bytes → Bytes → List ℕ → Bytes → ℕ → ℕ → ℕ → List ℕ → ℕ → ℕ → ℕ → ℕ → Bytes → List ℕ
@@ -64,3 +65,26 @@ startWords owners table ends held i first cells order n owned steps kind v =
 pub record Put (before after : Bytes) (s t : ℕ) (ws : List ℕ) : Type 0 where
   pub count : t ≡ s + length ws
   pub text : after ≡ over before (2 * s) (bytesOf ws)
+
+-- what is counted of a number k: 0 what is imported from part k, 1 what is exported to it, and otherwise the reach of local cell k
+unfoldable pub partCount : ℕ → Bytes → Bytes → List ℕ → Bytes → ℕ → ℕ → ℕ → List ℕ → ℕ → ℕ
+partCount zero owners table ends held i first cells order k = length (gotFrom owners table ends held i first cells k)
+partCount (suc zero) owners table ends held i first cells order k = length (sentFrom owners table ends held i first cells k)
+partCount (suc (suc which)) owners table ends held i first cells order k = rowSize table ends first order k
+
+-- a table of ends, by what is counted
+unfoldable pub endsOf : ℕ → Bytes → Bytes → List ℕ → Bytes → ℕ → ℕ → ℕ → List ℕ → ℕ → ℕ → ℕ
+endsOf which owners table ends held i first cells order base j = base + total 1 j (partCount which owners table ends held i first cells order)
+
+-- the last of n + 1 ends is a word, and the reaches that are counted are those of cells
+pub record Counted (which : ℕ) (owners table : Bytes) (ends : List ℕ) (held : Bytes) (i first cells : ℕ) (order : List ℕ) (base n : ℕ) : Type 0 where
+  pub last : endsOf which owners table ends held i first cells order base n < 65536
+  pub cell : (k : ℕ) → 1 ≤ k → k ≤ n → 2 ≤ which → first ≤ getD order (k - 1) 0
+
+-- local cell l is a cell, and the numbers of the cells in its reach are words
+pub record Row (table : Bytes) (ends : List ℕ) (first : ℕ) (order : List ℕ) (l : ℕ) : Type 0 where
+  pub cell : first ≤ getD order (l - 1) 0
+  pub near : (t : ℕ) → getD ends (placeAt table ends first order l) 0 ≤ t → t < getD ends (placeAt table ends first order l + 1) 0 → first + wordAt table (2 * t) < 65536
+
+pub record Rows (table : Bytes) (ends : List ℕ) (first : ℕ) (order : List ℕ) (owned : ℕ) : Type 0 where
+  pub each : (l : ℕ) → 1 ≤ l → l ≤ owned → Row table ends first order l

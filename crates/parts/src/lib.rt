@@ -2,6 +2,7 @@
 mod advancing;
 mod collecting;
 mod lists;
+mod starting;
 mod state;
 mod taking;
 mod writing;

@@ -1,0 +1,70 @@
+-- Words written one after another. Assumes nothing.
+use mathlib.Core.Path.{_≡_, refl, sym, ap, ap₂, _∙_, subst}
+use mathlib.Core.List.{List, [], _∷_, _++_}
+use Prim.Native.Nat.{ℕ, _+_, _-_, _*_, _≤_, _<_}
+use native.Mathlib.Nat.{zero-add}
+use native.Mathlib.Numerals.{add-one}
+use native.Mathlib.Omega.{arith}
+use lib.ListN.{length, getD, take, length-append}
+use lib.Seq.{take-suc, length-take-le}
+use Rattle.vocabulary.specs.Bytes.{Bytes, over}
+use Rattle.vocabulary.specs.ByteLaws.{over-none, over-length, over-more}
+use Rattle.vocabulary.specs.Ranges.{listed}
+use Rattle.vocabulary.specs.RangeLaws.{listed-turn, listed-length}
+use Rattle.layout.specs.Words.{wordAt, wordBytes, bytesOf}
+use Rattle.layout.specs.WordLaws.{length-bytesOf, bytesOf-append}
+use Rattle.parts.specs.Starting.{Put}
+
+pub put-none : (b : Bytes) (s : ℕ) → Put b b s s []
+unfolding bytesOf
+put-none b s = record { count = let e : s ≡ s + 0 = omega arith in e; text = sym (over-none b (2 * s)) }
+
+pub put-word : (b c : Bytes) (s w : ℕ) → c ≡ over b (2 * s) (wordBytes w) → Put b c s (s + 1) (w ∷ [])
+unfolding bytesOf wordBytes
+put-word b c s w e = record { count = refl; text = e }
+
+pub put-length : (a b : Bytes) (s t : ℕ) (ws : List ℕ) → Put a b s t ws → 2 * t ≤ length a → length b ≡ length a
+put-length a b s t ws P h = ap length (P .text) ∙ over-length a (2 * s) (bytesOf ws) (omega (arith, P .count, length-bytesOf ws))
+
+pub put-both : (a b c : Bytes) (s t u : ℕ) (xs ys : List ℕ) → Put a b s t xs → Put b c t u ys → 2 * t ≤ length a → Put a c s u (xs ++ ys)
+put-both a b c s t u xs ys P Q h = record {
+  count = omega (arith, P .count, Q .count, length-append xs ys);
+  text =
+      let l : length (bytesOf xs) ≡ 2 * length xs = length-bytesOf xs in
+      let p : 2 * t ≡ 2 * s + length (bytesOf xs) = omega (arith, P .count) in
+      Q .text
+      ∙ ap₂ (λ (x : Bytes) o. over x o (bytesOf ys)) (P .text) p
+      ∙ over-more a (2 * s) (bytesOf xs) (omega (arith, P .count)) (bytesOf ys)
+      ∙ ap (over a (2 * s)) (sym (bytesOf-append xs ys));
+}
+
+pub put-as : (a b : Bytes) (s t : ℕ) (xs ys : List ℕ) → xs ≡ ys → Put a b s t xs → Put a b s t ys
+put-as a b s t xs ys e P = subst (Put a b s t) e P
+
+-- ---- the numbers of a list, and words that are read
+
+module _ (a b c : Bytes) (s t u k n : ℕ) (room : 2 * (s + n) ≤ length a) (h : k < n) where
+  pub list-turn : (list : List ℕ) (x : ℕ) → n ≤ length list → x ≡ getD list k 0 → Put a b s t (take k list) → Put b c t u (x ∷ []) → Put a c s u (take (k + 1) list)
+  list-turn list x long e P Q =
+      put-as a c s u (take k list ++ (x ∷ [])) (take (k + 1) list)
+      (ap (λ y. take k list ++ (y ∷ [])) e ∙ sym (take-suc list k 0 (omega arith)) ∙ ap (λ j. take j list) (sym (add-one k)))
+      (put-both a b c s t u (take k list) (x ∷ []) P Q (omega (arith, P .count, length-take-le k list (omega arith))))
+
+  pub words-turn : (g : ℕ → ℕ) (x : ℕ) → x ≡ g k → Put a b s t (listed 0 k g) → Put b c t u (x ∷ []) → Put a c s u (listed 0 (k + 1) g)
+  words-turn g x e P Q =
+      put-as a c s u (listed 0 k g ++ (x ∷ [])) (listed 0 (k + 1) g)
+      (ap (λ y. listed 0 k g ++ (y ∷ [])) (e ∙ ap g (sym (zero-add k))) ∙ sym (listed-turn 0 g k))
+      (put-both a b c s t u (listed 0 k g) (x ∷ []) P Q (omega (arith, P .count, listed-length 0 g k)))
+
+pub list-end : (a b : Bytes) (s t k n : ℕ) (list : List ℕ) → k ≤ n → n ≤ k → Put a b s t (take k list) → Put a b s t (take n list)
+list-end a b s t k n list g h P = let q : k ≡ n = omega arith in put-as a b s t (take k list) (take n list) (ap (λ j. take j list) q) P
+
+pub words-end : (a b : Bytes) (s t k n : ℕ) (g : ℕ → ℕ) → k ≤ n → n ≤ k → Put a b s t (listed 0 k g) → Put a b s t (listed 0 n g)
+words-end a b s t k n g h q P = let e : k ≡ n = omega arith in put-as a b s t (listed 0 k g) (listed 0 n g) (ap (λ j. listed 0 j g) e) P
+
+pub list-start : (b : Bytes) (s : ℕ) (list : List ℕ) → Put b b s s (take 0 list)
+list-start b s list = put-none b s
+
+pub words-start : (b : Bytes) (s : ℕ) (g : ℕ → ℕ) → Put b b s s (listed 0 0 g)
+unfolding listed
+words-start b s g = put-none b s

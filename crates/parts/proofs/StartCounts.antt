@@ -1,0 +1,196 @@
+-- What start counts, and the tables of ends. Assumes nothing.
+use mathlib.Core.Path.{_≡_, refl, sym, ap, ap₂, _∙_}
+use mathlib.Core.List.{List, [], _∷_, _++_}
+use Prim.Native.Nat.{ℕ, zero, suc, _+_, _-_, _*_, _≤_, _<_}
+use native.Mathlib.Numerals.{add-one}
+use native.Mathlib.Omega.{arith}
+use lib.ListN.{length, getD, take}
+use Rattle.vocabulary.specs.Bytes.{Bytes}
+use Rattle.vocabulary.specs.Ranges.{listed, blocks, total}
+use Rattle.vocabulary.specs.RangeLaws.{total-grows, total-fit, blocks-start, blocks-turn, blocks-length, rows-length}
+use Rattle.vocabulary.specs.CountLaws.{total-double}
+use Rattle.layout.specs.Words.{wordAt}
+use Rattle.split.specs.Split.{localOf}
+use Rattle.split.specs.Sorting.{cellsOf}
+use Rattle.parts.proofs.PutLaws.{put-as, put-none, put-both, words-turn}
+use Rattle.parts.specs.Starting.{Put, placeAt, rowSize, partCount, endsOf, Counted, entryWords, rowEnds, rowWords, Row, Rows}
+
+module _ (table : Bytes) (ends : List ℕ) (first : ℕ) (order : List ℕ) (l g from to : ℕ) (ge : g ≡ getD order (l - 1) 0) (fe : from ≡ getD ends (g - first) 0) (te : to ≡ getD ends (g - first + 1) 0) where
+  size-is : rowSize table ends first order l ≡ to - from
+  unfolding rowSize placeAt
+  size-is = ap₂ (λ x y. x - y) (ap (λ x. getD ends (x - first + 1) 0) (sym ge) ∙ sym te) (ap (λ x. getD ends (x - first) 0) (sym ge) ∙ sym fe)
+
+  pub size-none : to < from → 0 ≡ rowSize table ends first order l
+  size-none h = (let z : 0 ≡ to - from = omega arith in z) ∙ sym size-is
+
+  pub size-some : to - from ≡ rowSize table ends first order l
+  size-some = sym size-is
+
+module _ (which : ℕ) (owners table : Bytes) (ends : List ℕ) (held : Bytes) (i first cells : ℕ) (order : List ℕ) (k n : ℕ) where
+  pub count-got : which ≡ 0 → n ≡ length (cellsOf owners table ends held i first cells k) → n ≡ partCount which owners table ends held i first cells order k
+  unfolding partCount
+  count-got e q = rw e q
+
+  pub count-sent : which ≡ 1 → n ≡ length (cellsOf owners table ends held k first cells i) → n ≡ partCount which owners table ends held i first cells order k
+  unfolding partCount
+  count-sent e q = rw e q
+
+pub count-row : (which : ℕ) (owners table : Bytes) (ends : List ℕ) (held : Bytes) (i first cells : ℕ) (order : List ℕ) (k n : ℕ) → (which ≡ 0 → ⊥) → (which ≡ 1 → ⊥)
+    → n ≡ rowSize table ends first order k → n ≡ partCount which owners table ends held i first cells order k
+unfolding partCount
+count-row zero owners table ends held i first cells order k n a b q = absurd (a refl)
+count-row (suc zero) owners table ends held i first cells order k n a b q = absurd (b refl)
+count-row (suc (suc which)) owners table ends held i first cells order k n a b q = q
+
+-- ---- ends
+
+module _ (which : ℕ) (owners table : Bytes) (ends : List ℕ) (held : Bytes) (i first cells : ℕ) (order : List ℕ) (base n : ℕ) (C : Counted which owners table ends held i first cells order base n) where
+  pub end-small : (k : ℕ) → k ≤ n → endsOf which owners table ends held i first cells order base k < 65536
+  unfolding endsOf
+  end-small k h = omega (arith, C .last, total-grows 1 (partCount which owners table ends held i first cells order) k n h)
+
+  pub end-start : base ≡ endsOf which owners table ends held i first cells order base 0
+  unfolding endsOf total
+  end-start = let e : base ≡ base + 0 = omega arith in e
+
+  pub base-small : base < 65536
+  base-small = omega (arith, end-start, end-small 0 (omega arith))
+
+  pub end-first : base ≡ endsOf which owners table ends held i first cells order base (1 - 1)
+  end-first = end-start
+
+  -- one number more
+  end-next : (k : ℕ) → endsOf which owners table ends held i first cells order base (k + 1) ≡ endsOf which owners table ends held i first cells order base k + partCount which owners table ends held i first cells order (1 + k)
+  unfolding endsOf total
+  end-next k = ap (λ j. base + total 1 j (partCount which owners table ends held i first cells order)) (add-one k) ∙ (let e : base + (total 1 k (partCount which owners table ends held i first cells order) + partCount which owners table ends held i first cells order (1 + k)) ≡ base + total 1 k (partCount which owners table ends held i first cells order) + partCount which owners table ends held i first cells order (1 + k) = omega arith in e)
+
+  pub end-turn : (k e x : ℕ) → 1 ≤ k → e ≡ endsOf which owners table ends held i first cells order base (k - 1) → x ≡ partCount which owners table ends held i first cells order k
+      → e + x ≡ endsOf which owners table ends held i first cells order base (k + 1 - 1)
+  end-turn k e x h p q =
+      let i₁ : 1 + (k - 1) ≡ k = omega arith in
+      let i₂ : k - 1 + 1 ≡ k + 1 - 1 = omega arith in
+      ap₂ _+_ p (q ∙ ap (partCount which owners table ends held i first cells order) (sym i₁))
+      ∙ sym (end-next (k - 1))
+      ∙ ap (endsOf which owners table ends held i first cells order base) i₂
+
+  pub end-fits : (k e x : ℕ) → 1 ≤ k → k < n + 1 → e ≡ endsOf which owners table ends held i first cells order base (k - 1) → x ≡ partCount which owners table ends held i first cells order k → e + x < 65536
+  end-fits k e x h l p q =
+      let i₂ : k + 1 - 1 ≡ k = omega arith in
+      omega (arith, end-turn k e x h p q, ap (endsOf which owners table ends held i first cells order base) i₂, end-small k (omega arith))
+
+  pub end-cell : (k : ℕ) → 1 ≤ k → k < n + 1 → 2 ≤ which → first ≤ getD order (k - 1) 0
+  end-cell k h l w = C .cell k h (omega arith) w
+
+  pub end-last : (k e : ℕ) → k ≤ n + 1 → n + 1 ≤ k → e ≡ endsOf which owners table ends held i first cells order base (k - 1)
+      → (e ≡ endsOf which owners table ends held i first cells order base n) × (e < 65536)
+  end-last k e g h p =
+      let q : k - 1 ≡ n = omega arith in
+      let r : e ≡ endsOf which owners table ends held i first cells order base n = p ∙ ap (endsOf which owners table ends held i first cells order base) q in (r, omega (arith, r, C .last))
+
+  -- written one after another
+  pub ends-begin : (a b : Bytes) (s t : ℕ) → Put a b s t (base ∷ []) → Put a b s t (listed 0 1 (endsOf which owners table ends held i first cells order base))
+  unfolding listed
+  ends-begin a b s t P = put-as a b s t (base ∷ []) _ (ap (λ x. x ∷ []) (end-start ∙ (let e : 0 ≡ 0 + 0 = omega arith in ap (endsOf which owners table ends held i first cells order base) e))) P
+
+  pub ends-turn : (a b c : Bytes) (s t u k e x : ℕ) → 2 * (s + n + 1) ≤ length a → 1 ≤ k → k < n + 1 → e ≡ endsOf which owners table ends held i first cells order base (k - 1)
+      → x ≡ partCount which owners table ends held i first cells order k → Put a b s t (listed 0 k (endsOf which owners table ends held i first cells order base))
+      → Put b c t u ((e + x) ∷ []) → Put a c s u (listed 0 (k + 1) (endsOf which owners table ends held i first cells order base))
+  ends-turn a b c s t u k e x room h l p q P Q =
+      let i₂ : k + 1 - 1 ≡ k = omega arith in
+      words-turn a b c s t u k (n + 1) (omega arith) l (endsOf which owners table ends held i first cells order base) (e + x) (end-turn k e x h p q ∙ ap (endsOf which owners table ends held i first cells order base) i₂) P Q
+
+pub two-up : (which : ℕ) → (which ≡ 0 → ⊥) → (which ≡ 1 → ⊥) → 2 ≤ which
+two-up zero a b = absurd (a refl)
+two-up (suc zero) a b = absurd (b refl)
+two-up (suc (suc k)) a b = omega arith
+
+-- ---- an entry in local numbers
+
+pub entry-put : (a b c : Bytes) (s t u first n x l w : ℕ) (table : Bytes) (order : List ℕ) (e : ℕ) → 2 * (s + 2) ≤ length a → x ≡ wordAt table (2 * e) → l ≡ localOf (take n order) (first + x)
+    → w ≡ wordAt table (2 * e + 1) → Put a b s t (l ∷ []) → Put b c t u (w ∷ []) → Put a c s u (entryWords table first order n e)
+unfolding entryWords
+entry-put a b c s t u first n x l w table order e room xe le we P Q =
+    put-as a c s u (l ∷ w ∷ []) _ (ap₂ (λ y z. y ∷ z ∷ []) (le ∙ ap (λ y. localOf (take n order) (first + y)) xe) we)
+    (put-both a b c s t u (l ∷ []) (w ∷ []) P Q (omega (arith, P .count)))
+
+-- ---- the rows, one entry and one cell after the other
+
+module _ (table : Bytes) (ends : List ℕ) (first : ℕ) (order : List ℕ) (n l g from to : ℕ) (ge : g ≡ getD order (l - 1) 0) (fe : from ≡ getD ends (g - first) 0) (te : to ≡ getD ends (g - first + 1) 0) where
+  from-is : from ≡ getD ends (placeAt table ends first order l) 0
+  unfolding placeAt
+  from-is = fe ∙ ap (λ x. getD ends (x - first) 0) ge
+
+  to-is : to ≡ getD ends (placeAt table ends first order l + 1) 0
+  unfolding placeAt
+  to-is = te ∙ ap (λ x. getD ends (x - first + 1) 0) ge
+
+  pub row-start : (b : Bytes) (s : ℕ) → Put b b s s (blocks from (from - from) (entryWords table first order n))
+  row-start b s = let e : from - from ≡ 0 = omega arith in put-as b b s s [] _ (sym (ap (λ k. blocks from k (entryWords table first order n)) e ∙ blocks-start from (entryWords table first order n))) (put-none b s)
+
+  pub row-near : (t : ℕ) → Row table ends first order l → from ≤ t → t < to → first + wordAt table (2 * t) < 65536
+  row-near t R h k = R .near t (omega (arith, from-is)) (omega (arith, to-is))
+
+  row-size : rowSize table ends first order l ≡ to - from
+  row-size = size-is table ends first order l g from to ge fe te
+
+  pub row-room : (t s u m : ℕ) → 2 * (s + 2 * rowSize table ends first order l) ≤ m → u ≡ s + 2 * (t - from) → from ≤ t → t < to → 2 * (u + 2) ≤ m
+  row-room t s u m r e h k = omega (arith, row-size)
+
+  pub row-turn : (a b c : Bytes) (s u w t : ℕ) → 2 * (s + 2 * rowSize table ends first order l) ≤ length a → from ≤ t → t < to → u ≡ s + 2 * (t - from)
+      → Put a b s u (blocks from (t - from) (entryWords table first order n)) → Put b c u w (entryWords table first order n t) → Put a c s w (blocks from (t + 1 - from) (entryWords table first order n))
+  row-turn a b c s u w t r h k e P Q =
+      let i₁ : from + (t - from) ≡ t = omega arith in
+      let i₂ : t - from + 1 ≡ t + 1 - from = omega arith in
+      put-as a c s w (blocks from (t - from) (entryWords table first order n) ++ entryWords table first order n t) _
+      (ap (λ x. blocks from (t - from) (entryWords table first order n) ++ entryWords table first order n x) (sym i₁) ∙ sym (blocks-turn from (entryWords table first order n) (t - from)) ∙ ap (λ k. blocks from k (entryWords table first order n)) i₂)
+      (put-both a b c s u w _ _ P Q (omega (arith, row-size)))
+
+  pub row-end : (a b : Bytes) (s u t : ℕ) → from ≤ t → t ≤ from + (to - from) → to ≤ t → Put a b s u (blocks from (t - from) (entryWords table first order n)) → Put a b s u (rowWords table ends first order n l)
+  unfolding rowWords
+  row-end a b s u t h k q P =
+      let e : t - from ≡ to - from = omega arith in
+      put-as a b s u _ _ (ap (λ k. blocks from k (entryWords table first order n)) (e ∙ sym row-size) ∙ ap (λ x. blocks x (rowSize table ends first order l) (entryWords table first order n)) from-is) P
+
+pub row-cell : (table : Bytes) (ends : List ℕ) (first : ℕ) (order : List ℕ) (l g : ℕ) → g ≡ getD order (l - 1) 0 → Row table ends first order l → first ≤ g
+row-cell table ends first order l g e R = omega (arith, R .cell)
+
+-- words of a row
+entry-two : (table : Bytes) (first : ℕ) (order : List ℕ) (n t : ℕ) → length (entryWords table first order n t) ≡ 2
+unfolding entryWords
+entry-two table first order n t = refl
+
+row-length : (table : Bytes) (ends : List ℕ) (first : ℕ) (order : List ℕ) (n l : ℕ) → length (rowWords table ends first order n l) ≡ 2 * rowSize table ends first order l
+unfolding rowWords
+row-length table ends first order n l = rows-length (getD ends (placeAt table ends first order l) 0) (entryWords table first order n) 2 (rowSize table ends first order l) (λ j h. entry-two table first order n _)
+
+module _ (table : Bytes) (ends : List ℕ) (first : ℕ) (order : List ℕ) (n owned : ℕ) where
+  rows-long : (k : ℕ) → length (blocks 1 k (rowWords table ends first order n)) ≡ 2 * rowEnds table ends first order k
+  unfolding rowEnds
+  rows-long k = blocks-length 1 (rowWords table ends first order n) k ∙ total-double 1 k (λ l. length (rowWords table ends first order n l)) (rowSize table ends first order) (row-length table ends first order n)
+
+  row-fits : (l : ℕ) → 1 ≤ l → l ≤ owned → rowEnds table ends first order (l - 1) + rowSize table ends first order l ≤ rowEnds table ends first order owned
+  unfolding rowEnds
+  row-fits l h k = let e : 1 + (l - 1) ≡ l = omega arith in omega (arith, total-fit 1 (rowSize table ends first order) owned (l - 1) (omega arith), ap (rowSize table ends first order) e)
+
+  pub rows-start : (b : Bytes) (s : ℕ) → Put b b s s (blocks 1 (1 - 1) (rowWords table ends first order n))
+  rows-start b s = put-as b b s s [] _ (sym (blocks-start 1 (rowWords table ends first order n))) (put-none b s)
+
+  pub rows-room : (a b : Bytes) (s u l : ℕ) → 1 ≤ l → l < owned + 1 → 2 * (s + 2 * rowEnds table ends first order owned) ≤ length a → s + 2 * rowEnds table ends first order owned < 65536 → length b ≡ length a
+      → Put a b s u (blocks 1 (l - 1) (rowWords table ends first order n)) → (2 * (u + 2 * rowSize table ends first order l) ≤ length b) × (u < 65536)
+  rows-room a b s u l h k r q e P =
+      (omega (arith, P .count, rows-long (l - 1), row-fits l h (omega arith)), omega (arith, P .count, rows-long (l - 1), row-fits l h (omega arith)))
+
+  pub rows-turn : (a b c : Bytes) (s u w l : ℕ) → 1 ≤ l → l < owned + 1 → 2 * (s + 2 * rowEnds table ends first order owned) ≤ length a
+      → Put a b s u (blocks 1 (l - 1) (rowWords table ends first order n)) → Put b c u w (rowWords table ends first order n l) → Put a c s w (blocks 1 (l + 1 - 1) (rowWords table ends first order n))
+  rows-turn a b c s u w l h k r P Q =
+      let i₁ : 1 + (l - 1) ≡ l = omega arith in
+      let i₂ : l - 1 + 1 ≡ l + 1 - 1 = omega arith in
+      put-as a c s w (blocks 1 (l - 1) (rowWords table ends first order n) ++ rowWords table ends first order n l) _
+      (ap (λ x. blocks 1 (l - 1) (rowWords table ends first order n) ++ rowWords table ends first order n x) (sym i₁) ∙ sym (blocks-turn 1 (rowWords table ends first order n) (l - 1)) ∙ ap (λ k. blocks 1 k (rowWords table ends first order n)) i₂)
+      (put-both a b c s u w _ _ P Q (omega (arith, P .count, rows-long (l - 1), row-fits l h (omega arith))))
+
+  pub rows-end : (a b : Bytes) (s u l : ℕ) → l ≤ owned + 1 → owned + 1 ≤ l → Put a b s u (blocks 1 (l - 1) (rowWords table ends first order n)) → Put a b s u (blocks 1 owned (rowWords table ends first order n))
+  rows-end a b s u l g h P = let q : l - 1 ≡ owned = omega arith in put-as a b s u _ _ (ap (λ k. blocks 1 k (rowWords table ends first order n)) q) P
+
+  pub rows-each : (l : ℕ) → Rows table ends first order owned → 1 ≤ l → l < owned + 1 → Row table ends first order l
+  rows-each l R h k = R .each l h (omega arith)
