@@ -9,8 +9,8 @@ use lib.ListN.{length, getD, take, length-append}
 use lib.Seq.{take-suc, length-take-le}
 use Rattle.vocabulary.specs.Bytes.{Bytes, over}
 use Rattle.vocabulary.specs.ByteLaws.{over-none, over-length, over-more}
-use Rattle.vocabulary.specs.Ranges.{listed}
-use Rattle.vocabulary.specs.RangeLaws.{listed-turn, listed-length}
+use Rattle.vocabulary.specs.Ranges.{listed, blocks}
+use Rattle.vocabulary.specs.RangeLaws.{listed-turn, listed-length, blocks-start}
 use Rattle.layout.specs.Words.{wordAt, wordBytes, bytesOf}
 use Rattle.layout.specs.WordLaws.{length-bytesOf, bytesOf-append}
 use Rattle.parts.specs.Starting.{Put}
@@ -68,3 +68,8 @@ list-start b s list = put-none b s
 pub words-start : (b : Bytes) (s : ℕ) (g : ℕ → ℕ) → Put b b s s (listed 0 0 g)
 unfolding listed
 words-start b s g = put-none b s
+
+pub blocks-begin : (b : Bytes) (s a : ℕ) (g : ℕ → List ℕ) → Put b b s s (blocks a (a - a) g)
+blocks-begin b s a g =
+    let e : a - a ≡ 0 = omega arith in
+    put-as b b s s [] (blocks a (a - a) g) (sym (ap (λ k. blocks a k g) e ∙ blocks-start a g)) (put-none b s)

@@ -1,10 +1,12 @@
 -- What start counts, and the tables of ends. Assumes nothing.
 use mathlib.Core.Path.{_≡_, refl, sym, ap, ap₂, _∙_}
-use mathlib.Core.List.{List, [], _∷_, _++_}
+use mathlib.Core.List.{List, [], _∷_, _++_, map}
 use Prim.Native.Nat.{ℕ, zero, suc, _+_, _-_, _*_, _≤_, _<_}
 use native.Mathlib.Numerals.{add-one}
 use native.Mathlib.Omega.{arith}
 use lib.ListN.{length, getD, take}
+use lib.Seq.{take-suc}
+use Rattle.vocabulary.specs.ListLaws.{map-append}
 use Rattle.vocabulary.specs.Bytes.{Bytes}
 use Rattle.vocabulary.specs.Ranges.{listed, blocks, total}
 use Rattle.vocabulary.specs.RangeLaws.{total-grows, total-fit, blocks-start, blocks-turn, blocks-length, rows-length}
@@ -13,7 +15,7 @@ use Rattle.layout.specs.Words.{wordAt}
 use Rattle.split.specs.Split.{localOf}
 use Rattle.split.specs.Sorting.{cellsOf}
 use Rattle.parts.proofs.PutLaws.{put-as, put-none, put-both, words-turn}
-use Rattle.parts.specs.Starting.{Put, placeAt, rowSize, partCount, endsOf, Counted, entryWords, rowEnds, rowWords, Row, Rows}
+use Rattle.parts.specs.Starting.{Put, placeAt, rowSize, partCount, endsOf, Counted, Before, entryWords, rowEnds, rowWords, Row, Rows}
 
 module _ (table : Bytes) (ends : List ℕ) (first : ℕ) (order : List ℕ) (l g from to : ℕ) (ge : g ≡ getD order (l - 1) 0) (fe : from ≡ getD ends (g - first) 0) (te : to ≡ getD ends (g - first + 1) 0) where
   size-is : rowSize table ends first order l ≡ to - from
@@ -44,60 +46,46 @@ count-row (suc (suc which)) owners table ends held i first cells order k n a b q
 
 -- ---- ends
 
-module _ (which : ℕ) (owners table : Bytes) (ends : List ℕ) (held : Bytes) (i first cells : ℕ) (order : List ℕ) (base n : ℕ) (C : Counted which owners table ends held i first cells order base n) where
-  pub end-small : (k : ℕ) → k ≤ n → endsOf which owners table ends held i first cells order base k < 65536
-  unfolding endsOf
-  end-small k h = omega (arith, C .last, total-grows 1 (partCount which owners table ends held i first cells order) k n h)
-
-  pub end-start : base ≡ endsOf which owners table ends held i first cells order base 0
+module _ (which : ℕ) (owners table : Bytes) (ends : List ℕ) (held : Bytes) (i first cells : ℕ) (order : List ℕ) (base : ℕ) where
+  end-zero : endsOf which owners table ends held i first cells order base 0 ≡ base
   unfolding endsOf total
-  end-start = let e : base ≡ base + 0 = omega arith in e
-
-  pub base-small : base < 65536
-  base-small = omega (arith, end-start, end-small 0 (omega arith))
-
-  pub end-first : base ≡ endsOf which owners table ends held i first cells order base (1 - 1)
-  end-first = end-start
+  end-zero = let e : base + 0 ≡ base = omega arith in e
 
   -- one number more
-  end-next : (k : ℕ) → endsOf which owners table ends held i first cells order base (k + 1) ≡ endsOf which owners table ends held i first cells order base k + partCount which owners table ends held i first cells order (1 + k)
+  end-more : (k : ℕ) → endsOf which owners table ends held i first cells order base (suc k) ≡ endsOf which owners table ends held i first cells order base k + partCount which owners table ends held i first cells order (1 + k)
   unfolding endsOf total
-  end-next k = ap (λ j. base + total 1 j (partCount which owners table ends held i first cells order)) (add-one k) ∙ (let e : base + (total 1 k (partCount which owners table ends held i first cells order) + partCount which owners table ends held i first cells order (1 + k)) ≡ base + total 1 k (partCount which owners table ends held i first cells order) + partCount which owners table ends held i first cells order (1 + k) = omega arith in e)
+  end-more k = omega arith
 
-  pub end-turn : (k e x : ℕ) → 1 ≤ k → e ≡ endsOf which owners table ends held i first cells order base (k - 1) → x ≡ partCount which owners table ends held i first cells order k
-      → e + x ≡ endsOf which owners table ends held i first cells order base (k + 1 - 1)
-  end-turn k e x h p q =
-      let i₁ : 1 + (k - 1) ≡ k = omega arith in
-      let i₂ : k - 1 + 1 ≡ k + 1 - 1 = omega arith in
-      ap₂ _+_ p (q ∙ ap (partCount which owners table ends held i first cells order) (sym i₁))
-      ∙ sym (end-next (k - 1))
-      ∙ ap (endsOf which owners table ends held i first cells order base) i₂
+  -- the first ends of a table, and a cell of it
+  pub counted-less : (k n : ℕ) → k ≤ n → Counted which owners table ends held i first cells order base n → Counted which owners table ends held i first cells order base k
+  unfolding endsOf
+  counted-less k n h C = record { last = omega (arith, C .last, total-grows 1 (partCount which owners table ends held i first cells order) k n h); cell = λ j a b w. C .cell j a (omega arith) w }
 
-  pub end-fits : (k e x : ℕ) → 1 ≤ k → k < n + 1 → e ≡ endsOf which owners table ends held i first cells order base (k - 1) → x ≡ partCount which owners table ends held i first cells order k → e + x < 65536
-  end-fits k e x h l p q =
-      let i₂ : k + 1 - 1 ≡ k = omega arith in
-      omega (arith, end-turn k e x h p q, ap (endsOf which owners table ends held i first cells order base) i₂, end-small k (omega arith))
+  pub counted-cell : (k : ℕ) → Counted which owners table ends held i first cells order base k → (k ≡ 0 → ⊥) → 2 ≤ which → first ≤ getD order (k - 1) 0
+  counted-cell k C z w = C .cell k (omega arith) (omega arith) w
 
-  pub end-cell : (k : ℕ) → 1 ≤ k → k < n + 1 → 2 ≤ which → first ≤ getD order (k - 1) 0
-  end-cell k h l w = C .cell k h (omega arith) w
+  pub next-first : (k : ℕ) → k ≡ 0 → Counted which owners table ends held i first cells order base k → (base ≡ endsOf which owners table ends held i first cells order base k) × (base < 65536)
+  next-first k e C =
+      let p : base ≡ endsOf which owners table ends held i first cells order base k = sym (ap (endsOf which owners table ends held i first cells order base) e ∙ end-zero) in (p, omega (arith, p, C .last))
 
-  pub end-last : (k e : ℕ) → k ≤ n + 1 → n + 1 ≤ k → e ≡ endsOf which owners table ends held i first cells order base (k - 1)
-      → (e ≡ endsOf which owners table ends held i first cells order base n) × (e < 65536)
-  end-last k e g h p =
-      let q : k - 1 ≡ n = omega arith in
-      let r : e ≡ endsOf which owners table ends held i first cells order base n = p ∙ ap (endsOf which owners table ends held i first cells order base) q in (r, omega (arith, r, C .last))
+  pub next-more : (k e x : ℕ) → (k ≡ 0 → ⊥) → Counted which owners table ends held i first cells order base k → Before which owners table ends held i first cells order base k e
+      → x ≡ partCount which owners table ends held i first cells order k → (e + x ≡ endsOf which owners table ends held i first cells order base k) × (e + x < 65536)
+  next-more k e x z C B q =
+      let j : 1 + (k - 1) ≡ k = omega arith in
+      let j₂ : suc (k - 1) ≡ k = omega arith in
+      let p : e + x ≡ endsOf which owners table ends held i first cells order base k =
+      ap₂ _+_ (B .is (omega arith)) (q ∙ ap (partCount which owners table ends held i first cells order) (sym j))
+      ∙ sym (end-more (k - 1))
+      ∙ ap (endsOf which owners table ends held i first cells order base) j₂ in (p, omega (arith, p, C .last))
 
-  -- written one after another
-  pub ends-begin : (a b : Bytes) (s t : ℕ) → Put a b s t (base ∷ []) → Put a b s t (listed 0 1 (endsOf which owners table ends held i first cells order base))
-  unfolding listed
-  ends-begin a b s t P = put-as a b s t (base ∷ []) _ (ap (λ x. x ∷ []) (end-start ∙ (let e : 0 ≡ 0 + 0 = omega arith in ap (endsOf which owners table ends held i first cells order base) e))) P
+  pub before-none : (e : ℕ) → Before which owners table ends held i first cells order base 0 e
+  before-none e = record { is = λ h. let no : ⊥ = omega arith in absurd no }
 
-  pub ends-turn : (a b c : Bytes) (s t u k e x : ℕ) → 2 * (s + n + 1) ≤ length a → 1 ≤ k → k < n + 1 → e ≡ endsOf which owners table ends held i first cells order base (k - 1)
-      → x ≡ partCount which owners table ends held i first cells order k → Put a b s t (listed 0 k (endsOf which owners table ends held i first cells order base))
-      → Put b c t u ((e + x) ∷ []) → Put a c s u (listed 0 (k + 1) (endsOf which owners table ends held i first cells order base))
-  ends-turn a b c s t u k e x room h l p q P Q =
-      let i₂ : k + 1 - 1 ≡ k = omega arith in
-      words-turn a b c s t u k (n + 1) (omega arith) l (endsOf which owners table ends held i first cells order base) (e + x) (end-turn k e x h p q ∙ ap (endsOf which owners table ends held i first cells order base) i₂) P Q
+  pub before-next : (k e : ℕ) → e ≡ endsOf which owners table ends held i first cells order base k → Before which owners table ends held i first cells order base (k + 1) e
+  before-next k e p = record { is = λ h. let q : k ≡ k + 1 - 1 = omega arith in p ∙ ap (endsOf which owners table ends held i first cells order base) q }
+
+  pub end-last : (k n e : ℕ) → k ≤ n + 1 → n + 1 ≤ k → Before which owners table ends held i first cells order base k e → e ≡ endsOf which owners table ends held i first cells order base n
+  end-last k n e g h B = let q : k - 1 ≡ n = omega arith in B .is (omega arith) ∙ ap (endsOf which owners table ends held i first cells order base) q
 
 pub two-up : (which : ℕ) → (which ≡ 0 → ⊥) → (which ≡ 1 → ⊥) → 2 ≤ which
 two-up zero a b = absurd (a refl)
@@ -115,7 +103,7 @@ entry-put a b c s t u first n x l w table order e room xe le we P Q =
 
 -- ---- the rows, one entry and one cell after the other
 
-module _ (table : Bytes) (ends : List ℕ) (first : ℕ) (order : List ℕ) (n l g from to : ℕ) (ge : g ≡ getD order (l - 1) 0) (fe : from ≡ getD ends (g - first) 0) (te : to ≡ getD ends (g - first + 1) 0) where
+module _ (table : Bytes) (ends : List ℕ) (first : ℕ) (order : List ℕ) (l g from to : ℕ) (ge : g ≡ getD order (l - 1) 0) (fe : from ≡ getD ends (g - first) 0) (te : to ≡ getD ends (g - first + 1) 0) where
   from-is : from ≡ getD ends (placeAt table ends first order l) 0
   unfolding placeAt
   from-is = fe ∙ ap (λ x. getD ends (x - first) 0) ge
@@ -124,30 +112,27 @@ module _ (table : Bytes) (ends : List ℕ) (first : ℕ) (order : List ℕ) (n l
   unfolding placeAt
   to-is = te ∙ ap (λ x. getD ends (x - first + 1) 0) ge
 
-  pub row-start : (b : Bytes) (s : ℕ) → Put b b s s (blocks from (from - from) (entryWords table first order n))
-  row-start b s = let e : from - from ≡ 0 = omega arith in put-as b b s s [] _ (sym (ap (λ k. blocks from k (entryWords table first order n)) e ∙ blocks-start from (entryWords table first order n))) (put-none b s)
-
   pub row-near : (t : ℕ) → Row table ends first order l → from ≤ t → t < to → first + wordAt table (2 * t) < 65536
   row-near t R h k = R .near t (omega (arith, from-is)) (omega (arith, to-is))
 
   row-size : rowSize table ends first order l ≡ to - from
   row-size = size-is table ends first order l g from to ge fe te
 
-  pub row-room : (t s u m : ℕ) → 2 * (s + 2 * rowSize table ends first order l) ≤ m → u ≡ s + 2 * (t - from) → from ≤ t → t < to → 2 * (u + 2) ≤ m
-  row-room t s u m r e h k = omega (arith, row-size)
+  pub row-room : (t s u x y : ℕ) → 2 * (s + 2 * rowSize table ends first order l) ≤ x → y ≡ x → u ≡ s + 2 * (t - from) → from ≤ t → t < to → 2 * (u + 2) ≤ y
+  row-room t s u x y r q e h k = omega (arith, row-size)
 
-  pub row-turn : (a b c : Bytes) (s u w t : ℕ) → 2 * (s + 2 * rowSize table ends first order l) ≤ length a → from ≤ t → t < to → u ≡ s + 2 * (t - from)
+  pub row-turn : (n : ℕ) (a b c : Bytes) (s u w t : ℕ) → 2 * (s + 2 * rowSize table ends first order l) ≤ length a → from ≤ t → t < to → u ≡ s + 2 * (t - from)
       → Put a b s u (blocks from (t - from) (entryWords table first order n)) → Put b c u w (entryWords table first order n t) → Put a c s w (blocks from (t + 1 - from) (entryWords table first order n))
-  row-turn a b c s u w t r h k e P Q =
+  row-turn n a b c s u w t r h k e P Q =
       let i₁ : from + (t - from) ≡ t = omega arith in
       let i₂ : t - from + 1 ≡ t + 1 - from = omega arith in
       put-as a c s w (blocks from (t - from) (entryWords table first order n) ++ entryWords table first order n t) _
       (ap (λ x. blocks from (t - from) (entryWords table first order n) ++ entryWords table first order n x) (sym i₁) ∙ sym (blocks-turn from (entryWords table first order n) (t - from)) ∙ ap (λ k. blocks from k (entryWords table first order n)) i₂)
       (put-both a b c s u w _ _ P Q (omega (arith, row-size)))
 
-  pub row-end : (a b : Bytes) (s u t : ℕ) → from ≤ t → t ≤ from + (to - from) → to ≤ t → Put a b s u (blocks from (t - from) (entryWords table first order n)) → Put a b s u (rowWords table ends first order n l)
+  pub row-end : (n : ℕ) (a b : Bytes) (s u t : ℕ) → from ≤ t → t ≤ from + (to - from) → to ≤ t → Put a b s u (blocks from (t - from) (entryWords table first order n)) → Put a b s u (rowWords table ends first order n l)
   unfolding rowWords
-  row-end a b s u t h k q P =
+  row-end n a b s u t h k q P =
       let e : t - from ≡ to - from = omega arith in
       put-as a b s u _ _ (ap (λ k. blocks from k (entryWords table first order n)) (e ∙ sym row-size) ∙ ap (λ x. blocks x (rowSize table ends first order l) (entryWords table first order n)) from-is) P
 
@@ -162,6 +147,9 @@ entry-two table first order n t = refl
 row-length : (table : Bytes) (ends : List ℕ) (first : ℕ) (order : List ℕ) (n l : ℕ) → length (rowWords table ends first order n l) ≡ 2 * rowSize table ends first order l
 unfolding rowWords
 row-length table ends first order n l = rows-length (getD ends (placeAt table ends first order l) 0) (entryWords table first order n) 2 (rowSize table ends first order l) (λ j h. entry-two table first order n _)
+
+pub row-count : (a b : Bytes) (u w from t s : ℕ) (table : Bytes) (first : ℕ) (order : List ℕ) (n : ℕ) → Put a b u w (entryWords table first order n t) → u ≡ s + 2 * (t - from) → from ≤ t → w ≡ s + 2 * (t + 1 - from)
+row-count a b u w from t s table first order n P e h = omega (arith, P .count, entry-two table first order n t)
 
 module _ (table : Bytes) (ends : List ℕ) (first : ℕ) (order : List ℕ) (n owned : ℕ) where
   rows-long : (k : ℕ) → length (blocks 1 k (rowWords table ends first order n)) ≡ 2 * rowEnds table ends first order k
@@ -194,3 +182,24 @@ module _ (table : Bytes) (ends : List ℕ) (first : ℕ) (order : List ℕ) (n o
 
   pub rows-each : (l : ℕ) → Rows table ends first order owned → 1 ≤ l → l < owned + 1 → Row table ends first order l
   rows-each l R h k = R .each l h (omega arith)
+
+-- ---- local numbers of a list
+
+module _ (order : List ℕ) (n : ℕ) where
+  map-take : (k : ℕ) (list : List ℕ) → k < length list → map (localOf (take n order)) (take (k + 1) list) ≡ map (localOf (take n order)) (take k list) ++ (localOf (take n order) (getD list k 0) ∷ [])
+  map-take k list h =
+      ap (λ j. map (localOf (take n order)) (take j list)) (add-one k)
+      ∙ ap (map (localOf (take n order))) (take-suc list k 0 h)
+      ∙ map-append (localOf (take n order)) (take k list) (getD list k 0 ∷ [])
+
+  pub locals-start : (b : Bytes) (s : ℕ) (list : List ℕ) → Put b b s s (map (localOf (take n order)) (take 0 list))
+  locals-start b s list = put-none b s
+
+  pub locals-turn : (a b c : Bytes) (s u w k x l y : ℕ) (list : List ℕ) → 2 * (s + k) ≤ length a → x < k → k ≤ length list → u ≡ s + x → y ≡ getD list x 0 → l ≡ localOf (take n order) y
+      → Put a b s u (map (localOf (take n order)) (take x list)) → Put b c u w (l ∷ []) → Put a c s w (map (localOf (take n order)) (take (x + 1) list))
+  locals-turn a b c s u w k x l y list r h q e ye le P Q =
+      put-as a c s w (map (localOf (take n order)) (take x list) ++ (l ∷ [])) _ (ap (λ z. map (localOf (take n order)) (take x list) ++ (z ∷ [])) (le ∙ ap (localOf (take n order)) ye) ∙ sym (map-take x list (omega arith)))
+      (put-both a b c s u w _ _ P Q (omega arith))
+
+  pub locals-end : (a b : Bytes) (s u k x : ℕ) (list : List ℕ) → x ≤ k → k ≤ x → Put a b s u (map (localOf (take n order)) (take x list)) → Put a b s u (map (localOf (take n order)) (take k list))
+  locals-end a b s u k x list g h P = let q : x ≡ k = omega arith in put-as a b s u _ _ (ap (λ j. map (localOf (take n order)) (take j list)) q) P

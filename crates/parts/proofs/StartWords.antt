@@ -293,7 +293,7 @@ module _ (m : Bytes) (parts : ℕ) (owners st table : Bytes) (ends : List ℕ) (
             subst (λ x. first + wordAt table (2 * x) ≤ 2000) e (entry-cell (t - entryCount m st place) (omega (arith, row-start place place-in, row-more place place-in)) .1)
 
         entry-words : (t : ℕ) → t < length (reach m st (firstCell m + place))
-            → entryWords table ends first order n (entryCount m st place + t)
+            → entryWords table first order n (entryCount m st place + t)
             ≡ localOf L (getD (reach m st (firstCell m + place)) t (record { cell = 0; layer = 0 }) .cell) ∷ getD (reach m st (firstCell m + place)) t (record { cell = 0; layer = 0 }) .layer ∷ []
         unfolding entryWords
         entry-words t q =
@@ -303,8 +303,8 @@ module _ (m : Bytes) (parts : ℕ) (owners st table : Bytes) (ends : List ℕ) (
         unfolding rowWords reachWords
         row-words =
             let d : Near = record { cell = 0; layer = 0 } in
-            ap₂ (λ x y. blocks x y (entryWords table ends first order n)) (row-start place place-in) (row-size ∙ sym (ap length reach-is))
-            ∙ list-blocks (entryCount m st place) (entryWords table ends first order n) (reach m st (firstCell m + place)) d (λ e. localOf L (e .cell) ∷ e .layer ∷ []) entry-words
+            ap₂ (λ x y. blocks x y (entryWords table first order n)) (row-start place place-in) (row-size ∙ sym (ap length reach-is))
+            ∙ list-blocks (entryCount m st place) (entryWords table first order n) (reach m st (firstCell m + place)) d (λ e. localOf L (e .cell) ∷ e .layer ∷ []) entry-words
             ∙ ap (λ es. joined (map (λ e. localOf L (e .cell) ∷ e .layer ∷ []) es)) reach-is
 
       pub row-ends : (l : ℕ) → l ≤ own → rowEnds table ends first order l ≡ reachEnds S i L l

@@ -81,6 +81,10 @@ pub record Counted (which : ℕ) (owners table : Bytes) (ends : List ℕ) (held 
   pub last : endsOf which owners table ends held i first cells order base n < 65536
   pub cell : (k : ℕ) → 1 ≤ k → k ≤ n → 2 ≤ which → first ≤ getD order (k - 1) 0
 
+-- e is the end before the one at k, if there is one
+pub record Before (which : ℕ) (owners table : Bytes) (ends : List ℕ) (held : Bytes) (i first cells : ℕ) (order : List ℕ) (base k e : ℕ) : Type 0 where
+  pub is : 1 ≤ k → e ≡ endsOf which owners table ends held i first cells order base (k - 1)
+
 -- local cell l is a cell, and the numbers of the cells in its reach are words
 pub record Row (table : Bytes) (ends : List ℕ) (first : ℕ) (order : List ℕ) (l : ℕ) : Type 0 where
   pub cell : first ≤ getD order (l - 1) 0

@@ -14,7 +14,7 @@ ghost use Rattle.vocabulary.specs.Ranges.{listed, blocks};
 ghost use Rattle.layout.specs.Words.{wordAt};
 ghost use Rattle.split.specs.Split.{localOf};
 ghost use Rattle.split.specs.Sorting.{cellsOf};
-ghost use Rattle.parts.specs.Starting.{Put, placeAt, rowSize, partCount, endsOf, Counted, entryWords, rowEnds, rowWords, sentWords, Row, Rows};
+ghost use Rattle.parts.specs.Starting.{Put, placeAt, rowSize, partCount, endsOf, Counted, Before, entryWords, rowEnds, rowWords, sentWords, Row, Rows};
 
 // Writes w as word s, and gives how many words there are then.
 fn put_one(b: &mut [u8], s: usize, w: usize) -> usize
@@ -103,7 +103,34 @@ fn part_count(
     }
 }
 
-// Writes a table of n + 1 ends, and gives the last of them.
+// The end at k, from the one before it.
+fn next_end(
+    which: usize,
+    owners: &[u8],
+    table: &[u8],
+    ends: &[u16],
+    held: &[u8],
+    i: usize,
+    first: usize,
+    cells: usize,
+    order: &[u16],
+    base: usize,
+    e: usize,
+    k: usize,
+) -> usize
+    requires { ⌜ (i < 65536) × (first + cells ≤ 65536) × (cells ≤ 2000) × Counted which (now owners) (now table) (now ends) (now held) i first cells (now order) base k × Before which (now owners) (now table) (now ends) (now held) i first cells (now order) base k e × (k < 65536) ⌝ }
+    ensures { λ r. ⌜ (r ≡ endsOf which (now (owners .entry)) (now (table .entry)) (now (ends .entry)) (now (held .entry)) i first cells (now (order .entry)) base k) × (r < 65536) ⌝ }
+{
+    if k == 0 {
+        return base;
+    }
+    let x = part_count(
+        which, owners, table, ends, held, i, first, cells, order, k,
+    );
+    e + x
+}
+
+// Writes a table of n + 1 ends.
 fn put_ends(
     b: &mut [u8],
     s: usize,
@@ -122,11 +149,11 @@ fn put_ends(
     requires { ⌜ (2 * (s + n + 1) ≤ length (now b)) × (s < 65536) × (n < 65535) × (i < 65536) × (first + cells ≤ 65536) × (cells ≤ 2000) × Counted which (now owners) (now table) (now ends) (now held) i first cells (now order) base n ⌝ }
     ensures { λ t. ⌜ Put (now (b .entry)) (now (b .exit)) s t (listed 0 (n + 1) (endsOf which (now (owners .entry)) (now (table .entry)) (now (ends .entry)) (now (held .entry)) i first cells (now (order .entry)) base)) ⌝ }
 {
-    let mut e = base;
-    let mut t = put_one(b, s, e);
-    for k in 1..n + 1 {
-        e += part_count(
-            which, owners, table, ends, held, i, first, cells, order, k,
+    let mut e = 0;
+    let mut t = s;
+    for k in 0..n + 1 {
+        e = next_end(
+            which, owners, table, ends, held, i, first, cells, order, base, e, k,
         );
         t = put_one(b, t, e);
     }
@@ -148,12 +175,12 @@ fn last_end(
     n: usize,
 ) -> usize
     requires { ⌜ (n < 65535) × (i < 65536) × (first + cells ≤ 65536) × (cells ≤ 2000) × Counted which (now owners) (now table) (now ends) (now held) i first cells (now order) base n ⌝ }
-    ensures { λ e. ⌜ (e ≡ endsOf which (now (owners .entry)) (now (table .entry)) (now (ends .entry)) (now (held .entry)) i first cells (now (order .entry)) base n) × (e < 65536) ⌝ }
+    ensures { λ e. ⌜ e ≡ endsOf which (now (owners .entry)) (now (table .entry)) (now (ends .entry)) (now (held .entry)) i first cells (now (order .entry)) base n ⌝ }
 {
-    let mut e = base;
-    for k in 1..n + 1 {
-        e += part_count(
-            which, owners, table, ends, held, i, first, cells, order, k,
+    let mut e = 0;
+    for k in 0..n + 1 {
+        e = next_end(
+            which, owners, table, ends, held, i, first, cells, order, base, e, k,
         );
     }
     e
@@ -161,7 +188,7 @@ fn last_end(
 
 // Writes entry t of the table in local numbers.
 fn put_entry(b: &mut [u8], s: usize, table: &[u8], first: usize, order: &[u16], n: usize, t: usize) -> usize
-    requires { ⌜ (2 * (s + 2) ≤ length (now b)) × (s < 65536) × (n ≤ length (now order)) × (n < 65535) × (t < 65536) × (first + wordAt (now table) (2 * t) < 65536) ⌝ }
+    requires { ⌜ (2 * (s + 2) ≤ length (now b)) × (s < 500000) × (n ≤ length (now order)) × (n < 65535) × (t < 65536) × (first + wordAt (now table) (2 * t) < 65536) ⌝ }
     ensures { λ u. ⌜ Put (now (b .entry)) (now (b .exit)) s u (entryWords (now (table .entry)) first (now (order .entry)) n t) ⌝ }
 {
     let l = to_local(order, n, Global((first + word_at(table, 2 * t)) as u16));

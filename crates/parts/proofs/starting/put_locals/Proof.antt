@@ -1,56 +1,20 @@
+-- `parts::starting::put_locals` meets its contract. The invariant: the first x numbers are written. Assumes nothing.
+use mathlib.Core.Path.{_≡_, refl}
+use mathlib.Core.List.{map}
+use Prim.Native.Nat.{_+_, _-_, _≤_}
+use lib.ListN.{length, take}
+use Rattle.split.specs.Split.{localOf}
+use Rattle.parts.specs.Starting.{Put}
+use Rattle.parts.proofs.StartCounts.{locals-start, locals-turn, locals-end}
+use borrow.Author.Needs.{needs}
 use Rattle.parts.proofs.starting.put_locals.Statement.{statement}
 use Rattle.parts.proofs.starting.put_locals.Tie as tie
-use Rattle.parts.proofs.starting.put_locals.Reads as reads
-use Rattle.parts.proofs.starting.put_locals.Lts as lts
-use Rattle.layout.proofs.number_at.Reads as number-at-reads
-use Rattle.parts.proofs.starting.put_one.Reads as put-one-reads
-use Rattle.split.proofs.inner.to_local.Reads as to-local-reads
 
 abbrev Inv-loop : tie.InvT-loop
-Inv-loop b₀ s list k order n u₀ x₀ b u x = ?
+Inv-loop b₀ s list k order n u₀ x₀ b u x = (x ≤ k) × (u ≡ s + x) × (length b ≡ length b₀) × Put b₀ b s u (map (localOf (take n order)) (take x list))
 
 abbrev μ-loop : tie.MeasureT-loop
-μ-loop b₀ s list k order n u₀ x₀ b u x = ?
-
--- src/starting.rt:223:5
-loop-holds : tie.Need-loop-holds Inv-loop μ-loop
-loop-holds c = ?
-
--- src/starting.rt:224:43
-number-at-requires : tie.Need-number-at-requires Inv-loop μ-loop
-number-at-requires c κs = ?
-
--- src/starting.rt:224:13
-to-local-requires : tie.Need-to-local-requires Inv-loop μ-loop
-to-local-requires c κs = ?
-
--- src/starting.rt:225:27
-cast-put-one : tie.Need-cast-put-one Inv-loop μ-loop
-cast-put-one c = ?
-
--- src/starting.rt:225:9
-put-one-requires : tie.Need-put-one-requires Inv-loop μ-loop
-put-one-requires c κs = ?
-
--- src/starting.rt:223:9
-add-x : tie.Need-add-x Inv-loop μ-loop
-add-x c = ?
-
--- src/starting.rt:223:5
-loop-less : tie.Need-loop-less Inv-loop μ-loop
-loop-less c = ?
-
--- src/starting.rt:223:5
-loop-again : tie.Need-loop-again Inv-loop μ-loop
-loop-again c = ?
-
--- src/starting.rt:218:1
-same-length : tie.Need-same-length Inv-loop μ-loop
-same-length c = ?
-
--- src/starting.rt:218:1
-returns : tie.Need-returns Inv-loop μ-loop
-returns c = ?
+μ-loop b₀ s list k order n u₀ x₀ b u x = k - x
 
 pub put-locals-spec : {M : Type 1} → statement M
 put-locals-spec =
@@ -58,13 +22,13 @@ put-locals-spec =
     (tie.spec
     Inv-loop
     μ-loop
-    loop-holds
-    number-at-requires
-    to-local-requires
-    cast-put-one
-    put-one-requires
-    add-x
-    loop-less
-    loop-again
-    same-length
-    returns)
+    (λ c. (search needs, search needs, search needs, search locals-start))
+    (λ c κs. search needs)
+    (λ c κs. search needs)
+    (λ c. search needs)
+    (λ c κs. search needs)
+    (λ c. search needs)
+    (λ c. search needs)
+    (λ c. (search needs, search needs, search needs, search locals-turn))
+    (λ c. search needs)
+    (λ c. search locals-end))

@@ -1,46 +1,20 @@
+-- `parts::starting::put_rows` meets its contract. The invariant: the reaches of the cells before l are written. Assumes nothing.
+use native.Mathlib.Omega.{arith}
+use mathlib.Core.Path.{_≡_, refl}
+use Prim.Native.Nat.{_+_, _-_, _≤_}
+use lib.ListN.{length}
+use Rattle.vocabulary.specs.Ranges.{blocks}
+use Rattle.parts.specs.Starting.{Put, rowWords}
+use Rattle.parts.proofs.StartCounts.{rows-start, rows-room, rows-turn, rows-end, rows-each}
+use borrow.Author.Needs.{needs}
 use Rattle.parts.proofs.starting.put_rows.Statement.{statement}
 use Rattle.parts.proofs.starting.put_rows.Tie as tie
-use Rattle.parts.proofs.starting.put_rows.Reads as reads
-use Rattle.parts.proofs.starting.put_rows.Lts as lts
-use Rattle.parts.proofs.starting.put_row.Reads as put-row-reads
 
 abbrev Inv-loop : tie.InvT-loop
-Inv-loop b₀ s table ends first order n owned u₀ l₀ l-end b u l = ?
+Inv-loop b₀ s table ends first order n owned u₀ l₀ l-end b u l = (l-end ≡ owned + 1) × (1 ≤ l) × (l ≤ owned + 1) × (length b ≡ length b₀) × Put b₀ b s u (blocks 1 (l - 1) (rowWords table ends first order n))
 
 abbrev μ-loop : tie.MeasureT-loop
-μ-loop b₀ s table ends first order n owned u₀ l₀ l-end b u l = ?
-
--- src/starting.rt:211:17
-add-l-end : tie.Need-add-l-end Inv-loop μ-loop
-add-l-end c = ?
-
--- src/starting.rt:211:5
-loop-holds : tie.Need-loop-holds Inv-loop μ-loop
-loop-holds c = ?
-
--- src/starting.rt:212:9
-put-row-requires : tie.Need-put-row-requires Inv-loop μ-loop
-put-row-requires c κs = ?
-
--- src/starting.rt:211:9
-add-l : tie.Need-add-l Inv-loop μ-loop
-add-l c = ?
-
--- src/starting.rt:211:5
-loop-less : tie.Need-loop-less Inv-loop μ-loop
-loop-less c = ?
-
--- src/starting.rt:211:5
-loop-again : tie.Need-loop-again Inv-loop μ-loop
-loop-again c = ?
-
--- src/starting.rt:197:1
-same-length : tie.Need-same-length Inv-loop μ-loop
-same-length c = ?
-
--- src/starting.rt:197:1
-returns : tie.Need-returns Inv-loop μ-loop
-returns c = ?
+μ-loop b₀ s table ends first order n owned u₀ l₀ l-end b u l = l-end - l
 
 pub put-rows-spec : {M : Type 1} → statement M
 put-rows-spec =
@@ -48,11 +22,11 @@ put-rows-spec =
     (tie.spec
     Inv-loop
     μ-loop
-    add-l-end
-    loop-holds
-    put-row-requires
-    add-l
-    loop-less
-    loop-again
-    same-length
-    returns)
+    (λ c. search needs)
+    (λ c. (refl, search needs, search needs, search needs, search rows-start))
+    (λ c κs. (rows-room _ _ _ _ _ _ _ _ _ _ _ (c .before .before .loop .inv .1) (omega (arith, c .before .before .loop .inv .0, c .before .loop-test .taken)) (c .before .before .before .before .before .before .before .pre .0) (c .before .before .before .before .before .before .before .pre .1) (c .before .before .loop .inv .3) (c .before .before .loop .inv .4) .0, rows-room _ _ _ _ _ _ _ _ _ _ _ (c .before .before .loop .inv .1) (omega (arith, c .before .before .loop .inv .0, c .before .loop-test .taken)) (c .before .before .before .before .before .before .before .pre .0) (c .before .before .before .before .before .before .before .pre .1) (c .before .before .loop .inv .3) (c .before .before .loop .inv .4) .1, c .before .before .loop .inv .1, c .before .before .before .before .before .before .before .pre .3, c .before .before .before .before .before .before .before .pre .4, search rows-each))
+    (λ c. search needs)
+    (λ c. search needs)
+    (λ c. (search needs, search needs, search needs, search needs, search rows-turn))
+    (λ c. search needs)
+    (λ c. search rows-end))
