@@ -10,7 +10,7 @@ use lib.Seq.{take-suc, length-take-le}
 use Rattle.vocabulary.specs.Bytes.{Bytes, over}
 use Rattle.vocabulary.specs.ByteLaws.{over-none, over-length, over-more}
 use Rattle.vocabulary.specs.Ranges.{listed, blocks}
-use Rattle.vocabulary.specs.RangeLaws.{listed-turn, listed-length, blocks-start}
+use Rattle.vocabulary.specs.RangeLaws.{listed-turn, listed-length, blocks-start, blocks-turn, blocks-fit}
 use Rattle.layout.specs.Words.{wordAt, wordBytes, bytesOf}
 use Rattle.layout.specs.WordLaws.{length-bytesOf, bytesOf-append}
 use Rattle.parts.specs.Starting.{Put}
@@ -73,3 +73,26 @@ pub blocks-begin : (b : Bytes) (s a : ℕ) (g : ℕ → List ℕ) → Put b b s 
 blocks-begin b s a g =
     let e : a - a ≡ 0 = omega arith in
     put-as b b s s [] (blocks a (a - a) g) (sym (ap (λ k. blocks a k g) e ∙ blocks-start a g)) (put-none b s)
+
+-- ---- lists written one after another, for the numbers from 1 to n
+
+module _ (g : ℕ → List ℕ) (n : ℕ) where
+  pub many-start : (b : Bytes) (s : ℕ) → Put b b s s (blocks 1 (1 - 1) g)
+  many-start b s = blocks-begin b s 1 g
+
+  pub many-fit : (l : ℕ) → 1 ≤ l → l < n + 1 → length (blocks 1 (l - 1) g) + length (g l) ≤ length (blocks 1 n g)
+  many-fit l h k = let e : 1 + (l - 1) ≡ l = omega arith in omega (arith, blocks-fit 1 g n (l - 1) (omega arith), ap (λ x. length (g x)) e)
+
+  pub many-room : (a b : Bytes) (s u l : ℕ) → 1 ≤ l → l < n + 1 → 2 * (s + length (blocks 1 n g)) ≤ length a → s + length (blocks 1 n g) < 65536 → length b ≡ length a
+      → Put a b s u (blocks 1 (l - 1) g) → (2 * (u + length (g l)) ≤ length b) × (u < 65536)
+  many-room a b s u l h k r q e P = (omega (arith, P .count, many-fit l h k), omega (arith, P .count, many-fit l h k))
+
+  pub many-turn : (a b c : Bytes) (s u w l : ℕ) → 1 ≤ l → l < n + 1 → 2 * (s + length (blocks 1 n g)) ≤ length a → Put a b s u (blocks 1 (l - 1) g) → Put b c u w (g l) → Put a c s w (blocks 1 (l + 1 - 1) g)
+  many-turn a b c s u w l h k r P Q =
+      let i₁ : l ≡ 1 + (l - 1) = omega arith in
+      let i₂ : l - 1 + 1 ≡ l + 1 - 1 = omega arith in
+      put-as a c s w (blocks 1 (l - 1) g ++ g l) (blocks 1 (l + 1 - 1) g) (ap (λ x. blocks 1 (l - 1) g ++ g x) i₁ ∙ sym (blocks-turn 1 g (l - 1)) ∙ ap (λ k. blocks 1 k g) i₂)
+      (put-both a b c s u w (blocks 1 (l - 1) g) (g l) P Q (omega (arith, P .count, many-fit l h k)))
+
+  pub many-end : (a b : Bytes) (s u l : ℕ) → l ≤ n + 1 → n + 1 ≤ l → Put a b s u (blocks 1 (l - 1) g) → Put a b s u (blocks 1 n g)
+  many-end a b s u l p h P = let q : l - 1 ≡ n = omega arith in put-as a b s u (blocks 1 (l - 1) g) (blocks 1 n g) (ap (λ k. blocks 1 k g) q) P

@@ -4,18 +4,19 @@ use mathlib.Core.List.{List, [], _∷_, _++_, map}
 use Prim.Native.Nat.{ℕ, zero, suc, _+_, _-_, _*_, _≤_, _<_}
 use native.Mathlib.Numerals.{add-one}
 use native.Mathlib.Omega.{arith}
-use lib.ListN.{length, getD, take}
+use lib.ListN.{length, getD, take, length-map}
 use lib.Seq.{take-suc}
 use Rattle.vocabulary.specs.ListLaws.{map-append}
 use Rattle.vocabulary.specs.Bytes.{Bytes}
 use Rattle.vocabulary.specs.Ranges.{listed, blocks, total}
-use Rattle.vocabulary.specs.RangeLaws.{total-grows, total-fit, blocks-start, blocks-turn, blocks-length, rows-length}
+use Rattle.vocabulary.specs.RangeLaws.{total-grows, total-cong, blocks-turn, blocks-length, rows-length}
 use Rattle.vocabulary.specs.CountLaws.{total-double}
 use Rattle.layout.specs.Words.{wordAt}
 use Rattle.split.specs.Split.{localOf}
-use Rattle.split.specs.Sorting.{cellsOf}
-use Rattle.parts.proofs.PutLaws.{put-as, put-none, put-both, words-turn}
-use Rattle.parts.specs.Starting.{Put, placeAt, rowSize, partCount, endsOf, Counted, Before, entryWords, rowEnds, rowWords, Row, Rows}
+use Rattle.split.specs.Sorting.{cellsOf, Added}
+use Rattle.split.proofs.GivingLaws.{added-take}
+use Rattle.parts.proofs.PutLaws.{put-as, put-none, put-both, many-room, many-turn}
+use Rattle.parts.specs.Starting.{Put, placeAt, rowSize, partCount, endsOf, Counted, Before, entryWords, rowEnds, rowWords, Row, Rows, sentEnds, sentWords}
 
 module _ (table : Bytes) (ends : List ℕ) (first : ℕ) (order : List ℕ) (l g from to : ℕ) (ge : g ≡ getD order (l - 1) 0) (fe : from ≡ getD ends (g - first) 0) (te : to ≡ getD ends (g - first + 1) 0) where
   size-is : rowSize table ends first order l ≡ to - from
@@ -152,33 +153,19 @@ pub row-count : (a b : Bytes) (u w from t s : ℕ) (table : Bytes) (first : ℕ)
 row-count a b u w from t s table first order n P e h = omega (arith, P .count, entry-two table first order n t)
 
 module _ (table : Bytes) (ends : List ℕ) (first : ℕ) (order : List ℕ) (n owned : ℕ) where
-  rows-long : (k : ℕ) → length (blocks 1 k (rowWords table ends first order n)) ≡ 2 * rowEnds table ends first order k
+  rows-long : length (blocks 1 owned (rowWords table ends first order n)) ≡ 2 * rowEnds table ends first order owned
   unfolding rowEnds
-  rows-long k = blocks-length 1 (rowWords table ends first order n) k ∙ total-double 1 k (λ l. length (rowWords table ends first order n l)) (rowSize table ends first order) (row-length table ends first order n)
-
-  row-fits : (l : ℕ) → 1 ≤ l → l ≤ owned → rowEnds table ends first order (l - 1) + rowSize table ends first order l ≤ rowEnds table ends first order owned
-  unfolding rowEnds
-  row-fits l h k = let e : 1 + (l - 1) ≡ l = omega arith in omega (arith, total-fit 1 (rowSize table ends first order) owned (l - 1) (omega arith), ap (rowSize table ends first order) e)
-
-  pub rows-start : (b : Bytes) (s : ℕ) → Put b b s s (blocks 1 (1 - 1) (rowWords table ends first order n))
-  rows-start b s = put-as b b s s [] _ (sym (blocks-start 1 (rowWords table ends first order n))) (put-none b s)
+  rows-long = blocks-length 1 (rowWords table ends first order n) owned ∙ total-double 1 owned (λ l. length (rowWords table ends first order n l)) (rowSize table ends first order) (row-length table ends first order n)
 
   pub rows-room : (a b : Bytes) (s u l : ℕ) → 1 ≤ l → l < owned + 1 → 2 * (s + 2 * rowEnds table ends first order owned) ≤ length a → s + 2 * rowEnds table ends first order owned < 65536 → length b ≡ length a
       → Put a b s u (blocks 1 (l - 1) (rowWords table ends first order n)) → (2 * (u + 2 * rowSize table ends first order l) ≤ length b) × (u < 65536)
   rows-room a b s u l h k r q e P =
-      (omega (arith, P .count, rows-long (l - 1), row-fits l h (omega arith)), omega (arith, P .count, rows-long (l - 1), row-fits l h (omega arith)))
+      let w = many-room (rowWords table ends first order n) owned a b s u l h k (omega (arith, rows-long)) (omega (arith, rows-long)) e P in
+      (omega (arith, w .0, row-length table ends first order n l), w .1)
 
   pub rows-turn : (a b c : Bytes) (s u w l : ℕ) → 1 ≤ l → l < owned + 1 → 2 * (s + 2 * rowEnds table ends first order owned) ≤ length a
       → Put a b s u (blocks 1 (l - 1) (rowWords table ends first order n)) → Put b c u w (rowWords table ends first order n l) → Put a c s w (blocks 1 (l + 1 - 1) (rowWords table ends first order n))
-  rows-turn a b c s u w l h k r P Q =
-      let i₁ : 1 + (l - 1) ≡ l = omega arith in
-      let i₂ : l - 1 + 1 ≡ l + 1 - 1 = omega arith in
-      put-as a c s w (blocks 1 (l - 1) (rowWords table ends first order n) ++ rowWords table ends first order n l) _
-      (ap (λ x. blocks 1 (l - 1) (rowWords table ends first order n) ++ rowWords table ends first order n x) (sym i₁) ∙ sym (blocks-turn 1 (rowWords table ends first order n) (l - 1)) ∙ ap (λ k. blocks 1 k (rowWords table ends first order n)) i₂)
-      (put-both a b c s u w _ _ P Q (omega (arith, P .count, rows-long (l - 1), row-fits l h (omega arith))))
-
-  pub rows-end : (a b : Bytes) (s u l : ℕ) → l ≤ owned + 1 → owned + 1 ≤ l → Put a b s u (blocks 1 (l - 1) (rowWords table ends first order n)) → Put a b s u (blocks 1 owned (rowWords table ends first order n))
-  rows-end a b s u l g h P = let q : l - 1 ≡ owned = omega arith in put-as a b s u _ _ (ap (λ k. blocks 1 k (rowWords table ends first order n)) q) P
+  rows-turn a b c s u w l h k r P Q = many-turn (rowWords table ends first order n) owned a b c s u w l h k (omega (arith, rows-long)) P Q
 
   pub rows-each : (l : ℕ) → Rows table ends first order owned → 1 ≤ l → l < owned + 1 → Row table ends first order l
   rows-each l R h k = R .each l h (omega arith)
@@ -203,3 +190,30 @@ module _ (order : List ℕ) (n : ℕ) where
 
   pub locals-end : (a b : Bytes) (s u k x : ℕ) (list : List ℕ) → x ≤ k → k ≤ x → Put a b s u (map (localOf (take n order)) (take x list)) → Put a b s u (map (localOf (take n order)) (take k list))
   locals-end a b s u k x list g h P = let q : x ≡ k = omega arith in put-as a b s u _ _ (ap (λ j. map (localOf (take n order)) (take j list)) q) P
+
+-- ---- exports in local numbers
+
+module _ (owners table : Bytes) (ends : List ℕ) (held : Bytes) (i first cells : ℕ) (order : List ℕ) (n : ℕ) where
+  pub sent-put : (a b : Bytes) (s t j k : ℕ) (x y : List ℕ) → Added x y 0 k (cellsOf owners table ends held j first cells i) → length x ≡ 2000 → k ≤ 2000
+      → Put a b s t (map (localOf (take n order)) (take k y)) → Put a b s t (sentWords owners table ends held i first cells order n j)
+  unfolding sentWords
+  sent-put a b s t j k x y A l h P =
+      put-as a b s t _ _ (ap (map (localOf (take n order))) (added-take x y k (cellsOf owners table ends held j first cells i) A l (omega (arith, A .count)))) P
+
+  sent-long : (j : ℕ) → length (sentWords owners table ends held i first cells order n j) ≡ length (cellsOf owners table ends held j first cells i)
+  unfolding sentWords
+  sent-long j = length-map (cellsOf owners table ends held j first cells i) (localOf (take n order))
+
+  all-long : length (blocks 1 16 (sentWords owners table ends held i first cells order n)) ≡ sentEnds owners table ends held i first cells 16
+  unfolding sentEnds
+  all-long = blocks-length 1 (sentWords owners table ends held i first cells order n) 16 ∙ total-cong 1 _ _ 16 (λ k h. sent-long (1 + k))
+
+  pub sents-room : (a b : Bytes) (s u j : ℕ) → 1 ≤ j → j < 17 → 2 * (s + sentEnds owners table ends held i first cells 16) ≤ length a → s + sentEnds owners table ends held i first cells 16 < 65536 → length b ≡ length a
+      → Put a b s u (blocks 1 (j - 1) (sentWords owners table ends held i first cells order n)) → (2 * (u + length (cellsOf owners table ends held j first cells i)) ≤ length b) × (u < 65536)
+  sents-room a b s u j h k r q e P =
+      let w = many-room (sentWords owners table ends held i first cells order n) 16 a b s u j h (omega arith) (omega (arith, all-long)) (omega (arith, all-long)) e P in
+      (omega (arith, w .0, sent-long j), w .1)
+
+  pub sents-turn : (a b c : Bytes) (s u w j : ℕ) → 1 ≤ j → j < 17 → 2 * (s + sentEnds owners table ends held i first cells 16) ≤ length a
+      → Put a b s u (blocks 1 (j - 1) (sentWords owners table ends held i first cells order n)) → Put b c u w (sentWords owners table ends held i first cells order n j) → Put a c s w (blocks 1 (j + 1 - 1) (sentWords owners table ends held i first cells order n))
+  sents-turn a b c s u w j h k r P Q = many-turn (sentWords owners table ends held i first cells order n) 16 a b c s u w j h (omega arith) (omega (arith, all-long)) P Q

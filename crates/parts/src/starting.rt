@@ -7,14 +7,14 @@ use split::Global;
 use split::inner::add_cells;
 use split::inner::to_local;
 ghost use mathlib.Core.Path.{_≡_};
-ghost use mathlib.Core.List.{[], _∷_, map};
+ghost use mathlib.Core.List.{[], _∷_, _++_, map};
 ghost use Prim.Native.Nat.{ℕ, _+_, _-_, _*_, _<_, _≤_};
 ghost use lib.ListN.{length, getD, take};
 ghost use Rattle.vocabulary.specs.Ranges.{listed, blocks};
 ghost use Rattle.layout.specs.Words.{wordAt};
 ghost use Rattle.split.specs.Split.{localOf};
 ghost use Rattle.split.specs.Sorting.{cellsOf};
-ghost use Rattle.parts.specs.Starting.{Put, placeAt, rowSize, partCount, endsOf, Counted, Before, entryWords, rowEnds, rowWords, sentWords, Row, Rows};
+ghost use Rattle.parts.specs.Starting.{Put, placeAt, rowSize, partCount, endsOf, Counted, Before, entryWords, rowEnds, rowWords, sentEnds, sentWords, Row, Rows};
 
 // Writes w as word s, and gives how many words there are then.
 fn put_one(b: &mut [u8], s: usize, w: usize) -> usize
@@ -252,4 +252,131 @@ fn put_locals(b: &mut [u8], s: usize, list: &[u16], k: usize, order: &[u16], n: 
         u = put_one(b, u, l.0 as usize);
     }
     u
+}
+
+// Writes the exports to part j in local numbers; the list is work space.
+fn put_sent_to(
+    b: &mut [u8],
+    s: usize,
+    owners: &[u8],
+    table: &[u8],
+    ends: &[u16],
+    held: &[u8],
+    i: usize,
+    first: usize,
+    cells: usize,
+    order: &[u16],
+    n: usize,
+    j: usize,
+    list: &mut [u16],
+) -> usize
+    requires { ⌜ (2 * (s + length (cellsOf (now owners) (now table) (now ends) (now held) j first cells i)) ≤ length (now b)) × (s < 65536) × (j < 65536) × (first + cells ≤ 65536) × (cells ≤ 2000) × (n ≤ length (now order)) × (n < 65535) × (length (now list) ≡ 2000) ⌝ }
+    ensures { λ u. ⌜ Put (now (b .entry)) (now (b .exit)) s u (sentWords (now (owners .entry)) (now (table .entry)) (now (ends .entry)) (now (held .entry)) i first cells (now (order .entry)) n j) × (length (now (list .exit)) ≡ 2000) ⌝ }
+{
+    let k = add_cells(owners, table, ends, held, j, first, cells, i, list, 0);
+    put_locals(b, s, list, k, order, n)
+}
+
+// Writes the exports to all parts.
+fn put_sent(
+    b: &mut [u8],
+    s: usize,
+    owners: &[u8],
+    table: &[u8],
+    ends: &[u16],
+    held: &[u8],
+    i: usize,
+    first: usize,
+    cells: usize,
+    order: &[u16],
+    n: usize,
+    list: &mut [u16],
+) -> usize
+    requires { ⌜ (2 * (s + sentEnds (now owners) (now table) (now ends) (now held) i first cells 16) ≤ length (now b)) × (s + sentEnds (now owners) (now table) (now ends) (now held) i first cells 16 < 65536) × (first + cells ≤ 65536) × (cells ≤ 2000) × (n ≤ length (now order)) × (n < 65535) × (length (now list) ≡ 2000) ⌝ }
+    ensures { λ u. ⌜ Put (now (b .entry)) (now (b .exit)) s u (blocks 1 16 (sentWords (now (owners .entry)) (now (table .entry)) (now (ends .entry)) (now (held .entry)) i first cells (now (order .entry)) n)) ⌝ }
+{
+    let mut u = s;
+    for j in 1..17 {
+        u = put_sent_to(
+            b, u, owners, table, ends, held, i, first, cells, order, n, j, list,
+        );
+    }
+    u
+}
+
+// Writes what stands before the tables: the length of the lists, the part, the stencil's steps, the rule, and the mesh's cells.
+fn put_head(
+    b: &mut [u8],
+    long: usize,
+    i: usize,
+    steps: usize,
+    kind: usize,
+    v: &[u8],
+    first: usize,
+    cells: usize,
+) -> usize
+    requires { ⌜ (22 ≤ length (now b)) × (long < 65536) × (i < 65536) × (steps < 65536) × (kind < 65536) × (first < 65536) × (cells < 65536) ⌝ }
+    ensures { λ t. ⌜ Put (now (b .entry)) (now (b .exit)) 0 t ((long ∷ i ∷ steps ∷ kind ∷ []) ++ (listed 0 5 (wordAt (now (v .entry))) ++ (first ∷ cells ∷ []))) ⌝ }
+{
+    put_one(b, 0, long);
+    put_one(b, 1, i);
+    put_one(b, 2, steps);
+    put_one(b, 3, kind);
+    put_weights(b, 4, v, 5);
+    put_one(b, 9, first);
+    put_one(b, 10, cells)
+}
+
+// Writes the tables of the imports' and exports' ends.
+fn put_borders(
+    b: &mut [u8],
+    s: usize,
+    owners: &[u8],
+    table: &[u8],
+    ends: &[u16],
+    held: &[u8],
+    i: usize,
+    first: usize,
+    cells: usize,
+    order: &[u16],
+    owned: usize,
+) -> usize
+    requires { ⌜ (2 * (s + 34) ≤ length (now b)) × (s < 60000) × (i < 65536) × (first + cells ≤ 65536) × (cells ≤ 2000) × Counted 0 (now owners) (now table) (now ends) (now held) i first cells (now order) owned 16 × Counted 1 (now owners) (now table) (now ends) (now held) i first cells (now order) 0 16 ⌝ }
+    ensures { λ t. ⌜ Put (now (b .entry)) (now (b .exit)) s t (listed 0 17 (endsOf 0 (now (owners .entry)) (now (table .entry)) (now (ends .entry)) (now (held .entry)) i first cells (now (order .entry)) owned) ++ listed 0 17 (endsOf 1 (now (owners .entry)) (now (table .entry)) (now (ends .entry)) (now (held .entry)) i first cells (now (order .entry)) 0)) ⌝ }
+{
+    let t = put_ends(
+        b, s, 0, owners, table, ends, held, i, first, cells, order, owned, 16,
+    );
+    put_ends(
+        b, t, 1, owners, table, ends, held, i, first, cells, order, 0, 16,
+    )
+}
+
+// Writes the local order, the reaches with their ends, and the exports.
+fn put_entries(
+    b: &mut [u8],
+    s: usize,
+    owners: &[u8],
+    table: &[u8],
+    ends: &[u16],
+    held: &[u8],
+    i: usize,
+    first: usize,
+    cells: usize,
+    order: &[u16],
+    n: usize,
+    owned: usize,
+    list: &mut [u16],
+) -> usize
+    requires { ⌜ (2 * (s + n + owned + 1 + 2 * rowEnds (now table) (now ends) first (now order) owned + sentEnds (now owners) (now table) (now ends) (now held) i first cells 16) ≤ length (now b)) × (s + n + owned + 1 + 2 * rowEnds (now table) (now ends) first (now order) owned + sentEnds (now owners) (now table) (now ends) (now held) i first cells 16 < 65536) × (i < 65536) × (first + cells ≤ 65536) × (cells ≤ 2000) × (n ≤ length (now order)) × (length (now list) ≡ 2000) × Counted 2 (now owners) (now table) (now ends) (now held) i first cells (now order) 0 owned × Rows (now table) (now ends) first (now order) owned ⌝ }
+    ensures { λ t. ⌜ Put (now (b .entry)) (now (b .exit)) s t (take n (now (order .entry)) ++ (listed 0 (owned + 1) (endsOf 2 (now (owners .entry)) (now (table .entry)) (now (ends .entry)) (now (held .entry)) i first cells (now (order .entry)) 0) ++ (blocks 1 owned (rowWords (now (table .entry)) (now (ends .entry)) first (now (order .entry)) n) ++ blocks 1 16 (sentWords (now (owners .entry)) (now (table .entry)) (now (ends .entry)) (now (held .entry)) i first cells (now (order .entry)) n)))) ⌝ }
+{
+    let t = put_list(b, s, order, n);
+    let u = put_ends(
+        b, t, 2, owners, table, ends, held, i, first, cells, order, 0, owned,
+    );
+    let w = put_rows(b, u, table, ends, first, order, n, owned);
+    put_sent(
+        b, w, owners, table, ends, held, i, first, cells, order, n, list,
+    )
 }

@@ -5,7 +5,8 @@ use Prim.Native.Nat.{_+_, _-_, _≤_}
 use lib.ListN.{length}
 use Rattle.vocabulary.specs.Ranges.{blocks}
 use Rattle.parts.specs.Starting.{Put, rowWords}
-use Rattle.parts.proofs.StartCounts.{rows-start, rows-room, rows-turn, rows-end, rows-each}
+use Rattle.parts.proofs.PutLaws.{many-start, many-end}
+use Rattle.parts.proofs.StartCounts.{rows-room, rows-turn, rows-each}
 use borrow.Author.Needs.{needs}
 use Rattle.parts.proofs.starting.put_rows.Statement.{statement}
 use Rattle.parts.proofs.starting.put_rows.Tie as tie
@@ -23,10 +24,10 @@ put-rows-spec =
     Inv-loop
     μ-loop
     (λ c. search needs)
-    (λ c. (refl, search needs, search needs, search needs, search rows-start))
+    (λ c. (refl, search needs, search needs, search needs, search many-start))
     (λ c κs. (rows-room _ _ _ _ _ _ _ _ _ _ _ (c .before .before .loop .inv .1) (omega (arith, c .before .before .loop .inv .0, c .before .loop-test .taken)) (c .before .before .before .before .before .before .before .pre .0) (c .before .before .before .before .before .before .before .pre .1) (c .before .before .loop .inv .3) (c .before .before .loop .inv .4) .0, rows-room _ _ _ _ _ _ _ _ _ _ _ (c .before .before .loop .inv .1) (omega (arith, c .before .before .loop .inv .0, c .before .loop-test .taken)) (c .before .before .before .before .before .before .before .pre .0) (c .before .before .before .before .before .before .before .pre .1) (c .before .before .loop .inv .3) (c .before .before .loop .inv .4) .1, c .before .before .loop .inv .1, c .before .before .before .before .before .before .before .pre .3, c .before .before .before .before .before .before .before .pre .4, search rows-each))
     (λ c. search needs)
     (λ c. search needs)
     (λ c. (search needs, search needs, search needs, search needs, search rows-turn))
     (λ c. search needs)
-    (λ c. search rows-end))
+    (λ c. search many-end))
