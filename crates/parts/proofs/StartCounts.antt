@@ -157,6 +157,9 @@ module _ (table : Bytes) (ends : List ℕ) (first : ℕ) (order : List ℕ) (n o
   unfolding rowEnds
   rows-long = blocks-length 1 (rowWords table ends first order n) owned ∙ total-double 1 owned (λ l. length (rowWords table ends first order n l)) (rowSize table ends first order) (row-length table ends first order n)
 
+  pub rows-count : (a b : Bytes) (s t : ℕ) → Put a b s t (blocks 1 owned (rowWords table ends first order n)) → t ≡ s + 2 * rowEnds table ends first order owned
+  rows-count a b s t P = omega (arith, P .count, rows-long)
+
   pub rows-room : (a b : Bytes) (s u l : ℕ) → 1 ≤ l → l < owned + 1 → 2 * (s + 2 * rowEnds table ends first order owned) ≤ length a → s + 2 * rowEnds table ends first order owned < 65536 → length b ≡ length a
       → Put a b s u (blocks 1 (l - 1) (rowWords table ends first order n)) → (2 * (u + 2 * rowSize table ends first order l) ≤ length b) × (u < 65536)
   rows-room a b s u l h k r q e P =
@@ -207,6 +210,9 @@ module _ (owners table : Bytes) (ends : List ℕ) (held : Bytes) (i first cells 
   all-long : length (blocks 1 16 (sentWords owners table ends held i first cells order n)) ≡ sentEnds owners table ends held i first cells 16
   unfolding sentEnds
   all-long = blocks-length 1 (sentWords owners table ends held i first cells order n) 16 ∙ total-cong 1 _ _ 16 (λ k h. sent-long (1 + k))
+
+  pub sents-count : (a b : Bytes) (s t : ℕ) → Put a b s t (blocks 1 16 (sentWords owners table ends held i first cells order n)) → t ≡ s + sentEnds owners table ends held i first cells 16
+  sents-count a b s t P = omega (arith, P .count, all-long)
 
   pub sents-room : (a b : Bytes) (s u j : ℕ) → 1 ≤ j → j < 17 → 2 * (s + sentEnds owners table ends held i first cells 16) ≤ length a → s + sentEnds owners table ends held i first cells 16 < 65536 → length b ≡ length a
       → Put a b s u (blocks 1 (j - 1) (sentWords owners table ends held i first cells order n)) → (2 * (u + length (cellsOf owners table ends held j first cells i)) ≤ length b) × (u < 65536)
