@@ -48,7 +48,7 @@ pub fn held_elsewhere(held: &[u8], parts: usize, i: usize, q: usize) -> bool
     false
 }
 
-// The same as a number, to be counted.
+// Whether part i holds the cell at place q, as a number to be counted.
 fn mark_at(held: &[u8], i: usize, q: usize) -> usize
     requires { ⌜ (i < 65536) × (q < 65536) ⌝ }
     ensures { λ n. ⌜ (n ≡ markAt (now (held .entry)) i q) × (n ≤ 1) ⌝ }
