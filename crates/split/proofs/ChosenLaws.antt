@@ -130,7 +130,7 @@ module _ (m : Bytes) (parts : ℕ) (owners st table : Bytes) (ends : List ℕ) (
     sort-told : (q : ℕ) → q < cellCount m
         → sortAt owners table ends held′ i q ≡ cond (eqb (byteAt owners q) i) (cond (inside S i (firstCell m + q)) 17 18) (cond (holds S i (firstCell m + q)) (byteAt owners q) 0)
     unfolding sortAt ownsAt
-    sort-told q h = ap₂ (λ b c. cond (eqb (byteAt owners q) i) (cond b 17 18) (cond c (byteAt owners q) 0)) (R .insides i q h) (R .holding i q h high)
+    sort-told q h = ap₂ (λ b c. cond (eqb (byteAt owners q) i) (cond b 17 18) (cond c (byteAt owners q) 0)) (R .insides i q h) (R .holding .each i q h high)
 
     -- the cells of a sort, by a test of the definitions that tells that sort
     sorted-is : (k : ℕ) (p : ℕ → Bool)
@@ -180,7 +180,7 @@ module _ (m : Bytes) (parts : ℕ) (owners st table : Bytes) (ends : List ℕ) (
   at-cells e = picked-all (firstCell m) (incident m e) (λ y. (firstCell m ≤ y) × (y < firstCell m + cellCount m)) (cellCount m) (λ k h t. (omega arith, omega arith))
 
   holds-at : (i y : ℕ) → i ≤ 16 → firstCell m ≤ y → y < firstCell m + cellCount m → heldAt held′ i (y - firstCell m) ≡ holds S i y
-  holds-at i y high l h = let e : firstCell m + (y - firstCell m) ≡ y = omega arith in R .holding i (y - firstCell m) (omega arith) high ∙ ap (holds S i) e
+  holds-at i y high l h = let e : firstCell m + (y - firstCell m) ≡ y = omega arith in R .holding .each i (y - firstCell m) (omega arith) high ∙ ap (holds S i) e
 
   module _ (i e : ℕ) (high : i ≤ 16) where
     mine : someSide (cellsAt m S e) (firstCell m) 0 owners held′ parts i ≡ touches m S e i

@@ -24,7 +24,7 @@ use Rattle.walks.proofs.ReachLaws.{cell-count, table-count}
 use Rattle.walks.proofs.SizeLaws.{table-refused}
 use Rattle.split.specs.Split.{splitOf, ownerAt, owns, inside}
 use Rattle.split.specs.Lists.{bad8, bad12, sizeTests, sizesNumber}
-use Rattle.split.specs.Sorting.{ownsAt, rowCount, entryOwned, insideAt, Blank, Prepared}
+use Rattle.split.specs.Sorting.{ownsAt, rowCount, entryOwned, insideAt, Blank, Holding, Prepared}
 use Rattle.split.proofs.HeldLaws.{matrix-told, held-is}
 
 -- ---- an accepted map
@@ -107,33 +107,37 @@ module _ (m st before table : Bytes) (e : table ≡ over before 0 (bytesOf (tabl
 -- ---- the tests 12 and 13
 
 module _ (m : Bytes) (parts : ℕ) (owners st : Bytes) (A : Accepted m) (right : bad8 m parts owners [] ≡ false) (before held : Bytes) (B : Blank before)
-    (M : Marks before held (rowMarks m st owners (cellCount m))) (n s : ℕ) (ne : n ≡ cellCount m) (se : s ≡ total 1 parts (rowCount held n)) where
-  twelfth : ltb 4096 s ≡ bad12 (splitOf m parts owners st)
-  twelfth = held-is m parts owners st A before held B M n s ne (map-right m parts owners right .1) se
+    (M : Marks before held (rowMarks m st owners (cellCount m))) where
+  pub holdings-told : (n s : ℕ) → n ≡ cellCount m → s ≡ total 1 parts (rowCount held n) → ltb 4096 s ≡ bad12 (splitOf m parts owners st)
+  holdings-told n s ne se = held-is m parts owners st A before held B M n s ne (map-right m parts owners right .1) se
 
-  pub sizes-held : 4096 < s → 12 ≡ sizesNumber m parts owners st
+  pub holdings-are : Holding m parts owners st held
+  holdings-are = record { each = matrix-told m parts owners st A before held B M }
+
+module _ (m : Bytes) (parts : ℕ) (owners st : Bytes) (b : Bool) (be : b ≡ bad12 (splitOf m parts owners st)) where
+  pub sizes-held : b ≡ true → 12 ≡ sizesNumber m parts owners st
   unfolding sizesNumber sizeTests
-  sizes-held h = sym (ap (λ b. cond b 12 (cond (bad13 m st) 13 0)) (sym twelfth ∙ lt-ltb 4096 s h))
+  sizes-held t = sym (ap (λ x. cond x 12 (cond (bad13 m st) 13 0)) (sym be ∙ t))
 
-  module _ (h : s ≤ 4096) (start table : Bytes) (ends : List ℕ) (r : ℕ) (T : Tabled m st start table ends r) where
+  module _ (bf : b ≡ false) (start table : Bytes) (ends : List ℕ) (r : ℕ) (T : Tabled m st start table ends r) where
     last : sizesNumber m parts owners st ≡ cond (ltb 8000 r) 13 0
     unfolding sizesNumber sizeTests
-    last = ap₂ (λ a b. cond a 12 (cond b 13 0)) (sym twelfth ∙ le-ltb 4096 s h) (sym (table-refused m st start table ends r T))
+    last = ap₂ (λ x y. cond x 12 (cond y 13 0)) (sym be ∙ bf) (sym (table-refused m st start table ends r T))
 
     pub sizes-reached : 8000 < r → 13 ≡ sizesNumber m parts owners st
-    sizes-reached k = sym (last ∙ ap (λ b. cond b 13 0) (lt-ltb 8000 r k))
+    sizes-reached k = sym (last ∙ ap (λ x. cond x 13 0) (lt-ltb 8000 r k))
 
-    module _ (k : r ≤ 8000) where
-      pub sizes-passed : 0 ≡ sizesNumber m parts owners st
-      sizes-passed = sym (last ∙ ap (λ b. cond b 13 0) (le-ltb 8000 r k))
+    pub sizes-passed : r ≤ 8000 → 0 ≡ sizesNumber m parts owners st
+    sizes-passed k = sym (last ∙ ap (λ x. cond x 13 0) (le-ltb 8000 r k))
 
-      pub prepared : bad10 (top m) st ≡ false → Prepared m parts owners st table ends held
-      prepared stencil = record {
-        mesh = A;
-        map = right;
-        stencil = stencil;
-        ended = T .ended k;
-        entries = entries-are m st start table (T .text k);
-        holding = matrix-told m parts owners st A before held B M;
-        insides = insides-are m st start table (T .text k) parts owners ends (T .ended k);
-      }
+pub prepared : (m : Bytes) (parts : ℕ) (owners st held start table : Bytes) (ends : List ℕ) (r : ℕ) → Accepted m → bad8 m parts owners [] ≡ false → bad10 (top m) st ≡ false
+    → Holding m parts owners st held → Tabled m st start table ends r → r ≤ 8000 → Prepared m parts owners st table ends held
+prepared m parts owners st held start table ends r A right stencil H T k = record {
+  mesh = A;
+  map = right;
+  stencil = stencil;
+  ended = T .ended k;
+  entries = entries-are m st start table (T .text k);
+  holding = H;
+  insides = insides-are m st start table (T .text k) parts owners ends (T .ended k);
+}

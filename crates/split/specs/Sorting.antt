@@ -49,6 +49,10 @@ pub record Blank (held : Bytes) : Type 0 where
   pub size : length held ≡ 34000
   pub each : (z : ℕ) → byteAt held z ≡ 0
 
+-- the matrix says what each part holds
+pub record Holding (m : Bytes) (parts : ℕ) (owners st held : Bytes) : Type 0 where
+  pub each : (i q : ℕ) → q < cellCount m → i ≤ 16 → heldAt held i q ≡ holds (splitOf m parts owners st) i (firstCell m + q)
+
 -- an accepted mesh, map and stencil, with the table of the reaches, its ends and the matrix of the held cells
 pub record Prepared (m : Bytes) (parts : ℕ) (owners st table : Bytes) (ends : List ℕ) (held : Bytes) : Type 0 where
   pub mesh : Accepted m
@@ -58,7 +62,7 @@ pub record Prepared (m : Bytes) (parts : ℕ) (owners st table : Bytes) (ends : 
   pub entries : (q t : ℕ) (d : Near) → q < cellCount m → t < length (reach m st (firstCell m + q))
       → (wordAt table (2 * (entryCount m st q + t)) ≡ getD (reach m st (firstCell m + q)) t d .cell - firstCell m)
       × (wordAt table (2 * (entryCount m st q + t) + 1) ≡ getD (reach m st (firstCell m + q)) t d .layer)
-  pub holding : (i q : ℕ) → q < cellCount m → i ≤ 16 → heldAt held i q ≡ holds (splitOf m parts owners st) i (firstCell m + q)
+  pub holding : Holding m parts owners st held
   pub insides : (i q : ℕ) → q < cellCount m → insideAt owners table ends i q ≡ inside (splitOf m parts owners st) i (firstCell m + q)
 
 -- ---- sorts of cells

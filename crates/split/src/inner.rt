@@ -6,6 +6,7 @@ pub use crate::sorts::HALO;
 pub use crate::sorts::INTERIOR;
 pub use crate::sorts::add_cells;
 pub use crate::sorts::add_locals;
+pub use crate::tables::bad_holdings;
 pub use crate::tables::holds_at;
 pub use crate::tables::sizes_number;
 pub use crate::units::to_global;

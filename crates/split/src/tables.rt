@@ -12,8 +12,9 @@ ghost use Rattle.vocabulary.specs.Ranges.{some, total};
 ghost use Rattle.mesh.specs.Mesh.{top};
 ghost use Rattle.mesh.specs.Walks.{bad10};
 ghost use Rattle.mesh.specs.Accepted.{Accepted};
-ghost use Rattle.split.specs.Lists.{bad8, sizesNumber};
-ghost use Rattle.split.specs.Sorting.{heldAt, elsewhereAt, markAt, rowCount, Blank, Prepared};
+ghost use Rattle.split.specs.Split.{splitOf};
+ghost use Rattle.split.specs.Lists.{bad8, bad12, sizesNumber};
+ghost use Rattle.split.specs.Sorting.{heldAt, elsewhereAt, markAt, rowCount, Blank, Holding, Prepared};
 
 // Whether part i holds the cell at place q.
 pub fn holds_at(held: &[u8], i: usize, q: usize) -> bool
@@ -47,7 +48,7 @@ pub fn held_elsewhere(held: &[u8], parts: usize, i: usize, q: usize) -> bool
     false
 }
 
-// The same as a number, to be counted.
+// Whether part i holds the cell at place q, as a number to be counted.
 fn mark_at(held: &[u8], i: usize, q: usize) -> usize
     requires { ⌜ (i < 65536) × (q < 65536) ⌝ }
     ensures { λ n. ⌜ (n ≡ markAt (now (held .entry)) i q) × (n ≤ 1) ⌝ }
@@ -79,6 +80,15 @@ fn held_count(held: &[u8], n: usize, parts: usize) -> usize
     s
 }
 
+// Marks in the matrix what each part holds, for an accepted mesh, map and stencil: whether that is too much, number 12.
+pub fn bad_holdings(m: &[u8], parts: u32, owners: &[u8], st: &[u8], held: &mut [u8]) -> bool
+    requires { ⌜ Accepted (now m) × (bad8 (now m) parts (now owners) [] ≡ false) × (bad10 (top (now m)) (now st) ≡ false) × Blank (now held) ⌝ }
+    ensures { λ b. ⌜ (b ≡ bad12 (splitOf (now (m .entry)) parts (now (owners .entry)) (now (st .entry)))) × Holding (now (m .entry)) parts (now (owners .entry)) (now (st .entry)) (now (held .exit)) ⌝ }
+{
+    mark_reaches(m, st, owners, held);
+    4096 < held_count(held, cell_count(m), parts as usize)
+}
+
 // Prepares the tables for an accepted mesh, map and stencil, in lent space: the number of the first of the tests 12 and 13 that refuses, and 0
 // where none does.
 pub fn sizes_number(
@@ -93,8 +103,7 @@ pub fn sizes_number(
     requires { ⌜ Accepted (now m) × (bad8 (now m) parts (now owners) [] ≡ false) × (bad10 (top (now m)) (now st) ≡ false) × (length (now table) ≡ 32000) × (length (now ends) ≡ 2001) × Blank (now held) ⌝ }
     ensures { λ r. ⌜ (r ≡ sizesNumber (now (m .entry)) parts (now (owners .entry)) (now (st .entry))) × (r ≡ 0 → Prepared (now (m .entry)) parts (now (owners .entry)) (now (st .entry)) (now (table .exit)) (now (ends .exit)) (now (held .exit))) ⌝ }
 {
-    mark_reaches(m, st, owners, held);
-    if 4096 < held_count(held, cell_count(m), parts as usize) {
+    if bad_holdings(m, parts, owners, st, held) {
         return 12;
     }
     if 8000 < reach_table(m, st, table, ends) {
