@@ -9,3 +9,4 @@ pub mod AdvanceLaws
 pub mod PutLaws
 pub mod StartCounts
 pub mod StartWords
+pub mod StartLists

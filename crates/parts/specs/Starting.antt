@@ -7,6 +7,7 @@ use lib.ListN.{length, getD, take}
 use Rattle.vocabulary.specs.Bytes.{Bytes, over}
 use Rattle.vocabulary.specs.Ranges.{listed, blocks, total}
 use Rattle.layout.specs.Words.{wordAt, bytesOf}
+use Rattle.layout.specs.Depths.{four}
 use Rattle.split.specs.Split.{localOf}
 use Rattle.split.specs.Sorting.{cellsOf}
 
@@ -92,3 +93,26 @@ pub record Row (table : Bytes) (ends : List ℕ) (first : ℕ) (order : List ℕ
 
 pub record Rows (table : Bytes) (ends : List ℕ) (first : ℕ) (order : List ℕ) (owned : ℕ) : Type 0 where
   pub each : (l : ℕ) → 1 ≤ l → l ≤ owned → Row table ends first order l
+
+-- what the lists of a part keep to, so that every one of their words is a word
+pub record Fit (owners table : Bytes) (ends : List ℕ) (held : Bytes) (i first cells : ℕ) (order : List ℕ) (n owned : ℕ) : Type 0 where
+  pub part : i < 65536
+  pub first-small : first < 65536
+  pub cells-fit : first + cells ≤ 65536
+  pub cells-few : cells ≤ 2000
+  pub order-few : n ≤ 2000
+  pub order-there : n ≤ length order
+  pub owned-few : owned ≤ n
+  pub got : Counted 0 owners table ends held i first cells order owned 16
+  pub sent : Counted 1 owners table ends held i first cells order 0 16
+  pub reached : Counted 2 owners table ends held i first cells order 0 owned
+  pub near : Rows table ends first order owned
+  pub long : 46 + n + owned + 2 * rowEnds table ends first order owned + sentEnds owners table ends held i first cells 16 < 65536
+
+-- the depth of local cell l in a field
+unfoldable pub startDepth : Bytes → ℕ → List ℕ → ℕ → Bytes
+startDepth f first order l = four f (4 * (getD order (l - 1) 0 - first))
+
+-- the held cells are cells of the field
+pub record Cells (f : Bytes) (first : ℕ) (order : List ℕ) (n : ℕ) : Type 0 where
+  pub each : (l : ℕ) → 1 ≤ l → l ≤ n → (first ≤ getD order (l - 1) 0) × (4 * (getD order (l - 1) 0 - first) + 4 ≤ length f)

@@ -1,5 +1,6 @@
 // The lists of a part as the words of its state, from the owners, the table of the reaches with its ends, the matrix of the held cells, and the
 // part's local order.
+use layout::inner::copy;
 use layout::inner::put_word;
 use layout::number_at;
 use layout::word_at;
@@ -10,11 +11,12 @@ ghost use mathlib.Core.Path.{_≡_};
 ghost use mathlib.Core.List.{[], _∷_, _++_, map};
 ghost use Prim.Native.Nat.{ℕ, _+_, _-_, _*_, _<_, _≤_};
 ghost use lib.ListN.{length, getD, take};
+ghost use Rattle.vocabulary.specs.Bytes.{over};
 ghost use Rattle.vocabulary.specs.Ranges.{listed, blocks};
 ghost use Rattle.layout.specs.Words.{wordAt};
 ghost use Rattle.split.specs.Split.{localOf};
 ghost use Rattle.split.specs.Sorting.{cellsOf};
-ghost use Rattle.parts.specs.Starting.{Put, placeAt, rowSize, partCount, endsOf, Counted, Before, entryWords, rowEnds, rowWords, sentEnds, sentWords, Row, Rows};
+ghost use Rattle.parts.specs.Starting.{Put, placeAt, rowSize, partCount, endsOf, Counted, Before, entryWords, rowEnds, rowWords, sentEnds, sentWords, Row, Rows, Fit, startWords, startDepth, Cells};
 
 // Writes w as word s, and gives how many words there are then.
 fn put_one(b: &mut [u8], s: usize, w: usize) -> usize
@@ -379,4 +381,71 @@ fn put_entries(
     put_sent(
         b, w, owners, table, ends, held, i, first, cells, order, n, list,
     )
+}
+
+// How many words the lists have.
+fn lists_length(
+    owners: &[u8],
+    table: &[u8],
+    ends: &[u16],
+    held: &[u8],
+    i: usize,
+    first: usize,
+    cells: usize,
+    order: &[u16],
+    n: usize,
+    owned: usize,
+) -> usize
+    requires { ⌜ Fit (now owners) (now table) (now ends) (now held) i first cells (now order) n owned ⌝ }
+    ensures { λ r. ⌜ (r ≡ 46 + n + owned + 2 * rowEnds (now (table .entry)) (now (ends .entry)) first (now (order .entry)) owned + sentEnds (now (owners .entry)) (now (table .entry)) (now (ends .entry)) (now (held .entry)) i first cells 16) × (r < 65536) ⌝ }
+{
+    let reached = last_end(
+        2, owners, table, ends, held, i, first, cells, order, 0, owned,
+    );
+    let sent = last_end(
+        1, owners, table, ends, held, i, first, cells, order, 0, 16,
+    );
+    46 + n + owned + 2 * reached + sent
+}
+
+// Writes the lists, which are `long` words.
+fn put_lists(
+    b: &mut [u8],
+    long: usize,
+    steps: usize,
+    kind: usize,
+    v: &[u8],
+    owners: &[u8],
+    table: &[u8],
+    ends: &[u16],
+    held: &[u8],
+    i: usize,
+    first: usize,
+    cells: usize,
+    order: &[u16],
+    n: usize,
+    owned: usize,
+    list: &mut [u16],
+) -> usize
+    requires { ⌜ Fit (now owners) (now table) (now ends) (now held) i first cells (now order) n owned × (long ≡ 46 + n + owned + 2 * rowEnds (now table) (now ends) first (now order) owned + sentEnds (now owners) (now table) (now ends) (now held) i first cells 16) × (2 * long ≤ length (now b)) × (steps < 65536) × (kind < 65536) × (length (now list) ≡ 2000) ⌝ }
+    ensures { λ t. ⌜ Put (now (b .entry)) (now (b .exit)) 0 t (startWords (now (owners .entry)) (now (table .entry)) (now (ends .entry)) (now (held .entry)) i first cells (now (order .entry)) n owned steps kind (now (v .entry))) ⌝ }
+{
+    let s = put_head(b, long, i, steps, kind, v, first, cells);
+    let t = put_borders(
+        b, s, owners, table, ends, held, i, first, cells, order, owned,
+    );
+    put_entries(
+        b, t, owners, table, ends, held, i, first, cells, order, n, owned, list,
+    )
+}
+
+// Copies the depths of the held cells out of a field.
+fn put_cells(b: &mut [u8], at: usize, f: &[u8], first: usize, order: &[u16], n: usize)
+    requires { ⌜ (at + 4 * n ≤ length (now b)) × (at < 1000000) × (n < 65535) × Cells (now f) first (now order) n ⌝ }
+    ensures { λ _. ⌜ now (b .exit) ≡ over (now (b .entry)) at (blocks 1 n (startDepth (now (f .entry)) first (now (order .entry)))) ⌝ }
+{
+    for l in 1..n + 1 {
+        let q = number_at(order, l - 1) as usize - first;
+        copy(b, at + 4 * (l - 1), f, 4 * q, 4);
+    }
 }
