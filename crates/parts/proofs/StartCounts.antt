@@ -153,7 +153,7 @@ pub row-count : (a b : Bytes) (u w from t s : ℕ) (table : Bytes) (first : ℕ)
 row-count a b u w from t s table first order n P e h = omega (arith, P .count, entry-two table first order n t)
 
 module _ (table : Bytes) (ends : List ℕ) (first : ℕ) (order : List ℕ) (n owned : ℕ) where
-  rows-long : length (blocks 1 owned (rowWords table ends first order n)) ≡ 2 * rowEnds table ends first order owned
+  pub rows-long : length (blocks 1 owned (rowWords table ends first order n)) ≡ 2 * rowEnds table ends first order owned
   unfolding rowEnds
   rows-long = blocks-length 1 (rowWords table ends first order n) owned ∙ total-double 1 owned (λ l. length (rowWords table ends first order n l)) (rowSize table ends first order) (row-length table ends first order n)
 
@@ -207,7 +207,7 @@ module _ (owners table : Bytes) (ends : List ℕ) (held : Bytes) (i first cells 
   unfolding sentWords
   sent-long j = length-map (cellsOf owners table ends held j first cells i) (localOf (take n order))
 
-  all-long : length (blocks 1 16 (sentWords owners table ends held i first cells order n)) ≡ sentEnds owners table ends held i first cells 16
+  pub all-long : length (blocks 1 16 (sentWords owners table ends held i first cells order n)) ≡ sentEnds owners table ends held i first cells 16
   unfolding sentEnds
   all-long = blocks-length 1 (sentWords owners table ends held i first cells order n) 16 ∙ total-cong 1 _ _ 16 (λ k h. sent-long (1 + k))
 

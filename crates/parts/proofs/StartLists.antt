@@ -5,6 +5,7 @@ use Prim.Native.Nat.{ℕ, zero, suc, _+_, _-_, _*_, _≤_, _<_}
 use native.Mathlib.Nat.{zero-add}
 use native.Mathlib.Omega.{arith}
 use lib.ListN.{length, getD, take, drop, length-append}
+use lib.Seq.{length-take-le}
 use Rattle.vocabulary.specs.Bytes.{Bytes, over}
 use Rattle.vocabulary.specs.ByteLaws.{over-none}
 use Rattle.vocabulary.specs.Ranges.{listed, blocks, total}
@@ -15,6 +16,7 @@ use Rattle.layout.specs.DepthLaws.{length-four, fours-store}
 use Rattle.parts.specs.Starting.{Put, gotEnds, sentEnds, sentWords, rowSize, rowEnds, rowWords, startWords, partCount, endsOf, Counted, Fit, startDepth, Cells}
 use Rattle.parts.proofs.OpenedLaws.{four-cut}
 use Rattle.parts.proofs.PutLaws.{put-as, put-both, put-length}
+use Rattle.parts.proofs.StartCounts.{rows-long, all-long}
 
 module _ (owners table : Bytes) (ends : List ℕ) (held : Bytes) (i first cells : ℕ) (order : List ℕ) where
   -- the three tables of ends
@@ -54,6 +56,33 @@ module _ (owners table : Bytes) (ends : List ℕ) (held : Bytes) (i first cells 
 
         tail-is : (ws fs gs ss rs : List ℕ) → (ws ++ fs) ++ ((gs ++ ss) ++ rs) ≡ ws ++ (fs ++ (gs ++ (ss ++ rs)))
         tail-is ws fs gs ss rs = append-assoc ws fs ((gs ++ ss) ++ rs) ∙ ap (λ x. ws ++ (fs ++ x)) (append-assoc gs ss rs)
+
+    pub words-long : n ≤ length order → length (startWords owners table ends held i first cells order n owned steps kind v) ≡ long
+    unfolding startWords
+    words-long h =
+        let H = blocks 1 owned (rowWords table ends first order n) in
+        let I = blocks 1 16 (sentWords owners table ends held i first cells order n) in
+        let G = listed 0 (owned + 1) (rowEnds table ends first order) in
+        let E = listed 0 17 (sentEnds owners table ends held i first cells) in
+        let D = listed 0 17 (gotEnds owners table ends held i first cells owned) in
+        let W = listed 0 5 (wordAt v) in
+        omega (
+          arith,
+          le,
+          length-append W ((first ∷ cells ∷ []) ++ (D ++ (E ++ (take n order ++ (G ++ (H ++ I)))))),
+          length-append D (E ++ (take n order ++ (G ++ (H ++ I)))),
+          length-append E (take n order ++ (G ++ (H ++ I))),
+          length-append (take n order) (G ++ (H ++ I)),
+          length-append G (H ++ I),
+          length-append H I,
+          listed-length 0 (wordAt v) 5,
+          listed-length 0 (gotEnds owners table ends held i first cells owned) 17,
+          listed-length 0 (sentEnds owners table ends held i first cells) 17,
+          listed-length 0 (rowEnds table ends first order) (owned + 1),
+          length-take-le n order h,
+          rows-long table ends first order n owned,
+          all-long owners table ends held i first cells order n,
+        )
 
     pub head-count : (a b : Bytes) (t : ℕ) → Put a b 0 t ((long ∷ i ∷ steps ∷ kind ∷ []) ++ (listed 0 5 (wordAt v) ++ (first ∷ cells ∷ []))) → t ≡ 11
     head-count a b t P = omega (arith, P .count, length-append (listed 0 5 (wordAt v)) (first ∷ cells ∷ []), listed-length 0 (wordAt v) 5)

@@ -230,7 +230,7 @@ module _ (m : Bytes) (parts : ℕ) (owners st table : Bytes) (ends : List ℕ) (
       pub own-few : own ≤ n
       own-few = omega (arith, order-length S i)
 
-      cell-at : (k : ℕ) → k < n → (firstCell m ≤ getD order k 0) × (getD order k 0 < firstCell m + cellCount m)
+      pub cell-at : (k : ℕ) → k < n → (firstCell m ≤ getD order k 0) × (getD order k 0 < firstCell m + cellCount m)
       unfolding splitOf
       cell-at k h =
           subst (λ c. (firstCell m ≤ c) × (c < firstCell m + cellCount m)) (sym (order-at k h))

@@ -8,8 +8,10 @@ use Rattle.vocabulary.specs.Bytes.{Bytes, over}
 use Rattle.vocabulary.specs.Ranges.{listed, blocks, total}
 use Rattle.layout.specs.Words.{wordAt, bytesOf}
 use Rattle.layout.specs.Depths.{four}
-use Rattle.split.specs.Split.{localOf}
+use Rattle.mesh.specs.Mesh.{firstCell, cellCount}
+use Rattle.split.specs.Split.{splitOf, locals, localOf}
 use Rattle.split.specs.Sorting.{cellsOf}
+use Rattle.parts.specs.Start.{ownedIn}
 
 module _ (owners table : Bytes) (ends : List ℕ) (held : Bytes) (i first cells : ℕ) where
   -- what part i imports from j, and exports to j
@@ -116,3 +118,11 @@ startDepth f first order l = four f (4 * (getD order (l - 1) 0 - first))
 -- the held cells are cells of the field
 pub record Cells (f : Bytes) (first : ℕ) (order : List ℕ) (n : ℕ) : Type 0 where
   pub each : (l : ℕ) → 1 ≤ l → l ≤ n → (first ≤ getD order (l - 1) 0) × (4 * (getD order (l - 1) 0 - first) + 4 ≤ length f)
+
+-- the plan of part i: its local order, how many cells it holds and owns, and how long its lists are
+pub record Planned (m : Bytes) (parts : ℕ) (owners : Bytes) (i : ℕ) (st table : Bytes) (ends : List ℕ) (held : Bytes) (order : List ℕ) (n owned long : ℕ) : Type 0 where
+  pub order-is : take n order ≡ locals (splitOf m parts owners st) i
+  pub held-is : n ≡ length (locals (splitOf m parts owners st) i)
+  pub owned-is : owned ≡ ownedIn (splitOf m parts owners st) i
+  pub fit : Fit owners table ends held i (firstCell m) (cellCount m) order n owned
+  pub long-is : long ≡ 46 + n + owned + 2 * rowEnds table ends (firstCell m) order owned + sentEnds owners table ends held i (firstCell m) (cellCount m) 16

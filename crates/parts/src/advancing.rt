@@ -113,7 +113,7 @@ fn renew_by(lists: &[u8], b: &[u8], d: usize, owned: usize, new: &mut [u8])
 }
 
 // Clears n bytes from `at` on.
-fn clear(b: &mut [u8], at: usize, n: usize)
+pub fn clear(b: &mut [u8], at: usize, n: usize)
     requires { ⌜ at + n ≤ length (now b) ⌝ }
     ensures { λ _. ⌜ now (b .exit) ≡ over (now (b .entry)) at (replicate n 0) ⌝ }
 {

@@ -1,5 +1,6 @@
 // Part states, the five calls and runs: their definitions stand in specs/.
 mod advancing;
+mod beginning;
 mod collecting;
 mod lists;
 mod starting;

@@ -52,7 +52,7 @@ fn put_weights(b: &mut [u8], s: usize, v: &[u8], n: usize) -> usize
 }
 
 // How many cells part i imports from j.
-fn got_count(
+pub fn got_count(
     owners: &[u8],
     table: &[u8],
     ends: &[u16],
@@ -384,7 +384,7 @@ fn put_entries(
 }
 
 // How many words the lists have.
-fn lists_length(
+pub fn lists_length(
     owners: &[u8],
     table: &[u8],
     ends: &[u16],
@@ -409,7 +409,7 @@ fn lists_length(
 }
 
 // Writes the lists, which are `long` words.
-fn put_lists(
+pub fn put_lists(
     b: &mut [u8],
     long: usize,
     steps: usize,
@@ -440,7 +440,7 @@ fn put_lists(
 }
 
 // Copies the depths of the held cells out of a field.
-fn put_cells(b: &mut [u8], at: usize, f: &[u8], first: usize, order: &[u16], n: usize)
+pub fn put_cells(b: &mut [u8], at: usize, f: &[u8], first: usize, order: &[u16], n: usize)
     requires { ⌜ (at + 4 * n ≤ length (now b)) × (at < 1000000) × (n < 65535) × Cells (now f) first (now order) n ⌝ }
     ensures { λ _. ⌜ now (b .exit) ≡ over (now (b .entry)) at (blocks 1 n (startDepth (now (f .entry)) first (now (order .entry)))) ⌝ }
 {
