@@ -1,18 +1,16 @@
 -- Advance, by the tests and the loops of the code. Assumes nothing.
 use mathlib.Core.Path.{_≡_, refl, sym, ap, ap₂, _∙_}
-use mathlib.Core.Bool.{Bool, true, false, not, _&&_, _||_, cond}
-use mathlib.Core.List.{List, [], _∷_, _++_, map}
-use Prim.Native.Nat.{ℕ, zero, suc, _+_, _-_, _*_, _≤_, _<_}
-use native.Mathlib.Nat.{zero-add}
-use native.Mathlib.Numerals.{add-one}
+use mathlib.Core.Bool.{Bool, true, false, not, _&&_, _||_}
+use mathlib.Core.List.{_++_}
+use Prim.Native.Nat.{ℕ, _+_, _-_, _*_, _≤_, _<_}
 use native.Mathlib.Omega.{arith}
-use lib.Dec.{eqb, ltb, leb}
-use lib.ListN.{length, getD, set, take, drop, replicate, length-replicate, replicate-append-replicate}
+use lib.Dec.{eqb, ltb}
+use lib.ListN.{length, set, take, drop, replicate, length-replicate, replicate-append-replicate}
 use lib.Seq.{length-take-le, take-at}
-use borrow.Author.Tests.{eq-eqb, ne-eqb, lt-ltb, le-ltb, le-leb, lt-leb, not-true, not-false, eqb-true}
+use borrow.Author.Tests.{ne-eqb, lt-ltb, le-ltb, le-leb, lt-leb, not-true, not-false}
 use Rattle.vocabulary.specs.Bytes.{Bytes, byteAt, over}
 use Rattle.vocabulary.specs.ByteLaws.{over-none, over-length, over-more, over-byte, over-front}
-use Rattle.vocabulary.specs.Ranges.{isUpTo, every, listed, blocks}
+use Rattle.vocabulary.specs.Ranges.{every, listed, blocks}
 use Rattle.vocabulary.specs.RangeLaws.{every-cong, upTo-intro, listed-length}
 use Rattle.layout.specs.Words.{word, wordAt, wordBytes}
 use Rattle.layout.specs.WordLaws.{length-wordBytes}
@@ -21,7 +19,7 @@ use Rattle.layout.specs.Answers.{answer}
 use Rattle.layout.specs.AnswerLaws.{answer-done, answer-refused}
 use Rattle.layout.specs.declared.Answer.{Answer}
 use Rattle.layout.specs.declared.Answer.the-variants.{Done, Refused}
-use Rattle.parts.specs.State.{Lists, listsIn, listsOf, dynamic, ownedCount, isState, bad20, roundAt, takenPlace, writtenPlace, exportEnd, exportAt, localExports}
+use Rattle.parts.specs.State.{Lists, listsIn, listsOf, dynamic, ownedCount, isState, bad20, takenPlace, writtenPlace, exportEnd, exportAt, localExports}
 use Rattle.parts.specs.Calls.{importsFrom, exportsTo, allTaken, allWritten, newAt, advancedIn, advanceTestsIn, advanceNumber, advanceAnswer, advanceState}
 use Rattle.parts.specs.Checks.{Opened, settledAt, advanceRest}
 use Rattle.parts.proofs.OpenedLaws.{whole, own-few, long, good-state, not-state, cut, lists-is}

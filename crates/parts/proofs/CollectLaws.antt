@@ -1,9 +1,8 @@
 -- Collect, by the tests and the loop of the code. Assumes nothing.
 use mathlib.Core.Path.{_≡_, refl, sym, ap, ap₂, _∙_}
-use mathlib.Core.Bool.{Bool, true, false, not, cond}
+use mathlib.Core.Bool.{Bool, true, not}
 use Prim.Native.Nat.{ℕ, suc, _+_, _-_, _*_, _≤_, _<_}
 use native.Mathlib.Omega.{arith}
-use lib.Dec.{eqb}
 use lib.ListN.{length, take, drop}
 use borrow.Author.Tests.{eq-eqb, ne-eqb, lt-ltb, le-ltb}
 use Rattle.vocabulary.specs.Bytes.{Bytes, over}
@@ -13,7 +12,7 @@ use Rattle.layout.specs.Answers.{answer}
 use Rattle.layout.specs.AnswerLaws.{answer-done, answer-refused}
 use Rattle.layout.specs.declared.Answer.{Answer}
 use Rattle.layout.specs.declared.Answer.the-variants.{Done, Refused}
-use Rattle.parts.specs.State.{Lists, listsIn, listsOf, dynamic, roundAt, firstOfMesh, cellsOfMesh, globalAt, ownedCount, heldCount, isState, bad20}
+use Rattle.parts.specs.State.{Lists, listsIn, listsOf, dynamic, roundAt, firstOfMesh, cellsOfMesh, globalAt, ownedCount, isState, bad20}
 use Rattle.parts.specs.Calls.{collectedIn, collectTestsIn, collectNumber, collectAnswer, collectOut}
 use Rattle.parts.specs.Checks.{Opened}
 use Rattle.parts.proofs.OpenedLaws.{lists-is, whole, own-few, long, good-state, not-state, four-cut}

@@ -9,7 +9,7 @@ use lib.ListN.{take, drop}
 use borrow.Author.Tests.{le-leb, lt-leb, eq-eqb, ne-eqb, not-true, not-false}
 use Rattle.vocabulary.specs.Bytes.{Bytes}
 use Rattle.vocabulary.specs.Lists.{someOf}
-use Rattle.vocabulary.specs.ListLaws.{and-left, or-nothing, or-assoc}
+use Rattle.vocabulary.specs.ListLaws.{or-nothing, or-assoc}
 use Rattle.vocabulary.specs.Ranges.{isUpTo, every, some, listed}
 use Rattle.vocabulary.specs.ScanLaws.{some-start-from, some-stop-from, some-turn-from, some-end-from}
 use Rattle.vocabulary.specs.Tests.{allOf}

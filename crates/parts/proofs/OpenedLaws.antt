@@ -1,19 +1,16 @@
 -- What a call knows of an accepted state, its lists cut off at d. Assumes nothing.
 use mathlib.Core.Path.{_≡_, refl, sym, ap, ap₂, _∙_}
 use mathlib.Core.Bool.{Bool, true, false, not}
-use mathlib.Core.List.{[], _∷_}
 use Prim.Native.Nat.{ℕ, _+_, _-_, _*_, _≤_, _<_}
-use native.Mathlib.Nat.{zero-add}
 use native.Mathlib.Omega.{arith}
-use lib.ListN.{length, getD, take, drop}
-use lib.Seq.{length-take-le}
-use borrow.Author.Tests.{not-true, not-false}
+use lib.ListN.{length, take, drop}
+use borrow.Author.Tests.{not-false}
 use Rattle.vocabulary.specs.Bytes.{Bytes}
 use Rattle.vocabulary.specs.Ranges.{blocks}
 use Rattle.layout.specs.Words.{wordAt}
 use Rattle.layout.specs.Depths.{four}
 use Rattle.layout.specs.DepthLaws.{fours-of}
-use Rattle.parts.specs.State.{listsIn, listsOf, dynamic, heldCount, ownedCount, isState, bad20}
+use Rattle.parts.specs.State.{listsIn, listsOf, heldCount, ownedCount, isState, bad20}
 use Rattle.parts.specs.StateLaws.{Whole, isStateAt, state-at, whole-is}
 use Rattle.parts.specs.Checks.{Opened}
 

@@ -1,8 +1,8 @@
 -- The new depths of a part's owned cells, from the lists of its state. Assumes nothing.
 use mathlib.Core.Path.{_≡_, refl, sym, ap, ap₂, _∙_, subst}
-use mathlib.Core.Bool.{Bool, true, false, _&&_}
-use mathlib.Core.List.{List, [], _∷_, _++_, map}
-use Prim.Native.Nat.{ℕ, zero, suc, _+_, _-_, _*_, _/_, _≤_, _<_}
+use mathlib.Core.Bool.{true, false, _&&_}
+use mathlib.Core.List.{[], _∷_, _++_, map}
+use Prim.Native.Nat.{ℕ, zero, suc, _+_, _-_, _*_, _≤_, _<_}
 use native.Mathlib.Nat.{zero-add}
 use native.Mathlib.Omega.{arith}
 use lib.Dec.{eqb}
@@ -21,9 +21,9 @@ use Rattle.vocabulary.specs.RangeLaws.{listed-map, listed-length, listed-at, bl
 use Rattle.layout.specs.Words.{word, wordAt}
 use Rattle.layout.specs.Depths.{four, depthFrom, depthBytes}
 use Rattle.layout.specs.DepthLaws.{length-four, fours-store, ranged-size}
-use Rattle.round.specs.Rules.{Old, newDepth, weightSum, bad11, weightCount}
+use Rattle.round.specs.Rules.{Old, newDepth, bad11, weightCount}
 use Rattle.round.specs.RuleLaws.{rule-light, rule-first, new-length}
-use Rattle.round.specs.Update.{entries, oldsAt, Reached, Weighed, Ready}
+use Rattle.round.specs.Update.{entries, oldsAt, Ready}
 use Rattle.round.specs.Update as update
 use Rattle.round.specs.UpdateLaws.{weightSum-own}
 use Rattle.round.proofs.Registers.{depth-held}

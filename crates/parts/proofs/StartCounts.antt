@@ -8,7 +8,7 @@ use lib.ListN.{length, getD, take, length-map}
 use lib.Seq.{take-suc}
 use Rattle.vocabulary.specs.ListLaws.{map-append}
 use Rattle.vocabulary.specs.Bytes.{Bytes}
-use Rattle.vocabulary.specs.Ranges.{listed, blocks, total}
+use Rattle.vocabulary.specs.Ranges.{blocks, total}
 use Rattle.vocabulary.specs.RangeLaws.{total-grows, total-cong, blocks-turn, blocks-length, rows-length}
 use Rattle.vocabulary.specs.CountLaws.{total-double}
 use Rattle.layout.specs.Words.{wordAt}

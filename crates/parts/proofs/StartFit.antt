@@ -1,8 +1,8 @@
 -- The lists of a part of an accepted mesh, map and stencil keep to their bounds. Assumes nothing.
-use mathlib.Core.Path.{_≡_, refl, sym, ap, _∙_}
+use mathlib.Core.Path.{_≡_}
 use mathlib.Core.Bool.{false}
 use mathlib.Core.List.{List}
-use Prim.Native.Nat.{ℕ, _+_, _-_, _*_, _≤_, _<_}
+use Prim.Native.Nat.{ℕ, _+_, _-_, _≤_}
 use native.Mathlib.Omega.{arith}
 use lib.ListN.{length, getD, take}
 use Rattle.vocabulary.specs.Bytes.{Bytes}
@@ -14,7 +14,7 @@ use Rattle.split.specs.Split.{splitOf, locals}
 use Rattle.split.specs.Lists.{bad12}
 use Rattle.split.specs.Sorting.{Prepared}
 use Rattle.parts.specs.Start.{ownedIn}
-use Rattle.parts.specs.Starting.{placeAt, Row, Rows, Counted, Fit, Cells}
+use Rattle.parts.specs.Starting.{Fit, Cells}
 use Rattle.parts.proofs.StartLists.{got-is, sent-is, reached-is}
 use Rattle.parts.proofs.StartWords.{got-all, sent-few, ends-few, long-few, order-few, own-few, order-low, cell-at, entry-high}
 

@@ -1,19 +1,19 @@
 -- The lists of a part's state, put together from their pieces, and the depths behind them. Assumes nothing.
 use mathlib.Core.Path.{_≡_, refl, sym, ap, ap₂, _∙_}
 use mathlib.Core.List.{List, [], _∷_, _++_, append-assoc}
-use Prim.Native.Nat.{ℕ, zero, suc, _+_, _-_, _*_, _≤_, _<_}
+use Prim.Native.Nat.{ℕ, _+_, _-_, _*_, _≤_, _<_}
 use native.Mathlib.Nat.{zero-add}
 use native.Mathlib.Omega.{arith}
 use lib.ListN.{length, getD, take, drop, length-append}
 use lib.Seq.{length-take-le}
 use Rattle.vocabulary.specs.Bytes.{Bytes, over}
 use Rattle.vocabulary.specs.ByteLaws.{over-none}
-use Rattle.vocabulary.specs.Ranges.{listed, blocks, total}
-use Rattle.vocabulary.specs.RangeLaws.{listed-cong, listed-length, total-cong, blocks-start}
+use Rattle.vocabulary.specs.Ranges.{listed, blocks}
+use Rattle.vocabulary.specs.RangeLaws.{listed-cong, listed-length, blocks-start}
 use Rattle.layout.specs.Words.{wordAt}
 use Rattle.layout.specs.Depths.{four}
 use Rattle.layout.specs.DepthLaws.{length-four, fours-store}
-use Rattle.parts.specs.Starting.{Put, gotEnds, sentEnds, sentWords, rowSize, rowEnds, rowWords, startWords, partCount, endsOf, Counted, Fit, startDepth, Cells}
+use Rattle.parts.specs.Starting.{Put, gotEnds, sentEnds, sentWords, rowEnds, rowWords, startWords, partCount, endsOf, Fit, startDepth, Cells}
 use Rattle.parts.proofs.OpenedLaws.{four-cut}
 use Rattle.parts.proofs.PutLaws.{put-as, put-both, put-length}
 use Rattle.parts.proofs.StartCounts.{rows-long, all-long}

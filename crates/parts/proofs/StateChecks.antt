@@ -1,5 +1,5 @@
 -- What the test of a state answers, by the tests that the code makes one after the other. Assumes nothing.
-use mathlib.Core.Path.{_≡_, refl, sym, ap, ap₂, _∙_}
+use mathlib.Core.Path.{_≡_, sym, ap, ap₂, _∙_}
 use mathlib.Core.Bool.{Bool, true, false, not, _&&_}
 use Prim.Native.Nat.{ℕ, _+_, _-_, _*_, _≤_, _<_}
 use native.Mathlib.Omega.{arith}
@@ -12,7 +12,7 @@ use Rattle.vocabulary.specs.Ranges.{every}
 use Rattle.vocabulary.specs.Tests.{allOf}
 use Rattle.layout.specs.Words.{word, wordAt}
 use Rattle.layout.specs.Depths.{rangedAt}
-use Rattle.parts.specs.State.{dynamic, heldCount, ownedCount, reachCount, exportCount, listsLength, listsTests, dynamicTests, flagsFine, isState}
+use Rattle.parts.specs.State.{heldCount, listsLength, listsTests, dynamicTests, flagsFine, isState}
 use Rattle.parts.specs.StateLaws.{isStateAt, state-at}
 use Rattle.parts.specs.Checks.{Counts}
 use Rattle.parts.proofs.ListChecks.{and-all}

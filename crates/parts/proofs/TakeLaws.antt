@@ -1,13 +1,13 @@
 -- Take, by the tests that the code makes one after the other. Assumes nothing.
 use mathlib.Core.Path.{_≡_, refl, sym, ap, ap₂, _∙_}
 use mathlib.Core.List.{[], _∷_}
-use mathlib.Core.Bool.{Bool, true, false, not, _&&_, _||_, cond}
+use mathlib.Core.Bool.{Bool, true, false, not, _&&_, _||_}
 use Prim.Native.Nat.{ℕ, _+_, _-_, _*_, _≤_, _<_}
 use native.Mathlib.Omega.{arith}
 use lib.Dec.{eqb, ltb}
 use lib.ListN.{length, set, take, drop, length-drop}
 use lib.Seq.{take-all}
-use borrow.Author.Tests.{eq-eqb, ne-eqb, lt-ltb, le-ltb, not-true, not-false, eqb-true}
+use borrow.Author.Tests.{eq-eqb, ne-eqb, lt-ltb, le-ltb, not-true, not-false}
 use Rattle.vocabulary.specs.Bytes.{Bytes, byteAt, over}
 use Rattle.vocabulary.specs.ListLaws.{and-true, or-false}
 use Rattle.vocabulary.specs.Tests.{firstOf}
@@ -29,7 +29,7 @@ use Rattle.messages.specs.declared.Reading.the-variants.{Message}
 use Rattle.messages.specs.declared.Reading.the-variants as reading
 use Rattle.messages.proofs.Else.{else-bad, else-number}
 use Rattle.messages.proofs.Reading as K
-use Rattle.parts.specs.State.{Lists, listsIn, listsOf, dynamic, heldCount, isState, bad20, roundAt, takenPlace, depthPlace}
+use Rattle.parts.specs.State.{Lists, listsIn, listsOf, dynamic, heldCount, isState, bad20}
 use Rattle.parts.specs.Calls.{importsFrom, takeTestsIn, takenIn, takeNumber, takeAnswer, takeState}
 use Rattle.parts.specs.RunLaws.{Room, room-of, Taken, taken-facts}
 use Rattle.parts.specs.Checks.{Opened, wrongSender, takeRest}

@@ -12,7 +12,7 @@ use Rattle.vocabulary.specs.Tests.{refuse, firstOf}
 use Rattle.layout.specs.Words.{wordAt}
 use Rattle.layout.specs.Depths.{four}
 use Rattle.round.specs.Rules.{bad11}
-use Rattle.parts.specs.State.{Lists, roundAt, takenPlace, depthPlace, exportAt, partNumber, stepCount, ruleKind, weights, importEnd, ownedCount, heldCount, exportEnd, exportCount, reachEnd, reachCount, LocalNear, entryAt, localReach, dynamic, isState, globalFine, entryFine, ownFound, exportFine, rises}
+use Rattle.parts.specs.State.{Lists, roundAt, takenPlace, depthPlace, exportAt, partNumber, stepCount, ruleKind, weights, importEnd, ownedCount, heldCount, exportEnd, exportCount, reachEnd, reachCount, entryAt, dynamic, isState, globalFine, entryFine, ownFound, exportFine, rises}
 use Rattle.parts.specs.Calls.{importsFrom, allTaken, allWritten}
 
 -- the lists b in three groups

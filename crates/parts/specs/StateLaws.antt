@@ -20,7 +20,7 @@ use Rattle.layout.specs.Words.{wordAt}
 use Rattle.layout.specs.WordLaws.{word-same}
 use Rattle.layout.specs.Depths.{rangedAt}
 use Rattle.round.specs.Rules.{bad11}
-use Rattle.parts.specs.State.{LocalNear, stepCount, ruleKind, weights, firstOfMesh, cellsOfMesh, globalAt, exportEnd, exportCount, exportAt, globalFine, entryFine, ownFound, exportFine, reachEnd, reachCount, entryAt, localReach, dynamic, importEnd, ownedCount, heldCount, rises, listsLength, listsTests, dynamicTests, isState, roundAt, takenPlace, writtenPlace, stateLength}
+use Rattle.parts.specs.State.{stepCount, ruleKind, weights, firstOfMesh, cellsOfMesh, globalAt, exportEnd, exportCount, exportAt, globalFine, entryFine, ownFound, exportFine, reachEnd, reachCount, entryAt, localReach, dynamic, importEnd, ownedCount, heldCount, rises, listsLength, listsTests, dynamicTests, isState, roundAt, takenPlace, writtenPlace, stateLength}
 
 -- a table of ends that never falls
 pub rises-grow : (n : ℕ) (end : ℕ → ℕ) → rises n end ≡ true → (i j : ℕ) → i ≤ j → j ≤ n → end i ≤ end j

@@ -5,7 +5,7 @@ use layout::inner::copy;
 use layout::inner::word_in;
 use layout::word_at;
 ghost use mathlib.Core.Path.{_≡_};
-ghost use Prim.Native.Nat.{ℕ, _*_, _<_, _≤_};
+ghost use Prim.Native.Nat.{_*_, _<_, _≤_};
 ghost use lib.ListN.{length};
 ghost use Rattle.parts.specs.State.{listsIn, firstOfMesh, cellsOfMesh, ownedCount};
 ghost use Rattle.parts.specs.Checks.{Opened};

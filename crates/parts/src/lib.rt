@@ -9,6 +9,8 @@ mod taking;
 mod writing;
 
 pub use advancing::advance;
+pub use beginning::start;
+pub use beginning::state_size;
 pub use collecting::collect;
 pub use state::is_state;
 pub use taking::take;

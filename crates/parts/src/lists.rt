@@ -3,14 +3,14 @@ use layout::word_at;
 use round::bad_rule;
 ghost use mathlib.Core.Path.{_≡_};
 ghost use mathlib.Core.Bool.{not};
-ghost use Prim.Native.Nat.{ℕ, _+_, _-_, _*_, _<_, _≤_};
+ghost use Prim.Native.Nat.{_+_, _-_, _*_, _<_, _≤_};
 ghost use lib.Dec.{leb};
 ghost use lib.ListN.{length, take, drop};
 ghost use Rattle.vocabulary.specs.Ranges.{isUpTo, every};
 ghost use Rattle.vocabulary.specs.Tests.{allOf};
 ghost use Rattle.layout.specs.Words.{wordAt};
 ghost use Rattle.round.specs.Rules.{weightCount, bad11};
-ghost use Rattle.parts.specs.State.{globalFine, entryFine, ownFound, exportFine, listsTests, listsLength};
+ghost use Rattle.parts.specs.State.{globalFine, entryFine, ownFound, exportFine, listsTests};
 ghost use Rattle.parts.specs.Checks.{Counts, fineAt, ownEntry, headTests, endTests, entryTests};
 
 // Whether x is a number from 1 to n.

@@ -9,14 +9,14 @@ use split::inner::add_cells;
 use split::inner::to_local;
 ghost use mathlib.Core.Path.{_≡_};
 ghost use mathlib.Core.List.{[], _∷_, _++_, map};
-ghost use Prim.Native.Nat.{ℕ, _+_, _-_, _*_, _<_, _≤_};
+ghost use Prim.Native.Nat.{_+_, _-_, _*_, _<_, _≤_};
 ghost use lib.ListN.{length, getD, take};
 ghost use Rattle.vocabulary.specs.Bytes.{over};
 ghost use Rattle.vocabulary.specs.Ranges.{listed, blocks};
 ghost use Rattle.layout.specs.Words.{wordAt};
 ghost use Rattle.split.specs.Split.{localOf};
 ghost use Rattle.split.specs.Sorting.{cellsOf};
-ghost use Rattle.parts.specs.Starting.{Put, placeAt, rowSize, partCount, endsOf, Counted, Before, entryWords, rowEnds, rowWords, sentEnds, sentWords, Row, Rows, Fit, startWords, startDepth, Cells};
+ghost use Rattle.parts.specs.Starting.{Put, rowSize, partCount, endsOf, Counted, Before, entryWords, rowEnds, rowWords, sentEnds, sentWords, Row, Rows, Fit, startWords, startDepth, Cells};
 
 // Writes w as word s, and gives how many words there are then.
 fn put_one(b: &mut [u8], s: usize, w: usize) -> usize
@@ -66,9 +66,7 @@ pub fn got_count(
     ensures { λ n. ⌜ (n ≡ length (cellsOf (now (owners .entry)) (now (table .entry)) (now (ends .entry)) (now (held .entry)) i first cells j)) × (n ≤ 2000) ⌝ }
 {
     let mut list = [0u16; 2000];
-    add_cells(
-        owners, table, ends, held, i, first, cells, j, &mut list, 0,
-    )
+    add_cells(owners, table, ends, held, i, first, cells, j, &mut list, 0)
 }
 
 // How many entries the reach of local cell l has.
@@ -126,9 +124,7 @@ fn next_end(
     if k == 0 {
         return base;
     }
-    let x = part_count(
-        which, owners, table, ends, held, i, first, cells, order, k,
-    );
+    let x = part_count(which, owners, table, ends, held, i, first, cells, order, k);
     e + x
 }
 
@@ -155,7 +151,18 @@ fn put_ends(
     let mut t = s;
     for k in 0..n + 1 {
         e = next_end(
-            which, owners, table, ends, held, i, first, cells, order, base, e, k,
+            which,
+            owners,
+            table,
+            ends,
+            held,
+            i,
+            first,
+            cells,
+            order,
+            base,
+            e,
+            k,
         );
         t = put_one(b, t, e);
     }
@@ -182,14 +189,33 @@ fn last_end(
     let mut e = 0;
     for k in 0..n + 1 {
         e = next_end(
-            which, owners, table, ends, held, i, first, cells, order, base, e, k,
+            which,
+            owners,
+            table,
+            ends,
+            held,
+            i,
+            first,
+            cells,
+            order,
+            base,
+            e,
+            k,
         );
     }
     e
 }
 
 // Writes entry t of the table in local numbers.
-fn put_entry(b: &mut [u8], s: usize, table: &[u8], first: usize, order: &[u16], n: usize, t: usize) -> usize
+fn put_entry(
+    b: &mut [u8],
+    s: usize,
+    table: &[u8],
+    first: usize,
+    order: &[u16],
+    n: usize,
+    t: usize,
+) -> usize
     requires { ⌜ (2 * (s + 2) ≤ length (now b)) × (s < 500000) × (n ≤ length (now order)) × (n < 65535) × (t < 65536) × (first + wordAt (now table) (2 * t) < 65536) ⌝ }
     ensures { λ u. ⌜ Put (now (b .entry)) (now (b .exit)) s u (entryWords (now (table .entry)) first (now (order .entry)) n t) ⌝ }
 {
@@ -300,7 +326,19 @@ fn put_sent(
     let mut u = s;
     for j in 1..17 {
         u = put_sent_to(
-            b, u, owners, table, ends, held, i, first, cells, order, n, j, list,
+            b,
+            u,
+            owners,
+            table,
+            ends,
+            held,
+            i,
+            first,
+            cells,
+            order,
+            n,
+            j,
+            list,
         );
     }
     u
@@ -347,10 +385,34 @@ fn put_borders(
     ensures { λ t. ⌜ Put (now (b .entry)) (now (b .exit)) s t (listed 0 17 (endsOf 0 (now (owners .entry)) (now (table .entry)) (now (ends .entry)) (now (held .entry)) i first cells (now (order .entry)) owned) ++ listed 0 17 (endsOf 1 (now (owners .entry)) (now (table .entry)) (now (ends .entry)) (now (held .entry)) i first cells (now (order .entry)) 0)) ⌝ }
 {
     let t = put_ends(
-        b, s, 0, owners, table, ends, held, i, first, cells, order, owned, 16,
+        b,
+        s,
+        0,
+        owners,
+        table,
+        ends,
+        held,
+        i,
+        first,
+        cells,
+        order,
+        owned,
+        16,
     );
     put_ends(
-        b, t, 1, owners, table, ends, held, i, first, cells, order, 0, 16,
+        b,
+        t,
+        1,
+        owners,
+        table,
+        ends,
+        held,
+        i,
+        first,
+        cells,
+        order,
+        0,
+        16,
     )
 }
 
@@ -375,11 +437,34 @@ fn put_entries(
 {
     let t = put_list(b, s, order, n);
     let u = put_ends(
-        b, t, 2, owners, table, ends, held, i, first, cells, order, 0, owned,
+        b,
+        t,
+        2,
+        owners,
+        table,
+        ends,
+        held,
+        i,
+        first,
+        cells,
+        order,
+        0,
+        owned,
     );
     let w = put_rows(b, u, table, ends, first, order, n, owned);
     put_sent(
-        b, w, owners, table, ends, held, i, first, cells, order, n, list,
+        b,
+        w,
+        owners,
+        table,
+        ends,
+        held,
+        i,
+        first,
+        cells,
+        order,
+        n,
+        list,
     )
 }
 
@@ -400,11 +485,19 @@ pub fn lists_length(
     ensures { λ r. ⌜ (r ≡ 46 + n + owned + 2 * rowEnds (now (table .entry)) (now (ends .entry)) first (now (order .entry)) owned + sentEnds (now (owners .entry)) (now (table .entry)) (now (ends .entry)) (now (held .entry)) i first cells 16) × (r < 65536) ⌝ }
 {
     let reached = last_end(
-        2, owners, table, ends, held, i, first, cells, order, 0, owned,
+        2,
+        owners,
+        table,
+        ends,
+        held,
+        i,
+        first,
+        cells,
+        order,
+        0,
+        owned,
     );
-    let sent = last_end(
-        1, owners, table, ends, held, i, first, cells, order, 0, 16,
-    );
+    let sent = last_end(1, owners, table, ends, held, i, first, cells, order, 0, 16);
     46 + n + owned + 2 * reached + sent
 }
 
@@ -432,10 +525,32 @@ pub fn put_lists(
 {
     let s = put_head(b, long, i, steps, kind, v, first, cells);
     let t = put_borders(
-        b, s, owners, table, ends, held, i, first, cells, order, owned,
+        b,
+        s,
+        owners,
+        table,
+        ends,
+        held,
+        i,
+        first,
+        cells,
+        order,
+        owned,
     );
     put_entries(
-        b, t, owners, table, ends, held, i, first, cells, order, n, owned, list,
+        b,
+        t,
+        owners,
+        table,
+        ends,
+        held,
+        i,
+        first,
+        cells,
+        order,
+        n,
+        owned,
+        list,
     )
 }
 

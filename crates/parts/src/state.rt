@@ -5,7 +5,7 @@ use layout::inner::depths_in_range;
 use layout::inner::word_in;
 use layout::word_at;
 ghost use mathlib.Core.Path.{_≡_};
-ghost use Prim.Native.Nat.{ℕ, _+_, _*_, _<_, _≤_};
+ghost use Prim.Native.Nat.{_+_, _*_, _<_};
 ghost use lib.ListN.{length, set};
 ghost use Rattle.vocabulary.specs.Ranges.{every};
 ghost use Rattle.vocabulary.specs.Tests.{allOf};

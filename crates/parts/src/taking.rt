@@ -13,7 +13,7 @@ use messages::read;
 use messages::refusal_of;
 ghost use mathlib.Core.Path.{_≡_};
 ghost use mathlib.Core.Bool.{false};
-ghost use Prim.Native.Nat.{ℕ, _+_, _*_, _<_, _≤_};
+ghost use Prim.Native.Nat.{_+_, _*_, _<_, _≤_};
 ghost use lib.ListN.{length, set, take, drop};
 ghost use Rattle.vocabulary.specs.Bytes.{over};
 ghost use Rattle.messages.specs.Messages.{bad15, fromIn, toIn, roundIn, countIn};
