@@ -1,0 +1,258 @@
+// The calls under the names that C and Rust link: a slice is a pointer and a length, and each answers its refusal's number times 2^32 plus its
+// count.
+use layout::Answer;
+ghost use mathlib.Core.Path.{_≡_};
+ghost use Rattle.board.specs.Packed.{packed};
+ghost use Rattle.mesh.specs.Mesh.{checkAnswer};
+ghost use Rattle.round.specs.Rounds.{roundAnswer, roundOut};
+ghost use Rattle.split.specs.Lists.{interior-cells, halo-cells, local-order, imports-from, exports-to, private-range, exposed-range, shared-range, copied-range, listAnswer, listOut};
+ghost use Rattle.parts.specs.Start.{sizeAnswer, startAnswer, startState};
+ghost use Rattle.parts.specs.Calls.{writeAnswer, writeState, writeOut, takeAnswer, takeState, advanceAnswer, advanceState, collectAnswer, collectOut};
+
+// An answer as one number.
+fn pack(a: Answer) -> u64
+    ensures { λ r. ⌜ r ≡ packed a ⌝ }
+{
+    match a {
+        Answer::Done(count) => count as u64,
+        Answer::Refused(number) => (number as u64) * 4294967296,
+    }
+}
+
+// How many cells the mesh has.
+#[no_mangle]
+pub extern "C" fn jem_check_mesh(mesh: &[u8]) -> u64
+    ensures { λ r. ⌜ r ≡ packed (checkAnswer (now (mesh .entry))) ⌝ }
+{
+    pack(mesh::check_mesh(mesh))
+}
+
+// One undivided round: the new field at the front of `out`.
+#[no_mangle]
+pub extern "C" fn jem_round(
+    mesh: &[u8],
+    stencil: &[u8],
+    kind: u32,
+    weights: &[u8],
+    field: &[u8],
+    out: &mut [u8],
+) -> u64
+    ensures { λ r. ⌜ (r ≡ packed (roundAnswer (now (mesh .entry)) (now (stencil .entry)) kind (now (weights .entry)) (now (field .entry)) (now (out .entry)))) × (now (out .exit) ≡ roundOut (now (mesh .entry)) (now (stencil .entry)) kind (now (weights .entry)) (now (field .entry)) (now (out .entry))) ⌝ }
+{
+    pack(round::undivided_round(mesh, stencil, kind, weights, field, out))
+}
+
+// The interior cells of a part.
+#[no_mangle]
+pub extern "C" fn jem_interior(
+    mesh: &[u8],
+    parts: u32,
+    owners: &[u8],
+    part: u32,
+    stencil: &[u8],
+    out: &mut [u8],
+) -> u64
+    ensures { λ r. ⌜ (r ≡ packed (listAnswer (now (mesh .entry)) parts (now (owners .entry)) part (now (stencil .entry)) interior-cells (now (out .entry)))) × (now (out .exit) ≡ listOut (now (mesh .entry)) parts (now (owners .entry)) part (now (stencil .entry)) interior-cells (now (out .entry))) ⌝ }
+{
+    pack(split::interior(mesh, parts, owners, part, stencil, out))
+}
+
+// The halo cells of a part.
+#[no_mangle]
+pub extern "C" fn jem_halo(
+    mesh: &[u8],
+    parts: u32,
+    owners: &[u8],
+    part: u32,
+    stencil: &[u8],
+    out: &mut [u8],
+) -> u64
+    ensures { λ r. ⌜ (r ≡ packed (listAnswer (now (mesh .entry)) parts (now (owners .entry)) part (now (stencil .entry)) halo-cells (now (out .entry)))) × (now (out .exit) ≡ listOut (now (mesh .entry)) parts (now (owners .entry)) part (now (stencil .entry)) halo-cells (now (out .entry))) ⌝ }
+{
+    pack(split::halo(mesh, parts, owners, part, stencil, out))
+}
+
+// The cells that a part holds, in local order.
+#[no_mangle]
+pub extern "C" fn jem_locals(
+    mesh: &[u8],
+    parts: u32,
+    owners: &[u8],
+    part: u32,
+    stencil: &[u8],
+    out: &mut [u8],
+) -> u64
+    ensures { λ r. ⌜ (r ≡ packed (listAnswer (now (mesh .entry)) parts (now (owners .entry)) part (now (stencil .entry)) local-order (now (out .entry)))) × (now (out .exit) ≡ listOut (now (mesh .entry)) parts (now (owners .entry)) part (now (stencil .entry)) local-order (now (out .entry))) ⌝ }
+{
+    pack(split::local_order(mesh, parts, owners, part, stencil, out))
+}
+
+// The cells that a part imports from another.
+#[no_mangle]
+pub extern "C" fn jem_imports(
+    mesh: &[u8],
+    parts: u32,
+    owners: &[u8],
+    part: u32,
+    stencil: &[u8],
+    other: u32,
+    out: &mut [u8],
+) -> u64
+    ensures { λ r. ⌜ (r ≡ packed (listAnswer (now (mesh .entry)) parts (now (owners .entry)) part (now (stencil .entry)) (imports-from other) (now (out .entry)))) × (now (out .exit) ≡ listOut (now (mesh .entry)) parts (now (owners .entry)) part (now (stencil .entry)) (imports-from other) (now (out .entry))) ⌝ }
+{
+    pack(split::imports(mesh, parts, owners, part, stencil, other, out))
+}
+
+// The cells that a part exports to another.
+#[no_mangle]
+pub extern "C" fn jem_exports(
+    mesh: &[u8],
+    parts: u32,
+    owners: &[u8],
+    part: u32,
+    stencil: &[u8],
+    other: u32,
+    out: &mut [u8],
+) -> u64
+    ensures { λ r. ⌜ (r ≡ packed (listAnswer (now (mesh .entry)) parts (now (owners .entry)) part (now (stencil .entry)) (exports-to other) (now (out .entry)))) × (now (out .exit) ≡ listOut (now (mesh .entry)) parts (now (owners .entry)) part (now (stencil .entry)) (exports-to other) (now (out .entry))) ⌝ }
+{
+    pack(split::exports(mesh, parts, owners, part, stencil, other, out))
+}
+
+// The private elements of a dimension.
+#[no_mangle]
+pub extern "C" fn jem_private(
+    mesh: &[u8],
+    parts: u32,
+    owners: &[u8],
+    part: u32,
+    stencil: &[u8],
+    dimension: u32,
+    out: &mut [u8],
+) -> u64
+    ensures { λ r. ⌜ (r ≡ packed (listAnswer (now (mesh .entry)) parts (now (owners .entry)) part (now (stencil .entry)) (private-range dimension) (now (out .entry)))) × (now (out .exit) ≡ listOut (now (mesh .entry)) parts (now (owners .entry)) part (now (stencil .entry)) (private-range dimension) (now (out .entry))) ⌝ }
+{
+    pack(split::private_range(mesh, parts, owners, part, stencil, dimension, out))
+}
+
+// The exposed elements of a dimension.
+#[no_mangle]
+pub extern "C" fn jem_exposed(
+    mesh: &[u8],
+    parts: u32,
+    owners: &[u8],
+    part: u32,
+    stencil: &[u8],
+    dimension: u32,
+    out: &mut [u8],
+) -> u64
+    ensures { λ r. ⌜ (r ≡ packed (listAnswer (now (mesh .entry)) parts (now (owners .entry)) part (now (stencil .entry)) (exposed-range dimension) (now (out .entry)))) × (now (out .exit) ≡ listOut (now (mesh .entry)) parts (now (owners .entry)) part (now (stencil .entry)) (exposed-range dimension) (now (out .entry))) ⌝ }
+{
+    pack(split::exposed_range(mesh, parts, owners, part, stencil, dimension, out))
+}
+
+// The shared elements of a dimension.
+#[no_mangle]
+pub extern "C" fn jem_shared(
+    mesh: &[u8],
+    parts: u32,
+    owners: &[u8],
+    part: u32,
+    stencil: &[u8],
+    dimension: u32,
+    out: &mut [u8],
+) -> u64
+    ensures { λ r. ⌜ (r ≡ packed (listAnswer (now (mesh .entry)) parts (now (owners .entry)) part (now (stencil .entry)) (shared-range dimension) (now (out .entry)))) × (now (out .exit) ≡ listOut (now (mesh .entry)) parts (now (owners .entry)) part (now (stencil .entry)) (shared-range dimension) (now (out .entry))) ⌝ }
+{
+    pack(split::shared_range(mesh, parts, owners, part, stencil, dimension, out))
+}
+
+// The copied elements of a dimension.
+#[no_mangle]
+pub extern "C" fn jem_copied(
+    mesh: &[u8],
+    parts: u32,
+    owners: &[u8],
+    part: u32,
+    stencil: &[u8],
+    dimension: u32,
+    out: &mut [u8],
+) -> u64
+    ensures { λ r. ⌜ (r ≡ packed (listAnswer (now (mesh .entry)) parts (now (owners .entry)) part (now (stencil .entry)) (copied-range dimension) (now (out .entry)))) × (now (out .exit) ≡ listOut (now (mesh .entry)) parts (now (owners .entry)) part (now (stencil .entry)) (copied-range dimension) (now (out .entry))) ⌝ }
+{
+    pack(split::copied_range(mesh, parts, owners, part, stencil, dimension, out))
+}
+
+// How many bytes the state of a part needs.
+#[no_mangle]
+pub extern "C" fn jem_state_size(
+    mesh: &[u8],
+    parts: u32,
+    owners: &[u8],
+    part: u32,
+    stencil: &[u8],
+) -> u64
+    ensures { λ r. ⌜ r ≡ packed (sizeAnswer (now (mesh .entry)) parts (now (owners .entry)) part (now (stencil .entry))) ⌝ }
+{
+    pack(parts::state_size(mesh, parts, owners, part, stencil))
+}
+
+// Makes the state of a part at round 0.
+#[no_mangle]
+pub extern "C" fn jem_start(
+    mesh: &[u8],
+    parts: u32,
+    owners: &[u8],
+    part: u32,
+    stencil: &[u8],
+    kind: u32,
+    weights: &[u8],
+    field: &[u8],
+    state: &mut [u8],
+) -> u64
+    ensures { λ r. ⌜ (r ≡ packed (startAnswer (now (mesh .entry)) parts (now (owners .entry)) part (now (stencil .entry)) kind (now (weights .entry)) (now (field .entry)) (now (state .entry)))) × (now (state .exit) ≡ startState (now (mesh .entry)) parts (now (owners .entry)) part (now (stencil .entry)) kind (now (weights .entry)) (now (field .entry)) (now (state .entry))) ⌝ }
+{
+    pack(parts::start(
+        mesh,
+        parts,
+        owners,
+        part,
+        stencil,
+        kind,
+        weights,
+        field,
+        state,
+    ))
+}
+
+// Gives the message to part `to`.
+#[no_mangle]
+pub extern "C" fn jem_write(state: &mut [u8], to: u32, out: &mut [u8]) -> u64
+    ensures { λ r. ⌜ (r ≡ packed (writeAnswer (now (state .entry)) to (now (out .entry)))) × (now (state .exit) ≡ writeState (now (state .entry)) to (now (out .entry))) × (now (out .exit) ≡ writeOut (now (state .entry)) to (now (out .entry))) ⌝ }
+{
+    pack(parts::write(state, to, out))
+}
+
+// Takes one message.
+#[no_mangle]
+pub extern "C" fn jem_take(state: &mut [u8], message: &[u8]) -> u64
+    ensures { λ r. ⌜ (r ≡ packed (takeAnswer (now (state .entry)) (now (message .entry)))) × (now (state .exit) ≡ takeState (now (state .entry)) (now (message .entry))) ⌝ }
+{
+    pack(parts::take(state, message))
+}
+
+// Makes one round of the owned cells.
+#[no_mangle]
+pub extern "C" fn jem_advance(state: &mut [u8]) -> u64
+    ensures { λ r. ⌜ (r ≡ packed (advanceAnswer (now (state .entry)))) × (now (state .exit) ≡ advanceState (now (state .entry))) ⌝ }
+{
+    pack(parts::advance(state))
+}
+
+// Puts the owned depths into a field.
+#[no_mangle]
+pub extern "C" fn jem_collect(state: &[u8], round: u32, field: &mut [u8]) -> u64
+    ensures { λ r. ⌜ (r ≡ packed (collectAnswer (now (state .entry)) round (now (field .entry)))) × (now (field .exit) ≡ collectOut (now (state .entry)) round (now (field .entry))) ⌝ }
+{
+    pack(parts::collect(state, round, field))
+}
