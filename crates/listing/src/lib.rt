@@ -1,1 +1,2 @@
-// The list program's text: its definition stands in specs/.
+// The list program's text, put into a lent buffer.
+mod text;
