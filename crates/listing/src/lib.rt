@@ -1,2 +1,3 @@
 // The list program's text, put into a lent buffer.
+mod lists;
 mod text;

@@ -2,7 +2,7 @@
 use layout::number_at;
 ghost use mathlib.Core.List.{[], _∷_};
 ghost use lib.ListN.{length, take};
-ghost use Rattle.listing.specs.Listing.{decimal, spaced};
+ghost use Rattle.listing.specs.Listing.{decimal, spaced, line};
 ghost use Rattle.listing.specs.Printing.{Printed, numbers};
 ghost use Prim.Native.Nat.{_≤_};
 
@@ -54,4 +54,13 @@ pub fn put_numbers(list: &[u16], n: usize, out: &mut [u8], at: usize) -> usize
         t = put_spaced(number_at(list, k) as usize, out, t);
     }
     put_byte(10, out, t)
+}
+
+// A line of one number.
+pub fn put_line(label: &[u8], v: usize, out: &mut [u8], at: usize) -> usize
+    ensures { λ t. ⌜ Printed (now (out .entry)) (now (out .exit)) at t (line (now (label .entry)) (v ∷ [])) ⌝ }
+{
+    let t = put_text(label, out, at);
+    let u = put_spaced(v, out, t);
+    put_byte(10, out, u)
 }
