@@ -1,2 +1,3 @@
 pub mod PrintLaws
 pub mod PartLaws
+pub mod PieceLaws

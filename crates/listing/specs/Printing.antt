@@ -1,16 +1,19 @@
 -- Text put into a lent buffer, and the lines of a part by the code's names of its lists. Assumes nothing.
 use mathlib.Core.Path.{_≡_}
-use mathlib.Core.List.{List, _++_, map}
+use mathlib.Core.Bool.{cond}
+use mathlib.Core.List.{List, [], _∷_, _++_, map}
 use Prim.Native.Nat.{ℕ, _+_, _-_, _≤_}
-use lib.ListN.{length, take}
-use Rattle.vocabulary.specs.Bytes.{Bytes, over}
+use lib.Dec.{eqb}
+use lib.ListN.{length, take, drop}
+use Rattle.vocabulary.specs.Bytes.{Bytes, byteAt, over}
 use Rattle.vocabulary.specs.Lists.{joined}
+use Rattle.vocabulary.specs.Tests.{firstOf}
 use Rattle.split.specs.Split.{Split, splitOf}
-use Rattle.split.specs.Lists.{listOf}
+use Rattle.split.specs.Lists.{splitTests, sizeTests, listOf}
 use Rattle.split.specs.Sorting.{Prepared}
 use Rattle.split.specs.Giving.{meant}
 use Rattle.split.specs.declared.lists.Wanted.{Wanted}
-use Rattle.listing.specs.Listing.{ascii, spaced, line, lineUnlessEmpty, dimensionText, partText}
+use Rattle.listing.specs.Listing.{ascii, spaced, line, lineUnlessEmpty, dimensionText, partText, splitText}
 
 -- what of a text has room from the place s on
 unfoldable pub fitting : Bytes → ℕ → Bytes → Bytes
@@ -60,3 +63,28 @@ module _ (m : Bytes) (parts : ℕ) (owners st : Bytes) where
 
   unfoldable pub partOf : ℕ → Bytes
   partOf i = partText m S i
+
+-- ---- the input, piece by piece
+
+unfoldable pub piecesNumber : Bytes → ℕ → Bytes → Bytes → ℕ
+piecesNumber m parts owners st = firstOf (splitTests m parts owners [] st ++ sizeTests m parts owners st)
+
+unfoldable pub piecesText : Bytes → ℕ → Bytes → Bytes → Bytes
+piecesText m parts owners st =
+    cond (eqb (piecesNumber m parts owners st) 0) (splitText m (splitOf m parts owners st)) (line (ascii "refused") (piecesNumber m parts owners st ∷ []))
+
+-- with a stencil that should have n bytes
+unfoldable pub stencilText : ℕ → Bytes → ℕ → Bytes → Bytes → Bytes
+stencilText n m parts owners st = piecesText m parts owners (cond (eqb (length st) n) st [])
+
+-- with the length byte and the stencil,
+unfoldable pub lastText : Bytes → ℕ → Bytes → Bytes → Bytes
+lastText m parts owners last = stencilText (byteAt last 0) m parts owners (drop 1 last)
+
+-- with the owners and what comes after them, by the count of cells,
+unfoldable pub ownersText : ℕ → Bytes → ℕ → Bytes → Bytes
+ownersText cells m parts b = lastText m parts (take cells b) (drop cells b)
+
+-- and with P
+unfoldable pub mapText : ℕ → Bytes → Bytes → Bytes
+mapText cells m b = ownersText cells m (byteAt b 0) (drop 1 b)
