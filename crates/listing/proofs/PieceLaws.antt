@@ -99,7 +99,7 @@ module _ (m : Bytes) (parts : ℕ) (owners st : Bytes) where
       go true e = ap (λ y. not (y && (y && true))) (upTo-intro parts 1 (omega arith) (upTo-true 16 parts e .0))
       go false e = refl
 
-  tests-are : splitTests m parts owners (1 ∷ 1 ∷ []) st ≡ splitTests m parts owners [] st
+  pub tests-are : splitTests m parts owners (1 ∷ 1 ∷ []) st ≡ splitTests m parts owners [] st
   unfolding splitTests
   tests-are = ap (λ b. meshTests m ++ (refuse 8 b ∷ refuse 9 (bad9 (splitOf m parts owners st)) ∷ refuse 10 (bad10 (top m) st) ∷ [])) first-part
 
