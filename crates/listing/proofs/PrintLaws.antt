@@ -69,7 +69,7 @@ left r xs = go (ltb r (length xs)) refl
     go true h = omega (arith, length-take-le r xs (omega (arith, ltb-true r (length xs) h)), ltb-true r (length xs) h)
     go false h = ap (λ (ys : Bytes). r - length ys) (take-all r xs (ltb-false r (length xs) h))
 
-room : (r : ℕ) (xs : Bytes) → length (take r xs) ≤ r
+pub room : (r : ℕ) (xs : Bytes) → length (take r xs) ≤ r
 room zero xs = omega arith
 room (suc r) [] = omega arith
 room (suc r) (x ∷ xs) = omega (arith, room r xs)

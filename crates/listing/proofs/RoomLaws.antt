@@ -7,8 +7,10 @@ use native.Mathlib.Nat.{zero-add}
 use native.Mathlib.Omega.{arith}
 use lib.Dec.{T, eqb, ltb, ltb→lt}
 use lib.ListN.{length, take, drop, length-append}
+use lib.Seq.{take-all, take-append-seam}
 use borrow.Author.Tests.{ltb-true, ltb-false, lt-ltb, eqb-true}
-use Rattle.vocabulary.specs.Bytes.{Bytes, byteAt}
+use Rattle.vocabulary.specs.Bytes.{Bytes, over}
+use Rattle.vocabulary.specs.ByteLaws.{over-front}
 use Rattle.vocabulary.specs.Ranges.{picked, blocks, total}
 use Rattle.vocabulary.specs.RangeLaws.{picked-all, picked-length-le, blocks-length, total-mono, total-bound, total-has}
 use Rattle.vocabulary.specs.Lists.{All, joined}
@@ -23,7 +25,8 @@ use Rattle.split.specs.Lists.{bad8, bad12, splitTests, sizeTests, splitNumber}
 use Rattle.split.proofs.PreparedLaws.{map-right}
 use Rattle.split.proofs.CallLaws.{passed-facts}
 use Rattle.listing.specs.Listing.{ascii, digits, decimal, spaced, line, lineUnlessEmpty, dimensionText, partText, splitText, meshPiece, partsPiece, ownersPiece, stencilPiece, listingNumber, listText}
-use Rattle.listing.specs.Printing.{piecesNumber, piecesText}
+use Rattle.listing.specs.Printing.{fitting, Printed, Listed, piecesNumber, piecesText}
+use Rattle.listing.proofs.PrintLaws.{room}
 use Rattle.listing.proofs.PieceLaws.{tests-are}
 
 -- ---- numbers of at most four digits
@@ -308,10 +311,28 @@ module _ (m : Bytes) (parts : ℕ) (owners st : Bytes) where
       go true e = omega (arith, accepted-length (eqb-true (piecesNumber m parts owners st) 0 e))
       go false e = unfold ascii in omega (arith, line-length (ascii "refused") (piecesNumber m parts owners st ∷ []) (number-small, tt))
 
-pub text-length : (b : Bytes) → length (listText b) ≤ 700000
+text-length : (b : Bytes) → length (listText b) ≤ 700000
 unfolding listText listingNumber
 text-length b = go (ltb 65536 (length b))
   where
     go : (c : Bool) → length (cond c (line (ascii "too long") []) (cond (eqb (listingNumber b) 0) (splitText (meshPiece b) (splitOf (meshPiece b) (partsPiece b) (ownersPiece b) (stencilPiece b))) (line (ascii "refused") (listingNumber b ∷ [])))) ≤ 700000
     go true = unfold ascii in omega (arith, line-length (ascii "too long") [] tt)
     go false = unfold piecesText piecesNumber listingNumber in pieces-length (meshPiece b) (partsPiece b) (ownersPiece b) (stencilPiece b)
+
+-- ---- the whole text
+
+module _ (a z : Bytes) (t : ℕ) (text : Bytes) (X : Printed a z 0 t text) where
+  within : t ≤ length z
+  within = unfold fitting in omega (arith, X .size, X .end, room (length a - 0) text)
+
+  whole : length text ≤ 700000 → 700000 ≤ length a → take t z ≡ text
+  whole l h =
+      let f = fits l h in
+      let e : t ≡ length text = omega (arith, X .end, ap length f) in
+      ap₂ (λ n (y : Bytes). take n y) e (X .bytes ∙ ap (over a 0) f ∙ over-front a text) ∙ take-append-seam text (drop (length text) a)
+    where
+      fits : length text ≤ 700000 → 700000 ≤ length a → fitting a 0 text ≡ text
+      fits l h = unfold fitting in take-all (length a - 0) text (omega arith)
+
+pub listed : (input a z : Bytes) (t : ℕ) → Printed a z 0 t (listText input) → Listed a z t (listText input)
+listed input a z t X = record { printed = X; inside = within a z t (listText input) X; whole = λ h. whole a z t (listText input) X (text-length input) h }

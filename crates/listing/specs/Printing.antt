@@ -25,6 +25,16 @@ pub record Printed (before after : Bytes) (s t : ℕ) (text : Bytes) : Type 0 wh
   pub end : t ≡ s + length (fitting before s text)
   pub bytes : after ≡ over before s (fitting before s text)
 
+-- room for the text of any input
+abbrev pub textRoom : ℕ
+textRoom = 700000
+
+-- a text put into a buffer from its start on, of length t: the whole of it, where the buffer has that room
+pub record Listed (before after : Bytes) (t : ℕ) (text : Bytes) : Type 0 where
+  pub printed : Printed before after 0 t text
+  pub inside : t ≤ length after
+  pub whole : textRoom ≤ length before → take t after ≡ text
+
 -- what stands after a line's label
 unfoldable pub numbers : List ℕ → Bytes
 numbers vs = joined (map spaced vs) ++ ascii "\n"

@@ -17,7 +17,7 @@ ghost use Rattle.split.specs.Split.{splitOf};
 ghost use Rattle.split.specs.Lists.{splitNumber};
 ghost use Rattle.split.specs.Sorting.{Prepared};
 ghost use Rattle.listing.specs.Listing.{splitText, listText};
-ghost use Rattle.listing.specs.Printing.{Printed, piecesText, stencilText, lastText, ownersText, mapText};
+ghost use Rattle.listing.specs.Printing.{Printed, Listed, piecesText, stencilText, lastText, ownersText, mapText};
 
 // The number of parts, and the parts.
 fn put_split(
@@ -122,8 +122,7 @@ fn mesh_length(b: &[u8]) -> usize
     2 * (6 + elements_of(b) + 2 * record_count(b))
 }
 
-// What the list program prints for an input, put into a buffer from its start on as far as there is room, and how long that is.
-pub fn list_text(input: &[u8], out: &mut [u8]) -> usize
+fn list_input(input: &[u8], out: &mut [u8]) -> usize
     ensures { λ t. ⌜ Printed (now (out .entry)) (now (out .exit)) 0 t (listText (now (input .entry))) ⌝ }
 {
     if 65536 < input.len() {
@@ -136,4 +135,12 @@ pub fn list_text(input: &[u8], out: &mut [u8]) -> usize
         &input[e..input.len()],
         out,
     )
+}
+
+// Puts what the list program prints for an input into a buffer, from its start on and as far as there is room, and gives its length there. In
+// 700,000 bytes there is room for the text of any input.
+pub fn list_text(input: &[u8], out: &mut [u8]) -> usize
+    ensures { λ t. ⌜ Listed (now (out .entry)) (now (out .exit)) t (listText (now (input .entry))) ⌝ }
+{
+    list_input(input, out)
 }

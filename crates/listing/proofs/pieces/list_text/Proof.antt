@@ -1,5 +1,5 @@
 -- `listing::pieces::list_text` meets its contract. Assumes nothing.
-use Rattle.listing.proofs.PieceLaws.{cut-length, too-long, text-told}
+use Rattle.listing.proofs.RoomLaws.{listed}
 use borrow.Author.Needs.{needs}
 use Rattle.listing.proofs.pieces.list_text.Statement.{statement}
 use Rattle.listing.proofs.pieces.list_text.Tie as tie
@@ -8,17 +8,6 @@ pub list-text-spec : {M : Type 1} → statement M
 list-text-spec =
     tie.close
     (tie.spec
-    (λ c. search needs)
     (λ c κs. search needs)
     (λ c. search needs)
-    (λ c. search too-long)
-    (λ c κs. search needs)
-    (λ c κs. search needs)
-    (λ c κs. search needs)
-    (λ c. search cut-length)
-    (λ c. search needs)
-    (λ c. search needs)
-    (λ c. search needs)
-    (λ c κs. search needs)
-    (λ c. search needs)
-    (λ c. search text-told))
+    (λ c. search listed))
