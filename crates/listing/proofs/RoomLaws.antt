@@ -133,8 +133,15 @@ module _ (m : Bytes) (parts : ℕ) (owners st : Bytes) (A : Accepted m) (right :
   -- the cells of a part
   own-few : (i : ℕ) → length (interior S i) + length (halo S i) + total 1 parts (λ j. length (imports S i j)) ≤ 2000
   own-few i =
-      omega (arith, length-append (interior S i) (halo S i), own-count S i, order-length S i,
-      local-held S (split-reach m parts owners st) (split-owner m parts owners st (map-right m parts owners right .3)) (split-own m parts owners st) i, few-held, same)
+      omega (
+        arith,
+        length-append (interior S i) (halo S i),
+        own-count S i,
+        order-length S i,
+        local-held S (split-reach m parts owners st) (split-owner m parts owners st (map-right m parts owners right .3)) (split-own m parts owners st) i,
+        few-held,
+        same,
+      )
     where
       same : total 1 parts (λ j. length (imports S i j)) ≡ total 1 (S .parts) (λ j. length (imports S i j))
       same = unfold splitOf in refl
@@ -158,10 +165,14 @@ module _ (m : Bytes) (parts : ℕ) (owners st : Bytes) (A : Accepted m) (right :
   passing-length : (label : Bytes) (g : ℕ → List ℕ) → length label ≤ 6 → ((j : ℕ) → All (λ v. v < 10000) (g j))
       → length (blocks 1 parts (λ j. lineUnlessEmpty (label ++ spaced j) (g j))) ≤ 192 + 5 * total 1 parts (λ j. length (g j))
   passing-length label g h a =
-      omega (arith, blocks-length 1 (λ j. lineUnlessEmpty (label ++ spaced j) (g j)) parts,
-      total-mono 1 (λ j. length (lineUnlessEmpty (label ++ spaced j) (g j))) (λ j. 12 + 5 * length (g j)) parts
-      (λ x l. omega (arith, unless-length (label ++ spaced (1 + x)) (g (1 + x)) (a (1 + x)), length-append label (spaced (1 + x)), spaced-length (1 + x) (omega (arith, few)))),
-      total-lines 1 12 (λ j. length (g j)) parts, few)
+      omega (
+        arith,
+        blocks-length 1 (λ j. lineUnlessEmpty (label ++ spaced j) (g j)) parts,
+        total-mono 1 (λ j. length (lineUnlessEmpty (label ++ spaced j) (g j))) (λ j. 12 + 5 * length (g j)) parts
+            (λ x l. omega (arith, unless-length (label ++ spaced (1 + x)) (g (1 + x)) (a (1 + x)), length-append label (spaced (1 + x)), spaced-length (1 + x) (omega (arith, few)))),
+        total-lines 1 12 (λ j. length (g j)) parts,
+        few,
+      )
 
   -- ---- the ranges of a dimension
 
@@ -207,8 +218,13 @@ module _ (m : Bytes) (parts : ℕ) (owners st : Bytes) (A : Accepted m) (right :
     range-length : (name : Bytes) → length name ≤ 8 → (p : ℕ → Bool) → length (line (ascii "dim" ++ (spaced k ++ name)) (range m k p)) ≤ 17 + 5 * length (range m k p)
     unfolding ascii
     range-length name l p =
-        omega (arith, line-length (ascii "dim" ++ (spaced k ++ name)) (range m k p) (range-small p), length-append (ascii "dim") (spaced k ++ name), length-append (spaced k) name,
-        spaced-length k (omega (arith, A .sizes .d-high)))
+        omega (
+          arith,
+          line-length (ascii "dim" ++ (spaced k ++ name)) (range m k p) (range-small p),
+          length-append (ascii "dim") (spaced k ++ name),
+          length-append (spaced k) name,
+          spaced-length k (omega (arith, A .sizes .d-high)),
+        )
 
     dimension-length : length (dimensionText m S i k) ≤ 68 + 5 * counted m k
     unfolding dimensionText ascii
@@ -217,23 +233,46 @@ module _ (m : Bytes) (parts : ℕ) (owners st : Bytes) (A : Accepted m) (right :
         let e = line (ascii "dim" ++ (spaced k ++ ascii " exposed")) (range m k (isExposed m S i)) in
         let s = line (ascii "dim" ++ (spaced k ++ ascii " shared")) (range m k (isShared m S i)) in
         let c = line (ascii "dim" ++ (spaced k ++ ascii " copied")) (range m k (isCopied m S i)) in
-        omega (arith, four p e s c, ranges-few, range-length (ascii " private") (omega arith) (isPrivate m S i), range-length (ascii " exposed") (omega arith) (isExposed m S i),
-        range-length (ascii " shared") (omega arith) (isShared m S i), range-length (ascii " copied") (omega arith) (isCopied m S i))
+        omega (
+          arith,
+          four p e s c,
+          ranges-few,
+          range-length (ascii " private") (omega arith) (isPrivate m S i),
+          range-length (ascii " exposed") (omega arith) (isExposed m S i),
+          range-length (ascii " shared") (omega arith) (isShared m S i),
+          range-length (ascii " copied") (omega arith) (isCopied m S i),
+        )
 
   dimensions-length : (i : ℕ) → length (blocks 0 (top m) (dimensionText m S i)) ≤ 10204
   dimensions-length i =
-      omega (arith, blocks-length 0 (dimensionText m S i) (top m),
-      total-mono 0 (λ k. length (dimensionText m S i k)) (λ k. 68 + 5 * counted m k) (top m) (λ x l. dimension-length i (0 + x) (omega arith)),
-      total-lines 0 68 (counted m) (top m), counted-below m (top m), below-grows m (top m) 4 (omega (arith, A .sizes .d-high)), A .sizes .n-high, A .sizes .d-high)
+      omega (
+        arith,
+        blocks-length 0 (dimensionText m S i) (top m),
+        total-mono 0 (λ k. length (dimensionText m S i k)) (λ k. 68 + 5 * counted m k) (top m) (λ x l. dimension-length i (0 + x) (omega arith)),
+        total-lines 0 68 (counted m) (top m),
+        counted-below m (top m),
+        below-grows m (top m) 4 (omega (arith, A .sizes .d-high)),
+        A .sizes .n-high,
+        A .sizes .d-high,
+      )
 
   part-length : (i : ℕ) → i ≤ 16 → length (partText m S i) ≤ 41092
   unfolding partText
   part-length i h =
-      omega (arith,
-      six (line (ascii "part") (i ∷ [])) (line (ascii "interior") (interior S i)) (line (ascii "halo") (halo S i))
-      (blocks 1 (S .parts) (λ j. lineUnlessEmpty (ascii "import" ++ spaced j) (imports S i j))) (blocks 1 (S .parts) (λ j. lineUnlessEmpty (ascii "export" ++ spaced j) (exports S i j)))
-      (blocks 0 (top m) (dimensionText m S i)),
-      head, own-first, own-last, own-few i, exports-few i, imported, exported, dimensions-length i)
+      omega (
+        arith,
+        six (line (ascii "part") (i ∷ [])) (line (ascii "interior") (interior S i)) (line (ascii "halo") (halo S i))
+            (blocks 1 (S .parts) (λ j. lineUnlessEmpty (ascii "import" ++ spaced j) (imports S i j))) (blocks 1 (S .parts) (λ j. lineUnlessEmpty (ascii "export" ++ spaced j) (exports S i j)))
+            (blocks 0 (top m) (dimensionText m S i)),
+        head,
+        own-first,
+        own-last,
+        own-few i,
+        exports-few i,
+        imported,
+        exported,
+        dimensions-length i,
+      )
     where
       head : length (line (ascii "part") (i ∷ [])) ≤ 10
       head = unfold ascii in line-length (ascii "part") (i ∷ []) (omega arith, tt)

@@ -70,18 +70,24 @@ fn put_cells(
     ensures { λ t. ⌜ Printed (now (out .entry)) (now (out .exit)) at t (cellsLine (now (m .entry)) parts (now (owners .entry)) (now (st .entry)) wanted (now (label .entry)) i) ⌝ }
 {
     let t = put_text(label, out, at);
-    put_list(wanted, m, parts, owners, st, table, ends, held, i, 0, out, t)
+    put_list(
+        wanted,
+        m,
+        parts,
+        owners,
+        st,
+        table,
+        ends,
+        held,
+        i,
+        0,
+        out,
+        t,
+    )
 }
 
 // The line of a list that is not empty.
-fn put_full(
-    label: &[u8],
-    j: usize,
-    list: &[u16],
-    n: usize,
-    out: &mut [u8],
-    at: usize,
-) -> usize
+fn put_full(label: &[u8], j: usize, list: &[u16], n: usize, out: &mut [u8], at: usize) -> usize
     requires { ⌜ (n ≤ length (now list)) × (1 ≤ n) ⌝ }
     ensures { λ t. ⌜ Printed (now (out .entry)) (now (out .exit)) at t (lineUnlessEmpty (now (label .entry) ++ spaced j) (take n (now (list .entry)))) ⌝ }
 {
@@ -224,7 +230,20 @@ fn put_range(
     let t = put_text(b"dim", out, at);
     let u = put_spaced(k, out, t);
     let v = put_text(name, out, u);
-    put_list(wanted, m, parts, owners, st, table, ends, held, i, k, out, v)
+    put_list(
+        wanted,
+        m,
+        parts,
+        owners,
+        st,
+        table,
+        ends,
+        held,
+        i,
+        k,
+        out,
+        v,
+    )
 }
 
 // The ranges of dimension k.

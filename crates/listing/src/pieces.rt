@@ -63,14 +63,7 @@ fn list_pieces(m: &[u8], parts: u32, owners: &[u8], st: &[u8], out: &mut [u8]) -
 }
 
 // With a stencil that should have n bytes.
-fn list_stencil(
-    n: usize,
-    m: &[u8],
-    parts: u32,
-    owners: &[u8],
-    st: &[u8],
-    out: &mut [u8],
-) -> usize
+fn list_stencil(n: usize, m: &[u8], parts: u32, owners: &[u8], st: &[u8], out: &mut [u8]) -> usize
     ensures { λ t. ⌜ Printed (now (out .entry)) (now (out .exit)) 0 t (stencilText n (now (m .entry)) parts (now (owners .entry)) (now (st .entry))) ⌝ }
 {
     if st.len() != n {
@@ -129,12 +122,7 @@ fn list_input(input: &[u8], out: &mut [u8]) -> usize
         return put_text(b"too long\n", out, 0);
     }
     let e = end_of(input, mesh_length(input));
-    list_map(
-        cell_count(input),
-        &input[..e],
-        &input[e..input.len()],
-        out,
-    )
+    list_map(cell_count(input), &input[..e], &input[e..input.len()], out)
 }
 
 // Puts what the list program prints for an input into a buffer, from its start on and as far as there is room, and gives its length there. In
