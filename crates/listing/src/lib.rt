@@ -1,1 +1,6 @@
-// The list program's text: its definition stands in specs/.
+// The list program's text, put into a lent buffer.
+mod lists;
+mod pieces;
+mod text;
+
+pub use pieces::list_text;

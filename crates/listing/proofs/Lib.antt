@@ -1,0 +1,4 @@
+pub mod PrintLaws
+pub mod PartLaws
+pub mod PieceLaws
+pub mod RoomLaws

@@ -1,0 +1,142 @@
+-- The input cut into its pieces, and what is printed for them. Assumes nothing.
+use mathlib.Core.Path.{_≡_, refl, sym, ap, ap₂, _∙_, subst}
+use mathlib.Core.Bool.{Bool, true, false, not, _&&_, _||_, cond}
+use mathlib.Core.List.{[], _∷_, _++_}
+use Prim.Native.Nat.{ℕ, _+_, _-_, _*_, _≤_, _<_}
+use native.Mathlib.Omega.{arith}
+use lib.Dec.{T, eqb}
+use lib.ListN.{length, take, drop, length-drop, drop-of-length-le}
+use lib.Seq.{length-take-le, take-all, take-length, drop-length, drop-drop}
+use borrow.Author.Tests.{lt-ltb, le-ltb, eq-eqb, ne-eqb}
+use Rattle.vocabulary.specs.Bytes.{Bytes, byteAt}
+use Rattle.vocabulary.specs.Ranges.{isUpTo, blocks}
+use Rattle.vocabulary.specs.RangeLaws.{upTo-true, upTo-intro}
+use Rattle.vocabulary.specs.Lists.{everyOf, joined}
+use Rattle.vocabulary.specs.Tests.{refuse, firstOf, numbered, firstOf-append}
+use Rattle.mesh.specs.Mesh.{top, elements, recordCount, cellCount, meshLength, meshTests}
+use Rattle.mesh.specs.Walks.{bad10}
+use Rattle.split.specs.Split.{splitOf}
+use Rattle.split.specs.Lists.{bad8, bad9, splitTests, sizeTests, splitNumber, sizesNumber}
+use Rattle.listing.specs.Listing.{ascii, line, splitText, meshPiece, mapPiece, partsPiece, ownersPiece, lastPiece, stencilPiece, listingNumber, listText}
+use Rattle.listing.specs.Printing.{Printed, partOf, piecesNumber, piecesText, stencilText, lastText, ownersText, mapText}
+use Rattle.listing.proofs.PrintLaws.{print-both}
+use Rattle.listing.proofs.PartLaws.{b-parts, b-refused}
+
+-- ---- cuts
+
+pub end-short : (b : Bytes) (n : ℕ) → length b < n → (length b ≤ length b) × (take (length b) b ≡ take n b) × (drop (length b) b ≡ drop n b)
+end-short b n h = (omega arith, take-length b ∙ sym (take-all n b (omega arith)), drop-length b ∙ sym (drop-of-length-le b {i = n} (omega arith)))
+
+pub cut-length : (b : Bytes) (e : ℕ) → e ≤ length b → e ≡ length (take e b)
+cut-length b e h = sym (length-take-le e b h)
+
+rest-is : (b : Bytes) (e : ℕ) → take (length b - e) (drop e b) ≡ drop e b
+rest-is b e = take-all (length b - e) (drop e b) (omega (arith, length-drop e b))
+
+pub mesh-length-told : (b : Bytes) (n r : ℕ) → n ≡ elements b → r ≡ recordCount b → 2 * (6 + n + 2 * r) ≡ meshLength b
+unfolding meshLength
+mesh-length-told b n r e f = ap₂ (λ x y. 2 * (6 + x + 2 * y)) e f
+
+-- ---- the pieces from the last to the first
+
+module _ (a z : Bytes) (t : ℕ) (m : Bytes) (parts : ℕ) where
+  module _ (owners : Bytes) where
+    pub stencil-wrong : (n : ℕ) (st : Bytes) → (length st ≡ n → ⊥) → Printed a z 0 t (piecesText m parts owners (take 0 st)) → Printed a z 0 t (stencilText n m parts owners st)
+    unfolding stencilText
+    stencil-wrong n st h X = subst (λ (s : Bytes). Printed a z 0 t (piecesText m parts owners s)) (sym (ap (λ (b : Bool). cond b st []) (ne-eqb (length st) n h))) X
+
+    pub stencil-right : (n : ℕ) (st : Bytes) → length st ≡ n → Printed a z 0 t (piecesText m parts owners st) → Printed a z 0 t (stencilText n m parts owners st)
+    unfolding stencilText
+    stencil-right n st h X = subst (λ (s : Bytes). Printed a z 0 t (piecesText m parts owners s)) (sym (ap (λ (b : Bool). cond b st []) (eq-eqb (length st) n h))) X
+
+    pub last-told : (last : Bytes) (n e : ℕ) → n ≡ byteAt last 0 → drop e last ≡ drop 1 last → Printed a z 0 t (stencilText n m parts owners (take (length last - e) (drop e last)))
+        → Printed a z 0 t (lastText m parts owners last)
+    unfolding lastText
+    last-told last n e q d X = subst (Printed a z 0 t) (ap₂ (λ x (s : Bytes). stencilText x m parts owners s) q (rest-is last e ∙ d)) X
+
+  pub owners-told : (b : Bytes) (cells e : ℕ) → take e b ≡ take cells b → drop e b ≡ drop cells b → Printed a z 0 t (lastText m parts (take e b) (take (length b - e) (drop e b)))
+      → Printed a z 0 t (ownersText cells m parts b)
+  unfolding ownersText
+  owners-told b cells e k d X = subst (Printed a z 0 t) (ap₂ (λ (o : Bytes) (s : Bytes). lastText m parts o s) k (rest-is b e ∙ d)) X
+
+  pub map-told : (b : Bytes) (cells e : ℕ) → parts ≡ byteAt b 0 → drop e b ≡ drop 1 b → Printed a z 0 t (ownersText cells m parts (take (length b - e) (drop e b)))
+      → Printed a z 0 t (mapText cells m b)
+  unfolding mapText
+  map-told b cells e q d X = subst (Printed a z 0 t) (ap₂ (λ x (s : Bytes). ownersText cells m x s) q (rest-is b e ∙ d)) X
+
+module _ (a z : Bytes) (t : ℕ) (b : Bytes) where
+  pub too-long : 65536 < length b → Printed a z 0 t (116 ∷ 111 ∷ 111 ∷ 32 ∷ 108 ∷ 111 ∷ 110 ∷ 103 ∷ 10 ∷ []) → Printed a z 0 t (listText b)
+  unfolding listText line joined ascii
+  too-long h X = subst (Printed a z 0 t) (sym (ap (λ c. cond c (line (ascii "too long") []) (whole)) (lt-ltb 65536 (length b) h))) X
+    where
+      whole : Bytes
+      whole = cond (eqb (listingNumber b) 0) (splitText (meshPiece b) (splitOf (meshPiece b) (partsPiece b) (ownersPiece b) (stencilPiece b))) (line (ascii "refused") (listingNumber b ∷ []))
+
+  pieces-are : length b ≤ 65536 → mapText (cellCount b) (take (meshLength b) b) (drop (meshLength b) b) ≡ listText b
+  unfolding mapText ownersText lastText stencilText piecesText piecesNumber listText listingNumber meshPiece mapPiece partsPiece ownersPiece lastPiece stencilPiece
+  pieces-are h =
+      ap (λ (l : Bytes). piecesText (take (meshLength b) b) (byteAt (drop (meshLength b) b) 0) (take (cellCount b) (drop 1 (drop (meshLength b) b))) (cond (eqb (length (drop 1 l)) (byteAt l 0)) (drop 1 l) []))
+      (drop-drop (cellCount b) 1 (drop (meshLength b) b))
+      ∙ sym (ap (λ c. cond c (line (ascii "too long") []) (piecesText (meshPiece b) (partsPiece b) (ownersPiece b) (stencilPiece b))) (le-ltb 65536 (length b) h))
+
+  pub text-told : (cells n e : ℕ) → length b ≤ 65536 → cells ≡ cellCount b → n ≡ meshLength b → take e b ≡ take n b → drop e b ≡ drop n b
+      → Printed a z 0 t (mapText cells (take e b) (take (length b - e) (drop e b))) → Printed a z 0 t (listText b)
+  text-told cells n e h c l k d X =
+      subst (Printed a z 0 t)
+      (ap₂ (λ (x : Bytes) (y : Bytes). mapText cells x y) (k ∙ ap (λ x. take x b) l) (rest-is b e ∙ d ∙ ap (λ x. drop x b) l)
+      ∙ ap (λ x. mapText x (take (meshLength b) b) (drop (meshLength b) b)) c
+      ∙ pieces-are h) X
+
+-- ---- the number
+
+module _ (m : Bytes) (parts : ℕ) (owners st : Bytes) where
+  -- any map has part 1
+  first-part : bad8 m parts owners (1 ∷ 1 ∷ []) ≡ bad8 m parts owners []
+  unfolding bad8 everyOf
+  first-part = ap (λ b. b || not (eqb (length owners) (cellCount m)) || not (everyOf owners (isUpTo parts))) (go (isUpTo 16 parts) refl)
+    where
+      go : (x : Bool) → isUpTo 16 parts ≡ x → not x || not (isUpTo parts 1 && (isUpTo parts 1 && true)) ≡ not x || false
+      go true e = ap (λ y. not (y && (y && true))) (upTo-intro parts 1 (omega arith) (upTo-true 16 parts e .0))
+      go false e = refl
+
+  pub tests-are : splitTests m parts owners (1 ∷ 1 ∷ []) st ≡ splitTests m parts owners [] st
+  unfolding splitTests
+  tests-are = ap (λ b. meshTests m ++ (refuse 8 b ∷ refuse 9 (bad9 (splitOf m parts owners st)) ∷ refuse 10 (bad10 (top m) st) ∷ [])) first-part
+
+  number-is : piecesNumber m parts owners st ≡ cond (eqb (splitNumber m parts owners (1 ∷ 1 ∷ []) st) 0) (sizesNumber m parts owners st) (splitNumber m parts owners (1 ∷ 1 ∷ []) st)
+  unfolding piecesNumber splitNumber sizesNumber
+  number-is =
+      firstOf-append (splitTests m parts owners [] st) (sizeTests m parts owners st) counted
+      ∙ ap (λ ts. cond (eqb (firstOf ts) 0) (firstOf (sizeTests m parts owners st)) (firstOf ts)) (sym tests-are)
+    where
+      counted : T (numbered (splitTests m parts owners [] st))
+      counted = unfold splitTests meshTests in tt
+
+  module _ (a z : Bytes) (t : ℕ) where
+    refused : (n : ℕ) → (n ≡ 0 → ⊥) → piecesNumber m parts owners st ≡ n → Printed a z 0 t (line b-refused (n ∷ [])) → Printed a z 0 t (piecesText m parts owners st)
+    unfolding piecesText ascii
+    refused n h e X =
+        subst (Printed a z 0 t)
+        (sym (ap (λ x. cond (eqb x 0) (splitText m (splitOf m parts owners st)) (line b-refused (x ∷ []))) e
+        ∙ ap (λ (c : Bool). cond c (splitText m (splitOf m parts owners st)) (line b-refused (n ∷ []))) (ne-eqb n 0 h))) X
+
+    pub refused-split : (n : ℕ) → n ≡ splitNumber m parts owners (1 ∷ 1 ∷ []) st → (n ≡ 0 → ⊥) → Printed a z 0 t (line b-refused (n ∷ [])) → Printed a z 0 t (piecesText m parts owners st)
+    refused-split n e h X =
+        refused n h (number-is ∙ ap₂ (λ c x. cond c (sizesNumber m parts owners st) x) (ne-eqb (splitNumber m parts owners (1 ∷ 1 ∷ []) st) 0 (λ q. h (e ∙ q))) (sym e)) X
+
+    module _ (p : splitNumber m parts owners (1 ∷ 1 ∷ []) st ≡ 0) where
+      sizes-left : piecesNumber m parts owners st ≡ sizesNumber m parts owners st
+      sizes-left = number-is ∙ ap (λ c. cond c (sizesNumber m parts owners st) (splitNumber m parts owners (1 ∷ 1 ∷ []) st)) (eq-eqb (splitNumber m parts owners (1 ∷ 1 ∷ []) st) 0 p)
+
+      pub refused-sizes : (n : ℕ) → n ≡ sizesNumber m parts owners st → (n ≡ 0 → ⊥) → Printed a z 0 t (line b-refused (n ∷ [])) → Printed a z 0 t (piecesText m parts owners st)
+      refused-sizes n e h X = refused n h (sizes-left ∙ sym e) X
+
+      pub passed-all : (n : ℕ) → n ≡ sizesNumber m parts owners st → n ≡ 0 → Printed a z 0 t (splitText m (splitOf m parts owners st)) → Printed a z 0 t (piecesText m parts owners st)
+      unfolding piecesText
+      passed-all n e h X =
+          subst (Printed a z 0 t)
+          (sym (ap (λ (c : Bool). cond c (splitText m (splitOf m parts owners st)) (line (ascii "refused") (piecesNumber m parts owners st ∷ []))) (eq-eqb (piecesNumber m parts owners st) 0 (sizes-left ∙ sym e ∙ h)))) X
+
+  pub split-told : (a b c : Bytes) (t u : ℕ) → Printed a b 0 t (line b-parts (parts ∷ [])) → Printed b c t u (blocks 1 parts (partOf m parts owners st)) → Printed a c 0 u (splitText m (splitOf m parts owners st))
+  unfolding splitText splitOf partOf ascii
+  split-told a b c t u X Y = print-both a b c 0 t u _ _ X Y

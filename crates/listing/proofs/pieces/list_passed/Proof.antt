@@ -1,0 +1,27 @@
+-- `listing::pieces::list_passed` meets its contract. Assumes nothing.
+use mathlib.Core.Path.{refl}
+use Rattle.split.proofs.CallLaws.{blank, passed-facts}
+use Rattle.listing.proofs.PieceLaws.{refused-sizes, passed-all}
+use borrow.Author.Needs.{needs}
+use Rattle.listing.proofs.pieces.list_passed.Statement.{statement}
+use Rattle.listing.proofs.pieces.list_passed.Tie as tie
+
+pub list-passed-spec : {M : Type 1} → statement M
+list-passed-spec =
+    tie.close
+    (tie.spec
+    (λ c. search needs)
+    (λ c. search needs)
+    (λ c. search needs)
+    (λ c κs. (passed-facts _ _ _ _ _ _ (c .before .before .before .before .before .before .before .pre) .mesh, passed-facts _ _ _ _ _ _ (c .before .before .before .before .before .before .before .pre) .map, passed-facts _ _ _ _ _ _ (c .before .before .before .before .before .before .before .pre) .stencil, refl, refl, blank))
+    (λ c. search needs)
+    (λ c. search needs)
+    (λ c κs. search needs)
+    (λ c. search needs)
+    (λ c. refused-sizes _ _ _ _ _ _ _ (c .before .before .before .before .before .before .before .before .before .before .before .before .before .before .before .before .before .pre) _ (c .before .before .before .before .before .before .before .before .before .sizes-number .ensures .0) (c .before .before .before .before .before .if1 .taken) (c .before .before .put-line .ensures))
+    (λ c. search needs)
+    (λ c. search needs)
+    (λ c. search needs)
+    (λ c κs. (c .before .before .before .before .before .before .before .before .sizes-number .ensures .1 (c .before .before .before .before .if1 .left), passed-facts _ _ _ _ _ _ (c .before .before .before .before .before .before .before .before .before .before .before .before .before .before .before .before .pre) .few))
+    (λ c. search needs)
+    (λ c. passed-all _ _ _ _ _ _ _ (c .before .before .before .before .before .before .before .before .before .before .before .before .before .before .before .before .before .before .before .pre) _ (c .before .before .before .before .before .before .before .before .before .before .before .sizes-number .ensures .0) (c .before .before .before .before .before .before .before .if1 .left) (c .before .before .put-split .ensures)))
