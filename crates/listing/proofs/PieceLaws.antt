@@ -1,10 +1,10 @@
 -- The input cut into its pieces, and what is printed for them. Assumes nothing.
 use mathlib.Core.Path.{_≡_, refl, sym, ap, ap₂, _∙_, subst}
 use mathlib.Core.Bool.{Bool, true, false, not, _&&_, _||_, cond}
-use mathlib.Core.List.{List, [], _∷_, _++_}
+use mathlib.Core.List.{[], _∷_, _++_}
 use Prim.Native.Nat.{ℕ, _+_, _-_, _*_, _≤_, _<_}
 use native.Mathlib.Omega.{arith}
-use lib.Dec.{T, eqb, ltb}
+use lib.Dec.{T, eqb}
 use lib.ListN.{length, take, drop, length-drop, drop-of-length-le}
 use lib.Seq.{length-take-le, take-all, take-length, drop-length, drop-drop}
 use borrow.Author.Tests.{lt-ltb, le-ltb, eq-eqb, ne-eqb}
@@ -17,7 +17,7 @@ use Rattle.mesh.specs.Mesh.{top, elements, recordCount, cellCount, meshLength, 
 use Rattle.mesh.specs.Walks.{bad10}
 use Rattle.split.specs.Split.{splitOf}
 use Rattle.split.specs.Lists.{bad8, bad9, splitTests, sizeTests, splitNumber, sizesNumber}
-use Rattle.listing.specs.Listing.{ascii, line, partText, splitText, meshPiece, mapPiece, partsPiece, ownersPiece, lastPiece, stencilPiece, listingNumber, listText}
+use Rattle.listing.specs.Listing.{ascii, line, splitText, meshPiece, mapPiece, partsPiece, ownersPiece, lastPiece, stencilPiece, listingNumber, listText}
 use Rattle.listing.specs.Printing.{Printed, partOf, piecesNumber, piecesText, stencilText, lastText, ownersText, mapText}
 use Rattle.listing.proofs.PrintLaws.{print-both}
 use Rattle.listing.proofs.PartLaws.{b-parts, b-refused}

@@ -5,21 +5,21 @@ use mathlib.Core.List.{List, [], _∷_, _++_, map}
 use Prim.Native.Nat.{ℕ, zero, suc, _+_, _-_, _*_, _/_, _%_, _≤_, _<_}
 use native.Mathlib.Nat.{zero-add}
 use native.Mathlib.Omega.{arith}
-use lib.Dec.{T, eqb, ltb, ltb→lt}
+use lib.Dec.{T, eqb, ltb}
 use lib.ListN.{length, take, drop, length-append}
 use lib.Seq.{take-all, take-append-seam}
 use borrow.Author.Tests.{ltb-true, ltb-false, lt-ltb, eqb-true}
 use Rattle.vocabulary.specs.Bytes.{Bytes, over}
 use Rattle.vocabulary.specs.ByteLaws.{over-front}
 use Rattle.vocabulary.specs.Ranges.{picked, blocks, total}
-use Rattle.vocabulary.specs.RangeLaws.{picked-all, picked-length-le, blocks-length, total-mono, total-bound, total-has}
+use Rattle.vocabulary.specs.RangeLaws.{picked-all, picked-length-le, blocks-length, total-mono, total-bound}
 use Rattle.vocabulary.specs.Lists.{All, joined}
 use Rattle.vocabulary.specs.ListLaws.{and-true, cond-has}
 use Rattle.vocabulary.specs.Tests.{Test, firstOf, numbered, passed, passed-append}
-use Rattle.mesh.specs.Mesh.{top, counted, below, elements, firstCell, cellCount, meshTests}
+use Rattle.mesh.specs.Mesh.{top, counted, below, firstCell, cellCount, meshTests}
 use Rattle.mesh.specs.WalkLaws.{below-grows}
 use Rattle.mesh.specs.Accepted.{Accepted}
-use Rattle.split.specs.Split.{Split, splitOf, owned, held, holds, owns, inside as inside-of, imports, exports, interior, halo, locals, range, touches, holdsLower, another, isPrivate, isExposed, isShared, isCopied}
+use Rattle.split.specs.Split.{Split, splitOf, held, holds, owns, inside as inside-of, imports, exports, interior, halo, range, touches, holdsLower, another, isPrivate, isExposed, isShared, isCopied}
 use Rattle.split.specs.SplitLaws.{own-count, order-length, local-held, split-reach, split-own, split-owner}
 use Rattle.split.specs.Lists.{bad8, bad12, splitTests, sizeTests, splitNumber}
 use Rattle.split.proofs.PreparedLaws.{map-right}

@@ -1,5 +1,4 @@
 -- `listing::pieces::end_of` meets its contract. Assumes nothing.
-use mathlib.Core.Path.{refl}
 use Rattle.listing.proofs.PieceLaws.{end-short}
 use borrow.Author.Needs.{needs}
 use Rattle.listing.proofs.pieces.end_of.Statement.{statement}

@@ -1,5 +1,5 @@
 -- `listing::pieces::list_passed` meets its contract. Assumes nothing.
-use mathlib.Core.Path.{refl, sym, _∙_}
+use mathlib.Core.Path.{refl}
 use Rattle.split.proofs.CallLaws.{blank, passed-facts}
 use Rattle.listing.proofs.PieceLaws.{refused-sizes, passed-all}
 use borrow.Author.Needs.{needs}

@@ -1,5 +1,4 @@
 -- `listing::pieces::list_pieces` meets its contract. Assumes nothing.
-use mathlib.Core.Path.{sym, _∙_}
 use Rattle.listing.proofs.PieceLaws.{refused-split}
 use borrow.Author.Needs.{needs}
 use Rattle.listing.proofs.pieces.list_pieces.Statement.{statement}

@@ -1,6 +1,5 @@
 -- `listing::text::put_decimal` meets its contract: by the number, which falls. Assumes nothing.
 use Rattle.listing.proofs.PrintLaws.{decimal-one, decimal-more}
-use native.Mathlib.Omega.{arith}
 use borrow.Author.Needs.{needs}
 use Prim.Native.Nat.{ℕ, _<_}
 use borrow.Fn.Kinds.{In}
