@@ -33,6 +33,19 @@ pub enum List {
     Range(Range, u32),
 }
 
+impl List {
+    pub fn name(self) -> &'static str {
+        match self {
+            List::Interior => "interior",
+            List::Halo => "halo",
+            List::Locals => "locals",
+            List::Imports(_) => "imports",
+            List::Exports(_) => "exports",
+            List::Range(range, _) => range.name(),
+        }
+    }
+}
+
 /// Numbers and lengths may be anything. A refusal changes no lent byte; an accepted call changes none past its need.
 pub trait Calls {
     fn name(&self) -> &'static str;

@@ -82,8 +82,7 @@ mod ffi {
     type Changed = *mut u8;
 
     /// A call for a list of a part.
-    pub type ListCall =
-        unsafe extern "C" fn(Lent, usize, u32, Lent, usize, u32, Lent, usize, Changed, usize) -> u64;
+    pub type ListCall = unsafe extern "C" fn(Lent, usize, u32, Lent, usize, u32, Lent, usize, Changed, usize) -> u64;
     /// The same with the other part or the dimension before the output.
     pub type NumberedListCall =
         unsafe extern "C" fn(Lent, usize, u32, Lent, usize, u32, Lent, usize, u32, Changed, usize) -> u64;
@@ -210,14 +209,6 @@ mod ffi {
     }
 
     pub fn collect(state: &[u8], round: u32, field: &mut [u8]) -> u64 {
-        unsafe {
-            jem_collect(
-                state.as_ptr(),
-                state.len(),
-                round,
-                field.as_mut_ptr(),
-                field.len(),
-            )
-        }
+        unsafe { jem_collect(state.as_ptr(), state.len(), round, field.as_mut_ptr(), field.len()) }
     }
 }

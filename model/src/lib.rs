@@ -5,7 +5,7 @@
 //! |---|---|
 //! | `bytes` | words and depths, high byte first |
 //! | `refusal` | the numbers of the refusals, in the specification's words |
-//! | `mesh`, `walks`, `rounds`, `split`, `messages`, `parts`, `listing` | the model, one module for each of the specification's subjects |
+//! | `mesh`, `walks`, `rounds`, `split`, `messages`, `state`, `parts`, `listing` | the model, one module for each of the specification's subjects |
 //! | `calls` | the public calls as a trait, and the model behind it |
 //! | `engine` | the static library behind the same trait |
 //! | `generate` | random, extreme and damaged inputs |
@@ -23,4 +23,5 @@ pub mod refusal;
 pub mod rounds;
 mod rows;
 pub mod split;
+pub mod state;
 pub mod walks;

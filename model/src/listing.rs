@@ -27,9 +27,7 @@ fn read(input: &[u8]) -> Answer<Split> {
     let (mesh, rest) = input.split_at_checked(length).ok_or(Refusal::MeshLength)?;
     let mesh = Mesh::read(mesh)?;
     let (&parts, rest) = rest.split_first().ok_or(Refusal::PartMap)?;
-    let (owners, rest) = rest
-        .split_at_checked(mesh.cells().len())
-        .ok_or(Refusal::PartMap)?;
+    let (owners, rest) = rest.split_at_checked(mesh.cells().len()).ok_or(Refusal::PartMap)?;
     let map = PartMap::read(&mesh, parts.into(), owners, &[])?;
     let (&length, stencil) = rest.split_first().ok_or(Refusal::Stencil)?;
     if stencil.len() != usize::from(length) {
@@ -59,7 +57,7 @@ fn lists(split: &Split) -> String {
         }
         for dimension in 0..split.mesh.top() {
             for range in Range::ALL {
-                let label = format!("dim {dimension} {range:?}").to_lowercase();
+                let label = format!("dim {dimension} {}", range.name());
                 line(&mut text, &label, &split.range(part, range, dimension));
             }
         }

@@ -1,86 +1,14 @@
-//! Part states and the calls over them: state size, start, write, take, advance, collect (numbers 20 to 28).
-//! The state's form is that of docs/LAYOUTS.md.
+//! The calls over a part: state size, start, write, take, advance and collect (numbers 21 to 28).
 
-use std::ops::Range;
-
-use crate::bytes::{depth, depths, needed, put_depth, put_word, word, words, DEEPEST};
+use crate::bytes::{depths, needed, put_depth, put_word, words};
 use crate::calls::{PartInput, RuleInput};
-use crate::mesh::{Mesh, MOST_ELEMENTS};
+use crate::mesh::Mesh;
 use crate::messages::Message;
 use crate::refusal::{Answer, Refusal};
 use crate::rounds::{read_field, Rule};
 use crate::split::{PartMap, Split, MOST_PARTS};
-use crate::walks::{Stencil, MOST_STEPS};
-
-pub const LAST_ROUND: usize = 60_000;
-
-/// The number of a held cell within its part, from 1. Only the part's list converts it.
-#[derive(Clone, Copy, PartialEq, Eq)]
-struct Local(usize);
-
-/// The sizes of a state's lists. They fix the place of each word and byte.
-struct Sizes {
-    owned: usize,
-    held: usize,
-    /// Entries of the owned cells' reaches.
-    entries: usize,
-    exports: usize,
-}
-
-const IMPORT_ENDS: usize = 11;
-const EXPORT_ENDS: usize = 28;
-
-impl Sizes {
-    /// Word 0: the length of the lists in words.
-    fn words(&self) -> usize {
-        46 + self.held + self.owned + 2 * self.entries + self.exports
-    }
-
-    fn length(&self) -> usize {
-        2 * self.words() + 34 + 4 * self.held
-    }
-
-    // Places of words.
-
-    fn global(&self, local: Local) -> usize {
-        44 + local.0
-    }
-
-    fn reach_ends(&self) -> usize {
-        45 + self.held
-    }
-
-    fn entry(&self, t: usize) -> usize {
-        46 + self.held + self.owned + 2 * t
-    }
-
-    fn export(&self, t: usize) -> usize {
-        self.entry(self.entries) + t
-    }
-
-    fn round(&self) -> usize {
-        self.words()
-    }
-
-    // Places of bytes.
-
-    fn taken(&self, from: usize) -> usize {
-        2 * self.words() + 1 + from
-    }
-
-    fn written(&self, to: usize) -> usize {
-        2 * self.words() + 17 + to
-    }
-
-    /// All flags, those of taken messages and those of written ones.
-    fn flags(&self) -> Range<usize> {
-        self.taken(1)..self.written(MOST_PARTS) + 1
-    }
-
-    fn depth(&self, local: Local) -> usize {
-        2 * self.words() + 30 + 4 * local.0
-    }
-}
+use crate::state::{Local, Sizes, State, LAST_ROUND};
+use crate::walks::Stencil;
 
 /// The lists of one part, from which its state is made.
 struct PartLists {
@@ -116,12 +44,25 @@ impl PartLists {
     }
 
     /// For each global number of a held cell its local one.
-    fn locals(&self, size: usize) -> Vec<usize> {
-        let mut locals = vec![0; size];
+    fn locals(&self, size: usize) -> Vec<Local> {
+        let mut locals = vec![Local(0); size];
         for (place, &global) in self.globals.iter().enumerate() {
-            locals[global] = place + 1;
+            locals[global] = Local(place + 1);
         }
         locals
+    }
+
+    /// The words of a state from its import ends on.
+    fn words(&self, split: &Split) -> Vec<usize> {
+        let locals = self.locals(split.mesh.size());
+        let reaches = self.owned().iter().map(|&c| split.reaches().of(c));
+        let mut words = ends(self.owned().len(), self.imports.iter().map(Vec::as_slice));
+        words.extend(ends(0, self.exports.iter().map(Vec::as_slice)));
+        words.extend(&self.globals);
+        words.extend(ends(0, reaches.clone()));
+        words.extend(reaches.flatten().flat_map(|entry| [locals[entry.cell].0, entry.layer]));
+        words.extend(self.exports.iter().flatten().map(|&c| locals[c].0));
+        words
     }
 }
 
@@ -152,174 +93,19 @@ pub fn start(input: PartInput, rule: RuleInput, field: &[u8], state: &mut [u8]) 
     let lists = PartLists::of(&split, input.part as usize);
     let state = needed(state, lists.sizes(&split).length())?;
 
-    let mut head = vec![0, input.part as usize, stencil.steps(), rule.kind as usize];
+    let mut front = vec![0, input.part as usize, stencil.steps(), rule.kind as usize];
     if let Rule::Mean(weights) = accepted_rule {
-        head.extend(weights);
+        front.extend(weights);
     }
-    head.resize(9, 0);
-    head.extend([split.mesh.first_cell(), split.mesh.cells().len()]);
-    head.extend(ends(lists.owned().len(), lists.imports.iter().map(Vec::as_slice)));
-    head.extend(ends(0, lists.exports.iter().map(Vec::as_slice)));
-    head.extend(&lists.globals);
-    let reaches = || lists.owned().iter().map(|&c| split.reaches().of(c));
-    head.extend(ends(0, reaches()));
-    let locals = lists.locals(split.mesh.size());
-    head.extend(
-        reaches()
-            .flatten()
-            .flat_map(|entry| [locals[entry.cell], entry.layer]),
-    );
-    head.extend(lists.exports.iter().flatten().map(|&c| locals[c]));
-    head[0] = head.len();
-
-    let held = lists.globals.iter();
-    let held: Vec<i32> = held.map(|&c| field[c - split.mesh.first_cell()]).collect();
-    let unset = [0; 2 + 2 * MOST_PARTS];
-    state.copy_from_slice(&[words(&head), unset.to_vec(), depths(&held)].concat());
+    front.resize(9, 0);
+    front.extend([split.mesh.first_cell(), split.mesh.cells().len()]);
+    front.extend(lists.words(&split));
+    front[0] = front.len();
+    let round_and_flags = vec![0; 2 + 2 * MOST_PARTS];
+    let held = lists.globals.iter().map(|&c| field[c - split.mesh.first_cell()]);
+    let held = depths(&held.collect::<Vec<_>>());
+    state.copy_from_slice(&[words(&front), round_and_flags, held].concat());
     Ok(state.len() as u32)
-}
-
-/// The lists of bytes that begin with a state, as test 20 finds them.
-struct State {
-    part: usize,
-    rule: Rule,
-    first_cell: usize,
-    cells: usize,
-    round: usize,
-    sizes: Sizes,
-}
-
-impl State {
-    fn read(bytes: &[u8]) -> Answer<State> {
-        State::accepted(bytes).ok_or(Refusal::State)
-    }
-
-    fn accepted(bytes: &[u8]) -> Option<State> {
-        let (owned, held) = (word(bytes, IMPORT_ENDS), word(bytes, IMPORT_ENDS + MOST_PARTS));
-        let mut sizes = Sizes {
-            owned,
-            held,
-            entries: 0,
-            exports: word(bytes, EXPORT_ENDS + MOST_PARTS),
-        };
-        sizes.entries = word(bytes, sizes.reach_ends() + owned);
-        let fits = word(bytes, 0) == sizes.words() && bytes.len() >= sizes.length();
-        if !fits || held > MOST_ELEMENTS {
-            return None;
-        }
-        let steps = word(bytes, 2);
-        if steps % 2 != 0 || steps > MOST_STEPS {
-            return None;
-        }
-        let kind = word(bytes, 3) as u32;
-        let weights = if kind == 1 { &bytes[8..8 + steps + 2] } else { &[] };
-        let state = State {
-            part: word(bytes, 1),
-            rule: Rule::read(RuleInput { kind, weights }, steps).ok()?,
-            first_cell: word(bytes, 9),
-            cells: word(bytes, 10),
-            round: word(bytes, sizes.round()),
-            sizes,
-        };
-        let whole = (1..=MOST_PARTS).contains(&state.part)
-            && state.has_tables(bytes)
-            && state.has_lists(bytes, steps)
-            && state.round <= LAST_ROUND
-            && bytes[state.sizes.flags()].iter().all(|&flag| flag <= 1)
-            && state.held().all(|l| state.has_depth(bytes, l));
-        whole.then_some(state)
-    }
-
-    /// The tables of ends begin right and never fall. That the import ends begin and end right is how the sizes were read.
-    fn has_tables(&self, bytes: &[u8]) -> bool {
-        let rises = |at: usize, last: usize| (at..at + last).all(|i| word(bytes, i) <= word(bytes, i + 1));
-        let reach_ends = self.sizes.reach_ends();
-        rises(IMPORT_ENDS, MOST_PARTS)
-            && rises(EXPORT_ENDS, MOST_PARTS)
-            && rises(reach_ends, self.sizes.owned)
-            && word(bytes, EXPORT_ENDS) == 0
-            && word(bytes, reach_ends) == 0
-    }
-
-    fn has_lists(&self, bytes: &[u8], steps: usize) -> bool {
-        let sizes = &self.sizes;
-        let cells = self.first_cell..self.first_cell + self.cells;
-        let in_reach = |t: usize| {
-            let (cell, layer) = self.entry(bytes, t);
-            (1..=sizes.held).contains(&cell.0) && layer % 2 == 0 && layer <= steps
-        };
-        let reaches_itself = |l: Local| {
-            let mut reach = self.reach(l, bytes);
-            reach.any(|t| self.entry(bytes, t) == (l, 0))
-        };
-        self.held().all(|l| cells.contains(&self.global(bytes, l)))
-            && (0..sizes.entries).all(in_reach)
-            && self.owned().all(reaches_itself)
-            && (0..sizes.exports).all(|t| (1..=sizes.owned).contains(&self.export(bytes, t).0))
-    }
-
-    fn has_depth(&self, bytes: &[u8], local: Local) -> bool {
-        (-DEEPEST..=DEEPEST).contains(&self.depth(bytes, local))
-    }
-
-    fn owned(&self) -> impl Iterator<Item = Local> {
-        (1..=self.sizes.owned).map(Local)
-    }
-
-    fn held(&self) -> impl Iterator<Item = Local> {
-        (1..=self.sizes.held).map(Local)
-    }
-
-    fn global(&self, bytes: &[u8], local: Local) -> usize {
-        word(bytes, self.sizes.global(local))
-    }
-
-    fn depth(&self, bytes: &[u8], local: Local) -> i32 {
-        depth(bytes, self.sizes.depth(local))
-    }
-
-    /// The held cells imported from a part; none from a number that is no part.
-    fn imports(&self, bytes: &[u8], from: usize) -> impl ExactSizeIterator<Item = Local> {
-        part_range(bytes, IMPORT_ENDS, from).map(|place| Local(place + 1))
-    }
-
-    /// The places of the export entries to a part; none to a number that is no part.
-    fn exports(&self, bytes: &[u8], to: usize) -> Range<usize> {
-        part_range(bytes, EXPORT_ENDS, to)
-    }
-
-    fn export(&self, bytes: &[u8], t: usize) -> Local {
-        Local(word(bytes, self.sizes.export(t)))
-    }
-
-    /// The places of the entries of an owned cell's reach.
-    fn reach(&self, owned: Local, bytes: &[u8]) -> Range<usize> {
-        between_ends(bytes, self.sizes.reach_ends(), owned.0)
-    }
-
-    fn entry(&self, bytes: &[u8], t: usize) -> (Local, usize) {
-        let at = self.sizes.entry(t);
-        (Local(word(bytes, at)), word(bytes, at + 1))
-    }
-
-    fn new_depth(&self, bytes: &[u8], owned: Local) -> i32 {
-        let entries = self.reach(owned, bytes).map(|t| self.entry(bytes, t));
-        let reach = entries.map(|(cell, layer)| (layer, self.depth(bytes, cell)));
-        self.rule.new_depth(self.depth(bytes, owned), reach)
-    }
-}
-
-/// What a table of ends gives to the number `j`, which begins after the end of j − 1.
-fn between_ends(bytes: &[u8], ends: usize, j: usize) -> Range<usize> {
-    word(bytes, ends + j - 1)..word(bytes, ends + j)
-}
-
-fn part_range(bytes: &[u8], ends: usize, part: usize) -> Range<usize> {
-    if (1..=MOST_PARTS).contains(&part) {
-        between_ends(bytes, ends, part)
-    } else {
-        0..0
-    }
 }
 
 /// The message to a part that imports from here; its length in bytes.
@@ -335,9 +121,7 @@ pub fn write(state: &mut [u8], to: u32, out: &mut [u8]) -> Answer {
         from: view.part,
         to,
         round: view.round,
-        depths: exports
-            .map(|t| view.depth(state, view.export(state, t)))
-            .collect(),
+        depths: exports.map(|t| view.depth(state, view.export(state, t))).collect(),
     };
     out.copy_from_slice(&message.encode());
     state[view.sizes.written(to)] = 1;

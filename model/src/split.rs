@@ -104,6 +104,15 @@ pub enum Range {
 
 impl Range {
     pub const ALL: [Range; 4] = [Range::Private, Range::Exposed, Range::Shared, Range::Copied];
+
+    pub fn name(self) -> &'static str {
+        match self {
+            Range::Private => "private",
+            Range::Exposed => "exposed",
+            Range::Shared => "shared",
+            Range::Copied => "copied",
+        }
+    }
 }
 
 impl Split {
@@ -178,9 +187,7 @@ impl Split {
             return Vec::new();
         }
         let elements = self.mesh.elements(dimension);
-        elements
-            .filter(|&e| self.range_of(part, e) == Some(range))
-            .collect()
+        elements.filter(|&e| self.range_of(part, e) == Some(range)).collect()
     }
 
     /// The range of a lower element, if the part holds it.

@@ -18,7 +18,7 @@ impl Stencil {
     pub fn read(bytes: &[u8], top: usize) -> Answer<Stencil> {
         let dimensions: Vec<usize> = bytes.iter().map(|&a| a.into()).collect();
         let fits = |(i, &a): (usize, &usize)| if i % 2 == 0 { a == top } else { a < top };
-        if dimensions.len() % 2 == 0
+        if dimensions.len().is_multiple_of(2)
             || dimensions.len() > MOST_STEPS + 1
             || !dimensions.iter().enumerate().all(fits)
         {
@@ -57,7 +57,7 @@ impl Reaches {
         let mut walks = Walks::new(mesh);
         let mut rows = Rows::new();
         for cell in mesh.cells() {
-            rows.push(walks.reach(cell, stencil));
+            rows.push(walks.reach(cell, stencil).iter().copied());
             if rows.size() > MOST_REACHED {
                 return Err(Refusal::Reach);
             }
@@ -74,51 +74,72 @@ impl Reaches {
     }
 }
 
+/// The walks from one cell after another. The vectors are kept, so that a walk costs only what it meets.
 struct Walks<'a> {
     mesh: &'a Mesh,
-    /// At each element the step that met it last, over all walks.
-    met: Vec<usize>,
-    step: usize,
+    met: Marks,
     /// At each cell the last one from which it was reached.
     reached_from: Vec<usize>,
+    /// Where the walks stand after an odd and after an even step.
+    sides: Vec<usize>,
+    cells: Vec<usize>,
+    reach: Vec<Reached>,
 }
 
 impl<'a> Walks<'a> {
     fn new(mesh: &'a Mesh) -> Self {
         Walks {
             mesh,
-            met: vec![0; mesh.size()],
-            step: 0,
+            met: Marks {
+                step: 0,
+                last: vec![0; mesh.size()],
+            },
             reached_from: vec![0; mesh.size()],
+            sides: Vec::new(),
+            cells: Vec::new(),
+            reach: Vec::new(),
         }
     }
 
     /// All walks from a cell go on together, two steps at a time. Nothing visited is removed: a walk may return.
-    fn reach(&mut self, from: usize, stencil: &Stencil) -> Vec<Reached> {
-        self.reached_from[from] = from;
-        let mut reach = vec![Reached { cell: from, layer: 0 }];
-        let mut standing = vec![from];
+    fn reach(&mut self, from: usize, stencil: &Stencil) -> &[Reached] {
+        let mesh = self.mesh;
+        self.cells.clear();
+        self.cells.push(from);
+        self.reach.clear();
+        self.note_new(from, 0);
         for (pair, &dimension) in stencil.through().iter().enumerate() {
-            let mesh = self.mesh;
-            let sides = standing.iter().flat_map(|&c| mesh.sides(c, dimension));
-            let sides = self.step(sides);
-            standing = self.step(sides.iter().flat_map(|&e| mesh.cells_at(e)).copied());
-            for &cell in &standing {
-                if replace(&mut self.reached_from[cell], from) != from {
-                    let layer = 2 * (pair + 1);
-                    reach.push(Reached { cell, layer });
-                }
-            }
+            let sides = self.cells.iter().flat_map(|&c| mesh.sides(c, dimension));
+            self.met.step(sides, &mut self.sides);
+            let cells = self.sides.iter().flat_map(|&e| mesh.cells_at(e)).copied();
+            self.met.step(cells, &mut self.cells);
+            self.note_new(from, 2 * (pair + 1));
         }
-        reach.sort_unstable();
-        reach
+        self.reach.sort_unstable();
+        &self.reach
     }
 
+    /// The cells that a walk stands at for the first time are in this layer.
+    fn note_new(&mut self, from: usize, layer: usize) {
+        for &cell in &self.cells {
+            if replace(&mut self.reached_from[cell], from) != from {
+                self.reach.push(Reached { cell, layer });
+            }
+        }
+    }
+}
+
+/// At each element the step that met it last, over all walks, so that no marks have to be wiped.
+struct Marks {
+    step: usize,
+    last: Vec<usize>,
+}
+
+impl Marks {
     /// The elements that a step ends at, each once.
-    fn step(&mut self, incident: impl Iterator<Item = usize>) -> Vec<usize> {
+    fn step(&mut self, incident: impl Iterator<Item = usize>, ends: &mut Vec<usize>) {
         self.step += 1;
-        incident
-            .filter(|&e| replace(&mut self.met[e], self.step) != self.step)
-            .collect()
+        ends.clear();
+        ends.extend(incident.filter(|&e| replace(&mut self.last[e], self.step) != self.step));
     }
 }

@@ -3,7 +3,7 @@
 use std::collections::BTreeSet;
 
 use jemlayos_model::bytes::word;
-use jemlayos_model::calls::{Calls, List, Model};
+use jemlayos_model::calls::{under_test, List};
 use jemlayos_model::generate::damage::damaged_mesh;
 use jemlayos_model::generate::random::Random;
 use jemlayos_model::generate::scenarios::Scenario;
@@ -138,13 +138,12 @@ impl<'a> Paper<'a> {
 fn scenarios(seed: u64, count: usize, most_cells: usize) -> impl Iterator<Item = Scenario> {
     let mut random = Random::new(seed);
     let all = std::iter::repeat_with(move || Scenario::random(&mut random));
-    all.filter(move |scenario| scenario.cells <= most_cells)
-        .take(count)
+    all.filter(move |scenario| scenario.cells <= most_cells).take(count)
 }
 
 fn listed(scenario: &Scenario, part: u32, list: List) -> Vec<usize> {
     let mut out = vec![0; 8_000];
-    let count = Model.list(scenario.part(part), list, &mut out).unwrap() as usize;
+    let count = under_test().list(scenario.part(part), list, &mut out).unwrap() as usize;
     (0..count).map(|i| word(&out, i)).collect()
 }
 
@@ -206,7 +205,7 @@ fn a_damaged_mesh_is_refused_by_the_number_it_is_damaged_for() {
     for round in 0..7_000 {
         let number = 1 + round % 7;
         let mesh = damaged_mesh(random, number);
-        assert_eq!(Model.check_mesh(&mesh), Err(Refusal::of_number(number).unwrap()));
+        assert_eq!(under_test().check_mesh(&mesh), Err(Refusal::of_number(number).unwrap()));
     }
 }
 
@@ -214,12 +213,10 @@ fn a_damaged_mesh_is_refused_by_the_number_it_is_damaged_for() {
 fn extremes_are_accepted_or_refused_as_their_names_say() {
     let random = &mut Random::new(4);
     for (name, scenario) in Scenario::extremes(random) {
-        let answer = Model.state_size(scenario.part(1));
+        let answer = under_test().state_size(scenario.part(1));
         let refusal = match name {
             "4,097 held" | "12 before 13" => Some(Refusal::Held),
-            "8,001 reached" | "13 and not 12" | "star of 90" | "tetrahedra through points" => {
-                Some(Refusal::Reach)
-            }
+            "8,001 reached" | "13 and not 12" | "star of 90" | "tetrahedra through points" => Some(Refusal::Reach),
             "2,000 elements, 12,000 records, dense" => Some(Refusal::Reach),
             _ => None,
         };

@@ -1,7 +1,7 @@
-//! The examples of the specification.
+//! The examples of the specification, on the engine where it is linked and else on the model.
 
 use jemlayos_model::bytes::{depths, words};
-use jemlayos_model::calls::{Calls, List, Model, PartInput, RuleInput};
+use jemlayos_model::calls::{under_test, List, PartInput, RuleInput};
 use jemlayos_model::generate::shapes::Shape;
 use jemlayos_model::listing;
 use jemlayos_model::mesh::Mesh;
@@ -69,8 +69,8 @@ fn mean(weights: &[u8]) -> RuleInput<'_> {
 fn start(number: u32, field: &[i32]) -> Vec<u8> {
     let mesh = five_cells();
     let weights = words(&[2, 1]);
-    let mut state = vec![0; Model.state_size(part(&mesh, number)).unwrap() as usize];
-    Model
+    let mut state = vec![0; under_test().state_size(part(&mesh, number)).unwrap() as usize];
+    under_test()
         .start(part(&mesh, number), mean(&weights), &depths(field), &mut state)
         .unwrap();
     state
@@ -78,14 +78,14 @@ fn start(number: u32, field: &[i32]) -> Vec<u8> {
 
 fn written(state: &mut [u8], to: u32) -> Vec<u8> {
     let mut message = vec![0; 12];
-    assert_eq!(Model.write(state, to, &mut message), Ok(12));
+    assert_eq!(under_test().write(state, to, &mut message), Ok(12));
     message
 }
 
 #[test]
 fn five_cells_are_a_mesh_of_74_bytes() {
     assert_eq!(five_cells().len(), 74);
-    assert_eq!(Model.check_mesh(&five_cells()), Ok(5));
+    assert_eq!(under_test().check_mesh(&five_cells()), Ok(5));
 }
 
 #[test]
@@ -98,7 +98,7 @@ fn lists_are_given_as_words() {
     let mesh = five_cells();
     let list = |number: u32, list: List| {
         let mut out = [0xee; 12];
-        let count = Model.list(part(&mesh, number), list, &mut out).unwrap() as usize;
+        let count = under_test().list(part(&mesh, number), list, &mut out).unwrap() as usize;
         assert!(out[2 * count..].iter().all(|&byte| byte == 0xee));
         out[..2 * count].chunks(2).map(|w| w[1]).collect::<Vec<u8>>()
     };
@@ -116,11 +116,11 @@ fn lists_are_given_as_words() {
     assert_eq!(list(2, List::Range(Range::Copied, 1)), []);
     let mut short = [0; 3];
     assert_eq!(
-        Model.list(part(&mesh, 1), List::Interior, &mut short),
+        under_test().list(part(&mesh, 1), List::Interior, &mut short),
         Err(Refusal::Output)
     );
     assert_eq!(
-        Model.list(part(&mesh, 1), List::Imports(3), &mut short),
+        under_test().list(part(&mesh, 1), List::Imports(3), &mut short),
         Err(Refusal::PartMap)
     );
 }
@@ -177,8 +177,8 @@ fn a_stencil_of_length_1_imports_nothing_and_lengths_0_2_11_are_refused() {
 
 #[test]
 fn lengths_of_73_and_11_bytes_and_an_empty_part_are_refused() {
-    assert_eq!(Model.check_mesh(&five_cells()[..73]), Err(Refusal::MeshLength));
-    assert_eq!(Model.check_mesh(&five_cells()[..11]), Err(Refusal::MeshHead));
+    assert_eq!(under_test().check_mesh(&five_cells()[..73]), Err(Refusal::MeshLength));
+    assert_eq!(under_test().check_mesh(&five_cells()[..11]), Err(Refusal::MeshHead));
     assert_eq!(listing::text(&input(2, &[1; 5], &STENCIL)), "refused 9\n");
 }
 
@@ -188,19 +188,13 @@ fn mean_of_two_rounds() {
     let round = |field: &[i32]| {
         let mut out = vec![0; 20];
         assert_eq!(
-            Model.round(&mesh, &STENCIL, mean(&weights), &depths(field), &mut out),
+            under_test().round(&mesh, &STENCIL, mean(&weights), &depths(field), &mut out),
             Ok(5)
         );
         out
     };
-    assert_eq!(
-        round(&[100, 200, 300, 400, 500]),
-        depths(&[133, 200, 300, 400, 466])
-    );
-    assert_eq!(
-        round(&[133, 200, 300, 400, 466]),
-        depths(&[155, 208, 300, 391, 444])
-    );
+    assert_eq!(round(&[100, 200, 300, 400, 500]), depths(&[133, 200, 300, 400, 466]));
+    assert_eq!(round(&[133, 200, 300, 400, 466]), depths(&[155, 208, 300, 391, 444]));
 }
 
 #[test]
@@ -221,7 +215,7 @@ fn depths_end_at_1_200_000() {
     let (mesh, weights) = (five_cells(), words(&[2, 1]));
     let round = |deepest: i32| -> Answer {
         let field = depths(&[0, 0, deepest, 0, -1_200_000]);
-        Model.round(&mesh, &STENCIL, mean(&weights), &field, &mut [0; 20])
+        under_test().round(&mesh, &STENCIL, mean(&weights), &field, &mut [0; 20])
     };
     assert_eq!(round(1_200_000), Ok(5));
     assert_eq!(round(1_200_001), Err(Refusal::Field));
@@ -233,21 +227,21 @@ fn a_message_of_the_next_round_is_taken_only_after_advance() {
     let field = [100, 200, 300, 400, 500];
     let (mut one, mut two) = (start(1, &field), start(2, &field));
     let (to_two, to_one) = (written(&mut one, 2), written(&mut two, 1));
-    assert_eq!(Model.take(&mut two, &to_two), Ok(0));
-    assert_eq!(Model.advance(&mut two), Ok(0));
+    assert_eq!(under_test().take(&mut two, &to_two), Ok(0));
+    assert_eq!(under_test().advance(&mut two), Ok(0));
     let next = written(&mut two, 1);
-    assert_eq!(Model.take(&mut one, &next), Err(Refusal::MessageRound));
-    assert_eq!(Model.advance(&mut one), Err(Refusal::NotTaken));
-    assert_eq!(Model.take(&mut one, &to_one), Ok(0));
-    assert_eq!(Model.take(&mut one, &to_one), Err(Refusal::AlreadyTaken));
-    assert_eq!(Model.advance(&mut one), Ok(0));
-    assert_eq!(Model.take(&mut one, &next), Ok(0));
+    assert_eq!(under_test().take(&mut one, &next), Err(Refusal::MessageRound));
+    assert_eq!(under_test().advance(&mut one), Err(Refusal::NotTaken));
+    assert_eq!(under_test().take(&mut one, &to_one), Ok(0));
+    assert_eq!(under_test().take(&mut one, &to_one), Err(Refusal::AlreadyTaken));
+    assert_eq!(under_test().advance(&mut one), Ok(0));
+    assert_eq!(under_test().take(&mut one, &next), Ok(0));
     let to_two = written(&mut one, 2);
-    assert_eq!(Model.take(&mut two, &to_two), Ok(0));
+    assert_eq!(under_test().take(&mut two, &to_two), Ok(0));
     let mut gathered = [0; 20];
     for state in [&mut one, &mut two] {
-        assert_eq!(Model.advance(state), Ok(0));
-        Model.collect(state, 2, &mut gathered).unwrap();
+        assert_eq!(under_test().advance(state), Ok(0));
+        under_test().collect(state, 2, &mut gathered).unwrap();
     }
     assert_eq!(gathered.to_vec(), depths(&[155, 208, 300, 391, 444]));
 }
@@ -259,13 +253,7 @@ fn walks_return_to_what_they_visited() {
     assert_eq!(mesh.elements(1), 7..15);
     let stencil = Stencil::read(&[2, 1, 2, 0, 2], 2).unwrap();
     let reaches = Reaches::find(&mesh, &stencil).unwrap();
-    let reach = |cell| {
-        reaches
-            .of(cell)
-            .iter()
-            .map(|r| (r.cell, r.layer))
-            .collect::<Vec<_>>()
-    };
+    let reach = |cell| reaches.of(cell).iter().map(|r| (r.cell, r.layer)).collect::<Vec<_>>();
     assert_eq!(reach(15), [(15, 0), (16, 2), (17, 4)]);
     assert_eq!(reach(16), [(15, 2), (16, 0), (17, 4)]);
     assert_eq!(reach(17), [(15, 4), (17, 0)]);

@@ -1,6 +1,6 @@
 //! Whole runs: any order of calls on the parts, repeated and refused ones too, gives the undivided field.
 
-use jemlayos_model::calls::{Calls, Model};
+use jemlayos_model::calls::under_test;
 use jemlayos_model::generate::random::Random;
 use jemlayos_model::generate::scenarios::Scenario;
 use jemlayos_model::generate::traffic;
@@ -11,7 +11,7 @@ fn undivided(scenario: &Scenario, rounds: usize) -> Vec<Vec<u8>> {
     for round in 0..rounds {
         let mut next = vec![0; scenario.field.len()];
         let old = &fields[round];
-        Model
+        under_test()
             .round(&scenario.mesh, &scenario.stencil, scenario.rule(), old, &mut next)
             .unwrap();
         fields.push(next);
@@ -21,9 +21,9 @@ fn undivided(scenario: &Scenario, rounds: usize) -> Vec<Vec<u8>> {
 
 fn started(scenario: &Scenario) -> Vec<Vec<u8>> {
     let start = |part: u32| {
-        let length = Model.state_size(scenario.part(part)).unwrap();
+        let length = under_test().state_size(scenario.part(part)).unwrap();
         let mut state = vec![0xee; length as usize + 3];
-        let answer = Model.start(scenario.part(part), scenario.rule(), &scenario.field, &mut state);
+        let answer = under_test().start(scenario.part(part), scenario.rule(), &scenario.field, &mut state);
         assert_eq!(answer, Ok(length));
         assert_eq!(state[length as usize..], [0xee; 3]);
         state
@@ -50,7 +50,7 @@ impl Run<'_> {
             0 => {
                 let mut message = vec![0; 8 + 4 * self.scenario.cells];
                 let to = random.between(0, self.scenario.parts as usize + 1) as u32;
-                if let Ok(length) = Model.write(state, to, &mut message) {
+                if let Ok(length) = under_test().write(state, to, &mut message) {
                     message.truncate(length as usize);
                     self.written.push(message);
                 }
@@ -59,11 +59,11 @@ impl Run<'_> {
                 // The latest messages are the likely ones to be accepted.
                 let recent = self.written.len().saturating_sub(random.between(1, 30));
                 let message: &Vec<u8> = random.pick(&self.written[recent..]);
-                let _ = Model.take(state, message);
-                let _ = Model.take(&mut state.clone(), &traffic::message(random, &self.written));
+                let _ = under_test().take(state, message);
+                let _ = under_test().take(&mut state.clone(), &traffic::message(random, &self.written));
             }
             2 if self.rounds[place] + 1 < self.fields.len() => {
-                self.rounds[place] += usize::from(Model.advance(state).is_ok());
+                self.rounds[place] += usize::from(under_test().advance(state).is_ok());
             }
             _ => self.collect(place),
         }
@@ -73,13 +73,8 @@ impl Run<'_> {
     fn collect(&self, place: usize) {
         let (part, round) = (place as u8 + 1, self.rounds[place]);
         let mut field = vec![0xee; self.scenario.field.len() + 2];
-        let owned = self
-            .scenario
-            .owners
-            .iter()
-            .filter(|&&owner| owner == part)
-            .count();
-        let answer = Model.collect(&self.states[place], round as u32, &mut field);
+        let owned = self.scenario.owners.iter().filter(|&&owner| owner == part).count();
+        let answer = under_test().collect(&self.states[place], round as u32, &mut field);
         assert_eq!(answer, Ok(owned as u32));
         let depths = field.chunks(4).zip(self.fields[round].chunks(4));
         for ((found, undivided), &owner) in depths.zip(&self.scenario.owners) {
@@ -95,7 +90,7 @@ fn every_order_of_calls_gives_the_undivided_field() {
     let (mut runs, mut late) = (0, 0);
     while runs < 150 {
         let scenario = Scenario::random(random);
-        if Model.state_size(scenario.part(1)).is_err() || scenario.parts > 6 {
+        if under_test().state_size(scenario.part(1)).is_err() || scenario.parts > 6 {
             continue;
         }
         runs += 1;
@@ -120,30 +115,25 @@ fn every_order_of_calls_gives_the_undivided_field() {
 #[test]
 fn a_state_is_within_its_bound() {
     let random = &mut Random::new(6);
-    let extremes = Scenario::extremes(random)
-        .into_iter()
-        .map(|(_, scenario)| scenario);
+    let extremes = Scenario::extremes(random).into_iter().map(|(_, scenario)| scenario);
     for scenario in extremes
         .collect::<Vec<_>>()
         .into_iter()
         .chain((0..200).map(|_| Scenario::random(random)))
     {
         for part in 1..=scenario.parts {
-            let Ok(length) = Model.state_size(scenario.part(part)) else {
+            let Ok(length) = under_test().state_size(scenario.part(part)) else {
                 continue;
             };
             let mut state = vec![0; length as usize];
-            Model
+            under_test()
                 .start(scenario.part(part), scenario.rule(), &scenario.field, &mut state)
                 .unwrap();
             let sizes = |place: usize| jemlayos_model::bytes::word(&state, place);
             let (owned, held, exports) = (sizes(11), sizes(27), sizes(44));
             let reached = sizes(45 + held + owned);
             assert!(state.len() <= 200 + 40 * (held + reached + exports));
-            assert_eq!(
-                state.len(),
-                126 + 6 * held + 2 * owned + 4 * reached + 2 * exports
-            );
+            assert_eq!(state.len(), 126 + 6 * held + 2 * owned + 4 * reached + 2 * exports);
         }
     }
 }

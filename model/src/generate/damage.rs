@@ -2,7 +2,7 @@
 
 use super::random::Random;
 use super::shapes::Shape;
-use crate::bytes::{put_word, word};
+use crate::bytes::{put_word, word, words};
 use crate::mesh::{MOST_ELEMENTS, MOST_RECORDS};
 
 /// A mesh that check mesh refuses with the given number, 1 to 7.
@@ -71,9 +71,7 @@ fn without_a_side(random: &mut Random, mut shape: Shape) -> Shape {
     let (points, edges) = (shape.counts[0], shape.counts[1]);
     let e = random.between(points + edges, shape.chains.len() - 1);
     let removed = *random.pick(&shape.chains[e]);
-    let is_on_a_side = shape.chains[e]
-        .iter()
-        .any(|&f| shape.chains[f - 1].contains(&removed));
+    let is_on_a_side = shape.chains[e].iter().any(|&f| shape.chains[f - 1].contains(&removed));
     let removed = if is_on_a_side { removed } else { shape.chains[e][0] };
     shape.chains[e].retain(|&g| g != removed);
     shape
@@ -149,11 +147,7 @@ fn damage_links(random: &mut Random, shape: &Shape, mesh: &mut [u8]) {
         0 => put_word(mesh, *random.pick(&onward), random.between(records + 1, 65_535)),
         1 => put_word(mesh, *random.pick(&ends), records + 1),
         // A point with a head, even to a record that nothing else leads to.
-        2 => put_word(
-            mesh,
-            5 + random.between(1, shape.counts[0]),
-            random.between(1, records),
-        ),
+        2 => put_word(mesh, 5 + random.between(1, shape.counts[0]), random.between(1, records)),
         // A chain goes on at a record that is met elsewhere, in the same chain or in another.
         _ => put_word(mesh, *random.pick(&ends), word(mesh, *random.pick(&onward))),
     }
@@ -168,4 +162,28 @@ fn damage_elements(random: &mut Random, shape: &Shape, mesh: &mut [u8]) {
     let twice = word(mesh, element_in(second));
     let wrong = [0, elements + 1, 65_535, e, random.between(e, elements), twice];
     put_word(mesh, element_in(first), *random.pick(&wrong));
+}
+
+/// Meshes whose chains are as long as they can be, each with the number that check mesh gives, 0 where it accepts.
+pub fn long_meshes() -> Vec<(Vec<u8>, u32)> {
+    let one_chain = |points: usize, records: usize, last: usize| {
+        let mut mesh = vec![1, points, 1, 0, 0, records];
+        mesh.extend(vec![0; points]);
+        mesh.push(1);
+        for record in 1..=records {
+            let next = if record < records { record + 1 } else { last };
+            mesh.extend([1 + (record - 1) % points, next]);
+        }
+        words(&mesh)
+    };
+    let points = MOST_ELEMENTS - 1;
+    vec![
+        (one_chain(points, points, 0), 0),
+        (one_chain(points, MOST_RECORDS, 0), 5),
+        (one_chain(points, MOST_RECORDS, 1), 4),
+        (one_chain(points, MOST_RECORDS, MOST_RECORDS), 4),
+        (one_chain(points, MOST_RECORDS + 1, 0), 2),
+        (one_chain(points + 1, points + 1, 0), 2),
+        (one_chain(points, points - 1, 0), 7),
+    ]
 }

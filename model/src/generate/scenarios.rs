@@ -91,20 +91,8 @@ impl Scenario {
             through_points(1, 2),
         );
         // A row of c cells with n = 8 reaches 9c − 20; each cell apart reaches itself.
-        add(
-            "8,000 reached",
-            &Shape::row(891, 1),
-            3,
-            Blocks,
-            through_points(1, 8),
-        );
-        add(
-            "8,001 reached",
-            &Shape::row(891, 2),
-            3,
-            Blocks,
-            through_points(1, 8),
-        );
+        add("8,000 reached", &Shape::row(891, 1), 3, Blocks, through_points(1, 8));
+        add("8,001 reached", &Shape::row(891, 2), 3, Blocks, through_points(1, 8));
         // A row of c cells, dealt out in turns to five parts or more with n = 4, is held 5c − 6 times.
         add("4,096 held", &Shape::row(820, 2), 5, Turns, through_points(1, 4));
         add("4,097 held", &Shape::row(820, 3), 6, Turns, through_points(1, 4));
@@ -112,13 +100,7 @@ impl Scenario {
         add("13 and not 12", &Shape::star(999), 4, Turns, through_points(1, 8));
         add("star of 89", &Shape::star(89), 16, Anyhow, through_points(1, 8));
         add("star of 90", &Shape::star(90), 16, Anyhow, through_points(1, 8));
-        add(
-            "tetrahedra through faces",
-            &tetrahedra,
-            8,
-            Blocks,
-            through_faces(4),
-        );
+        add("tetrahedra through faces", &tetrahedra, 8, Blocks, through_faces(4));
         add(
             "tetrahedra through points",
             &tetrahedra,
@@ -160,44 +142,47 @@ impl Scenario {
         [&self.mesh, &[parts][..], &self.owners, &[length], &self.stencil].concat()
     }
 
-    /// One of the inputs gets a fault of its own kind, or any fault.
+    /// Some of the inputs, perhaps none, get a fault each.
     pub fn damage(&mut self, random: &mut Random) {
-        match random.below(9) {
-            0 => self.mesh = damaged_bytes(random, &self.mesh),
-            1 => {
-                let number = random.between(1, 7) as u32;
-                self.mesh = damaged_mesh(random, number);
+        let damages = [
+            Self::damage_mesh,
+            Self::damage_map,
+            Self::damage_stencil,
+            Self::damage_rule,
+            Self::damage_field,
+        ];
+        for damage in damages {
+            if random.one_in(4) {
+                damage(self, random);
             }
-            2 => self.damage_parts(random),
-            3 => self.empty_a_part(random),
-            4 => self.damage_stencil(random),
-            5 => self.damage_rule(random),
-            6 => self.damage_field(random),
-            7 => self.field = damaged_bytes(random, &self.field),
-            _ => self.owners = damaged_bytes(random, &self.owners),
         }
     }
 
-    fn damage_parts(&mut self, random: &mut Random) {
-        match random.below(3) {
+    fn damage_mesh(&mut self, random: &mut Random) {
+        let number = random.between(1, 7) as u32;
+        self.mesh = match random.below(2) {
+            0 => damaged_bytes(random, &self.mesh),
+            _ => damaged_mesh(random, number),
+        };
+    }
+
+    fn damage_map(&mut self, random: &mut Random) {
+        match random.below(5) {
             0 => self.parts = *random.pick(&[0, 17, self.parts + 1, 256 + self.parts, u32::MAX]),
             1 => self.parts -= 1,
-            _ => {
+            2 => {
                 let cell = random.below(self.owners.len());
                 self.owners[cell] = *random.pick(&[0, self.parts as u8 + 1, 255]);
             }
+            3 => self.owners = damaged_bytes(random, &self.owners),
+            _ => self.empty_a_part(random),
         }
     }
 
     fn empty_a_part(&mut self, random: &mut Random) {
-        let (emptied, heir) = (
-            random.between(1, self.parts as usize) as u8,
-            random.between(1, self.parts as usize) as u8,
-        );
-        for owner in &mut self.owners {
-            if *owner == emptied {
-                *owner = heir;
-            }
+        let [emptied, heir] = [(); 2].map(|()| random.between(1, self.parts as usize) as u8);
+        for owner in self.owners.iter_mut().filter(|owner| **owner == emptied) {
+            *owner = heir;
         }
     }
 
@@ -221,8 +206,7 @@ impl Scenario {
             }
             2 => self.weights.extend([0, 1]),
             _ => {
-                let mut numbers: Vec<usize> =
-                    (0..=self.stencil.len() / 2).map(|_| random.below(16)).collect();
+                let mut numbers: Vec<usize> = (0..=self.stencil.len() / 2).map(|_| random.below(16)).collect();
                 let place = random.below(numbers.len());
                 numbers[place] = *random.pick(&[0, 15, 16, 256, 65_535]);
                 (self.kind, self.weights) = (1, words(&numbers));
@@ -231,6 +215,10 @@ impl Scenario {
     }
 
     fn damage_field(&mut self, random: &mut Random) {
+        if random.one_in(2) {
+            self.field = damaged_bytes(random, &self.field);
+            return;
+        }
         let wrong = *random.pick(&[DEEPEST + 1, -DEEPEST - 1, i32::MIN, i32::MAX]);
         let cell = random.below(self.cells);
         put_depth(&mut self.field, 4 * cell, wrong);

@@ -59,14 +59,7 @@ impl Shape {
         let orders: &[&[usize]] = match sides.len() {
             1 => &[&[0]],
             2 => &[&[0, 1], &[1, 0]],
-            _ => &[
-                &[0, 1, 2],
-                &[0, 2, 1],
-                &[1, 0, 2],
-                &[1, 2, 0],
-                &[2, 0, 1],
-                &[2, 1, 0],
-            ],
+            _ => &[&[0, 1, 2], &[0, 2, 1], &[1, 0, 2], &[1, 2, 0], &[2, 0, 1], &[2, 1, 0]],
         };
         // A point's label is a number whose digits are its coordinates.
         let place = |axis: usize| sides[..axis].iter().map(|side| side + 1).product::<usize>();
@@ -130,10 +123,7 @@ impl Shape {
                 join(&mut chains, cell, side);
             }
         }
-        let chains = chains
-            .into_iter()
-            .map(|chain| chain.into_iter().collect())
-            .collect();
+        let chains = chains.into_iter().map(|chain| chain.into_iter().collect()).collect();
         Shape { top, counts, chains }
     }
 

@@ -4,9 +4,10 @@ use super::damage::{damaged_byte, damaged_bytes};
 use super::random::Random;
 use super::scenarios::random_depth;
 use crate::bytes::{depths, put_word, word, words};
+use crate::mesh::MOST_ELEMENTS;
 use crate::messages::Message;
-use crate::parts::LAST_ROUND;
 use crate::split::MOST_PARTS;
+use crate::state::LAST_ROUND;
 
 /// Something like one of the written messages: that one itself, whichever round or receiver it is of, or a changed one.
 pub fn message(random: &mut Random, written: &[Vec<u8>]) -> Vec<u8> {
@@ -20,6 +21,24 @@ pub fn message(random: &mut Random, written: &[Vec<u8>]) -> Vec<u8> {
         1 => changed_message(random, &bytes),
         _ => bytes,
     }
+}
+
+/// A message that fits what a state imports from some part, as far as the tables of the state can be believed.
+pub fn message_for(random: &mut Random, state: &[u8]) -> Vec<u8> {
+    let imports = |j: usize| {
+        word(state, 11 + j)
+            .saturating_sub(word(state, 10 + j))
+            .min(MOST_ELEMENTS)
+    };
+    let senders: Vec<usize> = (1..=MOST_PARTS).filter(|&j| imports(j) > 0).collect();
+    let from = if senders.is_empty() { 1 } else { *random.pick(&senders) };
+    let message = Message {
+        from,
+        to: word(state, 1),
+        round: word(state, word(state, 0)),
+        depths: (0..imports(from)).map(|_| random_depth(random)).collect(),
+    };
+    message.encode()
 }
 
 fn random_message(random: &mut Random) -> Message {
@@ -59,12 +78,13 @@ pub fn at_round(state: &[u8], round: usize) -> Vec<u8> {
     state
 }
 
-/// The state cut, with one word set anew, or with bytes damaged.
+/// The state cut, in a longer buffer, with one word set anew, or with a byte damaged.
 pub fn broken_state(random: &mut Random, state: &[u8]) -> Vec<u8> {
     let mut broken = state.to_vec();
-    match random.below(4) {
+    match random.below(6) {
         0 => broken.truncate(random.below(state.len())),
-        1 => {
+        1 => broken.extend(random.bytes(5)),
+        2 => {
             let place = random.below(state.len() / 2);
             let near = word(state, place);
             let number = *random.pick(&[0, 1, 17, near + 1, near.saturating_sub(1), 2_001, 60_001, 65_535]);
@@ -125,20 +145,14 @@ pub fn forged_state(random: &mut Random) -> Vec<u8> {
     state.extend(words(&[round]));
     let unset = random.one_in(3);
     state.extend((0..2 * MOST_PARTS).map(|_| u8::from(!unset || random.one_in(2))));
-    state.extend(depths(
-        &(0..held).map(|_| random_depth(random)).collect::<Vec<_>>(),
-    ));
+    state.extend(depths(&(0..held).map(|_| random_depth(random)).collect::<Vec<_>>()));
     state
 }
 
 fn random_ends(random: &mut Random, before: usize, count: usize, most: usize) -> Vec<usize> {
     let mut ends = vec![before];
     for _ in 0..count {
-        let more = if random.one_in(4) {
-            random.between(0, most)
-        } else {
-            0
-        };
+        let more = if random.one_in(4) { random.between(0, most) } else { 0 };
         ends.push(ends[ends.len() - 1] + more);
     }
     ends
