@@ -1,5 +1,6 @@
 //! Whole runs: any order of calls on the parts, repeated and refused ones too, gives the undivided field.
 
+use jemlayos_model::bytes::word;
 use jemlayos_model::calls::under_test;
 use jemlayos_model::generate::random::Random;
 use jemlayos_model::generate::scenarios::Scenario;
@@ -129,11 +130,28 @@ fn a_state_is_within_its_bound() {
             under_test()
                 .start(scenario.part(part), scenario.rule(), &scenario.field, &mut state)
                 .unwrap();
-            let sizes = |place: usize| jemlayos_model::bytes::word(&state, place);
+            let sizes = |place: usize| word(&state, place);
             let (owned, held, exports) = (sizes(11), sizes(27), sizes(44));
             let reached = sizes(45 + held + owned);
             assert!(state.len() <= 200 + 40 * (held + reached + exports));
             assert_eq!(state.len(), 126 + 6 * held + 2 * owned + 4 * reached + 2 * exports);
         }
     }
+}
+
+#[test]
+fn exports_rise_by_global_number_where_local_order_differs() {
+    let random = &mut Random::new(10);
+    let mut differing = 0;
+    for state in (0..100).flat_map(|_| started(&Scenario::lopsided(random))) {
+        let (owned, held, exports) = (word(&state, 11), word(&state, 27), word(&state, 44));
+        let first = 46 + held + owned + 2 * word(&state, 45 + held + owned);
+        let locals: Vec<usize> = (first..first + exports).map(|place| word(&state, place)).collect();
+        for to in 1..=16 {
+            let list = &locals[word(&state, 27 + to)..word(&state, 28 + to)];
+            assert!(list.is_sorted_by_key(|local| word(&state, 44 + local)));
+            differing += usize::from(!list.is_sorted());
+        }
+    }
+    assert!(differing > 20, "only {differing} lists differ from local order");
 }

@@ -44,13 +44,17 @@ fn main() -> ExitCode {
     for (_, scenario) in Scenario::extremes(random) {
         try_inputs(&both, random, &scenario);
         try_listing(&both, random, &scenario);
-        try_run(&both, random, &scenario, 40);
+        try_run(&both, random, &scenario, 30);
     }
     for case in 1..=cases {
         both.tally.borrow_mut().case = case;
         let mesh = damaged_mesh(random, 1 + (case % 7) as u32);
         let _ = both.check_mesh(&mesh);
-        let mut scenario = Scenario::random(random);
+        let mut scenario = if case % 50 == 0 {
+            Scenario::large(random)
+        } else {
+            Scenario::random(random)
+        };
         if case % 4 > 0 {
             try_run(&both, random, &scenario, 60);
             scenario.damage(random);

@@ -51,11 +51,50 @@ impl Scenario {
 
     /// Small valid inputs.
     pub fn random(random: &mut Random) -> Scenario {
+        if random.one_in(4) {
+            return Scenario::lopsided(random);
+        }
         let shape = Shape::random(random);
+        Scenario::somehow_over(random, &shape)
+    }
+
+    /// Inputs near the limits, some beyond those of the held cells or of the reaches.
+    pub fn large(random: &mut Random) -> Scenario {
+        let shape = match random.below(5) {
+            0 => Shape::row(random.between(600, 995), random.below(4)),
+            1 => Shape::star(random.between(60, 999)),
+            2 => Shape::grid(&[random.between(8, 17), random.between(8, 17)]),
+            3 => Shape::grid(&[4, 4, random.between(1, 4)]),
+            _ => full_of_records(random),
+        };
+        let shape = shape.perhaps_renumbered(random);
+        Scenario::somehow_over(random, &shape)
+    }
+
+    fn somehow_over(random: &mut Random, shape: &Shape) -> Scenario {
         let parts = random.between(1, MOST_PARTS.min(shape.cells()));
         let deal = *random.pick(&[Deal::Blocks, Deal::Turns, Deal::Anyhow]);
         let stencil = stencil(random, shape.top);
-        Scenario::over(random, &shape, parts, deal, stencil)
+        Scenario::over(random, shape, parts, deal, stencil)
+    }
+
+    /// A few parts under a stencil that is not the same from its end: reaches are not symmetric, and interior cells are
+    /// exported, which come earlier in local order than in the export list.
+    pub fn lopsided(random: &mut Random) -> Scenario {
+        let top = random.between(2, 3);
+        let shape = match random.below(4) {
+            0 => Shape::grid(&vec![random.between(2, 8 - 2 * top); top]),
+            _ => Shape::random_heap(random, top, 25),
+        };
+        let parts = random.between(1, 3).min(shape.cells());
+        let through = *random.pick(&[[top as u8 - 1, 0], [0, top as u8 - 1]]);
+        Scenario::over(
+            random,
+            &shape,
+            parts,
+            Deal::Blocks,
+            stencil_through(top as u8, &through),
+        )
     }
 
     /// Inputs at the limits, just within them and just beyond.

@@ -138,15 +138,14 @@ impl Shape {
             3 => Shape::random_heap(random, top, cells),
             _ => Shape::random_simplices(random, top, cells),
         };
-        if random.one_in(3) {
-            shape
-        } else {
-            shape.renumbered(random)
-        }
+        shape.perhaps_renumbered(random)
     }
 
-    /// The same mesh with its elements numbered anew within each dimension.
-    pub fn renumbered(self, random: &mut Random) -> Shape {
+    /// The same mesh, more often than not with its elements numbered anew within each dimension.
+    pub fn perhaps_renumbered(self, random: &mut Random) -> Shape {
+        if random.one_in(3) {
+            return self;
+        }
         let mut numbers: Vec<usize> = (1..=self.chains.len()).collect();
         let mut rest = &mut numbers[..];
         for count in self.counts {
