@@ -101,9 +101,13 @@ pub fn broken_state(random: &mut Random, state: &[u8]) -> Vec<u8> {
 /// Bytes of a state's form that no start made: lists in any order, cells held twice, imports from the part itself.
 pub fn forged_state(random: &mut Random) -> Vec<u8> {
     let steps = 2 * random.below(5);
-    let (first, cells) = (random.below(50), random.between(1, 12));
+    let (first, cells) = (*random.pick(&[0, 1, 40, 65_500]), random.between(1, 12));
     let owned = random.between(0, 5);
-    let import_ends = random_ends(random, owned, MOST_PARTS, 2);
+    let mut import_ends = random_ends(random, owned, MOST_PARTS, 2);
+    if random.one_in(20) {
+        // As many held cells as there may be, or one more.
+        import_ends[MOST_PARTS] = MOST_ELEMENTS + random.below(2);
+    }
     let export_ends = random_ends(random, 0, MOST_PARTS, if owned > 0 { 2 } else { 0 });
     let (held, exports) = (import_ends[MOST_PARTS], export_ends[MOST_PARTS]);
     let mut reach_ends = vec![0];
