@@ -2,8 +2,9 @@
  * The mesh-smoothing engine: reading a mesh, splitting it into parts, the undivided round, and the parts with their
  * messages. Link with libboard.a. docs/LAYOUTS.md has every byte layout.
  *
- * A slice is a pointer and its length in bytes; the pointer is not null, even where the length is 0. Words have two bytes and depths four, high byte first. Numbers (P, a
- * part, a rule's kind, a receiver, a round, a dimension) may be anything: a wrong one is refused.
+ * A slice is a pointer, which is not null even where there are no bytes, and its length in bytes. Words have two bytes
+ * and depths four, high byte first. Numbers (P, a part, a rule's kind, a receiver, a round) may be anything: a wrong one
+ * is refused.
  *
  * Every function answers in 64 bits: the refusal's number in the high half, 0 where the call was accepted, and a count
  * in the low half, 0 where it was refused. Take it apart with jem_refusal and jem_count.

@@ -7,17 +7,12 @@ pub const DEEPEST: i32 = 1_200_000;
 
 /// Word `i`; one past the end reads as 0, so that a head may be read before a length is tested.
 pub fn word(bytes: &[u8], i: usize) -> usize {
-    bytes
-        .get(2 * i..)
-        .and_then(|rest| rest.first_chunk())
-        .map_or(0, |pair| usize::from(u16::from_be_bytes(*pair)))
+    bytes.get(2 * i..).and_then(|rest| rest.first_chunk()).map_or(0, |pair| usize::from(u16::from_be_bytes(*pair)))
 }
 
 /// A number as a word. Every number that is written is within the limits, far below 65,536.
 fn word_bytes(number: usize) -> [u8; 2] {
-    u16::try_from(number)
-        .expect("a written number fits a word")
-        .to_be_bytes()
+    u16::try_from(number).expect("a written number fits a word").to_be_bytes()
 }
 
 pub fn put_word(bytes: &mut [u8], i: usize, number: usize) {
@@ -46,10 +41,7 @@ pub fn read_depths(bytes: &[u8]) -> Option<Vec<i32>> {
     if !bytes.len().is_multiple_of(4) {
         return None;
     }
-    bytes
-        .chunks_exact(4)
-        .map(|four| Some(depth(four, 0)).filter(|d| (-DEEPEST..=DEEPEST).contains(d)))
-        .collect()
+    bytes.chunks_exact(4).map(|four| Some(depth(four, 0)).filter(|d| (-DEEPEST..=DEEPEST).contains(d))).collect()
 }
 
 /// The front of an output buffer, as much as is needed; the rest stays.

@@ -44,10 +44,7 @@ fn lists(split: &Split) -> String {
         line(&mut text, "part", &[part]);
         line(&mut text, "interior", &split.interior(part));
         line(&mut text, "halo", &split.halo(part));
-        for (label, list) in [
-            ("import", Split::imports as fn(&_, _, _) -> _),
-            ("export", Split::exports),
-        ] {
+        for (label, list) in [("import", Split::imports as fn(&_, _, _) -> _), ("export", Split::exports)] {
             for other in split.parts() {
                 let cells: Vec<usize> = list(split, part, other);
                 if !cells.is_empty() {

@@ -29,11 +29,7 @@ impl Head {
         if bytes.len() < 12 || !(1..=3).contains(&top) {
             return Err(Refusal::MeshHead);
         }
-        let head = Head {
-            top,
-            counts: [1, 2, 3, 4].map(|i| word(bytes, i)),
-            records: word(bytes, 5),
-        };
+        let head = Head { top, counts: [1, 2, 3, 4].map(|i| word(bytes, i)), records: word(bytes, 5) };
         let miscounted = (0..4).any(|k| (head.counts[k] > 0) != (k <= top));
         if miscounted || head.elements() > MOST_ELEMENTS || head.records > MOST_RECORDS {
             return Err(Refusal::Counts);
@@ -76,12 +72,7 @@ impl Mesh {
         let chains = follow_chains(bytes, &head)?;
         let cells = below[head.top] + 1..below[head.top + 1] + 1;
         check_elements(&chains, &below)?;
-        let mesh = Mesh {
-            top: head.top,
-            below,
-            cells_at: chains.turned(cells, head.elements() + 1),
-            chains,
-        };
+        let mesh = Mesh { top: head.top, below, cells_at: chains.turned(cells, head.elements() + 1), chains };
         mesh.check_closure()?;
         mesh.check_cover()?;
         Ok(mesh)

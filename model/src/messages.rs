@@ -15,15 +15,8 @@ pub struct Message {
 impl Message {
     pub fn read(bytes: &[u8]) -> Answer<Message> {
         let (_, rest) = bytes.split_at_checked(8).ok_or(Refusal::Message)?;
-        let depths = read_depths(rest)
-            .filter(|depths| depths.len() == word(bytes, 3))
-            .ok_or(Refusal::Message)?;
-        Ok(Message {
-            from: word(bytes, 0),
-            to: word(bytes, 1),
-            round: word(bytes, 2),
-            depths,
-        })
+        let depths = read_depths(rest).filter(|depths| depths.len() == word(bytes, 3)).ok_or(Refusal::Message)?;
+        Ok(Message { from: word(bytes, 0), to: word(bytes, 1), round: word(bytes, 2), depths })
     }
 
     pub fn encode(&self) -> Vec<u8> {

@@ -53,9 +53,7 @@ impl Rule {
 
 /// The depths of a field, one for each cell in rising number.
 pub fn read_field(bytes: &[u8], cells: usize) -> Answer<Vec<i32>> {
-    read_depths(bytes)
-        .filter(|depths| depths.len() == cells)
-        .ok_or(Refusal::Field)
+    read_depths(bytes).filter(|depths| depths.len() == cells).ok_or(Refusal::Field)
 }
 
 /// The field after one round of the rule at every cell; the count of its depths.

@@ -7,10 +7,7 @@ pub struct Rows<T> {
 
 impl<T> Rows<T> {
     pub fn new() -> Self {
-        Rows {
-            items: Vec::new(),
-            ends: vec![0],
-        }
+        Rows { items: Vec::new(), ends: vec![0] }
     }
 
     pub fn push(&mut self, row: impl IntoIterator<Item = T>) {

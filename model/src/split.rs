@@ -78,10 +78,7 @@ impl PartMap {
         }
         let mut by_number = vec![0; mesh.first_cell()];
         by_number.extend(owners.iter().map(|&o| usize::from(o)));
-        Ok(PartMap {
-            parts: parts as usize,
-            owners: by_number,
-        })
+        Ok(PartMap { parts: parts as usize, owners: by_number })
     }
 }
 
@@ -129,12 +126,7 @@ impl Split {
             return Err(Refusal::Held);
         }
         let reaches = Reaches::find(&mesh, stencil)?;
-        Ok(Split {
-            mesh,
-            map,
-            holders,
-            reaches,
-        })
+        Ok(Split { mesh, map, holders, reaches })
     }
 
     pub fn parts(&self) -> std::ops::RangeInclusive<usize> {

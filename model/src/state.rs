@@ -97,12 +97,7 @@ impl State {
 
     fn accepted(bytes: &[u8]) -> Option<State> {
         let (owned, held) = (word(bytes, IMPORT_ENDS), word(bytes, IMPORT_ENDS + MOST_PARTS));
-        let mut sizes = Sizes {
-            owned,
-            held,
-            entries: 0,
-            exports: word(bytes, EXPORT_ENDS + MOST_PARTS),
-        };
+        let mut sizes = Sizes { owned, held, entries: 0, exports: word(bytes, EXPORT_ENDS + MOST_PARTS) };
         sizes.entries = word(bytes, sizes.reach_ends() + owned);
         let fits = word(bytes, 0) == sizes.words() && bytes.len() >= sizes.length();
         if !fits || held > MOST_ELEMENTS {

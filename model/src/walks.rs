@@ -62,10 +62,7 @@ impl Reaches {
                 return Err(Refusal::Reach);
             }
         }
-        Ok(Reaches {
-            first_cell: mesh.first_cell(),
-            rows,
-        })
+        Ok(Reaches { first_cell: mesh.first_cell(), rows })
     }
 
     /// The reach of a cell, rising by global number.
@@ -90,10 +87,7 @@ impl<'a> Walks<'a> {
     fn new(mesh: &'a Mesh) -> Self {
         Walks {
             mesh,
-            met: Marks {
-                step: 0,
-                last: vec![0; mesh.size()],
-            },
+            met: Marks { step: 0, last: vec![0; mesh.size()] },
             reached_from: vec![0; mesh.size()],
             sides: Vec::new(),
             cells: Vec::new(),

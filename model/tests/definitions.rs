@@ -39,17 +39,11 @@ impl<'a> Paper<'a> {
             }
             chains.push(chain);
         }
-        Paper {
-            dimension,
-            chains,
-            scenario,
-        }
+        Paper { dimension, chains, scenario }
     }
 
     fn of_dimension(&self, dimension: usize) -> Set {
-        (1..self.chains.len())
-            .filter(|&e| self.dimension[e] == dimension)
-            .collect()
+        (1..self.chains.len()).filter(|&e| self.dimension[e] == dimension).collect()
     }
 
     fn incident(&self, e: usize, f: usize) -> bool {
@@ -86,11 +80,7 @@ impl<'a> Paper<'a> {
     }
 
     fn held(&self, part: u32) -> Set {
-        self.owned(part)
-            .into_iter()
-            .flat_map(|c| self.reach(c))
-            .map(|(c, _)| c)
-            .collect()
+        self.owned(part).into_iter().flat_map(|c| self.reach(c)).map(|(c, _)| c).collect()
     }
 
     fn imports(&self, part: u32, other: u32) -> Set {
@@ -171,11 +161,7 @@ fn lists_are_the_defined_sets() {
         let paper = Paper::of(&scenario);
         for part in 1..=scenario.parts {
             let interior = rising(paper.interior(part));
-            let halo: Vec<_> = paper
-                .owned(part)
-                .into_iter()
-                .filter(|c| !interior.contains(c))
-                .collect();
+            let halo: Vec<_> = paper.owned(part).into_iter().filter(|c| !interior.contains(c)).collect();
             let mut locals = [interior.clone(), halo.clone()].concat();
             assert_eq!(listed(&scenario, part, List::Interior), interior);
             assert_eq!(listed(&scenario, part, List::Halo), halo);
@@ -189,10 +175,7 @@ fn lists_are_the_defined_sets() {
             for range in Range::ALL {
                 for dimension in 0..scenario.top {
                     let list = List::Range(range, dimension as u32);
-                    assert_eq!(
-                        listed(&scenario, part, list),
-                        rising(paper.range(part, range, dimension))
-                    );
+                    assert_eq!(listed(&scenario, part, list), rising(paper.range(part, range, dimension)));
                 }
             }
         }

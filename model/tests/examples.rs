@@ -43,13 +43,7 @@ fn five_cells() -> Vec<u8> {
 }
 
 fn part<'a>(mesh: &'a [u8], part: u32) -> PartInput<'a> {
-    PartInput {
-        mesh,
-        parts: 2,
-        owners: &OWNERS,
-        part,
-        stencil: &STENCIL,
-    }
+    PartInput { mesh, parts: 2, owners: &OWNERS, part, stencil: &STENCIL }
 }
 
 /// The list program's input, from its pieces.
@@ -70,9 +64,7 @@ fn start(number: u32, field: &[i32]) -> Vec<u8> {
     let mesh = five_cells();
     let weights = words(&[2, 1]);
     let mut state = vec![0; under_test().state_size(part(&mesh, number)).unwrap() as usize];
-    under_test()
-        .start(part(&mesh, number), mean(&weights), &depths(field), &mut state)
-        .unwrap();
+    under_test().start(part(&mesh, number), mean(&weights), &depths(field), &mut state).unwrap();
     state
 }
 
@@ -115,14 +107,8 @@ fn lists_are_given_as_words() {
     assert_eq!(list(2, List::Range(Range::Copied, 0)), [3]);
     assert_eq!(list(2, List::Range(Range::Copied, 1)), []);
     let mut short = [0; 3];
-    assert_eq!(
-        under_test().list(part(&mesh, 1), List::Interior, &mut short),
-        Err(Refusal::Output)
-    );
-    assert_eq!(
-        under_test().list(part(&mesh, 1), List::Imports(3), &mut short),
-        Err(Refusal::PartMap)
-    );
+    assert_eq!(under_test().list(part(&mesh, 1), List::Interior, &mut short), Err(Refusal::Output));
+    assert_eq!(under_test().list(part(&mesh, 1), List::Imports(3), &mut short), Err(Refusal::PartMap));
 }
 
 #[test]
@@ -135,11 +121,7 @@ fn input_cut_short_is_refused_by_its_first_broken_piece() {
             74..80 => 8,
             _ => 10,
         };
-        assert_eq!(
-            listing::text(&whole[..length]),
-            format!("refused {number}\n"),
-            "{length} bytes"
-        );
+        assert_eq!(listing::text(&whole[..length]), format!("refused {number}\n"), "{length} bytes");
     }
     let mut longer = whole;
     longer.push(0);
@@ -168,10 +150,7 @@ fn a_stencil_of_length_1_imports_nothing_and_lengths_0_2_11_are_refused() {
     assert!(text.contains("interior 7 8 9\nhalo\ndim 0 private 1 2 3\n") && !text.contains("import"));
     for length in [0, 2, 11] {
         let alternating = [1, 0, 1, 0, 1, 0, 1, 0, 1, 0, 1];
-        assert_eq!(
-            listing::text(&input(2, &OWNERS, &alternating[..length])),
-            "refused 10\n"
-        );
+        assert_eq!(listing::text(&input(2, &OWNERS, &alternating[..length])), "refused 10\n");
     }
 }
 
@@ -187,10 +166,7 @@ fn mean_of_two_rounds() {
     let (mesh, weights) = (five_cells(), words(&[2, 1]));
     let round = |field: &[i32]| {
         let mut out = vec![0; 20];
-        assert_eq!(
-            under_test().round(&mesh, &STENCIL, mean(&weights), &depths(field), &mut out),
-            Ok(5)
-        );
+        assert_eq!(under_test().round(&mesh, &STENCIL, mean(&weights), &depths(field), &mut out), Ok(5));
         out
     };
     assert_eq!(round(&[100, 200, 300, 400, 500]), depths(&[133, 200, 300, 400, 466]));

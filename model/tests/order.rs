@@ -42,13 +42,7 @@ fn numbers(scenario: &Scenario, room: usize) -> [u32; 4] {
         number(under_test().start(part, scenario.rule(), &scenario.field, &mut out)),
         number(under_test().state_size(part)),
         number(under_test().list(part, List::Locals, &mut out)),
-        number(under_test().round(
-            &scenario.mesh,
-            &scenario.stencil,
-            scenario.rule(),
-            &scenario.field,
-            &mut out,
-        )),
+        number(under_test().round(&scenario.mesh, &scenario.stencil, scenario.rule(), &scenario.field, &mut out)),
     ]
 }
 
@@ -95,10 +89,7 @@ fn a_wrong_part_is_refused_before_an_empty_one() {
         assert_eq!(number(under_test().state_size(scenario.part(part))), 8);
     }
     assert_eq!(number(under_test().state_size(scenario.part(2))), 9);
-    assert_eq!(
-        number(under_test().list(scenario.part(1), List::Imports(3), &mut [])),
-        8
-    );
+    assert_eq!(number(under_test().list(scenario.part(1), List::Imports(3), &mut [])), 8);
 }
 
 #[test]
@@ -175,11 +166,7 @@ fn the_longest_chains_are_followed() {
 #[test]
 fn a_walk_that_dies_leaves_the_cell_its_own() {
     // Two cells without any side, and one that has the only point.
-    let shape = Shape {
-        top: 1,
-        counts: [1, 3, 0, 0],
-        chains: vec![vec![], vec![], vec![1], vec![]],
-    };
+    let shape = Shape { top: 1, counts: [1, 3, 0, 0], chains: vec![vec![], vec![], vec![1], vec![]] };
     let random = &mut Random::new(9);
     let scenario = Scenario::over(random, &shape, 3, Deal::Turns, stencil_through(1, &[0; 4]));
     for part in 1..=3 {

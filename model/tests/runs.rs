@@ -12,9 +12,7 @@ fn undivided(scenario: &Scenario, rounds: usize) -> Vec<Vec<u8>> {
     for round in 0..rounds {
         let mut next = vec![0; scenario.field.len()];
         let old = &fields[round];
-        under_test()
-            .round(&scenario.mesh, &scenario.stencil, scenario.rule(), old, &mut next)
-            .unwrap();
+        under_test().round(&scenario.mesh, &scenario.stencil, scenario.rule(), old, &mut next).unwrap();
         fields.push(next);
     }
     fields
@@ -98,13 +96,7 @@ fn every_order_of_calls_gives_the_undivided_field() {
         let states = started(&scenario);
         let rounds = vec![0; states.len()];
         let fields = undivided(&scenario, 4);
-        let mut run = Run {
-            scenario: &scenario,
-            states,
-            written: Vec::new(),
-            rounds,
-            fields,
-        };
+        let mut run = Run { scenario: &scenario, states, written: Vec::new(), rounds, fields };
         for _ in 0..3_000 {
             run.call(random);
         }
@@ -117,19 +109,13 @@ fn every_order_of_calls_gives_the_undivided_field() {
 fn a_state_is_within_its_bound() {
     let random = &mut Random::new(6);
     let extremes = Scenario::extremes(random).into_iter().map(|(_, scenario)| scenario);
-    for scenario in extremes
-        .collect::<Vec<_>>()
-        .into_iter()
-        .chain((0..200).map(|_| Scenario::random(random)))
-    {
+    for scenario in extremes.collect::<Vec<_>>().into_iter().chain((0..200).map(|_| Scenario::random(random))) {
         for part in 1..=scenario.parts {
             let Ok(length) = under_test().state_size(scenario.part(part)) else {
                 continue;
             };
             let mut state = vec![0; length as usize];
-            under_test()
-                .start(scenario.part(part), scenario.rule(), &scenario.field, &mut state)
-                .unwrap();
+            under_test().start(scenario.part(part), scenario.rule(), &scenario.field, &mut state).unwrap();
             let sizes = |place: usize| word(&state, place);
             let (owned, held, exports) = (sizes(11), sizes(27), sizes(44));
             let reached = sizes(45 + held + owned);

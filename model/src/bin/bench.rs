@@ -22,23 +22,11 @@ const PART: u32 = 2;
 
 fn main() {
     let rows = [100, 450, 900].map(|cells| Shape::row(cells, 0));
-    family(
-        "cells in a row, stencil 1 0 1 0 1 0 1",
-        &rows,
-        &stencil_through(1, &[0; 3]),
-    );
+    family("cells in a row, stencil 1 0 1 0 1 0 1", &rows, &stencil_through(1, &[0; 3]));
     let squares = [[5, 5], [10, 10], [15, 18]].map(|sides| Shape::grid(&sides));
-    family(
-        "triangles in a grid, stencil 2 1 2 1 2",
-        &squares,
-        &stencil_through(2, &[1; 2]),
-    );
+    family("triangles in a grid, stencil 2 1 2 1 2", &squares, &stencil_through(2, &[1; 2]));
     let cubes = [2, 3, 4].map(|side| Shape::grid(&[side; 3]));
-    family(
-        "tetrahedra in a grid, stencil 3 2 3 2 3",
-        &cubes,
-        &stencil_through(3, &[2; 2]),
-    );
+    family("tetrahedra in a grid, stencil 3 2 3 2 3", &cubes, &stencil_through(3, &[2; 2]));
 }
 
 /// One table: a line for each call, and the growth of its time beside that of the records and of the reaches.
@@ -56,9 +44,7 @@ fn family(name: &str, shapes: &[Shape; 3], stencil: &[u8]) {
     }
     println!("{:>12}{:>10}", tested.name(), "model");
     for (call, time) in CALLS {
-        let times = cases
-            .each_ref()
-            .map(|case| [tested, &Model].map(|calls| time(case, calls)));
+        let times = cases.each_ref().map(|case| [tested, &Model].map(|calls| time(case, calls)));
         print!("{call:<16}");
         for [tested, model] in times {
             print!("{tested:>13.1}{model:>10.1}{:>10.2}", tested / model);
@@ -97,21 +83,13 @@ struct Case {
 
 impl Case {
     fn over(shape: &Shape, stencil: &[u8]) -> Case {
-        let mut scenario = Scenario::over(
-            &mut Random::new(1),
-            shape,
-            PARTS as usize,
-            Deal::Blocks,
-            stencil.to_vec(),
-        );
+        let mut scenario = Scenario::over(&mut Random::new(1), shape, PARTS as usize, Deal::Blocks, stencil.to_vec());
         scenario.kind = 1;
         scenario.weights = [0, 1].repeat(stencil.len() / 2 + 1);
         let start = |part: u32| {
             let length = Model.state_size(scenario.part(part)).expect("an accepted size");
             let mut state = vec![0; length as usize];
-            Model
-                .start(scenario.part(part), scenario.rule(), &scenario.field, &mut state)
-                .expect("a start");
+            Model.start(scenario.part(part), scenario.rule(), &scenario.field, &mut state).expect("a start");
             state
         };
         let state = start(PART);
@@ -128,15 +106,7 @@ impl Case {
             }
         }
         let (sender, message) = last;
-        Case {
-            records: shape.records(),
-            reached: reached(&scenario),
-            state,
-            sender,
-            message,
-            ready,
-            scenario,
-        }
+        Case { records: shape.records(), reached: reached(&scenario), state, sender, message, ready, scenario }
     }
 
     fn list(&self, calls: &dyn Calls, list: List) -> f64 {
@@ -155,43 +125,25 @@ fn reached(scenario: &Scenario) -> usize {
 type Timed = fn(&Case, &dyn Calls) -> f64;
 
 const CALLS: [(&str, Timed); 10] = [
-    ("check mesh", |case, calls| {
-        median(&[], |_| calls.check_mesh(&case.scenario.mesh))
-    }),
+    ("check mesh", |case, calls| median(&[], |_| calls.check_mesh(&case.scenario.mesh))),
     ("local order", |case, calls| case.list(calls, List::Locals)),
-    ("exposed points", |case, calls| {
-        case.list(calls, List::Range(Range::Exposed, 0))
-    }),
+    ("exposed points", |case, calls| case.list(calls, List::Range(Range::Exposed, 0))),
     ("undivided round", |case, calls| {
-        let Scenario {
-            mesh, stencil, field, ..
-        } = &case.scenario;
-        median(field, |out| {
-            calls.round(mesh, stencil, case.scenario.rule(), field, out)
-        })
+        let Scenario { mesh, stencil, field, .. } = &case.scenario;
+        median(field, |out| calls.round(mesh, stencil, case.scenario.rule(), field, out))
     }),
-    ("state size", |case, calls| {
-        median(&[], |_| calls.state_size(case.scenario.part(PART)))
-    }),
+    ("state size", |case, calls| median(&[], |_| calls.state_size(case.scenario.part(PART)))),
     ("start", |case, calls| {
         let Scenario { field, .. } = &case.scenario;
-        median(&case.state, |state| {
-            calls.start(case.scenario.part(PART), case.scenario.rule(), field, state)
-        })
+        median(&case.state, |state| calls.start(case.scenario.part(PART), case.scenario.rule(), field, state))
     }),
     ("write", |case, calls| {
         let out = &mut vec![0; case.message.len() + 4 * case.scenario.cells];
         median(&case.state, |state| calls.write(state, case.sender, out))
     }),
-    ("take", |case, calls| {
-        median(&case.state, |state| calls.take(state, &case.message))
-    }),
-    ("advance", |case, calls| {
-        median(&case.ready, |state| calls.advance(state))
-    }),
-    ("collect", |case, calls| {
-        median(&case.scenario.field, |field| calls.collect(&case.state, 0, field))
-    }),
+    ("take", |case, calls| median(&case.state, |state| calls.take(state, &case.message))),
+    ("advance", |case, calls| median(&case.ready, |state| calls.advance(state))),
+    ("collect", |case, calls| median(&case.scenario.field, |field| calls.collect(&case.state, 0, field))),
 ];
 
 /// The median time of an accepted call in microseconds, each time over a fresh copy of the lent bytes.

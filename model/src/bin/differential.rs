@@ -1,7 +1,8 @@
 //! Compares the engine with the model, call by call: answers and every lent byte.
 //!
 //! `differential [seed [cases]]`; without a seed it takes one from the clock. Where JEMLAYOS_LIST names a list program,
-//! what that prints is compared too. Exits with 1 on a difference, or where a refusal's number was never reached.
+//! what that prints is compared too. Exits with 1 on a difference, or where a call was never refused with one of the
+//! numbers that it tries.
 
 use std::cell::RefCell;
 use std::collections::BTreeMap;
@@ -22,18 +23,11 @@ use jemlayos_model::state::LAST_ROUND;
 
 fn main() -> ExitCode {
     let mut arguments = std::env::args().skip(1).map(|a| a.parse().expect("a number"));
-    let clock = || {
-        SystemTime::now()
-            .duration_since(UNIX_EPOCH)
-            .map_or(0, |time| time.as_secs())
-    };
+    let clock = || SystemTime::now().duration_since(UNIX_EPOCH).map_or(0, |time| time.as_secs());
     let seed = arguments.next().unwrap_or_else(clock);
     let cases = arguments.next().unwrap_or(2_000);
-    let both = Both {
-        tested: under_test(),
-        list_program: std::env::var_os("JEMLAYOS_LIST"),
-        tally: RefCell::default(),
-    };
+    let both =
+        Both { tested: under_test(), list_program: std::env::var_os("JEMLAYOS_LIST"), tally: RefCell::default() };
     println!("{} against model, seed {seed}, {cases} cases", both.tested.name());
 
     let began = Instant::now();
@@ -43,18 +37,14 @@ fn main() -> ExitCode {
     }
     for (_, scenario) in Scenario::extremes(random) {
         try_inputs(&both, random, &scenario);
-        try_listing(&both, random, &scenario);
+        both.compare_listing(&scenario.listing_input());
         try_run(&both, random, &scenario, 30);
     }
     for case in 1..=cases {
         both.tally.borrow_mut().case = case;
         let mesh = damaged_mesh(random, 1 + (case % 7) as u32);
         let _ = both.check_mesh(&mesh);
-        let mut scenario = if case % 50 == 0 {
-            Scenario::large(random)
-        } else {
-            Scenario::random(random)
-        };
+        let mut scenario = if case % 50 == 0 { Scenario::large(random) } else { Scenario::random(random) };
         if case % 4 > 0 {
             try_run(&both, random, &scenario, 60);
             scenario.damage(random);
@@ -69,12 +59,28 @@ fn main() -> ExitCode {
 
 const MOST_SHOWN: u64 = 20;
 
+/// The numbers that a call tries.
+fn tries(call: &str) -> &'static [u32] {
+    match call {
+        "check mesh" => &[1, 2, 3, 4, 5, 6, 7],
+        "round" => &[1, 2, 3, 4, 5, 6, 7, 10, 11, 13, 14, 16],
+        "state size" => &[1, 2, 3, 4, 5, 6, 7, 8, 9, 10, 12, 13],
+        "start" => &[1, 2, 3, 4, 5, 6, 7, 8, 9, 10, 11, 12, 13, 14, 16],
+        "write" => &[16, 20, 27],
+        "take" => &[15, 20, 21, 22, 23],
+        "advance" => &[20, 24, 25, 26],
+        "collect" => &[16, 20, 28],
+        // The lists of a part, and the list program, which has no buffer.
+        "list program" => &[1, 2, 3, 4, 5, 6, 7, 8, 9, 10, 12, 13],
+        _ => &[1, 2, 3, 4, 5, 6, 7, 8, 9, 10, 12, 13, 16],
+    }
+}
+
 #[derive(Default)]
 struct Tally {
     case: u64,
-    /// How often each call was made, and how often accepted.
-    calls: BTreeMap<&'static str, [u64; 2]>,
-    reached: BTreeMap<Refusal, u64>,
+    /// How often each call gave each number, 0 where it was accepted.
+    answers: BTreeMap<&'static str, BTreeMap<u32, u64>>,
     differences: u64,
 }
 
@@ -87,22 +93,30 @@ impl Tally {
         }
     }
 
+    fn count(&mut self, call: &'static str, number: u32) {
+        assert!(number == 0 || tries(call).contains(&number), "{call} is never refused with {number}");
+        *self.answers.entry(call).or_default().entry(number).or_default() += 1;
+    }
+
     fn report(&self, seconds: f64) -> ExitCode {
-        for (call, [made, accepted]) in &self.calls {
-            println!("{made:>9} {call}, {accepted} accepted");
+        let (mut calls, mut missing) = (0, 0);
+        for (call, numbers) in &self.answers {
+            let count = |number: &u32| numbers.get(number).copied().unwrap_or(0);
+            let refused: Vec<String> = tries(call).iter().map(|n| format!("{n}: {}", count(n))).collect();
+            println!("{call}: accepted {}; refused {}", count(&0), refused.join(", "));
+            calls += numbers.values().sum::<u64>();
+            missing += tries(call).iter().filter(|n| count(n) == 0).count();
         }
-        let mut missing = 0;
         for &refusal in Refusal::ALL {
-            let count = self.reached.get(&refusal).copied().unwrap_or(0);
-            missing += u64::from(count == 0);
-            println!("{count:>9} refused {refusal}");
+            let count: u64 = self.answers.values().filter_map(|numbers| numbers.get(&refusal.number())).sum();
+            missing += usize::from(count == 0);
+            println!("{count:>9} × {refusal}");
         }
-        let calls: u64 = self.calls.values().map(|[made, _]| made).sum();
         println!(
-            "{calls} calls in {seconds:.1} s, {} differences, {missing} numbers not reached",
+            "{calls} calls in {seconds:.1} s, {} differences, {missing} numbers that a call did not reach",
             self.differences
         );
-        if self.differences + missing == 0 {
+        if self.differences == 0 && missing == 0 {
             ExitCode::SUCCESS
         } else {
             ExitCode::FAILURE
@@ -132,19 +146,14 @@ impl Both<'_> {
         let answer = make(&Model, expected.each_mut().map(Vec::as_mut_slice));
 
         let mut tally = self.tally.borrow_mut();
-        let [made, accepted] = tally.calls.entry(call).or_default();
-        *made += 1;
-        *accepted += u64::from(answer.is_ok());
-        if let Err(refusal) = answer {
-            *tally.reached.entry(refusal).or_default() += 1;
+        tally.count(call, answer.err().map_or(0, Refusal::number));
+        if answer.is_err() {
             assert_eq!(expected, before, "the model's refusal of {call} changed a byte");
         }
         if tested != answer || found != expected {
             let first = |a: &Vec<u8>, b: &Vec<u8>| a.iter().zip(b).position(|(a, b)| a != b);
             let bytes: Vec<_> = found.iter().zip(&expected).map(|(a, b)| first(a, b)).collect();
-            tally.differ(&format!(
-                "{call}: {tested:?} for {answer:?}, first different bytes {bytes:?}"
-            ));
+            tally.differ(&format!("{call}: {tested:?} for {answer:?}, first different bytes {bytes:?}"));
         }
         for (buffer, expected) in lent.into_iter().zip(expected) {
             buffer.copy_from_slice(&expected);
@@ -157,23 +166,16 @@ impl Both<'_> {
         let Some(program) = &self.list_program else {
             return;
         };
-        let mut child = Command::new(program)
-            .stdin(Stdio::piped())
-            .stdout(Stdio::piped())
-            .spawn()
-            .expect("the list program runs");
+        let mut child =
+            Command::new(program).stdin(Stdio::piped()).stdout(Stdio::piped()).spawn().expect("the list program runs");
         let _ = child.stdin.take().expect("a pipe to it").write_all(input);
         let found = child.wait_with_output().expect("the list program ends").stdout;
         let expected = listing::text(input);
         let mut tally = self.tally.borrow_mut();
-        let [made, accepted] = tally.calls.entry("list program").or_default();
-        *made += 1;
-        *accepted += u64::from(expected.starts_with("parts"));
+        let refused = expected.strip_prefix("refused ").map(|number| number.trim().parse().expect("a number"));
+        tally.count("list program", refused.unwrap_or(0));
         if found != expected.as_bytes() {
-            tally.differ(&format!(
-                "list program: {:?} for {expected:?}",
-                String::from_utf8_lossy(&found)
-            ));
+            tally.differ(&format!("list program: {:?} for {expected:?}", String::from_utf8_lossy(&found)));
         }
     }
 }
@@ -192,9 +194,7 @@ impl Calls for Both<'_> {
     }
 
     fn round(&self, mesh: &[u8], stencil: &[u8], rule: RuleInput, field: &[u8], out: &mut [u8]) -> Answer {
-        self.compare("round", [out], |calls, [out]| {
-            calls.round(mesh, stencil, rule, field, out)
-        })
+        self.compare("round", [out], |calls, [out]| calls.round(mesh, stencil, rule, field, out))
     }
 
     fn state_size(&self, input: PartInput) -> Answer {
@@ -202,9 +202,7 @@ impl Calls for Both<'_> {
     }
 
     fn start(&self, input: PartInput, rule: RuleInput, field: &[u8], state: &mut [u8]) -> Answer {
-        self.compare("start", [state], |calls, [state]| {
-            calls.start(input, rule, field, state)
-        })
+        self.compare("start", [state], |calls, [state]| calls.start(input, rule, field, state))
     }
 
     fn write(&self, state: &mut [u8], to: u32, out: &mut [u8]) -> Answer {
@@ -247,13 +245,7 @@ fn number(random: &mut Random, most: u32) -> u32 {
 fn try_inputs(calls: &dyn Calls, random: &mut Random, scenario: &Scenario) {
     let _ = calls.check_mesh(&scenario.mesh);
     let mut out = buffer(random, 4 * scenario.cells);
-    let _ = calls.round(
-        &scenario.mesh,
-        &scenario.stencil,
-        scenario.rule(),
-        &scenario.field,
-        &mut out,
-    );
+    let _ = calls.round(&scenario.mesh, &scenario.stencil, scenario.rule(), &scenario.field, &mut out);
 
     let input = scenario.part(number(random, scenario.parts));
     let size = calls.state_size(input).unwrap_or(64);
@@ -298,7 +290,9 @@ fn try_run(calls: &dyn Calls, random: &mut Random, scenario: &Scenario, turns: u
             2 => try_state(calls, random, &run.states[part]),
             3..6 => {
                 let to = number(random, scenario.parts);
-                let mut out = buffer(random, 8 + 4 * scenario.cells);
+                let mut longest = vec![0; 8 + 4 * scenario.cells];
+                let length = calls.write(&mut run.states[part].clone(), to, &mut longest).unwrap_or(8);
+                let mut out = buffer(random, length as usize);
                 run.write(part, to, &mut out);
             }
             6..9 => {
@@ -326,18 +320,11 @@ impl<'a> Run<'a> {
     fn start(calls: &'a dyn Calls, scenario: &'a Scenario) -> Option<Self> {
         let start = |part: u32| {
             let mut state = vec![0xee; calls.state_size(scenario.part(part)).ok()? as usize];
-            calls
-                .start(scenario.part(part), scenario.rule(), &scenario.field, &mut state)
-                .ok()?;
+            calls.start(scenario.part(part), scenario.rule(), &scenario.field, &mut state).ok()?;
             Some(state)
         };
         let states = (1..=scenario.parts).map(start).collect::<Option<_>>()?;
-        Some(Run {
-            calls,
-            scenario,
-            states,
-            written: Vec::new(),
-        })
+        Some(Run { calls, scenario, states, written: Vec::new() })
     }
 
     fn write(&mut self, part: usize, to: u32, out: &mut [u8]) -> Option<Vec<u8>> {
@@ -371,9 +358,7 @@ impl<'a> Run<'a> {
         let mut state = traffic::at_round(&self.states[part], round);
         let _ = self.calls.advance(&mut state);
         let _ = self.calls.advance(&mut state);
-        let _ = self
-            .calls
-            .collect(&state, LAST_ROUND as u32, &mut vec![0xee; 4 * self.scenario.cells]);
+        let _ = self.calls.collect(&state, LAST_ROUND as u32, &mut vec![0xee; 4 * self.scenario.cells]);
     }
 
     fn collect(&self, random: &mut Random, part: usize) {

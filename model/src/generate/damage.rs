@@ -140,9 +140,8 @@ fn links(shape: &Shape, mesh: &[u8]) -> Vec<usize> {
 
 fn damage_links(random: &mut Random, shape: &Shape, mesh: &mut [u8]) {
     let records = word(mesh, 5);
-    let (ends, onward): (Vec<usize>, Vec<usize>) = links(shape, mesh)
-        .into_iter()
-        .partition(|&place| word(mesh, place) == 0);
+    let (ends, onward): (Vec<usize>, Vec<usize>) =
+        links(shape, mesh).into_iter().partition(|&place| word(mesh, place) == 0);
     match random.below(4) {
         0 => put_word(mesh, *random.pick(&onward), random.between(records + 1, 65_535)),
         1 => put_word(mesh, *random.pick(&ends), records + 1),

@@ -5,6 +5,7 @@ use super::random::Random;
 use super::shapes::Shape;
 use crate::bytes::{depths, put_depth, words, DEEPEST};
 use crate::calls::{PartInput, RuleInput};
+use crate::mesh::MOST_RECORDS;
 use crate::rounds::MOST_WEIGHT;
 use crate::split::MOST_PARTS;
 use crate::walks::MOST_STEPS;
@@ -34,7 +35,7 @@ impl Scenario {
     /// Valid inputs over a shape, with any rule and field.
     pub fn over(random: &mut Random, shape: &Shape, parts: usize, deal: Deal, stencil: Vec<u8>) -> Scenario {
         let cells = shape.cells();
-        let loose = random.below(4).min(crate::mesh::MOST_RECORDS - shape.records());
+        let loose = random.below(4).min(MOST_RECORDS - shape.records());
         let (kind, weights) = rule(random, stencil.len() / 2);
         Scenario {
             top: shape.top,
@@ -88,13 +89,7 @@ impl Scenario {
         };
         let parts = random.between(1, 3).min(shape.cells());
         let through = *random.pick(&[[top as u8 - 1, 0], [0, top as u8 - 1]]);
-        Scenario::over(
-            random,
-            &shape,
-            parts,
-            Deal::Blocks,
-            stencil_through(top as u8, &through),
-        )
+        Scenario::over(random, &shape, parts, Deal::Blocks, stencil_through(top as u8, &through))
     }
 
     /// Inputs at the limits, just within them and just beyond.
@@ -108,27 +103,9 @@ impl Scenario {
             extremes.push((name, Scenario::over(random, shape, parts, deal, stencil)));
         };
         use Deal::{Anyhow, Blocks, Turns};
-        add(
-            "999 cells in a row",
-            &Shape::row(999, 0),
-            4,
-            Blocks,
-            through_points(1, 6),
-        );
-        add(
-            "2,000 elements, 12,000 records",
-            &twelve_points_each,
-            4,
-            Blocks,
-            vec![1],
-        );
-        add(
-            "2,000 elements, 12,000 records, dense",
-            &twelve_points_each,
-            2,
-            Anyhow,
-            through_points(1, 2),
-        );
+        add("999 cells in a row", &Shape::row(999, 0), 4, Blocks, through_points(1, 6));
+        add("2,000 elements, 12,000 records", &twelve_points_each, 4, Blocks, vec![1]);
+        add("2,000 elements, 12,000 records, dense", &twelve_points_each, 2, Anyhow, through_points(1, 2));
         // A row of c cells with n = 8 reaches 9c − 20; each cell apart reaches itself.
         add("8,000 reached", &Shape::row(891, 1), 3, Blocks, through_points(1, 8));
         add("8,001 reached", &Shape::row(891, 2), 3, Blocks, through_points(1, 8));
@@ -140,39 +117,18 @@ impl Scenario {
         add("star of 89", &Shape::star(89), 16, Anyhow, through_points(1, 8));
         add("star of 90", &Shape::star(90), 16, Anyhow, through_points(1, 8));
         add("tetrahedra through faces", &tetrahedra, 8, Blocks, through_faces(4));
-        add(
-            "tetrahedra through points",
-            &tetrahedra,
-            2,
-            Blocks,
-            through_points(3, 8),
-        );
+        add("tetrahedra through points", &tetrahedra, 2, Blocks, through_points(3, 8));
         add("tetrahedra in one part", &tetrahedra, 1, Blocks, through_faces(4));
-        add(
-            "triangles",
-            &Shape::grid(&[16, 20]),
-            16,
-            Anyhow,
-            stencil_through(2, &[1]),
-        );
+        add("triangles", &Shape::grid(&[16, 20]), 16, Anyhow, stencil_through(2, &[1]));
         extremes
     }
 
     pub fn part(&self, part: u32) -> PartInput<'_> {
-        PartInput {
-            mesh: &self.mesh,
-            parts: self.parts,
-            owners: &self.owners,
-            part,
-            stencil: &self.stencil,
-        }
+        PartInput { mesh: &self.mesh, parts: self.parts, owners: &self.owners, part, stencil: &self.stencil }
     }
 
     pub fn rule(&self) -> RuleInput<'_> {
-        RuleInput {
-            kind: self.kind,
-            weights: &self.weights,
-        }
+        RuleInput { kind: self.kind, weights: &self.weights }
     }
 
     /// What the list program reads.
@@ -183,13 +139,8 @@ impl Scenario {
 
     /// Some of the inputs, perhaps none, get a fault each.
     pub fn damage(&mut self, random: &mut Random) {
-        let damages = [
-            Self::damage_mesh,
-            Self::damage_map,
-            Self::damage_stencil,
-            Self::damage_rule,
-            Self::damage_field,
-        ];
+        let damages =
+            [Self::damage_mesh, Self::damage_map, Self::damage_stencil, Self::damage_rule, Self::damage_field];
         for damage in damages {
             if random.one_in(4) {
                 damage(self, random);
@@ -272,9 +223,7 @@ pub fn stencil_through(top: u8, through: &[u8]) -> Vec<u8> {
 }
 
 fn stencil(random: &mut Random, top: usize) -> Vec<u8> {
-    let through: Vec<u8> = (0..random.between(0, MOST_STEPS / 2))
-        .map(|_| random.below(top) as u8)
-        .collect();
+    let through: Vec<u8> = (0..random.between(0, MOST_STEPS / 2)).map(|_| random.below(top) as u8).collect();
     stencil_through(top as u8, &through)
 }
 
@@ -333,9 +282,5 @@ fn full_of_records(random: &mut Random) -> Shape {
         }
         chains.push(chain);
     }
-    Shape {
-        top: 1,
-        counts: [1_000, 1_000, 0, 0],
-        chains,
-    }
+    Shape { top: 1, counts: [1_000, 1_000, 0, 0], chains }
 }

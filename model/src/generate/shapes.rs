@@ -35,11 +35,7 @@ impl Shape {
         simplices.sort_by_key(|&side| numbers[side]);
         let chains = simplices.into_iter().chain(cells);
         let chain = |simplex: &Vec<usize>| proper_subsets(simplex).iter().map(|side| numbers[side]).collect();
-        Shape {
-            top,
-            counts,
-            chains: chains.map(chain).collect(),
-        }
+        Shape { top, counts, chains: chains.map(chain).collect() }
     }
 
     /// Cells in a row, each sharing a point with the next, then `apart` cells that share nothing.
@@ -65,9 +61,7 @@ impl Shape {
         let place = |axis: usize| sides[..axis].iter().map(|side| side + 1).product::<usize>();
         let mut corners = vec![0];
         for (axis, &side) in sides.iter().enumerate() {
-            corners = (0..side)
-                .flat_map(|i| corners.iter().map(move |c| c + i * place(axis)))
-                .collect();
+            corners = (0..side).flat_map(|i| corners.iter().map(move |c| c + i * place(axis))).collect();
         }
         let cut = |corner: usize, order: &[usize]| {
             let mut path = vec![corner];
@@ -77,9 +71,7 @@ impl Shape {
             }));
             path
         };
-        let cells = corners
-            .iter()
-            .flat_map(|&corner| orders.iter().map(move |order| cut(corner, order)));
+        let cells = corners.iter().flat_map(|&corner| orders.iter().map(move |order| cut(corner, order)));
         Shape::of_simplices(&cells.collect::<Vec<_>>())
     }
 
@@ -218,11 +210,6 @@ fn join(chains: &mut [BTreeSet<usize>], element: usize, side: usize) {
 fn proper_subsets(points: &[usize]) -> Vec<Vec<usize>> {
     let mut points = points.to_vec();
     points.sort_unstable();
-    let subset = |bits: usize| {
-        (0..points.len())
-            .filter(|i| bits >> i & 1 == 1)
-            .map(|i| points[i])
-            .collect()
-    };
+    let subset = |bits: usize| (0..points.len()).filter(|i| bits >> i & 1 == 1).map(|i| points[i]).collect();
     (1..(1 << points.len()) - 1).map(subset).collect()
 }

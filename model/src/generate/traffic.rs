@@ -25,11 +25,7 @@ pub fn message(random: &mut Random, written: &[Vec<u8>]) -> Vec<u8> {
 
 /// A message that fits what a state imports from some part, as far as the tables of the state can be believed.
 pub fn message_for(random: &mut Random, state: &[u8]) -> Vec<u8> {
-    let imports = |j: usize| {
-        word(state, 11 + j)
-            .saturating_sub(word(state, 10 + j))
-            .min(MOST_ELEMENTS)
-    };
+    let imports = |j: usize| word(state, 11 + j).saturating_sub(word(state, 10 + j)).min(MOST_ELEMENTS);
     let senders: Vec<usize> = (1..=MOST_PARTS).filter(|&j| imports(j) > 0).collect();
     let from = if senders.is_empty() { 1 } else { *random.pick(&senders) };
     let message = Message {
@@ -61,10 +57,7 @@ fn changed_message(random: &mut Random, bytes: &[u8]) -> Vec<u8> {
         4 => {
             message.depths.pop();
         }
-        _ => message
-            .depths
-            .iter_mut()
-            .for_each(|depth| *depth = random_depth(random)),
+        _ => message.depths.iter_mut().for_each(|depth| *depth = random_depth(random)),
     }
     message.encode()
 }
@@ -121,21 +114,9 @@ pub fn forged_state(random: &mut Random) -> Vec<u8> {
         entries.extend(reach.concat());
         reach_ends.push(entries.len() / 2);
     }
-    let mut lists = vec![
-        0,
-        random.between(1, MOST_PARTS),
-        steps,
-        random.below(3),
-        random.between(1, 15),
-    ];
+    let mut lists = vec![0, random.between(1, MOST_PARTS), steps, random.below(3), random.between(1, 15)];
     // Weights past the stencil's are not read, and neither is any but for a mean.
-    lists.extend((1..5).map(|i| {
-        if 2 * i <= steps {
-            random.below(16)
-        } else {
-            random.below(1 << 16)
-        }
-    }));
+    lists.extend((1..5).map(|i| if 2 * i <= steps { random.below(16) } else { random.below(1 << 16) }));
     lists.extend([first, cells]);
     lists.extend(import_ends);
     lists.extend(export_ends);
