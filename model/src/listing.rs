@@ -44,13 +44,11 @@ fn lists(split: &Split) -> String {
         line(&mut text, "part", &[part]);
         line(&mut text, "interior", &split.interior(part));
         line(&mut text, "halo", &split.halo(part));
-        for (label, list) in [("import", Split::imports as fn(&_, _, _) -> _), ("export", Split::exports)] {
-            for other in split.parts() {
-                let cells: Vec<usize> = list(split, part, other);
-                if !cells.is_empty() {
-                    line(&mut text, &format!("{label} {other}"), &cells);
-                }
-            }
+        for other in split.parts() {
+            line_unless_empty(&mut text, &format!("import {other}"), &split.imports(part, other));
+        }
+        for other in split.parts() {
+            line_unless_empty(&mut text, &format!("export {other}"), &split.exports(part, other));
         }
         for dimension in 0..split.mesh.top() {
             for range in Range::ALL {
@@ -60,6 +58,12 @@ fn lists(split: &Split) -> String {
         }
     }
     text
+}
+
+fn line_unless_empty(text: &mut String, label: &str, numbers: &[usize]) {
+    if !numbers.is_empty() {
+        line(text, label, numbers);
+    }
 }
 
 fn line(text: &mut String, label: &str, numbers: &[usize]) {
