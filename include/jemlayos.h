@@ -1,0 +1,151 @@
+/*
+ * The mesh-smoothing engine: reading a mesh, splitting it into parts, the undivided round, and the parts with their
+ * messages. Link with libboard.a. docs/LAYOUTS.md has every byte layout.
+ *
+ * A slice is a pointer, which is not null even where there are no bytes, and its length in bytes. Words have two bytes
+ * and depths four, high byte first. Numbers (P, a part, a rule's kind, a receiver, a round) may be anything: a wrong one
+ * is refused.
+ *
+ * Every function answers in 64 bits: the refusal's number in the high half, 0 where the call was accepted, and a count
+ * in the low half, 0 where it was refused. Take it apart with jem_refusal and jem_count.
+ *
+ * A refused call changes no byte. An accepted one changes no byte past its need, so buffers may be longer. A buffer
+ * that is changed must not overlap another one of the same call. Calls keep nothing between them: the states are all.
+ */
+#ifndef JEMLAYOS_H
+#define JEMLAYOS_H
+
+#include <stddef.h>
+#include <stdint.h>
+
+#ifdef __cplusplus
+extern "C" {
+#endif
+
+/* Refusals. A call tries them in rising number, but for JEM_OUTPUT, which comes last of all. */
+enum jem_refusal_number {
+    JEM_ACCEPTED = 0,
+    /* From the input. */
+    JEM_MESH_HEAD = 1,      /* mesh under 12 bytes, or d not 1 to 3 */
+    JEM_COUNTS = 2,         /* a count above d not zero; a count up to d zero; N over 2,000; R over 12,000 */
+    JEM_MESH_LENGTH = 3,    /* mesh length not exactly 2 * (6 + N + 2R) */
+    JEM_RECORD = 4,         /* head or next above R, a point with a head, or a record met twice */
+    JEM_CHAIN_ELEMENT = 5,  /* a chain's element 0, above N, not of lower dimension, or twice in the chain */
+    JEM_CLOSURE = 6,        /* g in f's chain, f in e's, g not in e's */
+    JEM_UNCOVERED = 7,      /* a lower element in no cell's chain */
+    JEM_PART_MAP = 8,       /* P, the part wanted, an owner or the map's length wrong */
+    JEM_EMPTY_PART = 9,     /* a part owning no cell */
+    JEM_STENCIL = 10,       /* not a stencil */
+    JEM_RULE = 11,          /* unknown rule, or weights wrong in number or range */
+    JEM_HELD = 12,          /* held cells over all parts above 4,096 */
+    JEM_REACH = 13,         /* sizes of all cells' reaches together above 8,000 */
+    JEM_FIELD = 14,         /* field length or a depth wrong */
+    JEM_MESSAGE = 15,       /* message under 8 bytes, length not 8 + 4 * count, or a depth out of range */
+    JEM_OUTPUT = 16,        /* an output buffer too short */
+    /* From the state. */
+    JEM_STATE = 20,         /* not a part state */
+    JEM_SENDER = 21,        /* to is not this part, from is none that it imports from, or count is not that import list's */
+    JEM_MESSAGE_ROUND = 22, /* the message's round is not the state's */
+    JEM_ALREADY_TAKEN = 23, /* already taken this round */
+    JEM_NOT_TAKEN = 24,     /* advance with an import not taken */
+    JEM_NOT_WRITTEN = 25,   /* advance with an export not written */
+    JEM_LAST_ROUND = 26,    /* advance at round 60,000 */
+    JEM_RECEIVER = 27,      /* write to a number that isn't a part importing from here */
+    JEM_OTHER_ROUND = 28    /* collect for another round than the state's */
+};
+
+/* The refusal's number in an answer, JEM_ACCEPTED where there is none. */
+static inline uint32_t jem_refusal(uint64_t answer) { return (uint32_t)(answer >> 32); }
+
+/* The count in an answer. */
+static inline uint32_t jem_count(uint64_t answer) { return (uint32_t)answer; }
+
+/* Whether the bytes are a mesh. Tries 1-7. Count: the cells. */
+uint64_t jem_check_mesh(const uint8_t *mesh, size_t mesh_len);
+
+/* ---- Lists of a part ----
+ * Global numbers as words into out. Each tries 1-10, 12, 13, 16; another part that is none of the map's is 8 as well.
+ * Count: the words. */
+
+/* Owned cells with only owned cells in their reach, rising. */
+uint64_t jem_interior(const uint8_t *mesh, size_t mesh_len, uint32_t parts, const uint8_t *owners, size_t owners_len,
+                      uint32_t part, const uint8_t *stencil, size_t stencil_len, uint8_t *out, size_t out_len);
+
+/* The other owned cells, rising. */
+uint64_t jem_halo(const uint8_t *mesh, size_t mesh_len, uint32_t parts, const uint8_t *owners, size_t owners_len,
+                  uint32_t part, const uint8_t *stencil, size_t stencil_len, uint8_t *out, size_t out_len);
+
+/* All held cells in the order of their local numbers: interior, halo, imports by owner and number. */
+uint64_t jem_locals(const uint8_t *mesh, size_t mesh_len, uint32_t parts, const uint8_t *owners, size_t owners_len,
+                    uint32_t part, const uint8_t *stencil, size_t stencil_len, uint8_t *out, size_t out_len);
+
+/* The held cells that the other part owns, rising. */
+uint64_t jem_imports(const uint8_t *mesh, size_t mesh_len, uint32_t parts, const uint8_t *owners, size_t owners_len,
+                     uint32_t part, const uint8_t *stencil, size_t stencil_len, uint32_t other, uint8_t *out,
+                     size_t out_len);
+
+/* The owned cells that the other part holds, rising: what it imports from here. */
+uint64_t jem_exports(const uint8_t *mesh, size_t mesh_len, uint32_t parts, const uint8_t *owners, size_t owners_len,
+                     uint32_t part, const uint8_t *stencil, size_t stencil_len, uint32_t other, uint8_t *out,
+                     size_t out_len);
+
+/* Held elements of a dimension below the cells', rising, by range; a dimension that has none gives count 0. */
+
+/* Those that touch this part alone and that no other part holds. */
+uint64_t jem_private(const uint8_t *mesh, size_t mesh_len, uint32_t parts, const uint8_t *owners, size_t owners_len,
+                     uint32_t part, const uint8_t *stencil, size_t stencil_len, uint32_t dim, uint8_t *out,
+                     size_t out_len);
+
+/* Those that touch this part alone and that another part holds. */
+uint64_t jem_exposed(const uint8_t *mesh, size_t mesh_len, uint32_t parts, const uint8_t *owners, size_t owners_len,
+                     uint32_t part, const uint8_t *stencil, size_t stencil_len, uint32_t dim, uint8_t *out,
+                     size_t out_len);
+
+/* Those that touch this part and another. */
+uint64_t jem_shared(const uint8_t *mesh, size_t mesh_len, uint32_t parts, const uint8_t *owners, size_t owners_len,
+                    uint32_t part, const uint8_t *stencil, size_t stencil_len, uint32_t dim, uint8_t *out,
+                    size_t out_len);
+
+/* Those that don't touch this part. */
+uint64_t jem_copied(const uint8_t *mesh, size_t mesh_len, uint32_t parts, const uint8_t *owners, size_t owners_len,
+                    uint32_t part, const uint8_t *stencil, size_t stencil_len, uint32_t dim, uint8_t *out,
+                    size_t out_len);
+
+/* ---- The undivided round ---- */
+
+/* The field that the rule makes of the given one, at every cell of the mesh, into out. The kind is 0 hold, 1 mean,
+ * 2 shoalest; weights are words, for mean only. Tries 1-7, 10, 11, 13, 14, 16. Count: the depths. */
+uint64_t jem_round(const uint8_t *mesh, size_t mesh_len, const uint8_t *stencil, size_t stencil_len, uint32_t kind,
+                   const uint8_t *weights, size_t weights_len, const uint8_t *field, size_t field_len, uint8_t *out,
+                   size_t out_len);
+
+/* ---- A part and its messages ---- */
+
+/* How long a state is that jem_start makes. Tries 1-10, 12, 13. Count: its bytes. */
+uint64_t jem_state_size(const uint8_t *mesh, size_t mesh_len, uint32_t parts, const uint8_t *owners, size_t owners_len,
+                        uint32_t part, const uint8_t *stencil, size_t stencil_len);
+
+/* The part's state at round 0, from the starting field, into state. Tries 1-14, 16. Count: its bytes. */
+uint64_t jem_start(const uint8_t *mesh, size_t mesh_len, uint32_t parts, const uint8_t *owners, size_t owners_len,
+                   uint32_t part, const uint8_t *stencil, size_t stencil_len, uint32_t kind, const uint8_t *weights,
+                   size_t weights_len, const uint8_t *field, size_t field_len, uint8_t *state, size_t state_len);
+
+/* The message of this round to a part that imports from here, into out; may be repeated. Tries 20, 27, 16.
+ * Count: its bytes. */
+uint64_t jem_write(uint8_t *state, size_t state_len, uint32_t to, uint8_t *out, size_t out_len);
+
+/* Accepts one message of this round. Tries 15, 20-23. Count: 0. */
+uint64_t jem_take(uint8_t *state, size_t state_len, const uint8_t *message, size_t message_len);
+
+/* Makes a round of the owned cells, once every import is taken and every export written. Tries 20, 24-26. Count: 0. */
+uint64_t jem_advance(uint8_t *state, size_t state_len);
+
+/* Puts the owned depths into a field of the whole mesh and changes no other byte of it, if the state is at this round.
+ * Tries 20, 28, 16. Count: the depths put in. */
+uint64_t jem_collect(const uint8_t *state, size_t state_len, uint32_t round, uint8_t *field, size_t field_len);
+
+#ifdef __cplusplus
+}
+#endif
+
+#endif

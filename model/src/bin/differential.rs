@@ -1,0 +1,402 @@
+//! Compares the engine with the model, call by call: answers and every lent byte.
+//!
+//! `differential [seed [cases]]`; without a seed it takes one from the clock. Where JEMLAYOS_LIST names a list program,
+//! what that prints is compared too. Exits with 1 on a difference, or where a call was never refused with one of the
+//! numbers that it tries.
+
+use std::cell::RefCell;
+use std::collections::BTreeMap;
+use std::ffi::OsString;
+use std::io::Write;
+use std::process::{Command, ExitCode, Stdio};
+use std::time::{Instant, SystemTime, UNIX_EPOCH};
+
+use jemlayos_model::calls::{under_test, Calls, List, Model, PartInput, RuleInput};
+use jemlayos_model::generate::damage::{damaged_byte, damaged_bytes, damaged_mesh, long_meshes};
+use jemlayos_model::generate::random::Random;
+use jemlayos_model::generate::scenarios::Scenario;
+use jemlayos_model::generate::traffic;
+use jemlayos_model::listing;
+use jemlayos_model::refusal::{Answer, Refusal};
+use jemlayos_model::split::Range;
+use jemlayos_model::state::LAST_ROUND;
+
+fn main() -> ExitCode {
+    let mut arguments = std::env::args().skip(1).map(|a| a.parse().expect("a number"));
+    let clock = || SystemTime::now().duration_since(UNIX_EPOCH).map_or(0, |time| time.as_secs());
+    let seed = arguments.next().unwrap_or_else(clock);
+    let cases = arguments.next().unwrap_or(2_000);
+    let both =
+        Both { tested: under_test(), list_program: std::env::var_os("JEMLAYOS_LIST"), tally: RefCell::default() };
+    println!("{} against model, seed {seed}, {cases} cases", both.tested.name());
+
+    let began = Instant::now();
+    let random = &mut Random::new(seed);
+    for (mesh, _) in long_meshes() {
+        let _ = both.check_mesh(&mesh);
+    }
+    for (_, scenario) in Scenario::extremes(random) {
+        try_inputs(&both, random, &scenario);
+        both.compare_listing(&scenario.listing_input());
+        try_run(&both, random, &scenario, 30);
+    }
+    for case in 1..=cases {
+        both.tally.borrow_mut().case = case;
+        let mesh = damaged_mesh(random, 1 + (case % 7) as u32);
+        let _ = both.check_mesh(&mesh);
+        let mut scenario = if case % 50 == 0 { Scenario::large(random) } else { Scenario::random(random) };
+        if case % 4 > 0 {
+            try_run(&both, random, &scenario, 60);
+            scenario.damage(random);
+        }
+        try_inputs(&both, random, &scenario);
+        try_listing(&both, random, &scenario);
+        let forged = traffic::forged_state(random);
+        try_state(&both, random, &forged);
+    }
+    both.tally.into_inner().report(began.elapsed().as_secs_f64())
+}
+
+const MOST_SHOWN: u64 = 20;
+
+/// The numbers that a call tries.
+fn tries(call: &str) -> &'static [u32] {
+    match call {
+        "check mesh" => &[1, 2, 3, 4, 5, 6, 7],
+        "round" => &[1, 2, 3, 4, 5, 6, 7, 10, 11, 13, 14, 16],
+        "state size" => &[1, 2, 3, 4, 5, 6, 7, 8, 9, 10, 12, 13],
+        "start" => &[1, 2, 3, 4, 5, 6, 7, 8, 9, 10, 11, 12, 13, 14, 16],
+        "write" => &[16, 20, 27],
+        "take" => &[15, 20, 21, 22, 23],
+        "advance" => &[20, 24, 25, 26],
+        "collect" => &[16, 20, 28],
+        // The lists of a part, and the list program, which has no buffer.
+        "list program" => &[1, 2, 3, 4, 5, 6, 7, 8, 9, 10, 12, 13],
+        _ => &[1, 2, 3, 4, 5, 6, 7, 8, 9, 10, 12, 13, 16],
+    }
+}
+
+#[derive(Default)]
+struct Tally {
+    case: u64,
+    /// How often each call gave each number, 0 where it was accepted.
+    answers: BTreeMap<&'static str, BTreeMap<u32, u64>>,
+    differences: u64,
+}
+
+impl Tally {
+    /// The same seed and number of cases show a difference again.
+    fn differ(&mut self, difference: &str) {
+        self.differences += 1;
+        if self.differences <= MOST_SHOWN {
+            println!("case {}, {difference}", self.case);
+        }
+    }
+
+    fn count(&mut self, call: &'static str, number: u32) {
+        assert!(number == 0 || tries(call).contains(&number), "{call} is never refused with {number}");
+        *self.answers.entry(call).or_default().entry(number).or_default() += 1;
+    }
+
+    fn report(&self, seconds: f64) -> ExitCode {
+        let (mut calls, mut missing) = (0, 0);
+        for (call, numbers) in &self.answers {
+            let count = |number: &u32| numbers.get(number).copied().unwrap_or(0);
+            let refused: Vec<String> = tries(call).iter().map(|n| format!("{n}: {}", count(n))).collect();
+            println!("{call}: accepted {}; refused {}", count(&0), refused.join(", "));
+            calls += numbers.values().sum::<u64>();
+            missing += tries(call).iter().filter(|n| count(n) == 0).count();
+        }
+        for &refusal in Refusal::ALL {
+            let count: u64 = self.answers.values().filter_map(|numbers| numbers.get(&refusal.number())).sum();
+            missing += usize::from(count == 0);
+            println!("{count:>9} × {refusal}");
+        }
+        println!(
+            "{calls} calls in {seconds:.1} s, {} differences, {missing} numbers that a call did not reach",
+            self.differences
+        );
+        if self.differences == 0 && missing == 0 {
+            ExitCode::SUCCESS
+        } else {
+            ExitCode::FAILURE
+        }
+    }
+}
+
+/// Makes each call on the tested one and on the model, over buffers of their own, and leaves what the model left.
+struct Both<'a> {
+    tested: &'a dyn Calls,
+    list_program: Option<OsString>,
+    tally: RefCell<Tally>,
+}
+
+impl Both<'_> {
+    /// `lent` are the buffers that the call may change.
+    fn compare<const N: usize>(
+        &self,
+        call: &'static str,
+        lent: [&mut [u8]; N],
+        make: impl Fn(&dyn Calls, [&mut [u8]; N]) -> Answer,
+    ) -> Answer {
+        let before = lent.each_ref().map(|buffer| buffer.to_vec());
+        let mut found = before.clone();
+        let tested = make(self.tested, found.each_mut().map(Vec::as_mut_slice));
+        let mut expected = before.clone();
+        let answer = make(&Model, expected.each_mut().map(Vec::as_mut_slice));
+
+        let mut tally = self.tally.borrow_mut();
+        tally.count(call, answer.err().map_or(0, Refusal::number));
+        if answer.is_err() {
+            assert_eq!(expected, before, "the model's refusal of {call} changed a byte");
+        }
+        if tested != answer || found != expected {
+            let first = |a: &Vec<u8>, b: &Vec<u8>| a.iter().zip(b).position(|(a, b)| a != b);
+            let bytes: Vec<_> = found.iter().zip(&expected).map(|(a, b)| first(a, b)).collect();
+            tally.differ(&format!("{call}: {tested:?} for {answer:?}, first different bytes {bytes:?}"));
+        }
+        for (buffer, expected) in lent.into_iter().zip(expected) {
+            buffer.copy_from_slice(&expected);
+        }
+        answer
+    }
+
+    /// What the list program prints; a program that stops reading early is no difference.
+    fn compare_listing(&self, input: &[u8]) {
+        let Some(program) = &self.list_program else {
+            return;
+        };
+        let mut child =
+            Command::new(program).stdin(Stdio::piped()).stdout(Stdio::piped()).spawn().expect("the list program runs");
+        let _ = child.stdin.take().expect("a pipe to it").write_all(input);
+        let found = child.wait_with_output().expect("the list program ends").stdout;
+        let expected = listing::text(input);
+        let mut tally = self.tally.borrow_mut();
+        let refused = expected.strip_prefix("refused ").map(|number| number.trim().parse().expect("a number"));
+        tally.count("list program", refused.unwrap_or(0));
+        if found != expected.as_bytes() {
+            tally.differ(&format!("list program: {:?} for {expected:?}", String::from_utf8_lossy(&found)));
+        }
+    }
+}
+
+impl Calls for Both<'_> {
+    fn name(&self) -> &'static str {
+        "both"
+    }
+
+    fn check_mesh(&self, mesh: &[u8]) -> Answer {
+        self.compare("check mesh", [], |calls, []| calls.check_mesh(mesh))
+    }
+
+    fn list(&self, input: PartInput, list: List, out: &mut [u8]) -> Answer {
+        self.compare(list.name(), [out], |calls, [out]| calls.list(input, list, out))
+    }
+
+    fn round(&self, mesh: &[u8], stencil: &[u8], rule: RuleInput, field: &[u8], out: &mut [u8]) -> Answer {
+        self.compare("round", [out], |calls, [out]| calls.round(mesh, stencil, rule, field, out))
+    }
+
+    fn state_size(&self, input: PartInput) -> Answer {
+        self.compare("state size", [], |calls, []| calls.state_size(input))
+    }
+
+    fn start(&self, input: PartInput, rule: RuleInput, field: &[u8], state: &mut [u8]) -> Answer {
+        self.compare("start", [state], |calls, [state]| calls.start(input, rule, field, state))
+    }
+
+    fn write(&self, state: &mut [u8], to: u32, out: &mut [u8]) -> Answer {
+        self.compare("write", [state, out], |calls, [state, out]| calls.write(state, to, out))
+    }
+
+    fn take(&self, state: &mut [u8], message: &[u8]) -> Answer {
+        self.compare("take", [state], |calls, [state]| calls.take(state, message))
+    }
+
+    fn advance(&self, state: &mut [u8]) -> Answer {
+        self.compare("advance", [state], |calls, [state]| calls.advance(state))
+    }
+
+    fn collect(&self, state: &[u8], round: u32, field: &mut [u8]) -> Answer {
+        self.compare("collect", [field], |calls, [field]| calls.collect(state, round, field))
+    }
+}
+
+/// A buffer full of junk, of about the length needed: just right, a little longer, too short or empty.
+fn buffer(random: &mut Random, need: usize) -> Vec<u8> {
+    let length = match random.below(6) {
+        0 => need.saturating_sub(1),
+        1 => random.below(need + 1),
+        2 => need + random.between(1, 9),
+        _ => need,
+    };
+    random.bytes(length)
+}
+
+/// A number that most often is one of 1 to `most`.
+fn number(random: &mut Random, most: u32) -> u32 {
+    match random.below(8) {
+        0 => *random.pick(&[0, most + 1, 17, 256, 257, 65_537, u32::MAX]),
+        _ => random.between(1, most.clamp(1, 16) as usize) as u32,
+    }
+}
+
+/// The calls over a mesh, with its inputs as they are.
+fn try_inputs(calls: &dyn Calls, random: &mut Random, scenario: &Scenario) {
+    let _ = calls.check_mesh(&scenario.mesh);
+    let mut out = buffer(random, 4 * scenario.cells);
+    let _ = calls.round(&scenario.mesh, &scenario.stencil, scenario.rule(), &scenario.field, &mut out);
+
+    let input = scenario.part(number(random, scenario.parts));
+    let size = calls.state_size(input).unwrap_or(64);
+    let mut state = buffer(random, size as usize);
+    let _ = calls.start(input, scenario.rule(), &scenario.field, &mut state);
+
+    let mut lists = vec![List::Interior, List::Halo, List::Locals];
+    lists.extend([List::Imports, List::Exports].map(|list| list(number(random, scenario.parts))));
+    lists.extend(Range::ALL.map(|range| List::Range(range, *random.pick(&[0, 0, 1, 2, 3, u32::MAX]))));
+    for list in lists {
+        // How long a list is only its call says.
+        let mut out = random.bytes(2 * scenario.mesh.len());
+        if let Ok(count) = calls.list(input, list, &mut out) {
+            let mut out = buffer(random, 2 * count as usize);
+            let _ = calls.list(input, list, &mut out);
+        }
+    }
+}
+
+/// The list program's input as it is, cut, damaged, or as long as it may be and longer.
+fn try_listing(both: &Both, random: &mut Random, scenario: &Scenario) {
+    let mut input = scenario.listing_input();
+    match random.below(6) {
+        0 => input.truncate(random.below(input.len())),
+        1 => input = damaged_bytes(random, &input),
+        2 => input.resize(listing::LONGEST_INPUT + random.below(2), 0),
+        _ => {}
+    }
+    both.compare_listing(&input);
+}
+
+/// Random calls on the parts of a run, whose rounds a full exchange brings on now and then.
+fn try_run(calls: &dyn Calls, random: &mut Random, scenario: &Scenario, turns: usize) {
+    let Some(mut run) = Run::start(calls, scenario) else {
+        return;
+    };
+    for _ in 0..turns {
+        let part = random.below(run.states.len());
+        match random.below(12) {
+            0 => run.exchange(random),
+            1 => run.at_the_last_rounds(random, part),
+            2 => try_state(calls, random, &run.states[part]),
+            3..6 => {
+                let to = number(random, scenario.parts);
+                let mut longest = vec![0; 8 + 4 * scenario.cells];
+                let length = calls.write(&mut run.states[part].clone(), to, &mut longest).unwrap_or(8);
+                let mut out = buffer(random, length as usize);
+                run.write(part, to, &mut out);
+            }
+            6..9 => {
+                let message = traffic::message(random, &run.written);
+                let _ = calls.take(&mut run.states[part], &message);
+            }
+            9 => {
+                let _ = calls.advance(&mut run.states[part]);
+            }
+            _ => run.collect(random, part),
+        }
+    }
+}
+
+struct Run<'a> {
+    calls: &'a dyn Calls,
+    scenario: &'a Scenario,
+    /// The state of each part, from part 1 on.
+    states: Vec<Vec<u8>>,
+    written: Vec<Vec<u8>>,
+}
+
+impl<'a> Run<'a> {
+    /// Starts every part, if the inputs are accepted.
+    fn start(calls: &'a dyn Calls, scenario: &'a Scenario) -> Option<Self> {
+        let start = |part: u32| {
+            let mut state = vec![0xee; calls.state_size(scenario.part(part)).ok()? as usize];
+            calls.start(scenario.part(part), scenario.rule(), &scenario.field, &mut state).ok()?;
+            Some(state)
+        };
+        let states = (1..=scenario.parts).map(start).collect::<Option<_>>()?;
+        Some(Run { calls, scenario, states, written: Vec::new() })
+    }
+
+    fn write(&mut self, part: usize, to: u32, out: &mut [u8]) -> Option<Vec<u8>> {
+        let length = self.calls.write(&mut self.states[part], to, out).ok()?;
+        let message = out[..length as usize].to_vec();
+        self.written.push(message.clone());
+        Some(message)
+    }
+
+    /// Every part writes to every other, which takes the message, and then all that can advance do.
+    fn exchange(&mut self, random: &mut Random) {
+        let parts = self.states.len();
+        let mut pairs: Vec<usize> = (0..parts * parts).collect();
+        random.shuffle(&mut pairs);
+        let mut out = vec![0xee; 8 + 4 * self.scenario.cells];
+        for (from, to) in pairs.into_iter().map(|pair| (pair / parts, pair % parts)) {
+            if let Some(message) = self.write(from, to as u32 + 1, &mut out) {
+                let _ = self.calls.take(&mut self.states[to], &message);
+            }
+        }
+        for state in &mut self.states {
+            let _ = self.calls.advance(state);
+        }
+        // Old messages stay among the written ones for a while, to be tried when they are stale.
+        let stale = self.written.len().saturating_sub(400);
+        self.written.drain(..stale);
+    }
+
+    fn at_the_last_rounds(&self, random: &mut Random, part: usize) {
+        let round = *random.pick(&[LAST_ROUND - 1, LAST_ROUND, LAST_ROUND + 1]);
+        let mut state = traffic::at_round(&self.states[part], round);
+        let _ = self.calls.advance(&mut state);
+        let _ = self.calls.advance(&mut state);
+        let _ = self.calls.collect(&state, LAST_ROUND as u32, &mut vec![0xee; 4 * self.scenario.cells]);
+    }
+
+    fn collect(&self, random: &mut Random, part: usize) {
+        let round = round_of(&self.states[part]);
+        let asked = *random.pick(&[round, round, round, round + 1, round.wrapping_sub(1), round + 65_536]);
+        let mut field = buffer(random, 4 * self.scenario.cells);
+        let _ = self.calls.collect(&self.states[part], asked, &mut field);
+    }
+}
+
+/// The round in bytes that are perhaps a state.
+fn round_of(state: &[u8]) -> u32 {
+    use jemlayos_model::bytes::word;
+    word(state, word(state, 0)) as u32
+}
+
+/// The calls over a state, over broken copies of it, and over copies with each byte damaged in turn if they are few.
+fn try_state(calls: &dyn Calls, random: &mut Random, state: &[u8]) {
+    try_state_calls(calls, random, state);
+    for _ in 0..4 {
+        let broken = traffic::broken_state(random, state);
+        try_state_calls(calls, random, &broken);
+    }
+    if state.len() < 600 && random.one_in(8) {
+        for at in 0..state.len() {
+            let mut broken = state.to_vec();
+            broken[at] = damaged_byte(random, broken[at]);
+            try_state_calls(calls, random, &broken);
+        }
+    }
+}
+
+fn try_state_calls(calls: &dyn Calls, random: &mut Random, state: &[u8]) {
+    let mut out = random.bytes(200);
+    let _ = calls.write(&mut state.to_vec(), number(random, 16), &mut out);
+    let fitting = traffic::message_for(random, state);
+    let message = traffic::message(random, &[fitting]);
+    let _ = calls.take(&mut state.to_vec(), &message);
+    let _ = calls.advance(&mut state.to_vec());
+    let _ = calls.collect(state, round_of(state), &mut random.bytes(300));
+}

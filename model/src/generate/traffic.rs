@@ -1,0 +1,144 @@
+//! Messages that a take may be handed, and states that only seem to be ones.
+
+use super::damage::{damaged_byte, damaged_bytes};
+use super::random::Random;
+use super::scenarios::random_depth;
+use crate::bytes::{depths, put_word, word, words};
+use crate::mesh::MOST_ELEMENTS;
+use crate::messages::Message;
+use crate::split::MOST_PARTS;
+use crate::state::LAST_ROUND;
+
+/// Something like one of the written messages: that one itself, whichever round or receiver it is of, or a changed one.
+pub fn message(random: &mut Random, written: &[Vec<u8>]) -> Vec<u8> {
+    let bytes = if written.is_empty() || random.one_in(8) {
+        random_message(random).encode()
+    } else {
+        random.pick(written).clone()
+    };
+    match random.below(4) {
+        0 => damaged_bytes(random, &bytes),
+        1 => changed_message(random, &bytes),
+        _ => bytes,
+    }
+}
+
+/// A message that fits what a state imports from some part, as far as the tables of the state can be believed.
+pub fn message_for(random: &mut Random, state: &[u8]) -> Vec<u8> {
+    let imports = |j: usize| word(state, 11 + j).saturating_sub(word(state, 10 + j)).min(MOST_ELEMENTS);
+    let senders: Vec<usize> = (1..=MOST_PARTS).filter(|&j| imports(j) > 0).collect();
+    let from = if senders.is_empty() { 1 } else { *random.pick(&senders) };
+    let message = Message {
+        from,
+        to: word(state, 1),
+        round: word(state, word(state, 0)),
+        depths: (0..imports(from)).map(|_| random_depth(random)).collect(),
+    };
+    message.encode()
+}
+
+fn random_message(random: &mut Random) -> Message {
+    Message {
+        from: random.between(0, MOST_PARTS + 1),
+        to: random.between(0, MOST_PARTS + 1),
+        round: random.below(3),
+        depths: (0..random.below(4)).map(|_| random_depth(random)).collect(),
+    }
+}
+
+/// One field of a message is another one.
+fn changed_message(random: &mut Random, bytes: &[u8]) -> Vec<u8> {
+    let mut message = Message::read(bytes).expect("a written message");
+    match random.below(6) {
+        0 => message.from = random.between(0, MOST_PARTS + 1),
+        1 => message.to = random.between(0, MOST_PARTS + 1),
+        2 => message.round = (message.round + random.between(1, 2)) % LAST_ROUND,
+        3 => message.depths.push(random_depth(random)),
+        4 => {
+            message.depths.pop();
+        }
+        _ => message.depths.iter_mut().for_each(|depth| *depth = random_depth(random)),
+    }
+    message.encode()
+}
+
+/// The state as it would be at a round, with all messages taken and written.
+pub fn at_round(state: &[u8], round: usize) -> Vec<u8> {
+    let mut state = state.to_vec();
+    let lists = word(&state, 0);
+    put_word(&mut state, lists, round);
+    state[2 * lists + 2..2 * lists + 34].fill(1);
+    state
+}
+
+/// The state cut, in a longer buffer, with one word set anew, or with a byte damaged.
+pub fn broken_state(random: &mut Random, state: &[u8]) -> Vec<u8> {
+    let mut broken = state.to_vec();
+    match random.below(6) {
+        0 => broken.truncate(random.below(state.len())),
+        1 => broken.extend(random.bytes(5)),
+        2 => {
+            let place = random.below(state.len() / 2);
+            let near = word(state, place);
+            let number = *random.pick(&[0, 1, 17, near + 1, near.saturating_sub(1), 2_001, 60_001, 65_535]);
+            put_word(&mut broken, place, number.min(65_535));
+        }
+        _ => {
+            let at = random.below(state.len());
+            broken[at] = damaged_byte(random, broken[at]);
+        }
+    }
+    broken
+}
+
+/// Bytes of a state's form that no start made: lists in any order, cells held twice, imports from the part itself.
+pub fn forged_state(random: &mut Random) -> Vec<u8> {
+    let steps = 2 * random.below(5);
+    let (first, cells) = (*random.pick(&[0, 1, 40, 65_500]), random.between(1, 12));
+    let owned = random.between(0, 5);
+    let mut import_ends = random_ends(random, owned, MOST_PARTS, 2);
+    if random.one_in(20) {
+        // As many held cells as there may be, or one more.
+        import_ends[MOST_PARTS] = MOST_ELEMENTS + random.below(2);
+    }
+    let export_ends = random_ends(random, 0, MOST_PARTS, if owned > 0 { 2 } else { 0 });
+    let (held, exports) = (import_ends[MOST_PARTS], export_ends[MOST_PARTS]);
+    let mut reach_ends = vec![0];
+    let mut entries = Vec::new();
+    for local in 1..=owned {
+        let mut reach = vec![[local, 0]];
+        for _ in 0..random.below(4) {
+            reach.push([random.between(1, held), 2 * random.between(0, steps / 2)]);
+        }
+        random.shuffle(&mut reach);
+        entries.extend(reach.concat());
+        reach_ends.push(entries.len() / 2);
+    }
+    let mut lists = vec![0, random.between(1, MOST_PARTS), steps, random.below(3), random.between(1, 15)];
+    // Weights past the stencil's are not read, and neither is any but for a mean.
+    lists.extend((1..5).map(|i| if 2 * i <= steps { random.below(16) } else { random.below(1 << 16) }));
+    lists.extend([first, cells]);
+    lists.extend(import_ends);
+    lists.extend(export_ends);
+    lists.extend((0..held).map(|_| first + random.below(cells)));
+    lists.extend(reach_ends);
+    lists.extend(entries);
+    lists.extend((0..exports).map(|_| random.between(1, owned)));
+    lists[0] = lists.len();
+    let mut state = words(&lists);
+    let round = *random.pick(&[0, 1, 59_999, LAST_ROUND]);
+    state.extend(words(&[round]));
+    let unset = random.one_in(3);
+    state.extend((0..2 * MOST_PARTS).map(|_| u8::from(!unset || random.one_in(2))));
+    state.extend(depths(&(0..held).map(|_| random_depth(random)).collect::<Vec<_>>()));
+    state
+}
+
+fn random_ends(random: &mut Random, before: usize, count: usize, most: usize) -> Vec<usize> {
+    let mut ends = vec![before];
+    for _ in 0..count {
+        let more = if random.one_in(4) { random.between(0, most) } else { 0 };
+        ends.push(ends[ends.len() - 1] + more);
+    }
+    ends
+}

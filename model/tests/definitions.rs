@@ -1,0 +1,208 @@
+//! The linear walks and lists against the specification's definitions, taken word by word over sets, on small meshes.
+
+use std::collections::BTreeSet;
+
+use jemlayos_model::bytes::word;
+use jemlayos_model::calls::{under_test, List};
+use jemlayos_model::generate::damage::damaged_mesh;
+use jemlayos_model::generate::random::Random;
+use jemlayos_model::generate::scenarios::Scenario;
+use jemlayos_model::mesh::Mesh;
+use jemlayos_model::refusal::Refusal;
+use jemlayos_model::split::Range;
+use jemlayos_model::walks::{Reaches, Stencil};
+
+type Set = BTreeSet<usize>;
+
+/// A mesh, a map and a stencil, with every word of the specification as a set of global numbers.
+struct Paper<'a> {
+    dimension: Vec<usize>,
+    chains: Vec<Set>,
+    scenario: &'a Scenario,
+}
+
+impl<'a> Paper<'a> {
+    fn of(scenario: &'a Scenario) -> Self {
+        let mesh = &scenario.mesh;
+        let mut dimension = vec![9];
+        for k in 0..4 {
+            dimension.extend(vec![k; word(mesh, 1 + k)]);
+        }
+        let elements = dimension.len() - 1;
+        let mut chains = vec![Set::new()];
+        for e in 1..=elements {
+            let mut chain = Set::new();
+            let mut record = word(mesh, 5 + e);
+            while record > 0 {
+                chain.insert(word(mesh, 4 + elements + 2 * record));
+                record = word(mesh, 5 + elements + 2 * record);
+            }
+            chains.push(chain);
+        }
+        Paper { dimension, chains, scenario }
+    }
+
+    fn of_dimension(&self, dimension: usize) -> Set {
+        (1..self.chains.len()).filter(|&e| self.dimension[e] == dimension).collect()
+    }
+
+    fn incident(&self, e: usize, f: usize) -> bool {
+        self.chains[e].contains(&f) || self.chains[f].contains(&e)
+    }
+
+    /// What a walk of k steps from a cell ends at.
+    fn walked(&self, cell: usize, k: usize) -> Set {
+        if k == 0 {
+            return Set::from([cell]);
+        }
+        let before = self.walked(cell, k - 1);
+        let mut next = self.of_dimension(self.scenario.stencil[k].into());
+        next.retain(|&e| before.iter().any(|&f| self.incident(e, f)));
+        next
+    }
+
+    fn reach(&self, cell: usize) -> Vec<(usize, usize)> {
+        let steps = 0..self.scenario.stencil.len();
+        let walked: Vec<Set> = steps.map(|k| self.walked(cell, k)).collect();
+        let layer = |c| walked.iter().position(|walked| walked.contains(&c));
+        let cells = self.of_dimension(self.scenario.top).into_iter();
+        cells.filter_map(|c| Some((c, layer(c)?))).collect()
+    }
+
+    fn owner(&self, cell: usize) -> u32 {
+        let first = self.chains.len() - self.scenario.cells;
+        self.scenario.owners[cell - first].into()
+    }
+
+    fn owned(&self, part: u32) -> Set {
+        let cells = self.of_dimension(self.scenario.top).into_iter();
+        cells.filter(|&c| self.owner(c) == part).collect()
+    }
+
+    fn held(&self, part: u32) -> Set {
+        self.owned(part).into_iter().flat_map(|c| self.reach(c)).map(|(c, _)| c).collect()
+    }
+
+    fn imports(&self, part: u32, other: u32) -> Set {
+        let mut imports = self.held(part);
+        imports.retain(|&c| part != other && self.owner(c) == other);
+        imports
+    }
+
+    fn interior(&self, part: u32) -> Set {
+        let mut interior = self.owned(part);
+        interior.retain(|&c| self.reach(c).iter().all(|&(r, _)| self.owner(r) == part));
+        interior
+    }
+
+    fn holds(&self, part: u32, element: usize) -> bool {
+        self.held(part).iter().any(|&c| self.incident(c, element))
+    }
+
+    fn touches(&self, element: usize, part: u32) -> bool {
+        self.owned(part).iter().any(|&c| self.incident(c, element))
+    }
+
+    fn is_in(&self, part: u32, range: Range, element: usize) -> bool {
+        let mut others = (1..=self.scenario.parts).filter(|&j| j != part);
+        let copied = !self.touches(element, part);
+        let shared = !copied && others.clone().any(|j| self.touches(element, j));
+        let held_elsewhere = others.any(|j| self.holds(j, element));
+        self.holds(part, element)
+            && match range {
+                Range::Copied => copied,
+                Range::Shared => shared,
+                Range::Exposed => !copied && !shared && held_elsewhere,
+                Range::Private => !copied && !shared && !held_elsewhere,
+            }
+    }
+
+    fn range(&self, part: u32, range: Range, dimension: usize) -> Set {
+        let mut elements = self.of_dimension(dimension);
+        elements.retain(|&e| self.is_in(part, range, e));
+        elements
+    }
+}
+
+/// Random inputs over meshes of few cells: the definitions take long.
+fn scenarios(seed: u64, count: usize, most_cells: usize) -> impl Iterator<Item = Scenario> {
+    let mut random = Random::new(seed);
+    let all = std::iter::repeat_with(move || Scenario::random(&mut random));
+    all.filter(move |scenario| scenario.cells <= most_cells).take(count)
+}
+
+fn listed(scenario: &Scenario, part: u32, list: List) -> Vec<usize> {
+    let mut out = vec![0; 8_000];
+    let count = under_test().list(scenario.part(part), list, &mut out).unwrap() as usize;
+    (0..count).map(|i| word(&out, i)).collect()
+}
+
+fn rising(set: Set) -> Vec<usize> {
+    set.into_iter().collect()
+}
+
+#[test]
+fn reaches_are_the_walked_sets() {
+    for scenario in scenarios(1, 400, 40) {
+        let paper = Paper::of(&scenario);
+        let mesh = Mesh::read(&scenario.mesh).unwrap();
+        let stencil = Stencil::read(&scenario.stencil, scenario.top).unwrap();
+        let reaches = Reaches::find(&mesh, &stencil).unwrap();
+        for cell in mesh.cells() {
+            let found: Vec<_> = reaches.of(cell).iter().map(|r| (r.cell, r.layer)).collect();
+            assert_eq!(found, paper.reach(cell));
+        }
+    }
+}
+
+#[test]
+fn lists_are_the_defined_sets() {
+    for scenario in scenarios(2, 100, 12) {
+        let paper = Paper::of(&scenario);
+        for part in 1..=scenario.parts {
+            let interior = rising(paper.interior(part));
+            let halo: Vec<_> = paper.owned(part).into_iter().filter(|c| !interior.contains(c)).collect();
+            let mut locals = [interior.clone(), halo.clone()].concat();
+            assert_eq!(listed(&scenario, part, List::Interior), interior);
+            assert_eq!(listed(&scenario, part, List::Halo), halo);
+            for other in 1..=scenario.parts {
+                let imports = rising(paper.imports(part, other));
+                assert_eq!(listed(&scenario, part, List::Imports(other)), imports);
+                assert_eq!(listed(&scenario, other, List::Exports(part)), imports);
+                locals.extend(imports);
+            }
+            assert_eq!(listed(&scenario, part, List::Locals), locals);
+            for range in Range::ALL {
+                for dimension in 0..scenario.top {
+                    let list = List::Range(range, dimension as u32);
+                    assert_eq!(listed(&scenario, part, list), rising(paper.range(part, range, dimension)));
+                }
+            }
+        }
+    }
+}
+
+#[test]
+fn a_damaged_mesh_is_refused_by_the_number_it_is_damaged_for() {
+    let random = &mut Random::new(3);
+    for round in 0..7_000 {
+        let number = 1 + round % 7;
+        let mesh = damaged_mesh(random, number);
+        assert_eq!(under_test().check_mesh(&mesh), Err(Refusal::of_number(number).unwrap()));
+    }
+}
+
+#[test]
+fn extremes_are_accepted_or_refused_as_their_names_say() {
+    let random = &mut Random::new(4);
+    for (name, scenario) in Scenario::extremes(random) {
+        let answer = under_test().state_size(scenario.part(1));
+        let refusal = match name {
+            "4,097 held" | "12 before 13" => Some(Refusal::Held),
+            "8,001 reached" | "13 and not 12" | "star of 90" | "tetrahedra through points" => Some(Refusal::Reach),
+            "2,000 elements, 12,000 records, dense" => Some(Refusal::Reach),
+            _ => None,
+        };
+        assert_eq!(answer.err(), refusal, "{name}");
+    }
+}
