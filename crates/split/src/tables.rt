@@ -85,7 +85,7 @@ pub fn bad_holdings(m: &[u8], parts: u32, owners: &[u8], st: &[u8], held: &mut [
     requires { ⌜ Accepted (now m) × (bad8 (now m) parts (now owners) [] ≡ false) × (bad10 (top (now m)) (now st) ≡ false) × Blank (now held) ⌝ }
     ensures { λ b. ⌜ (b ≡ bad12 (splitOf (now (m .entry)) parts (now (owners .entry)) (now (st .entry)))) × Holding (now (m .entry)) parts (now (owners .entry)) (now (st .entry)) (now (held .exit)) ⌝ }
 {
-    mark_reaches(m, st, owners, held);
+    mark_reaches(m, st, owners, parts as usize, held);
     4096 < held_count(held, cell_count(m), parts as usize)
 }
 

@@ -6,22 +6,22 @@ use Prim.Native.Nat.{ℕ, zero, suc, _+_, _-_, _*_, _/_, _≤_, _<_}
 use native.Mathlib.Nat.{zero-add}
 use native.Mathlib.Omega.{arith}
 use lib.Dec.{eqb, leb, ltb}
-use borrow.Author.Tests.{eqb-true, eqb-false, ne-eqb, lt-ltb, leb-true, leb-false}
-use lib.Seq.{getD-set-same, getD-set-other}
-use lib.ListN.{length, getD, set, length-append, replicate, length-replicate}
-use Rattle.vocabulary.specs.Bytes.{Bytes}
+use borrow.Author.Tests.{eqb-true, eqb-false, eq-eqb, ne-eqb, lt-ltb, leb-true, leb-false}
+use lib.Seq.{getD-set-same, getD-set-other, take-suc-set}
+use lib.ListN.{length, getD, set, take, length-append, replicate, length-replicate}
+use Rattle.vocabulary.specs.Bytes.{Bytes, byteAt}
 use Rattle.vocabulary.specs.Ranges.{picked, blocks, total}
-use Rattle.vocabulary.specs.RangeLaws.{blocks-turn, total-grows}
+use Rattle.vocabulary.specs.RangeLaws.{blocks-turn, total-grows, picked-cong}
 use Rattle.vocabulary.specs.Lists.{isIn, joined}
 use Rattle.vocabulary.specs.ListLaws.{map-append}
 use Rattle.mesh.specs.Mesh.{firstCell, cellCount}
-use Rattle.mesh.specs.Walks.{Near, steps, stepsTo, layer, reach, walked}
-use Rattle.walks.specs.Walking.{firstMark, layerMark, Walk, Clear}
+use Rattle.mesh.specs.Walks.{Near, steps, stepsTo, layer, reach, stepTo, walked}
+use Rattle.walks.specs.Walking.{firstMark, layerMark, walkedFrom, Walk, Within, Cells, Clear}
 use Rattle.mesh.specs.Accepted.{Accepted, Cell}
 use Rattle.walks.proofs.TrailLaws.{zeros-at}
 use Rattle.walks.specs.Tables.{placed, cellWords, tableWords, entryCount, capped, row, Emitted, Ends, Tabled}
 use Rattle.walks.specs.Visits.{Fresh}
-use Rattle.walks.proofs.TableLaws.{capped-low, capped-high, capped-few, emit-none, emit-both}
+use Rattle.walks.proofs.TableLaws.{capped-low, capped-high, capped-few, emit-none, emit-both, blocks-part}
 
 pub joined-append : {A : Type 0} (xs ys : List (List A)) → joined (xs ++ ys) ≡ joined xs ++ joined ys
 unfolding joined
@@ -67,21 +67,41 @@ module _ (m st : Bytes) (c first : ℕ) (layers : List ℕ) (marked : (z : ℕ) 
       ∙ sym (joined-append (map (placed first) (map near (picked first j reached))) (map (placed first) (map near (cond (reached (first + j)) ((first + j) ∷ []) []))))
       ∙ ap joined (sym (ap (map (placed first)) (map-append near (picked first j reached) _) ∙ map-append (placed first) (map near (picked first j reached)) _))
 
--- a cell's walks done, its words are written
-pub words-are : (m st : Bytes) (c n v k first cells : ℕ) (marks from layers : List ℕ) → Walk m st c n v marks from layers k → n ≡ steps st → first ≡ firstCell m → cells ≡ cellCount m
-    → blocks 0 cells (row layers first) ≡ cellWords m st c
-unfolding cellWords reach
-words-are m st c n v k first cells marks from layers W ne fe ce =
-    rows-are m st c first layers (λ z. W .layered z ∙ mark z) cells
-    ∙ ap₂ (λ a b. joined (map (placed a) (map (λ x. record { cell = x; layer = layer m st c x }) (picked a b (λ x. ltb 0 (length (stepsTo m st c x))))))) fe ce
-  where
-    mark : (z : ℕ) → layerMark m st c n z ≡ firstMark (stepsTo m st c z)
-    mark z = unfold layerMark stepsTo in ap (λ x. firstMark (picked 0 (x + 1) (λ j. isIn z (walked m st c j)))) ne
+-- walks from one cell
+one-start : (m st : Bytes) (c k : ℕ) → walkedFrom m st (c ∷ []) k ≡ walked m st c k
+unfolding walkedFrom walked
+one-start m st c zero = refl
+one-start m st c (suc k) = ap (stepTo m (byteAt st (suc k))) (one-start m st c k)
 
-pub emitted-cell : (m st : Bytes) (c n v k first cells s t : ℕ) (marks from layers : List ℕ) (before after : Bytes) → Walk m st c n v marks from layers k → n ≡ steps st
-    → first ≡ firstCell m → cells ≡ cellCount m → Emitted before after s t (blocks 0 cells (row layers first)) → Emitted before after s t (cellWords m st c)
-emitted-cell m st c n v k first cells s t marks from layers before after W ne fe ce E =
-    subst (Emitted before after s t) (words-are m st c n v k first cells marks from layers W ne fe ce) E
+pub front : (from after : List ℕ) (c : ℕ) → length from ≡ 2001 → after ≡ set from 0 c → take 1 after ≡ c ∷ []
+front from after c r f = ap (take 1) f ∙ take-suc-set from 0 c (omega arith)
+
+pub one-cell : (m : Bytes) (from after : List ℕ) (c : ℕ) → Cell m c → length from ≡ 2001 → after ≡ set from 0 c → Cells m after 1
+one-cell m from after c C r f = record { each = rw (front from after c r f) (C, tt); count = ap length (front from after c r f) }
+
+-- a cell's walks done, its words are written
+module _ (m st : Bytes) (c n v k low high first : ℕ) (cs marks from layers : List ℕ) (W : Walk m st cs n v marks from layers k) (one : cs ≡ c ∷ [])
+    (I : Within m layers low high) (ne : n ≡ steps st) (fe : first ≡ firstCell m) where
+  mark : (z : ℕ) → getD layers z 0 ≡ firstMark (stepsTo m st c z)
+  mark z =
+      W .layered z ∙ ap (λ cs. layerMark m st cs n z) one
+      ∙ (unfold layerMark stepsTo in ap firstMark (picked-cong 0 _ _ (n + 1) (λ j h. ap (isIn z) (one-start m st c (0 + j))) ∙ ap (λ x. picked 0 (x + 1) (λ j. isIn z (walked m st c j))) ne))
+
+  words-are : blocks (low - first) (high - low) (row layers first) ≡ cellWords m st c
+  unfolding cellWords reach
+  words-are =
+      sym (blocks-part (row layers first) (low - first) (high - low) (cellCount m) fits (λ i h. bare i (I .before (first + i) (omega arith) (omega (arith, I .starts)))) (λ i h l. bare i (I .after (first + i) (omega arith) (omega (arith, I .starts)))))
+      ∙ rows-are m st c first layers mark (cellCount m)
+      ∙ ap (λ a. joined (map (placed a) (map (λ x. record { cell = x; layer = layer m st c x }) (picked a (cellCount m) (λ x. ltb 0 (length (stepsTo m st c x))))))) fe
+    where
+      fits : low - first + (high - low) ≤ cellCount m
+      fits = omega (arith, I .stops, I .starts, I .ends)
+
+      bare : (i : ℕ) → getD layers (first + i) 0 ≡ 0 → row layers first i ≡ []
+      bare i e = unfold row in ap (λ b. cond b [] (i ∷ (getD layers (first + i) 0 - 1) ∷ [])) (eq-eqb (getD layers (first + i) 0) 0 e)
+
+  pub emitted-cell : (s t : ℕ) (before after : Bytes) → Emitted before after s t (blocks (low - first) (high - low) (row layers first)) → Emitted before after s t (cellWords m st c)
+  emitted-cell s t before after E = subst (Emitted before after s t) words-are E
 
 words-length : (first : ℕ) (es : List Near) → length (joined (map (placed first) es)) ≡ 2 * length es
 unfolding joined placed
@@ -105,8 +125,8 @@ clear = record { size = length-replicate {A = ℕ} 2001 0; each = zeros-at 2001 
 pub first-small : (m : Bytes) (first : ℕ) → Accepted m → first ≡ firstCell m → first < 65536
 first-small m first A e = omega (arith, A .cells-in, A .sizes .n-high)
 
-pub cells-small : (m : Bytes) (cells : ℕ) → Accepted m → cells ≡ cellCount m → cells < 65536
-cells-small m cells A e = omega (arith, A .cells-in, A .sizes .n-high)
+pub high-small : (m : Bytes) (layers : List ℕ) (low high : ℕ) → Accepted m → Within m layers low high → high < 65536
+high-small m layers low high A I = omega (arith, I .stops, A .cells-in, A .sizes .n-high)
 
 pub cells-few : (m : Bytes) (cells : ℕ) → Accepted m → cells ≡ cellCount m → cells ≤ 2000
 cells-few m cells A e = omega (arith, A .cells-in, A .sizes .n-high)

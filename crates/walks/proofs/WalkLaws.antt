@@ -6,23 +6,23 @@ use Prim.Native.Nat.{ℕ, zero, suc, _+_, _-_, _%_, _≤_, _<_}
 use native.Mathlib.Numerals.{add-one}
 use native.Mathlib.Omega.{arith}
 use lib.Dec.{eqb}
-use lib.ListN.{length, getD, set, take, length-set}
+use lib.ListN.{length, getD, set, take, length-take}
 use lib.Seq.{take-suc, take-suc-set}
 use borrow.Author.Tests.{eqb-true, ne-eqb}
 use Rattle.vocabulary.specs.Bytes.{Bytes, byteAt}
 use Rattle.vocabulary.specs.Ranges.{picked}
 use Rattle.vocabulary.specs.RangeLaws.{picked-passes, picked-cong}
 use Rattle.vocabulary.specs.Lists.{isIn, All}
-use Rattle.vocabulary.specs.ListLaws.{or-nothing, eqb-swap, All-map, isIn-at, at-isIn, All-intro}
-use Rattle.mesh.specs.Mesh.{top, counted, below}
-use Rattle.mesh.specs.Walks.{bad10, stepTo, walked}
+use Rattle.vocabulary.specs.ListLaws.{or-nothing, All-map, All-append, All-split, isIn-at, at-isIn, at-all, All-intro}
+use Rattle.mesh.specs.Mesh.{top, elements, counted, below, firstCell, cellCount}
+use Rattle.mesh.specs.Walks.{bad10, stepTo}
 use Rattle.mesh.specs.WalkLaws.{stencil-odd, stencil-even}
 use Rattle.mesh.specs.Accepted.{Accepted, Cell}
 use Rattle.mesh.proofs.DimensionLaws.{below-more}
 use Rattle.mesh.specs.WalkLaws.{below-grows}
 use Rattle.walks.proofs.StepLaws.{someOf-like}
 use Rattle.walks.specs.Visits.{Fresh, Gathered, Toward}
-use Rattle.walks.specs.Walking.{Ground, Cells, Lowers, Sided, Clear, stepped, firstMark, layerMark, noted, Noted, among, Walk}
+use Rattle.walks.specs.Walking.{Ground, Cells, Lowers, Sided, Clear, stepped, firstMark, layerMark, noted, Noted, among, walkedFrom, Walk, Within, Lowest, Past}
 
 -- ---- the copy
 
@@ -52,49 +52,45 @@ side-even m k from n S o = S .even o
 
 -- ---- what walks reach: cells after an even number of steps, lower elements after an odd one
 
-module _ (m st : Bytes) (A : Accepted m) (bad : bad10 (top m) st ≡ false) (c : ℕ) (C : Cell m c) where
+module _ (m st : Bytes) (A : Accepted m) (bad : bad10 (top m) st ≡ false) (cs : List ℕ) (C : All (Cell m) cs) where
   range : (a z : ℕ) (es : List ℕ) → isIn z (stepTo m a es) ≡ true → (below m a + 1 ≤ z) × (z < below m a + 1 + counted m a)
   unfolding stepTo
   range a z es e = let w = picked-passes (below m a + 1) _ (counted m a) z (isIn-at z _ e) in (w .0, w .1)
 
-  walked-even : (k z : ℕ) → k < length st → k % 2 ≡ 0 → isIn z (walked m st c k) ≡ true → Cell m z
-  unfolding walked isIn
-  walked-even zero z h o e = only (eqb z c) refl e
-    where
-      only : (b : Bool) → eqb z c ≡ b → b || false ≡ true → Cell m z
-      only true q e = subst (Cell m) (sym (eqb-true z c q)) C
-      only false q e = let n : _≡_ {A = ℕ} 0 1 = cc in absurd (omega arith)
+  walked-even : (k z : ℕ) → k < length st → k % 2 ≡ 0 → isIn z (walkedFrom m st cs k) ≡ true → Cell m z
+  unfolding walkedFrom
+  walked-even zero z h o e = at-all (Cell m) z cs C (isIn-at z cs e)
   walked-even (suc k) z h o e =
       let d : byteAt st (suc k) ≡ top m = stencil-even (top m) st bad (suc k) h (omega arith) in
-      let w = range (byteAt st (suc k)) z (walked m st c k) e in
+      let w = range (byteAt st (suc k)) z (walkedFrom m st cs k) e in
       record {
         low = subst (λ a. below m a + 1 ≤ z) d (w .0);
         high = subst (λ a. z < below m a + 1 + counted m a) d (w .1);
       }
 
-  walked-odd : (k z : ℕ) → k < length st → k % 2 ≡ 1 → isIn z (walked m st c k) ≡ true → (1 ≤ z) × (z ≤ below m (top m))
-  unfolding walked
+  walked-odd : (k z : ℕ) → k < length st → k % 2 ≡ 1 → isIn z (walkedFrom m st cs k) ≡ true → (1 ≤ z) × (z ≤ below m (top m))
+  unfolding walkedFrom
   walked-odd zero z h o e = let n : ⊥ = omega arith in absurd n
   walked-odd (suc k) z h o e =
       let d : byteAt st (suc k) < top m = stencil-odd (top m) st bad (suc k) h o in
-      let w = range (byteAt st (suc k)) z (walked m st c k) e in
+      let w = range (byteAt st (suc k)) z (walkedFrom m st cs k) e in
       (omega (arith, w .0), omega (arith, w .1, below-more m (byteAt st (suc k)), below-grows m (suc (byteAt st (suc k))) (top m) (omega arith)))
 
   -- each of the first n numbers is where a walk ends
-  each-of : (P : ℕ → Type 0) (k n : ℕ) (from : List ℕ) → ((z : ℕ) → isIn z (take n from) ≡ isIn z (walked m st c k)) → ((z : ℕ) → isIn z (walked m st c k) ≡ true → P z)
+  each-of : (P : ℕ → Type 0) (k n : ℕ) (from : List ℕ) → ((z : ℕ) → isIn z (take n from) ≡ isIn z (walkedFrom m st cs k)) → ((z : ℕ) → isIn z (walkedFrom m st cs k) ≡ true → P z)
       → All P (take n from)
   each-of P k n from like f =
       All-intro P (take n from) 0 (λ l h. f (getD (take n from) l 0) (sym (like _) ∙ at-isIn _ (take n from) (record { place = l; place-lt = h; place-is = refl })))
 
-  sides : (k v n : ℕ) (marks from layers : List ℕ) → 1 ≤ k → k < length st → Walk m st c (k - 1) v marks from layers n → Sided m k from n
+  sides : (k v n : ℕ) (marks from layers : List ℕ) → 1 ≤ k → k < length st → Walk m st cs (k - 1) v marks from layers n → Sided m k from n
   sides k v n marks from layers l h W = record {
     odd = λ o. record { each = each-of (Cell m) (k - 1) n from (W .ends) (λ z e. walked-even (k - 1) z (omega arith) (omega arith) e); count = W .count };
     even = λ o. record { each = each-of _ (k - 1) n from (W .ends) (λ z e. walked-odd (k - 1) z (omega arith) (omega arith) e); count = W .count };
   }
 
-pub walk-sides : (m st : Bytes) (cell prev last : List ℕ) (c k v n : ℕ) (marks from layers : List ℕ) → Ground m st cell prev last → Cell m c → (k ≡ 0 → ⊥) → k < length st
-    → Walk m st c (k - 1) v marks from layers n → Sided m k from n
-walk-sides m st cell prev last c k v n marks from layers G C z h W = sides m st (G .mesh) (G .stencil) c C k v n marks from layers (omega arith) h W
+pub walk-sides : (m st : Bytes) (cell prev last cs : List ℕ) (k v n : ℕ) (marks from layers : List ℕ) → Ground m st cell prev last → All (Cell m) cs → (k ≡ 0 → ⊥) → k < length st
+    → Walk m st cs (k - 1) v marks from layers n → Sided m k from n
+walk-sides m st cell prev last cs k v n marks from layers G C z h W = sides m st (G .mesh) (G .stencil) cs C k v n marks from layers (omega arith) h W
 
 -- ---- layers
 
@@ -103,10 +99,10 @@ unfolding firstMark
 mark-append [] ys = refl
 mark-append (x ∷ xs) ys = sym (ap (λ b. cond b (firstMark ys) (x + 1)) (ne-eqb (x + 1) 0 (omega arith)))
 
-layer-more : (m st : Bytes) (c k z : ℕ) → layerMark m st c (suc k) z ≡ noted (suc k) (isIn z (walked m st c (suc k))) (layerMark m st c k z)
+layer-more : (m st : Bytes) (cs : List ℕ) (k z : ℕ) → layerMark m st cs (suc k) z ≡ noted (suc k) (isIn z (walkedFrom m st cs (suc k))) (layerMark m st cs k z)
 unfolding layerMark noted
-layer-more m st c k z =
-    let p : ℕ → Bool = λ j. isIn z (walked m st c j) in
+layer-more m st cs k z =
+    let p : ℕ → Bool = λ j. isIn z (walkedFrom m st cs j) in
     let q : suc k + 1 ≡ suc (k + 1) = omega arith in
     let r : 0 + (k + 1) ≡ suc k = omega arith in
     ap (λ n. firstMark (picked 0 n p)) q
@@ -128,67 +124,158 @@ layer-more m st c k z =
 
 -- ---- no step, and one step more
 
-module _ (m st : Bytes) (c k v : ℕ) (marks from layers from′ layers′ : List ℕ) where
-  pub walk-none : k ≡ 0 → Fresh v marks → length from ≡ 2001 → Clear layers → from′ ≡ set from 0 c → Noted 0 layers layers′ (eqb c)
-      → Walk m st c k (v + k) marks from′ layers′ 1
-  unfolding walked
-  walk-none z F r K f N = subst (λ x. Walk m st c x (v + x) marks from′ layers′ 1) (sym z) (record {
-    fresh = record { size = F .size; each = λ y. omega (arith, F .each y) };
-    room = ap length f ∙ length-set from 0 c ∙ r;
-    count = ap length front;
-    few = omega arith;
-    ends = λ z. ap (isIn z) front;
-    size = N .size ∙ K .size;
-    layered = λ z. N .each z ∙ ap (noted 0 (eqb c z)) (K .each z) ∙ first z;
-  })
-    where
-      front : take 1 from′ ≡ c ∷ []
-      front = ap (take 1) f ∙ take-suc-set from 0 c (omega arith)
+pub walk-none : (m st : Bytes) (s k v : ℕ) (marks from layers layers′ : List ℕ) → k ≡ 0 → Cells m from s → s ≤ 2000 → Fresh v marks → length from ≡ 2001 → Clear layers
+    → Noted 0 layers layers′ (among from s) → Walk m st (take s from) k (v + k) marks from layers′ s
+walk-none m st s k v marks from layers layers′ z C few F r K N = subst (λ x. Walk m st (take s from) x (v + x) marks from layers′ s) (sym z) (record {
+  fresh = record { size = F .size; each = λ y. omega (arith, F .each y) };
+  room = r;
+  count = C .count;
+  few = few;
+  ends = λ z. unfold walkedFrom in refl;
+  size = N .size ∙ K .size;
+  layered = λ z. N .each z ∙ ap (noted 0 (among from s z)) (K .each z) ∙ first z (among from s z) refl;
+})
+  where
+    here : (z : ℕ) → isIn z (take s from) ≡ among from s z
+    here z = unfold among in refl
 
-      first : (z : ℕ) → noted 0 (eqb c z) 0 ≡ layerMark m st c 0 z
-      first z = ap (λ b. noted 0 b 0) (eqb-swap c z) ∙ go (eqb z c) refl
-        where
-          go : (b : Bool) → eqb z c ≡ b → noted 0 b 0 ≡ layerMark m st c 0 z
-          go true q = unfold noted layerMark firstMark picked walked isIn in sym (ap (λ b. firstMark (cond (b || false) (0 ∷ []) [])) q)
-          go false q = unfold noted layerMark firstMark picked walked isIn in sym (ap (λ b. firstMark (cond (b || false) (0 ∷ []) [])) q)
+    first : (z : ℕ) (b : Bool) → among from s z ≡ b → noted 0 b 0 ≡ layerMark m st (take s from) 0 z
+    first z true q = unfold noted layerMark firstMark picked walkedFrom in sym (ap (λ b. firstMark (cond b (0 ∷ []) [])) (here z ∙ q))
+    first z false q = unfold noted layerMark firstMark picked walkedFrom in sym (ap (λ b. firstMark (cond b (0 ∷ []) [])) (here z ∙ q))
 
 step-like : (m : Bytes) (a : ℕ) (xs ys : List ℕ) → ((z : ℕ) → isIn z xs ≡ isIn z ys) → stepTo m a xs ≡ stepTo m a ys
 unfolding stepTo
 step-like m a xs ys like = picked-cong (below m a + 1) _ _ (counted m a) (λ i h. someOf-like xs ys _ like)
 
 -- one step more, at a count that is not 0
-more : (m st : Bytes) (c j v n s : ℕ) (marks marks′ from from′ found layers layers′ : List ℕ) → Walk m st c j (v + j) marks from layers n
+more : (m st : Bytes) (cs : List ℕ) (j v n s : ℕ) (marks marks′ from from′ found layers layers′ : List ℕ) → Walk m st cs j (v + j) marks from layers n
     → Gathered (v + j) marks′ found s → Toward found s [] (stepped m (byteAt st (suc j)) from n) → s ≤ 2000 → take s from′ ≡ take s found → length from′ ≡ length from
-    → Noted (suc j) layers layers′ (among from′ s) → Walk m st c (suc j) (v + suc j) marks′ from′ layers′ s
-unfolding walked stepped among isIn
-more m st c j v n s marks marks′ from from′ found layers layers′ W G t few e r N = record {
+    → Noted (suc j) layers layers′ (among from′ s) → Walk m st cs (suc j) (v + suc j) marks′ from′ layers′ s
+unfolding walkedFrom stepped among isIn
+more m st cs j v n s marks marks′ from from′ found layers layers′ W G t few e r N = record {
   fresh = record { size = G .size; each = λ y. omega (arith, G .top y) };
   room = r ∙ W .room;
   count = ap length e ∙ G .count;
   few = few;
   ends = ends;
   size = N .size ∙ W .size;
-  layered = λ z. N .each z ∙ ap₂ (noted (suc j)) (ends z) (W .layered z) ∙ sym (layer-more m st c j z);
+  layered = λ z. N .each z ∙ ap₂ (noted (suc j)) (ends z) (W .layered z) ∙ sym (layer-more m st cs j z);
 }
   where
-    ends : (z : ℕ) → isIn z (take s from′) ≡ isIn z (stepTo m (byteAt st (suc j)) (walked m st c j))
-    ends z = ap (isIn z) e ∙ sym (or-nothing (isIn z (take s found))) ∙ t .each z ∙ ap (isIn z) (step-like m (byteAt st (suc j)) (take n from) (walked m st c j) (W .ends))
+    ends : (z : ℕ) → isIn z (take s from′) ≡ isIn z (stepTo m (byteAt st (suc j)) (walkedFrom m st cs j))
+    ends z = ap (isIn z) e ∙ sym (or-nothing (isIn z (take s found))) ∙ t .each z ∙ ap (isIn z) (step-like m (byteAt st (suc j)) (take n from) (walkedFrom m st cs j) (W .ends))
 
-pub walk-more : (m st : Bytes) (c k v n s : ℕ) (marks marks′ from from′ found layers layers′ : List ℕ) → (k ≡ 0 → ⊥) → Walk m st c (k - 1) (v + (k - 1)) marks from layers n
+pub walk-more : (m st : Bytes) (cs : List ℕ) (k v n s : ℕ) (marks marks′ from from′ found layers layers′ : List ℕ) → (k ≡ 0 → ⊥) → Walk m st cs (k - 1) (v + (k - 1)) marks from layers n
     → Gathered (v + (k - 1)) marks′ found s → Toward found s [] (stepped m (byteAt st k) from n) → s ≤ 2000 → take s from′ ≡ take s found → length from′ ≡ length from
-    → Noted k layers layers′ (among from′ s) → Walk m st c k (v + k) marks′ from′ layers′ s
-walk-more m st c zero v n s marks marks′ from from′ found layers layers′ z W G t few e r N = absurd (z refl)
-walk-more m st c (suc j) v n s marks marks′ from from′ found layers layers′ z W G t few e r N =
+    → Noted k layers layers′ (among from′ s) → Walk m st cs k (v + k) marks′ from′ layers′ s
+walk-more m st cs zero v n s marks marks′ from from′ found layers layers′ z W G t few e r N = absurd (z refl)
+walk-more m st cs (suc j) v n s marks marks′ from from′ found layers layers′ z W G t few e r N =
     let q : suc j - 1 ≡ j = omega arith in
-    more m st c j v n s marks marks′ from from′ found layers layers′ (rw q at W) (rw q at G) t few e r N
+    more m st cs j v n s marks marks′ from from′ found layers layers′ (rw q at W) (rw q at G) t few e r N
 
 -- what the calls of a walk suppose
 pub notes-count : (v s : ℕ) (marks from found : List ℕ) → Gathered v marks found s → take s from ≡ take s found → length (take s from) ≡ s
 notes-count v s marks from found G e = ap length e ∙ G .count
 
-pub notes-room : (m st : Bytes) (c k w n v s : ℕ) (marks₀ from₀ marks from found layers : List ℕ) → Walk m st c k w marks₀ from₀ layers n → Gathered v marks found s
+pub notes-room : (m st : Bytes) (cs : List ℕ) (k w n v s : ℕ) (marks₀ from₀ marks from found layers : List ℕ) → Walk m st cs k w marks₀ from₀ layers n → Gathered v marks found s
     → take s from ≡ take s found → All (λ y. y < length layers) (take s from)
-notes-room m st c k w n v s marks₀ from₀ marks from found layers W G e = rw e (All-map (take s found) (λ y h. omega (arith, h .1, W .size)) (G .in-range))
+notes-room m st cs k w n v s marks₀ from₀ marks from found layers W G e = rw e (All-map (take s found) (λ y h. omega (arith, h .1, W .size)) (G .in-range))
 
-pub cell-fits : (m st : Bytes) (cell prev last layers : List ℕ) (c : ℕ) → Ground m st cell prev last → Cell m c → Clear layers → c < length layers
-cell-fits m st cell prev last layers c G C K = omega (arith, C .high, G .mesh .cells-in, G .mesh .sizes .n-high, K .size)
+pub cells-fit : (m st : Bytes) (cell prev last layers from : List ℕ) (s : ℕ) → Ground m st cell prev last → Cells m from s → Clear layers → All (λ y. y < length layers) (take s from)
+cells-fit m st cell prev last layers from s G C K = All-map (take s from) (λ y h. omega (arith, h .high, G .mesh .cells-in, G .mesh .sizes .n-high, K .size)) (C .each)
+
+-- ---- the bounds of the cells met
+
+pub lesser-second : (x y : ℕ) → y < x → Lowest x y (y ∷ [])
+lesser-second x y h = record { at-most = omega arith; each = (omega arith, tt); at-least = λ b p a. a .0 }
+
+pub lesser-first : (x y : ℕ) → x ≤ y → Lowest x x (y ∷ [])
+lesser-first x y h = record { at-most = omega arith; each = (h, tt); at-least = λ b p a. p }
+
+pub past-second : (x y : ℕ) → x < y + 1 → Past x (y + 1) (y ∷ [])
+past-second x y h = record { at-least = omega arith; each = (omega arith, tt); at-most = λ b p a. omega (arith, a .0) }
+
+pub past-first : (x y : ℕ) → y + 1 ≤ x → Past x x (y ∷ [])
+past-first x y h = record { at-least = omega arith; each = (omega arith, tt); at-most = λ b p a. p }
+
+pub lowest-start : (x : ℕ) (list : List ℕ) → Lowest x x (take 0 list)
+lowest-start x list = record { at-most = omega arith; each = tt; at-least = λ b p a. p }
+
+pub past-start : (x : ℕ) (list : List ℕ) → Past x x (take 0 list)
+past-start x list = record { at-least = omega arith; each = tt; at-most = λ b p a. p }
+
+module _ (x r s j n : ℕ) (list : List ℕ) (c : length (take n list) ≡ n) (h : j < n) where
+  longer : take (j + 1) list ≡ take j list ++ (getD list j 0 ∷ [])
+  longer = rw (add-one j) (take-suc list j 0 (omega (arith, c, length-take n list)))
+
+  both : (P : ℕ → Type 0) → All P (take (j + 1) list) → All P (take j list) × All P (getD list j 0 ∷ [])
+  both P a = All-split P (take j list) (getD list j 0 ∷ []) (subst (All P) longer a)
+
+  pub lowest-turn : Lowest x r (take j list) → (y : ℕ) → y ≡ getD list j 0 → Lowest r s (y ∷ []) → Lowest x s (take (j + 1) list)
+  lowest-turn L y e M = record {
+    at-most = omega (arith, L .at-most, M .at-most);
+    each = rw longer (All-append (λ y. s ≤ y) (take j list) _ (All-map (take j list) (λ y h. omega (arith, h, M .at-most)) (L .each)) (subst (λ y. All (λ z. s ≤ z) (y ∷ [])) e (M .each)));
+    at-least = λ b p a. let q = both (λ y. b ≤ y) a in M .at-least b (L .at-least b p (q .0)) (subst (λ y. All (λ z. b ≤ z) (y ∷ [])) (sym e) (q .1));
+  }
+
+  pub past-turn : Past x r (take j list) → (y : ℕ) → y ≡ getD list j 0 → Past r s (y ∷ []) → Past x s (take (j + 1) list)
+  past-turn L y e M = record {
+    at-least = omega (arith, L .at-least, M .at-least);
+    each = rw longer (All-append (λ y. y < s) (take j list) _ (All-map (take j list) (λ y h. omega (arith, h, M .at-least)) (L .each)) (subst (λ y. All (λ z. z < s) (y ∷ [])) e (M .each)));
+    at-most = λ b p a. let q = both (λ y. y < b) a in M .at-most b (L .at-most b p (q .0)) (subst (λ y. All (λ z. z < b) (y ∷ [])) (sym e) (q .1));
+  }
+
+pub lowest-end : (x r j n : ℕ) (list : List ℕ) → j ≤ n → n ≤ j → Lowest x r (take j list) → Lowest x r (take n list)
+lowest-end x r j n list g h L = let q : j ≡ n = omega arith in subst (λ i. Lowest x r (take i list)) q L
+
+pub past-end : (x r j n : ℕ) (list : List ℕ) → j ≤ n → n ≤ j → Past x r (take j list) → Past x r (take n list)
+past-end x r j n list g h L = let q : j ≡ n = omega arith in subst (λ i. Past x r (take i list)) q L
+
+-- an element that is not noted keeps its layer
+kept : (k n z : ℕ) (from layers layers′ : List ℕ) → Noted k layers layers′ (among from n) → (isIn z (take n from) ≡ true → ⊥) → getD layers′ z 0 ≡ getD layers z 0
+kept k n z from layers layers′ N out = N .each z ∙ go (among from n z) refl
+  where
+    go : (b : Bool) → among from n z ≡ b → noted k b (getD layers z 0) ≡ getD layers z 0
+    go true q = absurd (out (unfold among in q))
+    go false q = unfold noted in refl
+
+outside : (P : ℕ → Type 0) (z : ℕ) (xs : List ℕ) → All P xs → (P z → ⊥) → isIn z xs ≡ true → ⊥
+outside P z xs a n e = n (at-all P z xs a (isIn-at z xs e))
+
+module _ (m : Bytes) (k n low high : ℕ) (from layers layers′ : List ℕ) (N : Noted k layers layers′ (among from n)) (W : Within m layers low high) where
+  within-cells : (low′ high′ : ℕ) → All (Cell m) (take n from) → Lowest low low′ (take n from) → Past high high′ (take n from) → Within m layers′ low′ high′
+  within-cells low′ high′ C L P = record {
+    starts = L .at-least (firstCell m) (W .starts) (All-map (take n from) (λ y h. h .low) C);
+    ends = omega (arith, L .at-most, W .ends);
+    stops = P .at-most (firstCell m + cellCount m) (W .stops) (All-map (take n from) (λ y h. h .high) C);
+    before = λ z h l. kept k n z from layers layers′ N (outside (λ y. low′ ≤ y) z (take n from) (L .each) (λ q. let o : ⊥ = omega arith in o)) ∙ W .before z h (omega (arith, L .at-most));
+    after = λ z h l. kept k n z from layers layers′ N (outside (λ y. y < high′) z (take n from) (P .each) (λ q. let o : ⊥ = omega arith in o)) ∙ W .after z h (omega (arith, P .at-least));
+  }
+
+  within-lowers : All (λ x. (1 ≤ x) × (x ≤ below m (top m))) (take n from) → Within m layers′ low high
+  within-lowers C = record {
+    starts = W .starts;
+    ends = W .ends;
+    stops = W .stops;
+    before = λ z h l. kept k n z from layers layers′ N (out z h) ∙ W .before z h l;
+    after = λ z h l. kept k n z from layers layers′ N (out z h) ∙ W .after z h l;
+  }
+    where
+      out : (z : ℕ) → firstCell m ≤ z → isIn z (take n from) ≡ true → ⊥
+      out z h = outside _ z (take n from) C (λ q. let l : below m (top m) + 1 ≤ z = h in let o : ⊥ = omega (arith, q .1, l) in o)
+
+pub within-none : (m st : Bytes) (cell prev last : List ℕ) (e s low high : ℕ) (from layers layers′ : List ℕ) → Ground m st cell prev last → e ≡ elements m → Cells m from s → Clear layers
+    → Noted 0 layers layers′ (among from s) → Lowest (e + 1) low (take s from) → Past 0 high (take s from) → Within m layers′ low high
+within-none m st cell prev last e s low high from layers layers′ G ee C K N L P =
+    within-cells m 0 s (e + 1) 0 from layers layers′ N
+    (record { starts = omega (arith, G .mesh .cells-in); ends = omega (arith, G .mesh .cells-in); stops = omega arith; before = λ z h l. K .each z; after = λ z h l. K .each z })
+    low high (C .each) L P
+
+module _ (m st : Bytes) (cell prev last cs : List ℕ) (k v n low high : ℕ) (marks from layers layers′ : List ℕ) (G : Ground m st cell prev last) (C : All (Cell m) cs) (h : k < length st)
+    (W : Walk m st cs k v marks from layers′ n) (N : Noted k layers layers′ (among from n)) (I : Within m layers low high) where
+  pub within-odd : k % 2 ≡ 1 → Within m layers′ low high
+  within-odd o = within-lowers m k n low high from layers layers′ N I (each-of m st (G .mesh) (G .stencil) cs C _ k n from (W .ends) (λ z e. walked-odd m st (G .mesh) (G .stencil) cs C k z h o e))
+
+  pub within-even : (k % 2 ≡ 1 → ⊥) → (low′ high′ : ℕ) → Lowest low low′ (take n from) → Past high high′ (take n from) → Within m layers′ low′ high′
+  within-even o low′ high′ L P =
+      within-cells m k n low high from layers layers′ N I low′ high′ (each-of m st (G .mesh) (G .stencil) cs C _ k n from (W .ends) (λ z e. walked-even m st (G .mesh) (G .stencil) cs C k z h (omega arith) e)) L P

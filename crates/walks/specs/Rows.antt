@@ -4,9 +4,10 @@ use mathlib.Core.Bool.{Bool, not, _&&_, _||_}
 use mathlib.Core.List.{List}
 use Prim.Native.Nat.{ℕ, _+_, _-_, _*_, _≤_, _<_}
 use lib.Dec.{eqb, ltb}
-use lib.ListN.{length, getD}
+use lib.ListN.{length, getD, take}
 use Rattle.vocabulary.specs.Bytes.{Bytes, byteAt}
-use Rattle.vocabulary.specs.Ranges.{some}
+use Rattle.vocabulary.specs.Ranges.{some, picked}
+use Rattle.vocabulary.specs.Lists.{someOf}
 use Rattle.mesh.specs.Mesh.{elements, recordCount, firstCell, cellCount}
 use Rattle.mesh.specs.Walks.{stepsTo}
 use Rattle.walks.specs.Visits.{Fresh}
@@ -41,6 +42,21 @@ layersAt layers first base n z = some 0 n (layerAt layers first base z)
 unfoldable pub layerOf : List ℕ → ℕ → ℕ → ℕ → ℕ → Bool
 layerOf layers first base q z = layerAt layers first base z q
 
+-- the cells of row i among the first n
+unfoldable pub rowCells : ℕ → Bytes → ℕ → ℕ → List ℕ
+rowCells first rows i n = picked first n (λ x. eqb (byteAt rows (x - first)) i)
+
+-- they stand at the front of a list, k of them
+pub record Rowed (first : ℕ) (rows : Bytes) (i n k : ℕ) (list : List ℕ) : Type 0 where
+  pub room : length list ≡ 2001
+  pub few : k ≤ n
+  pub cells : take k list ≡ rowCells first rows i n
+
+-- the place z of row i stands for a cell that one of the row's cells reaches
+unfoldable pub rowReach : Bytes → Bytes → Bytes → ℕ → ℕ → Bool
+rowReach m st rows i z =
+    some 0 (cellCount m) (λ q. eqb (2000 * i + q) z && someOf (rowCells (firstCell m) rows i (cellCount m)) (λ c. walkedTo m st c (firstCell m + q)))
+
 -- what the walks from all cells stand on
 pub record Site (m st : Bytes) (cell prev last : List ℕ) (e r first cells n : ℕ) : Type 0 where
   pub ground : Ground m st cell prev last
@@ -57,9 +73,8 @@ pub record Space (v : ℕ) (marks from found : List ℕ) : Type 0 where
   pub from-long : length from ≡ 2001
   pub found-long : length found ≡ 2001
 
--- the cells before x have marked their rows
-pub record Swept (m st rows : Bytes) (first x v : ℕ) (marks from found : List ℕ) (before after : Bytes) : Type 0 where
-  pub low : first ≤ x
-  pub turns : v ≤ 1 + 8 * (x - first)
+-- the first n rows are marked
+pub record Swept (m st rows : Bytes) (n v : ℕ) (marks from found : List ℕ) (before after : Bytes) : Type 0 where
+  pub turns : v ≤ 1 + 8 * n
   pub space : Space v marks from found
-  pub marked : Marks before after (rowMarks m st rows (x - first))
+  pub marked : Marks before after (λ z. some 1 n (λ i. rowReach m st rows i z))

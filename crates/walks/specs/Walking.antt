@@ -2,14 +2,14 @@
 use mathlib.Core.Path.{_≡_}
 use mathlib.Core.Bool.{Bool, false, _&&_, cond}
 use mathlib.Core.List.{List, [], _∷_}
-use Prim.Native.Nat.{ℕ, _+_, _%_, _≤_}
+use Prim.Native.Nat.{ℕ, zero, suc, _+_, _%_, _≤_, _<_}
 use lib.Dec.{eqb, leb, ltb}
 use lib.ListN.{length, getD, take}
-use Rattle.vocabulary.specs.Bytes.{Bytes}
+use Rattle.vocabulary.specs.Bytes.{Bytes, byteAt}
 use Rattle.vocabulary.specs.Ranges.{picked}
 use Rattle.vocabulary.specs.Lists.{isIn, All}
 use Rattle.mesh.specs.Mesh.{top, below, firstCell, cellCount, chain}
-use Rattle.mesh.specs.Walks.{bad10, stepTo, walked}
+use Rattle.mesh.specs.Walks.{bad10, stepTo}
 use Rattle.mesh.specs.Accepted.{Accepted, Cell}
 use Rattle.walks.specs.Links.{trail}
 use Rattle.walks.specs.Visits.{Fresh}
@@ -37,6 +37,11 @@ pub record Lowers (m : Bytes) (from : List ℕ) (n : ℕ) : Type 0 where
 unfoldable pub stepped : Bytes → ℕ → List ℕ → ℕ → ℕ → Bool
 stepped m a from n z = isIn z (stepTo m a (take n from))
 
+-- where the walks of k steps from one of the cells cs end
+unfoldable pub walkedFrom : Bytes → Bytes → List ℕ → ℕ → List ℕ
+walkedFrom m st cs zero = cs
+walkedFrom m st cs (suc k) = stepTo m (byteAt st (suc k)) (walkedFrom m st cs k)
+
 -- ---- layers: one more than the layer of what was walked to, 0 for the rest
 
 unfoldable pub firstMark : List ℕ → ℕ
@@ -44,8 +49,8 @@ firstMark [] = 0
 firstMark (x ∷ xs) = x + 1
 
 -- by walks of at most k steps
-unfoldable pub layerMark : Bytes → Bytes → ℕ → ℕ → ℕ → ℕ
-layerMark m st c k z = firstMark (picked 0 (k + 1) (λ j. isIn z (walked m st c j)))
+unfoldable pub layerMark : Bytes → Bytes → List ℕ → ℕ → ℕ → ℕ
+layerMark m st cs k z = firstMark (picked 0 (k + 1) (λ j. isIn z (walkedFrom m st cs j)))
 
 -- the mark x, or that of step k where there is none and the element is reached
 unfoldable pub noted : ℕ → Bool → ℕ → ℕ
@@ -59,15 +64,35 @@ pub record Noted (k : ℕ) (before after : List ℕ) (p : ℕ → Bool) : Type 0
 unfoldable pub among : List ℕ → ℕ → ℕ → Bool
 among from n z = isIn z (take n from)
 
--- after k steps from c: where the walks end, the layers, and marks below v
-pub record Walk (m st : Bytes) (c k v : ℕ) (marks from layers : List ℕ) (n : ℕ) : Type 0 where
+-- after k steps from the cells cs: where the walks end, the layers, and marks below v
+pub record Walk (m st : Bytes) (cs : List ℕ) (k v : ℕ) (marks from layers : List ℕ) (n : ℕ) : Type 0 where
   pub fresh : Fresh v marks
   pub room : length from ≡ 2001
   pub count : length (take n from) ≡ n
   pub few : n ≤ 2000
-  pub ends : (z : ℕ) → isIn z (take n from) ≡ isIn z (walked m st c k)
+  pub ends : (z : ℕ) → isIn z (take n from) ≡ isIn z (walkedFrom m st cs k)
   pub size : length layers ≡ 2001
-  pub layered : (z : ℕ) → getD layers z 0 ≡ layerMark m st c k z
+  pub layered : (z : ℕ) → getD layers z 0 ≡ layerMark m st cs k z
+
+-- the cells that have a layer stand from `low` on and before `high`
+pub record Within (m : Bytes) (layers : List ℕ) (low high : ℕ) : Type 0 where
+  pub starts : firstCell m ≤ low
+  pub ends : low ≤ firstCell m + cellCount m
+  pub stops : high ≤ firstCell m + cellCount m
+  pub before : (z : ℕ) → firstCell m ≤ z → z < low → getD layers z 0 ≡ 0
+  pub after : (z : ℕ) → firstCell m ≤ z → high ≤ z → getD layers z 0 ≡ 0
+
+-- low is x or one of the numbers ys, and none of them is less
+pub record Lowest (x low : ℕ) (ys : List ℕ) : Type 0 where
+  pub at-most : low ≤ x
+  pub each : All (λ y. low ≤ y) ys
+  pub at-least : (b : ℕ) → b ≤ x → All (λ y. b ≤ y) ys → b ≤ low
+
+-- high is x or comes just after one of the numbers ys, and none of them is as great
+pub record Past (x high : ℕ) (ys : List ℕ) : Type 0 where
+  pub at-least : x ≤ high
+  pub each : All (λ y. y < high) ys
+  pub at-most : (b : ℕ) → x ≤ b → All (λ y. y < b) ys → high ≤ b
 
 -- before step k: cells where it goes down, lower elements where it goes up
 pub record Sided (m : Bytes) (k : ℕ) (from : List ℕ) (n : ℕ) : Type 0 where

@@ -12,7 +12,7 @@ use mesh::inner::record_count;
 ghost use mathlib.Core.Path.{_≡_};
 ghost use mathlib.Core.Bool.{false};
 ghost use mathlib.Core.List.{[], _∷_};
-ghost use Prim.Native.Nat.{ℕ, _+_, _*_, _<_, _≤_};
+ghost use Prim.Native.Nat.{ℕ, _+_, _-_, _*_, _<_, _≤_};
 ghost use lib.ListN.{length};
 ghost use Rattle.vocabulary.specs.Bytes.{over};
 ghost use Rattle.vocabulary.specs.Ranges.{blocks};
@@ -49,14 +49,14 @@ fn emit_one(layers: &[u16], first: usize, q: usize, table: &mut [u8], t: usize) 
     t + 1
 }
 
-// The entries of a cell's reach, from the layers of all cells.
-pub fn emit(layers: &[u16], first: usize, cells: usize, table: &mut [u8], t: usize) -> usize
-    requires { ⌜ (first < 65536) × (cells < 65536) × (t ≤ 8001) × (length (now table) ≡ 32000) ⌝ }
-    ensures { λ s. ⌜ Emitted (now (table .entry)) (now (table .exit)) t s (blocks 0 cells (row (now (layers .entry)) first)) × (s ≤ 8001) ⌝ }
+// The entries of a cell's reach, from the layers of the cells from `low` up to but without `high`.
+fn emit(layers: &[u16], first: usize, low: usize, high: usize, table: &mut [u8], t: usize) -> usize
+    requires { ⌜ (first ≤ low) × (high < 65536) × (t ≤ 8001) × (length (now table) ≡ 32000) ⌝ }
+    ensures { λ s. ⌜ Emitted (now (table .entry)) (now (table .exit)) t s (blocks (low - first) (high - low) (row (now (layers .entry)) first)) × (s ≤ 8001) ⌝ }
 {
     let mut s = t;
-    for q in 0..cells {
-        s = emit_one(layers, first, q, table, s);
+    for x in low..high {
+        s = emit_one(layers, first, x - first, table, s);
     }
     s
 }
@@ -72,7 +72,6 @@ fn reach_of(
     prev: &[u16],
     last: &[u16],
     first: usize,
-    cells: usize,
     c: usize,
     v: usize,
     marks: &mut [u16],
@@ -81,11 +80,12 @@ fn reach_of(
     table: &mut [u8],
     t: usize,
 ) -> usize
-    requires { ⌜ Ground (now m) (now st) (now cell) (now prev) (now last) × (e ≡ elements (now m)) × (r ≡ recordCount (now m)) × (first ≡ firstCell (now m)) × (cells ≡ cellCount (now m)) × Cell (now m) c × (n + 1 ≡ length (now st)) × (n ≤ 8) × (v ≤ 60000) × Fresh v (now marks) × (length (now from) ≡ 2001) × (length (now found) ≡ 2001) × (length (now table) ≡ 32000) × (t ≤ 8001) ⌝ }
+    requires { ⌜ Ground (now m) (now st) (now cell) (now prev) (now last) × (e ≡ elements (now m)) × (r ≡ recordCount (now m)) × (first ≡ firstCell (now m)) × Cell (now m) c × (n + 1 ≡ length (now st)) × (n ≤ 8) × (v ≤ 60000) × Fresh v (now marks) × (length (now from) ≡ 2001) × (length (now found) ≡ 2001) × (length (now table) ≡ 32000) × (t ≤ 8001) ⌝ }
     ensures { λ s. ⌜ Emitted (now (table .entry)) (now (table .exit)) t s (cellWords (now (m .entry)) (now (st .entry)) c) × (s ≤ 8001) × Fresh (v + n) (now (marks .exit)) × (length (now (from .exit)) ≡ 2001) × (length (now (found .exit)) ≡ 2001) ⌝ }
 {
     let mut layers = [0u16; 2001];
-    walk(
+    put_number_at(from, 0, c as u16);
+    let w = walk(
         m,
         e,
         r,
@@ -93,7 +93,7 @@ fn reach_of(
         cell,
         prev,
         last,
-        c,
+        1,
         n,
         v,
         marks,
@@ -101,7 +101,7 @@ fn reach_of(
         found,
         &mut layers,
     );
-    emit(&layers, first, cells, table, t)
+    emit(&layers, first, w.low, w.high, table, t)
 }
 
 // The reaches of all cells, from the chains turned round.
@@ -139,7 +139,6 @@ fn reach_all(
             prev,
             last,
             first,
-            cells,
             x,
             v,
             &mut marks,

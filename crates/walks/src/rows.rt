@@ -3,18 +3,21 @@ use crate::inverse::invert;
 use crate::steps::walk;
 use crate::visits::entry;
 use layout::byte_at;
+use layout::put_number_at;
 use mesh::inner::cell_count;
 use mesh::inner::elements_of;
 use mesh::inner::first_cell;
 use mesh::inner::record_count;
 ghost use mathlib.Core.Path.{_≡_};
-ghost use mathlib.Core.Bool.{false};
+ghost use mathlib.Core.Bool.{true, false};
 ghost use Prim.Native.Nat.{_+_, _<_, _≤_};
-ghost use lib.ListN.{set};
+ghost use lib.ListN.{length, set};
+ghost use Rattle.vocabulary.specs.Bytes.{byteAt};
+ghost use Rattle.vocabulary.specs.Ranges.{isUpTo, every};
 ghost use Rattle.mesh.specs.Mesh.{top, cellCount};
 ghost use Rattle.mesh.specs.Walks.{bad10};
-ghost use Rattle.mesh.specs.Accepted.{Accepted, Cell};
-ghost use Rattle.walks.specs.Rows.{reachMark, rowMarks, Marks, layerOf, layersAt, Site, Space};
+ghost use Rattle.mesh.specs.Accepted.{Accepted};
+ghost use Rattle.walks.specs.Rows.{rowMarks, rowReach, Rowed, Marks, layerOf, layersAt, Site, Space};
 
 // Sets the byte at `at` to 1, where there is one.
 fn mark(held: &mut [u8], at: usize)
@@ -45,7 +48,31 @@ fn mark_row(layers: &[u16], first: usize, cells: usize, base: usize, held: &mut 
     }
 }
 
-// Marks in the row from `base` on the cells that cell c reaches.
+// Adds the cell at place q to the k cells in a list, if it is of row i.
+fn add_cell(rows: &[u8], i: usize, first: usize, q: usize, list: &mut [u16], k: usize) -> usize
+    requires { ⌜ (first + q ≤ 2000) × Rowed first (now rows) i q k (now list) ⌝ }
+    ensures { λ n. ⌜ Rowed first (now (rows .entry)) i (q + 1) n (now (list .exit)) ⌝ }
+{
+    if byte_at(rows, q) as usize != i {
+        return k;
+    }
+    put_number_at(list, k, (first + q) as u16);
+    k + 1
+}
+
+// Puts the cells of row i into a list: how many they are.
+fn row_cells(rows: &[u8], i: usize, first: usize, cells: usize, list: &mut [u16]) -> usize
+    requires { ⌜ (first + cells ≤ 2001) × (length (now list) ≡ 2001) ⌝ }
+    ensures { λ n. ⌜ Rowed first (now (rows .entry)) i cells n (now (list .exit)) ⌝ }
+{
+    let mut n = 0;
+    for q in 0..cells {
+        n = add_cell(rows, i, first, q, list, n);
+    }
+    n
+}
+
+// Marks in row i the cells that the cells of row i reach, by walks from all of them at once.
 fn mark_reach(
     m: &[u8],
     e: usize,
@@ -57,17 +84,18 @@ fn mark_reach(
     last: &[u16],
     first: usize,
     cells: usize,
-    c: usize,
+    rows: &[u8],
+    i: usize,
     v: usize,
     marks: &mut [u16],
     from: &mut [u16],
     found: &mut [u16],
-    base: usize,
     held: &mut [u8],
 )
-    requires { ⌜ Site (now m) (now st) (now cell) (now prev) (now last) e r first cells n × Cell (now m) c × (v ≤ 60000) × Space v (now marks) (now from) (now found) × (base < 1048576) ⌝ }
-    ensures { λ _. ⌜ Marks (now (held .entry)) (now (held .exit)) (reachMark (now (m .entry)) (now (st .entry)) base c) × Space (v + n) (now (marks .exit)) (now (from .exit)) (now (found .exit)) ⌝ }
+    requires { ⌜ Site (now m) (now st) (now cell) (now prev) (now last) e r first cells n × (i ≤ 16) × (v ≤ 60000) × Space v (now marks) (now from) (now found) ⌝ }
+    ensures { λ _. ⌜ Marks (now (held .entry)) (now (held .exit)) (rowReach (now (m .entry)) (now (st .entry)) (now (rows .entry)) i) × Space (v + n) (now (marks .exit)) (now (from .exit)) (now (found .exit)) ⌝ }
 {
+    let s = row_cells(rows, i, first, cells, from);
     let mut layers = [0u16; 2001];
     walk(
         m,
@@ -77,7 +105,7 @@ fn mark_reach(
         cell,
         prev,
         last,
-        c,
+        s,
         n,
         v,
         marks,
@@ -85,10 +113,10 @@ fn mark_reach(
         found,
         &mut layers,
     );
-    mark_row(&layers, first, cells, base, held);
+    mark_row(&layers, first, cells, 2000 * i, held);
 }
 
-// Marks for every cell, in its row, the cells that it reaches.
+// Marks in the rows from 1 on, as many as `count`, what their cells reach.
 fn mark_all(
     m: &[u8],
     e: usize,
@@ -101,17 +129,17 @@ fn mark_all(
     first: usize,
     cells: usize,
     rows: &[u8],
+    count: usize,
     held: &mut [u8],
 )
-    requires { ⌜ Site (now m) (now st) (now cell) (now prev) (now last) e r first cells n ⌝ }
+    requires { ⌜ Site (now m) (now st) (now cell) (now prev) (now last) e r first cells n × (count ≤ 16) × (every 0 (cellCount (now m)) (λ k. isUpTo count (byteAt (now rows) k)) ≡ true) ⌝ }
     ensures { λ _. ⌜ Marks (now (held .entry)) (now (held .exit)) (rowMarks (now (m .entry)) (now (st .entry)) (now (rows .entry)) (cellCount (now (m .entry)))) ⌝ }
 {
     let mut marks = [0u16; 2001];
     let mut from = [0u16; 2001];
     let mut found = [0u16; 2001];
     let mut v = 1;
-    for x in first..first + cells {
-        let base = 2000 * byte_at(rows, x - first) as usize;
+    for i in 0..count {
         mark_reach(
             m,
             e,
@@ -123,22 +151,22 @@ fn mark_all(
             last,
             first,
             cells,
-            x,
+            rows,
+            i + 1,
             v,
             &mut marks,
             &mut from,
             &mut found,
-            base,
             held,
         );
         v += n;
     }
 }
 
-// Marks what the cells reach under an accepted stencil. The byte of `rows` at a cell's place tells its row; a row has 2,000 bytes, one a place,
-// and one that is not there is not marked.
-pub fn mark_reaches(m: &[u8], st: &[u8], rows: &[u8], held: &mut [u8])
-    requires { ⌜ Accepted (now m) × (bad10 (top (now m)) (now st) ≡ false) ⌝ }
+// Marks what the cells reach under an accepted stencil. The byte of `rows` at a cell's place tells its row, from 1 to `count`; a row has 2,000
+// bytes, one a place, and one that is not there is not marked.
+pub fn mark_reaches(m: &[u8], st: &[u8], rows: &[u8], count: usize, held: &mut [u8])
+    requires { ⌜ Accepted (now m) × (bad10 (top (now m)) (now st) ≡ false) × (count ≤ 16) × (every 0 (cellCount (now m)) (λ k. isUpTo count (byteAt (now rows) k)) ≡ true) ⌝ }
     ensures { λ _. ⌜ Marks (now (held .entry)) (now (held .exit)) (rowMarks (now (m .entry)) (now (st .entry)) (now (rows .entry)) (cellCount (now (m .entry)))) ⌝ }
 {
     let e = elements_of(m);
@@ -162,6 +190,7 @@ pub fn mark_reaches(m: &[u8], st: &[u8], rows: &[u8], held: &mut [u8])
         first,
         cells,
         rows,
+        count,
         held,
     );
 }

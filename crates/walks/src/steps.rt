@@ -7,16 +7,16 @@ use layout::number_at;
 use layout::put_number_at;
 use mesh::inner::below_of;
 ghost use mathlib.Core.Path.{_≡_};
-ghost use mathlib.Core.List.{[]};
+ghost use mathlib.Core.List.{[], _∷_};
 ghost use Prim.Native.Nat.{ℕ, _+_, _<_, _≤_};
 ghost use lib.Dec.{eqb};
 ghost use lib.ListN.{length, getD, take};
 ghost use Rattle.vocabulary.specs.Bytes.{byteAt};
 ghost use Rattle.vocabulary.specs.Lists.{All};
 ghost use Rattle.mesh.specs.Mesh.{top, elements, recordCount};
-ghost use Rattle.mesh.specs.Accepted.{Accepted, Cell};
+ghost use Rattle.mesh.specs.Accepted.{Accepted};
 ghost use Rattle.walks.specs.Visits.{Fresh, Gathered, Toward};
-ghost use Rattle.walks.specs.Walking.{Ground, Cells, Lowers, Sided, Clear, stepped, Noted, among, Walk};
+ghost use Rattle.walks.specs.Walking.{Ground, Cells, Lowers, Sided, Clear, stepped, Noted, among, Walk, Within, Lowest, Past};
 
 // Down from the first n cells of `from` to the elements of dimension a.
 pub fn walk_down(
@@ -113,7 +113,53 @@ fn copy_list(src: &[u16], n: usize, dst: &mut [u16])
     }
 }
 
-// Where the walks of k steps from cell c end: a walk of k - 1 steps, and one step more. Each element met bears its layer.
+// The lesser of two numbers.
+fn lesser(x: usize, y: usize) -> usize
+    ensures { λ r. ⌜ Lowest x r (y ∷ []) ⌝ }
+{
+    if y < x { y } else { x }
+}
+
+// The least of x and the first n numbers of a list.
+fn lowest(list: &[u16], n: usize, x: usize) -> usize
+    requires { ⌜ length (take n (now list)) ≡ n ⌝ }
+    ensures { λ r. ⌜ Lowest x r (take n (now (list .entry))) ⌝ }
+{
+    let mut r = x;
+    for j in 0..n {
+        r = lesser(r, entry(list, j));
+    }
+    r
+}
+
+// The greater of x and the number after y.
+fn past(x: usize, y: usize) -> usize
+    requires { ⌜ y < 65536 ⌝ }
+    ensures { λ r. ⌜ Past x r (y ∷ []) ⌝ }
+{
+    if x < y + 1 { y + 1 } else { x }
+}
+
+// The greatest of x and the numbers after the first n of a list.
+fn past_all(list: &[u16], n: usize, x: usize) -> usize
+    requires { ⌜ length (take n (now list)) ≡ n ⌝ }
+    ensures { λ r. ⌜ Past x r (take n (now (list .entry))) ⌝ }
+{
+    let mut r = x;
+    for j in 0..n {
+        r = past(r, entry(list, j));
+    }
+    r
+}
+
+// Where walks end: how many elements those are; and the bounds of all cells met on the way, from `low` up to but without `high`.
+pub struct Ends {
+    pub count: usize,
+    pub low: usize,
+    pub high: usize,
+}
+
+// Where the walks of k steps from the first s cells of `from` end: a walk of k - 1 steps, and one step more. Each element met bears its layer.
 pub fn walk(
     m: &[u8],
     e: usize,
@@ -122,23 +168,26 @@ pub fn walk(
     cell: &[u16],
     prev: &[u16],
     last: &[u16],
-    c: usize,
+    s: usize,
     k: usize,
     v: usize,
     marks: &mut [u16],
     from: &mut [u16],
     found: &mut [u16],
     layers: &mut [u16],
-) -> usize
-    requires { ⌜ Ground (now m) (now st) (now cell) (now prev) (now last) × (e ≡ elements (now m)) × (r ≡ recordCount (now m)) × Cell (now m) c × (k < length (now st)) × (k ≤ 8) × (v ≤ 60000) × Fresh v (now marks) × (length (now from) ≡ 2001) × (length (now found) ≡ 2001) × Clear (now layers) ⌝ }
-    ensures { λ n. ⌜ Walk (now (m .entry)) (now (st .entry)) c k (v + k) (now (marks .exit)) (now (from .exit)) (now (layers .exit)) n × (length (now (found .exit)) ≡ 2001) ⌝ }
+) -> Ends
+    requires { ⌜ Ground (now m) (now st) (now cell) (now prev) (now last) × (e ≡ elements (now m)) × (r ≡ recordCount (now m)) × Cells (now m) (now from) s × (s ≤ 2000) × (k < length (now st)) × (k ≤ 8) × (v ≤ 60000) × Fresh v (now marks) × (length (now from) ≡ 2001) × (length (now found) ≡ 2001) × Clear (now layers) ⌝ }
+    ensures { λ w. ⌜ Walk (now (m .entry)) (now (st .entry)) (take s (now (from .entry))) k (v + k) (now (marks .exit)) (now (from .exit)) (now (layers .exit)) (w .count) × (length (now (found .exit)) ≡ 2001) × Within (now (m .entry)) (now (layers .exit)) (w .low) (w .high) ⌝ }
 {
     if k == 0 {
-        put_number_at(from, 0, c as u16);
-        note(0, c, layers);
-        return 1;
+        note_all(0, from, s, layers);
+        return Ends {
+            count: s,
+            low: lowest(from, s, e + 1),
+            high: past_all(from, s, 0),
+        };
     }
-    let n = walk(
+    let w = walk(
         m,
         e,
         r,
@@ -146,7 +195,7 @@ pub fn walk(
         cell,
         prev,
         last,
-        c,
+        s,
         k - 1,
         v,
         marks,
@@ -154,7 +203,7 @@ pub fn walk(
         found,
         layers,
     );
-    let s = step(
+    let n = step(
         m,
         e,
         r,
@@ -164,12 +213,23 @@ pub fn walk(
         last,
         k,
         from,
-        n,
+        w.count,
         (v + (k - 1)) as u16,
         marks,
         found,
     );
-    copy_list(found, s, from);
-    note_all(k as u16, from, s, layers);
-    s
+    copy_list(found, n, from);
+    note_all(k as u16, from, n, layers);
+    if k % 2 == 1 {
+        return Ends {
+            count: n,
+            low: w.low,
+            high: w.high,
+        };
+    }
+    Ends {
+        count: n,
+        low: lowest(from, n, w.low),
+        high: past_all(from, n, w.high),
+    }
 }

@@ -5,7 +5,7 @@ use native.Mathlib.Omega.{arith}
 use lib.ListN.{length}
 use Rattle.walks.specs.Visits.{Fresh}
 use Rattle.walks.specs.Tables.{tableWords, Emitted, Ends}
-use Rattle.walks.proofs.ReachLaws.{fresh, first-small, cells-small, cells-few, cell-is, table-start, ends-start, table-turn, ends-turn, table-over, table-end}
+use Rattle.walks.proofs.ReachLaws.{fresh, first-small, cells-few, cell-is, table-start, ends-start, table-turn, ends-turn, table-over, table-end}
 use borrow.Author.Needs.{needs}
 use Rattle.walks.proofs.inner.reach_all.Statement.{statement}
 use Rattle.walks.proofs.inner.reach_all.Tie as tie
@@ -23,12 +23,12 @@ reach-all-spec =
     Inv-loop
     μ-loop
     (λ c κs. search needs)
-    (λ c. omega (arith, first-small _ _ (c .before .before .before .before .before .before .before .before .before .before .before .pre .0 .mesh) (c .before .before .before .before .before .before .before .before .before .before .before .pre .3), cells-small _ _ (c .before .before .before .before .before .before .before .before .before .before .before .pre .0 .mesh) (c .before .before .before .before .before .before .before .before .before .before .before .pre .4)))
+    (λ c. omega (arith, first-small _ _ (c .before .before .before .before .before .before .before .before .before .before .before .pre .0 .mesh) (c .before .before .before .before .before .before .before .before .before .before .before .pre .3), cells-few _ _ (c .before .before .before .before .before .before .before .before .before .before .before .pre .0 .mesh) (c .before .before .before .before .before .before .before .before .before .before .before .pre .4)))
     (λ c. (search needs, search needs, refl, search needs, search needs, fresh, refl, refl, c .before .before .before .before .before .before .before .before .before .before .before .pre .7, search needs, table-start _ _ _ _, ends-start _ _ _ (c .before .before .before .before .before .before .before .before .before .before .before .args .ends .now) _ (c .before .before .before .before .before .before .before .before .before .before .before .pre .8) (c .before .before .put-number-at .ensures)))
     (λ c. search needs)
     (λ c. search needs)
     (λ c. search needs)
-    (λ c κs. ((c .before .before .before .before .before .before .before .before .before .before .before .before .before .before .before .before .before .pre .0), (c .before .before .before .before .before .before .before .before .before .before .before .before .before .before .before .before .before .pre .1), (c .before .before .before .before .before .before .before .before .before .before .before .before .before .before .before .before .before .pre .2), (c .before .before .before .before .before .before .before .before .before .before .before .before .before .before .before .before .before .pre .3), (c .before .before .before .before .before .before .before .before .before .before .before .before .before .before .before .before .before .pre .4), cell-is _ _ _ _ (c .before .before .before .before .before .before .before .before .before .before .before .before .before .before .before .before .before .pre .3) (c .before .before .before .before .before .before .before .before .before .before .before .before .before .before .before .before .before .pre .4) (c .before .before .before .before .before .loop .inv .0) (c .before .before .before .before .loop-test .taken), (c .before .before .before .before .before .before .before .before .before .before .before .before .before .before .before .before .before .pre .5), (c .before .before .before .before .before .before .before .before .before .before .before .before .before .before .before .before .before .pre .6), omega (arith, (c .before .before .before .before .before .loop .inv .4), (c .before .before .before .before .loop-test .taken), cells-few _ _ (c .before .before .before .before .before .before .before .before .before .before .before .before .before .before .before .before .before .pre .0 .mesh) (c .before .before .before .before .before .before .before .before .before .before .before .before .before .before .before .before .before .pre .4)), (c .before .before .before .before .before .loop .inv .5), (c .before .before .before .before .before .loop .inv .6), (c .before .before .before .before .before .loop .inv .7), (c .before .before .before .before .before .loop .inv .8), omega (arith, (c .before .before .before .before .before .loop .inv .3))))
+    (λ c κs. ((c .before .before .before .before .before .before .before .before .before .before .before .before .before .before .before .before .before .pre .0), (c .before .before .before .before .before .before .before .before .before .before .before .before .before .before .before .before .before .pre .1), (c .before .before .before .before .before .before .before .before .before .before .before .before .before .before .before .before .before .pre .2), (c .before .before .before .before .before .before .before .before .before .before .before .before .before .before .before .before .before .pre .3), cell-is _ _ _ _ (c .before .before .before .before .before .before .before .before .before .before .before .before .before .before .before .before .before .pre .3) (c .before .before .before .before .before .before .before .before .before .before .before .before .before .before .before .before .before .pre .4) (c .before .before .before .before .before .loop .inv .0) (c .before .before .before .before .loop-test .taken), (c .before .before .before .before .before .before .before .before .before .before .before .before .before .before .before .before .before .pre .5), (c .before .before .before .before .before .before .before .before .before .before .before .before .before .before .before .before .before .pre .6), omega (arith, (c .before .before .before .before .before .loop .inv .4), (c .before .before .before .before .loop-test .taken), cells-few _ _ (c .before .before .before .before .before .before .before .before .before .before .before .before .before .before .before .before .before .pre .0 .mesh) (c .before .before .before .before .before .before .before .before .before .before .before .before .before .before .before .before .before .pre .4)), (c .before .before .before .before .before .loop .inv .5), (c .before .before .before .before .before .loop .inv .6), (c .before .before .before .before .before .loop .inv .7), (c .before .before .before .before .before .loop .inv .8), omega (arith, (c .before .before .before .before .before .loop .inv .3))))
     (λ c. search needs)
     (λ c. search needs)
     (λ c. table-over _ _ _ _ (c .before .before .before .before .before .before .before .before .before .before .before .before .before .before .before .before .before .before .before .before .before .before .before .before .pre .3) (c .before .before .before .before .before .before .before .before .before .before .before .before .loop .inv .0) _ _ _ _ _ _ _ (c .before .before .before .before .before .before .before .before .before .before .before .before .before .before .before .before .before .before .before .before .before .before .before .before .pre .7) (c .before .before .before .before .before .before .before .before .before .before .before .before .before .before .before .before .before .before .before .before .before .before .before .before .pre .4) (c .before .before .before .before .before .before .before .before .before .before .before .loop-test .taken) (c .before .before .before .before .before .before .before .before .before .before .before .before .loop .inv .10) (c .before .before .before .before .before .before .reach-of .ensures .0) (c .if1 .taken))

@@ -22,6 +22,6 @@ mark-reaches-spec =
     (λ c. search needs)
     (λ c. search needs)
     (λ c. search needs)
-    (λ c κs. record { ground = grounded _ (c .before .before .before .before .before .before .before .before .before .before .before .before .before .before .before .before .before .before .before .pre .0) _ _ (c .before .before .before .before .before .before .before .before .before .before .before .before .first-cell .ensures) (c .before .before .before .before .before .before .before .before .before .before .before .cell-count .ensures .0) _ (c .before .before .before .before .before .before .before .before .before .before .before .before .before .before .before .before .before .before .before .pre .1) _ _ _ _ (c .before .before .before .before .before .before .before .invert .ensures); e-is = c .before .before .before .before .before .before .before .before .before .before .before .before .before .before .elements-of .ensures .0; r-is = c .before .before .before .before .before .before .before .before .before .before .before .before .before .record-count .ensures .0; first-is = c .before .before .before .before .before .before .before .before .before .before .before .before .first-cell .ensures; cells-is = c .before .before .before .before .before .before .before .before .before .before .before .cell-count .ensures .0; n-is = omega (arith, stencil-parts _ _ (c .before .before .before .before .before .before .before .before .before .before .before .before .before .before .before .before .before .before .before .pre .1) .0); n-few = omega (arith, stencil-parts _ _ (c .before .before .before .before .before .before .before .before .before .before .before .before .before .before .before .before .before .before .before .pre .1) .1) })
+    (λ c κs. (record { ground = grounded _ (c .before .before .before .before .before .before .before .before .before .before .before .before .before .before .before .before .before .before .before .pre .0) _ _ (c .before .before .before .before .before .before .before .before .before .before .before .before .first-cell .ensures) (c .before .before .before .before .before .before .before .before .before .before .before .cell-count .ensures .0) _ (c .before .before .before .before .before .before .before .before .before .before .before .before .before .before .before .before .before .before .before .pre .1) _ _ _ _ (c .before .before .before .before .before .before .before .invert .ensures); e-is = c .before .before .before .before .before .before .before .before .before .before .before .before .before .before .elements-of .ensures .0; r-is = c .before .before .before .before .before .before .before .before .before .before .before .before .before .record-count .ensures .0; first-is = c .before .before .before .before .before .before .before .before .before .before .before .before .first-cell .ensures; cells-is = c .before .before .before .before .before .before .before .before .before .before .before .cell-count .ensures .0; n-is = omega (arith, stencil-parts _ _ (c .before .before .before .before .before .before .before .before .before .before .before .before .before .before .before .before .before .before .before .pre .1) .0); n-few = omega (arith, stencil-parts _ _ (c .before .before .before .before .before .before .before .before .before .before .before .before .before .before .before .before .before .before .before .pre .1) .1) }, c .before .before .before .before .before .before .before .before .before .before .before .before .before .before .before .before .before .before .before .pre .2, c .before .before .before .before .before .before .before .before .before .before .before .before .before .before .before .before .before .before .before .pre .3))
     (λ c. search needs)
     (λ c. search needs))
