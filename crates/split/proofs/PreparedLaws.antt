@@ -10,7 +10,7 @@ use borrow.Author.Tests.{eqb-true, lt-ltb, le-ltb, not-false}
 use Rattle.vocabulary.specs.Bytes.{Bytes, byteAt, over}
 use Rattle.vocabulary.specs.ByteLaws.{over-front}
 use Rattle.vocabulary.specs.Ranges.{isUpTo, every, total}
-use Rattle.vocabulary.specs.RangeLaws.{every-at, every-intro, blocks-at, total-turn, total-grows, upTo-true}
+use Rattle.vocabulary.specs.RangeLaws.{every-at, every-intro, blocks-at, total-turn, total-grows, upTo-true, upTo-intro}
 use Rattle.vocabulary.specs.Lists.{everyOf}
 use Rattle.vocabulary.specs.ListLaws.{same-test, or-false, everyOf-at, everyOf-intro, All-intro, pairs-at}
 use Rattle.layout.specs.Words.{wordAt, bytesOf}
@@ -46,6 +46,11 @@ map-right m parts owners e =
       l,
       λ k h. upTo-true parts (byteAt owners k) (everyOf-at (isUpTo parts) owners 0 k (not-false _ (p .1)) (omega arith)),
     )
+
+pub owners-told : (m : Bytes) (parts : ℕ) (owners : Bytes) → bad8 m parts owners [] ≡ false → every 0 (cellCount m) (λ k. isUpTo parts (byteAt owners k)) ≡ true
+owners-told m parts owners e =
+    every-intro 0 (λ k. isUpTo parts (byteAt owners k)) (cellCount m)
+    (λ k h. let r = map-right m parts owners e .3 (0 + k) (omega arith) in upTo-intro parts (byteAt owners (0 + k)) (r .0) (r .1))
 
 -- ---- the table of the reaches
 
