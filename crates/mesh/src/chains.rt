@@ -43,8 +43,8 @@ fn meet_chain(m: &[u8], n: usize, r: usize, h: usize, seen: &mut [u8; 12001]) ->
             return true;
         }
         seen[i] = 1;
-        let at = read_record(m, n, i);
-        i = at.next;
+        let here = read_record(m, n, i);
+        i = here.next;
     }
     false
 }
@@ -101,8 +101,8 @@ fn wrong_chain(
         if i < 1 {
             return false;
         }
-        let at = read_record(m, n, i);
-        let g = at.element;
+        let here = read_record(m, n, i);
+        let g = here.element;
         if g < 1 {
             return true;
         }
@@ -113,7 +113,7 @@ fn wrong_chain(
             return true;
         }
         marks[g] = mark;
-        i = at.next;
+        i = here.next;
     }
     false
 }

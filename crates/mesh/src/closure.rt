@@ -31,9 +31,9 @@ fn stamp_chain(m: &[u8], n: usize, r: usize, h: usize, v: u16, marks: &mut [u16]
         if i < 1 {
             return;
         }
-        let at = read_record(m, n, i);
-        put_number_at(marks, at.element, v);
-        i = at.next;
+        let here = read_record(m, n, i);
+        put_number_at(marks, here.element, v);
+        i = here.next;
     }
 }
 
@@ -47,11 +47,11 @@ fn leaves_by(m: &[u8], n: usize, r: usize, f: usize, v: u16, marks: &[u16]) -> b
         if i < 1 {
             return false;
         }
-        let at = read_record(m, n, i);
-        if unmarked(marks, at.element, v) {
+        let here = read_record(m, n, i);
+        if unmarked(marks, here.element, v) {
             return true;
         }
-        i = at.next;
+        i = here.next;
     }
     false
 }
@@ -66,11 +66,11 @@ fn any_leaves(m: &[u8], n: usize, r: usize, h: usize, v: u16, marks: &[u16]) -> 
         if i < 1 {
             return false;
         }
-        let at = read_record(m, n, i);
-        if leaves_by(m, n, r, at.element, v, marks) {
+        let here = read_record(m, n, i);
+        if leaves_by(m, n, r, here.element, v, marks) {
             return true;
         }
-        i = at.next;
+        i = here.next;
     }
     false
 }

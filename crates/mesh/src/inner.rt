@@ -1,12 +1,10 @@
-// Readers of the mesh bytes. A word past the end reads as 0, so none of them supposes that the mesh was accepted.
-use crate::reader::at_record;
-use crate::reader::element_of;
-use crate::reader::moved_on;
-use crate::reader::record_of;
+// What is read of the mesh bytes. A word past the end reads as 0, so none of these functions supposes that the mesh was accepted.
+pub use crate::reader::Record;
+pub use crate::reader::read_record;
 use layout::word_at;
 ghost use mathlib.Core.Path.{_≡_};
 ghost use Prim.Native.Nat.{ℕ, _+_, _*_, _<_, _≤_};
-ghost use Rattle.mesh.specs.Mesh.{top, counted, below, elements, recordCount, firstCell, cellCount, dimension, headOf, elementIn, nextOf};
+ghost use Rattle.mesh.specs.Mesh.{top, counted, below, elements, recordCount, firstCell, cellCount, dimension, headOf};
 
 // The dimension of the cells.
 pub fn top_of(m: &[u8]) -> usize
@@ -83,37 +81,4 @@ pub fn head_of(m: &[u8], e: usize) -> usize
     ensures { λ r. ⌜ (r ≡ headOf (now (m .entry)) e) × (r < 65536) ⌝ }
 {
     word_at(m, 5 + e)
-}
-
-// The element of record i, and its next record, in a mesh of n elements.
-pub fn element_in(m: &[u8], n: usize, i: usize) -> usize
-    requires { ⌜ (n ≡ elements (now m)) × (n < 4294967296) × (i < 65536) ⌝ }
-    ensures { λ r. ⌜ (r ≡ elementIn (now (m .entry)) i) × (r < 65536) ⌝ }
-{
-    word_at(m, 4 + n + 2 * i)
-}
-
-pub fn next_of(m: &[u8], n: usize, i: usize) -> usize
-    requires { ⌜ (n ≡ elements (now m)) × (n < 4294967296) × (i < 65536) ⌝ }
-    ensures { λ r. ⌜ (r ≡ nextOf (now (m .entry)) i) × (r < 65536) ⌝ }
-{
-    word_at(m, 5 + n + 2 * i)
-}
-
-// A record: an element, and the index of the next record of the chain.
-pub struct Record {
-    pub element: usize,
-    pub next: usize,
-}
-
-// Reads record i of a chain, in a mesh of n elements. Who follows a chain calls this.
-pub fn read_record(m: &[u8], n: usize, i: usize) -> Record
-    requires { ⌜ (n ≡ elements (now m)) × (n < 4294967296) × (i < 65536) ⌝ }
-    ensures { λ r. ⌜ (r .element ≡ elementIn (now (m .entry)) i) × (r .element < 65536) × (r .next ≡ nextOf (now (m .entry)) i) × (r .next < 65536) ⌝ }
-{
-    let c = at_record(m, i);
-    Record {
-        element: element_of(c, n),
-        next: record_of(moved_on(c, n)),
-    }
 }

@@ -44,9 +44,9 @@ fn link_chain(
         if i < 1 {
             return s;
         }
-        let at = read_record(m, n, i);
-        s = link(c, at.element, s, cell, prev, last);
-        i = at.next;
+        let here = read_record(m, n, i);
+        s = link(c, here.element, s, cell, prev, last);
+        i = here.next;
     }
     s
 }

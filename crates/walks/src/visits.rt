@@ -80,9 +80,9 @@ pub fn visit_chain(
         if i < 1 {
             return s;
         }
-        let at = read_record(m, e, i);
-        s = visit_between(at.element, lo, hi, v, marks, found, s);
-        i = at.next;
+        let here = read_record(m, e, i);
+        s = visit_between(here.element, lo, hi, v, marks, found, s);
+        i = here.next;
     }
     s
 }

@@ -39,19 +39,19 @@ use denote.Exit.{yes}
 use denote.Triple.Clauses.{ensured, lasts}
 use Rattle.mesh.specs.Mesh.{elements, nextOf}
 use Rattle.mesh.specs.declared.reader.ChainReader.{ChainReader}
-use Rattle.mesh.proofs.Held.{D, L, Held, Own, Lent, passed, lends}
+use Rattle.mesh.proofs.ReaderType.{D, L, Reader, Own, Lent, passed, lends}
 use Rattle.mesh.proofs.reader.ChainReader.Laws as T′
-use Rattle.mesh.proofs.inner.next_of as next-of
-use Rattle.mesh.proofs.inner.next_of.Symbol as next-of-def
-use Rattle.mesh.proofs.inner.next_of.Symbol.{name as #next-of}
-use Rattle.mesh.proofs.inner.next_of.Met as next-of-thm
+use Rattle.mesh.proofs.reader.next_of as next-of
+use Rattle.mesh.proofs.reader.next_of.Symbol as next-of-def
+use Rattle.mesh.proofs.reader.next_of.Symbol.{name as #next-of}
+use Rattle.mesh.proofs.reader.next_of.Met as next-of-thm
 use Rattle.mesh.proofs.reader.moved_on.Key.{name as #moved-on}
 use Rattle.mesh.proofs.reader.moved_on as moved-on
 use Rattle.mesh.proofs.reader.moved_on.Statement as stated
 use Rattle.mesh.proofs.reader.moved_on.Code as code
 
 abbrev stayed : Stays (moved-on.ended .signature .params) (moved-on.ended .kept)
-stayed = (stay-none Held yes, (stay-none (λ _. usize) yes, tt))
+stayed = (stay-none Reader yes, (stay-none (λ _. usize) yes, tt))
 
 module _ {M : Type 1} (𝓤 : URA M) (H : Heap 𝓤) (A : Atoms 𝓤) (mem : Memory → SProp 𝓤) (run : Routine → Fun 𝓤) where
   -- the contract that the proof cites
@@ -76,8 +76,8 @@ module _ {M : Type 1} (𝓤 : URA M) (H : Heap 𝓤) (A : Atoms 𝓤) (W : Given
   abbrev Said : ℕ → Type 0
   Said g = (g ≡ nextOf (now (c .mesh)) (c .index)) × (g < 65536)
 
-  asked : ent 𝓤 (⋆ 𝓤 H A ((‵ (flft κ q) ⊛ ‵ ftrue) ∷ ‵ (Lent 𝓤 H A W κ c n) ∷ [])) (NextOf 𝓤 H A mem run .pre to)
-  asked = qed W ((‵ (flft κ q) ⊛ ‵ ftrue) ∷ ‵ (Lent 𝓤 H A W κ c n) ∷ []) ∵ says ! ok $ frame ! $ done !
+  asked : ent 𝓤 (⋆ 𝓤 H A ((‵ (flft κ q) ⊛ ‵ ftrue) ∷ ‵ (Lent κ c n) ∷ [])) (NextOf 𝓤 H A mem run .pre to)
+  asked = qed W ((‵ (flft κ q) ⊛ ‵ ftrue) ∷ ‵ (Lent κ c n) ∷ []) ∵ says ! ok $ frame ! $ done !
 
   said : (g : ℕ) → ent 𝓤 (ensured 𝓤 H A next-of.ended (next-of.clauses 𝓤 H A mem run) (κ, tt) (c .mesh, (n, (c .index, tt))) tt g) (fact 𝓤 (Said g))
   said g = exE 𝓤 _ (λ ws. snd∗ 𝓤 (sem 𝓤 H A (lasts next-of.ended (κ, tt) (c .mesh, (n, (c .index, tt))) ws)) (fact 𝓤 (Said g)))
@@ -86,24 +86,24 @@ module _ {M : Type 1} (𝓤 : URA M) (H : Heap 𝓤) (A : Atoms 𝓤) (W : Given
   next g = record { mesh = c .mesh; index = g }
 
   -- a reader is Copy: what it owns is had at exit, and, with another index, by the result
-  exits : (g : ℕ) (u : Val) → g < 2 ^ 64 → Said g → ent 𝓤 (⋆ 𝓤 H A (‵ (usize .own g (u ∷ [])) ∷ (‵ (flft κ q) ⊛ ‵ ftrue) ∷ ‵ (Own 𝓤 H A W κ c n) ∷ [])) (Post (T′.lowered (next g)))
+  exits : (g : ℕ) (u : Val) → g < 2 ^ 64 → Said g → ent 𝓤 (⋆ 𝓤 H A (‵ (usize .own g (u ∷ [])) ∷ (‵ (flft κ q) ⊛ ‵ ftrue) ∷ ‵ (Own κ c) ∷ [])) (Post (T′.lowered (next g)))
   exits g u g-fits e =
-      qed W (‵ (usize .own g (u ∷ [])) ∷ (‵ (flft κ q) ⊛ ‵ ftrue) ∷ ‵ (Own 𝓤 H A W κ c n) ∷ []) ∵ drop ! $
+      qed W (‵ (usize .own g (u ∷ [])) ∷ (‵ (flft κ q) ⊛ ‵ ftrue) ∷ ‵ (Own κ c) ∷ []) ∵ drop ! $
       suffices ! _ (ends-at 𝓤 H A moved-on.ended stayed (moved-on.clauses 𝓤 H A mem run) W (((κ, tt), (q, tt), tt, (c, (n, tt)), at), tt) (T′.lowered (next g)) (next g) (tt, (tt, tt)) (tt, (tt, tt))) $ says ! (refl, e .0, e .1) $
-      frame ! $ use1 W (‵ (Own 𝓤 H A W κ c n) ⊛ ‵ (Own 𝓤 H A W κ c n)) (LL.copy (D (κ, tt)) (T′.the-copy (namedLft 1 0 tt (κ, tt))) 𝓤 H A W .twice c (mach ∷ [])) $ split ! $
+      frame ! $ use1 W (‵ (Own κ c) ⊛ ‵ (Own κ c)) (LL.copy (D (κ, tt)) (T′.the-copy (namedLft 1 0 tt (κ, tt))) 𝓤 H A W .twice c (mach ∷ [])) $ split ! $
       nothing ! $ owned ! usize (Is usize) (uint-makes 𝓤 H A W w64) n _ (refl, n-fits) $ fjoin ! $ move ! (1 ∷ 0 ∷ []) $ fjoin ! $ frame ! $
       owned ! usize (Is usize) (uint-makes 𝓤 H A W w64) g _ (refl, g-fits) $ move ! (1 ∷ 0 ∷ []) $ by ! (own-put 𝓤 H A W (D (κ, tt)) (L (κ, tt)) 1 (c .mesh, (c .index, tt)) g mach)
 
   module _ (C : Calls 𝓤 H) (Λ : Loops 𝓤 H) (fm : FmC 𝓤 H (W .laws) C) (known : Triple 𝓤 (C #next-of) (NextOf 𝓤 H A mem run)) where
     walk : Holds (hasTy (T′.mir (named 0)) mach) × WT mach → ent 𝓤 (onEntry 𝓤 H A moved-on.signature (κ, tt) (q, tt) (c, (n, tt)) at) (WpFn 𝓤 H C Λ code.function (mach ∷ vint w64 n ∷ []) Post)
     walk wt =
-        qed W ((‵ (flft κ q) ⊛ ‵ ftrue) ∷ ‵ (owns (Held (κ, tt) ∷ usize ∷ []) (c, (n, tt)) at) ∷ []) ∵ enter ! C Λ code.function (mach ∷ vint w64 n ∷ []) _ $
+        qed W ((‵ (flft κ q) ⊛ ‵ ftrue) ∷ ‵ (owns (Reader (κ, tt) ∷ usize ∷ []) (c, (n, tt)) at) ∷ []) ∵ enter ! C Λ code.function (mach ∷ vint w64 n ∷ []) _ $
         alloc1 ! (λ l₀. alloc1 ! (λ l₁. alloc1 ! (λ l₂. alloc1 ! (λ l₃. alloc1 ! (λ l₄. alloc1 ! (λ l₅. alloc1 ! (λ l₆. alloc0 ! $ params1 ! $ pass1 ! (init ! 10 refl wt) $ pass1 ! (init ! 8 refl (tt, record { fits = n-fits })) $ pass0 ! $
         -- [_6; …; _5; …; _4; …; _3; …; _2; …; _1; …; room for _0; …; the token; what c and n own]
         assigns ! (of-opd ! (load ! (from ! (fld ! refl (stop !))) (look-in ! 10 (sub ! 0 refl (whole !))))) (from ! (stop !)) (init ! 6 refl (tt, wt .1 .0)) $
         assigns ! (of-opd ! (load ! (from ! (fld ! refl (stop !))) (look-in ! 10 (sub ! 0 refl (whole !))))) (from ! (stop !)) (init ! 2 refl (tt, wt .1 .0)) $
         assigns ! (of-opd ! (load ! (from ! (fld ! refl (stop !))) (look-in ! 10 (sub ! 1 refl (whole !))))) (from ! (stop !)) (init ! 0 refl (tt, wt .1 .1 .0)) $
-        move ! (15 ∷ []) $ use1 W (‵ (Lent 𝓤 H A W κ c n) ⊛ ‵ (Own 𝓤 H A W κ c n)) (lends 𝓤 H A W κ c n (wt .1 .1 .0 .fits) n-fits) $ split ! $
+        move ! (15 ∷ []) $ use1 W (‵ (Lent κ c n) ⊛ ‵ (Own κ c)) (lends 𝓤 H A W κ c n (wt .1 .1 .0 .fits) n-fits) $ split ! $
         move ! (16 ∷ 0 ∷ []) $ use2 W (raw (NextOf 𝓤 H A mem run .pre to)) asked $
         -- [what `next_of` asks; what c owns; _6; …; _5; …; _4; …; _3; …; _2; …; _1; …; room for _0; …]
         calls-at ! fm (NextOf 𝓤 H A mem run) known to (and-then ! (load ! (from ! (stop !)) (look ! 4 refl)) (and-then ! (load ! (from ! (stop !)) (look ! 10 refl)) (and-then ! (load ! (from ! (stop !)) (look ! 2 refl)) (no-more !)))) (λ u.
@@ -122,7 +122,7 @@ module _ {M : Type 1} (𝓤 : URA M) (H : Heap 𝓤) (A : Atoms 𝓤) (W : Given
       (λ κs qs bounds a g are. needs 𝓤 _ _ (λ ok. walk 𝓤 H A W mem run (κs .0) (qs .0) (a .0) (a .1 .0) ok (are .1 .0 .1) C Λ fm known (LL.lawful (D κs) (L κs) 𝓤 H A W .typed (a .0) _ (are .0) .0)))
 
   meets : (𝓣 : Tables 𝓤 H) → Triple 𝓤 (𝓣 .C #next-of) (NextOf 𝓤 H A mem run) → Meets 𝓤 H A moved-on.signature (WpFn 𝓤 H (𝓣 .C) (𝓣 .Λ) code.function) (moved-on.spec 𝓤 H A mem run)
-  meets 𝓣 known = walk-meets 𝓤 H A moved-on.ended stayed W (goes-none 𝓤 H A W 1 Held yes (λ κs x f. refl), (goes-none 𝓤 H A W 1 (λ _. usize) yes (λ κs x f. refl), tt)) (moved-on.clauses 𝓤 H A mem run)
+  meets 𝓣 known = walk-meets 𝓤 H A moved-on.ended stayed W (goes-none 𝓤 H A W 1 Reader yes (λ κs x f. refl), (goes-none 𝓤 H A W 1 (λ _. usize) yes (λ κs x f. refl), tt)) (moved-on.clauses 𝓤 H A mem run)
       (WpFn 𝓤 H (𝓣 .C) (𝓣 .Λ) code.function) (WpFn-mono 𝓤 H (W .laws) 𝓣 code.function) (walks (𝓣 .C) (𝓣 .Λ) (fmOf 𝓤 H (W .laws) 𝓣) known)
 
 pub moved-on-spec : {M : Type 1} → stated.statement M
@@ -131,4 +131,4 @@ moved-on-spec 𝓤 H 𝓜 𝓖 𝓡 =
     entered 𝓤 H (tripleOf 𝓤 H (𝓖 .A) moved-on.signature (moved-on.spec 𝓤 H (𝓖 .A) (𝓜 .mem) (𝓡 .run)))
     (tables 𝓤 H 𝓜 𝓡 code.env .C) (tables 𝓤 H 𝓜 𝓡 code.env .Λ) #moved-on code.function (code.unfolded 𝓤 H 𝓜 𝓡)
     (meets 𝓤 H (𝓖 .A) (givenOf 𝓤 H 𝓜 𝓖) (𝓜 .mem) (𝓡 .run) (tablesOf 𝓤 H 𝓜 (tables 𝓤 H 𝓜 𝓡 code.env))
-    (cited 𝓤 H (NextOf 𝓤 H (𝓖 .A) (𝓜 .mem) (𝓡 .run)) 𝓜 𝓡 code.env #next-of next-of-def.routine code.calls-mesh·inner·next-of (next-of-thm.met 𝓤 H 𝓜 𝓖 𝓡)))
+    (cited 𝓤 H (NextOf 𝓤 H (𝓖 .A) (𝓜 .mem) (𝓡 .run)) 𝓜 𝓡 code.env #next-of next-of-def.routine code.calls-mesh·reader·next-of (next-of-thm.met 𝓤 H 𝓜 𝓖 𝓡)))

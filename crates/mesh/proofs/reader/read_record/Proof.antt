@@ -1,4 +1,4 @@
--- `mesh::inner::read_record` meets its contract, by a walk of its MIR: a reader is made at the record, asked for its element, moved on, and asked where it stands. Callers have plain parameters
+-- `mesh::reader::read_record` meets its contract, by a walk of its MIR: a reader is made at the record, asked for its element, moved on, and asked where it stands. Callers have plain parameters
 -- and need no walk. Of the four functions over the reader it knows only their contracts.
 -- Assumes nothing.
 use mathlib.Core.Path.{_≡_, refl, sym, ap, subst, _∙_}
@@ -41,11 +41,10 @@ use denote.Triple.Walked.{says, needs, Stays, stay-none, stay-none-slice, walkOf
 use denote.Exit.{yes}
 use denote.Triple.Clauses.{ensured, lasts}
 use Rattle.mesh.specs.Mesh.{elements, elementIn, nextOf}
-use Rattle.mesh.specs.declared.inner.Record.{Record}
 use Rattle.mesh.specs.declared.reader.ChainReader.{ChainReader}
-use Rattle.mesh.proofs.Held.{D, Held}
-use Rattle.mesh.proofs.inner.Record as R
-use Rattle.mesh.proofs.inner.Record.Laws as R′
+use Rattle.mesh.proofs.ReaderType.{D, Reader}
+use Rattle.mesh.proofs.reader.Record as R
+use Rattle.mesh.proofs.reader.Record.Laws as R′
 use Rattle.mesh.proofs.reader.ChainReader as T
 use Rattle.mesh.proofs.reader.ChainReader.Laws as T′
 use Rattle.mesh.proofs.reader.at_record as at-record
@@ -64,10 +63,10 @@ use Rattle.mesh.proofs.reader.record_of as record-of
 use Rattle.mesh.proofs.reader.record_of.Symbol as record-of-def
 use Rattle.mesh.proofs.reader.record_of.Symbol.{name as #record-of}
 use Rattle.mesh.proofs.reader.record_of.Met as record-of-thm
-use Rattle.mesh.proofs.inner.read_record.Key.{name as #read-record}
-use Rattle.mesh.proofs.inner.read_record as read-record
-use Rattle.mesh.proofs.inner.read_record.Statement as stated
-use Rattle.mesh.proofs.inner.read_record.Code as code
+use Rattle.mesh.proofs.reader.read_record.Key.{name as #read-record}
+use Rattle.mesh.proofs.reader.read_record as read-record
+use Rattle.mesh.proofs.reader.read_record.Statement as stated
+use Rattle.mesh.proofs.reader.read_record.Code as code
 
 abbrev stayed : Stays (read-record.ended .signature .params) (read-record.ended .kept)
 stayed = (stay-none-slice (0 ∷ []) tt (plain (λ _. u8)) yes, (stay-none (λ _. usize) yes, (stay-none (λ _. usize) yes, tt)))
@@ -109,7 +108,7 @@ module _ {M : Type 1} (𝓤 : URA M) (H : Heap 𝓤) (A : Atoms 𝓤) (W : Given
   Params = owns (ShrSlice (named 0) κ u8 ∷ usize ∷ usize ∷ []) (m, (n, (i, tt))) at
 
   abbrev OwnC : ChainReader → Val → Fml
-  OwnC c u = Held (κ, tt) .own c (u ∷ [])
+  OwnC c u = Reader (κ, tt) .own c (u ∷ [])
 
   -- ---- `at_record`: what it is passed, asks and says
   abbrev to-at : AtRecord 𝓤 H A mem run .Ghost
@@ -187,7 +186,7 @@ module _ {M : Type 1} (𝓤 : URA M) (H : Heap 𝓤) (A : Atoms 𝓤) (W : Given
       nothing ! $ owned ! usize (Is usize) (uint-makes 𝓤 H A W w64) h _ (refl, h-fits) $ fjoin ! $ owned ! usize (Is usize) (uint-makes 𝓤 H A W w64) g _ (refl, g-fits) $ fjoin ! $ by ! (own-shut 𝓤 H A W R.the-type R′.the-laws (g, (h, tt)))
 
   -- a reader's machine value has the type of a local that holds it
-  typed : (c : ChainReader) (u : Val) → Is (Held (κ, tt)) c (u ∷ []) → Holds (hasTy (T′.mir erased) u) × WT u
+  typed : (c : ChainReader) (u : Val) → Is (Reader (κ, tt)) c (u ∷ []) → Holds (hasTy (T′.mir erased) u) × WT u
   typed c u is = LL.lawful (T.the-type αᵉ) (T′.the-laws αᵉ) 𝓤 H A W .typed c _ is .0
 
   module _ (C : Calls 𝓤 H) (Λ : Loops 𝓤 H) (fm : FmC 𝓤 H (W .laws) C) (known-at-record : Triple 𝓤 (C #at-record) (AtRecord 𝓤 H A mem run)) (known-element-of : Triple 𝓤 (C #element-of) (ElementOf 𝓤 H A mem run)) (known-moved-on : Triple 𝓤 (C #moved-on) (MovedOn 𝓤 H A mem run)) (known-record-of : Triple 𝓤 (C #record-of) (RecordOf 𝓤 H A mem run)) where
@@ -202,7 +201,7 @@ module _ {M : Type 1} (𝓤 : URA M) (H : Heap 𝓤) (A : Atoms 𝓤) (W : Given
         use1 W (later (some (λ (c : ChainReader). ((‵ (flft κ q) ⊛ ‵ ftrue) ⊛ ‵ (OwnC c u)) ⊛ raw (ensured 𝓤 H A at-record.ended (at-record.clauses 𝓤 H A mem run) (κ, tt) (m, (i, tt)) tt c)))) (id⊢ 𝓤 _) $ await ! tt $ pick ! (λ c.
         split ! $ move ! (1 ∷ []) $ use1 W (raw (fact 𝓤 (At c))) (at-said c) $ heard ! (At c) (λ e. split ! $ move ! (1 ∷ []) $
         -- [what c owns; the token; what m owns; _9; …; .. _0; …]
-        peeks ! (Held (κ, tt)) (Is (Held (κ, tt))) (shows 𝓤 H A (Held (κ, tt))) c (u ∷ []) (λ is. land ! (from ! (stop !)) (init ! 13 refl (typed c u is)) $
+        peeks ! (Reader (κ, tt)) (Is (Reader (κ, tt))) (shows 𝓤 H A (Reader (κ, tt))) c (u ∷ []) (λ is. land ! (from ! (stop !)) (init ! 13 refl (typed c u is)) $
         assigns ! (of-opd ! (load ! (from ! (stop !)) (look ! 13 refl))) (from ! (stop !)) (init ! 9 refl (typed c u is)) $
         use1 W (‵ (OwnC c u) ⊛ ‵ (OwnC c u)) (LL.copy (D (κ, tt)) (T′.the-copy (namedLft 1 0 tt (κ, tt))) 𝓤 H A W .twice c (u ∷ [])) $ split ! $
         move ! (0 ∷ 2 ∷ []) $ use2 W (raw (ElementOf 𝓤 H A mem run .pre (to-element c u e))) (goes-element c u e) $
@@ -219,7 +218,7 @@ module _ {M : Type 1} (𝓤 : URA M) (H : Heap 𝓤) (A : Atoms 𝓤) (W : Given
         use1 W (later (some (λ (d : ChainReader). ((‵ (flft κ q) ⊛ ‵ ftrue) ⊛ ‵ (OwnC d x)) ⊛ raw (ensured 𝓤 H A moved-on.ended (moved-on.clauses 𝓤 H A mem run) (κ, tt) (c, (n, tt)) tt d)))) (id⊢ 𝓤 _) $ await ! tt $ pick ! (λ d.
         split ! $ move ! (1 ∷ []) $ use1 W (raw (fact 𝓤 (Moved c u e d))) (moved-said c u e d) $ heard ! (Moved c u e d) (λ ed. split ! $ move ! (1 ∷ []) $
         -- [what d owns; the token; what m owns; _9; …; .. _0; …]
-        peeks ! (Held (κ, tt)) (Is (Held (κ, tt))) (shows 𝓤 H A (Held (κ, tt))) d (x ∷ []) (λ isd. land ! (from ! (stop !)) (init ! 5 refl (typed d x isd)) $
+        peeks ! (Reader (κ, tt)) (Is (Reader (κ, tt))) (shows 𝓤 H A (Reader (κ, tt))) d (x ∷ []) (λ isd. land ! (from ! (stop !)) (init ! 5 refl (typed d x isd)) $
         use2 W (raw (RecordOf 𝓤 H A mem run .pre (to-record c u e d x))) (goes-record c u e d x) $
         -- [what `record_of` asks; what m owns; _9; …; .. _0; …]
         calls-at ! fm (RecordOf 𝓤 H A mem run) known-record-of (to-record c u e d x) (and-then ! (load ! (from ! (stop !)) (look ! 4 refl)) (no-more !)) (λ y.

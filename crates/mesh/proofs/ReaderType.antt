@@ -1,4 +1,4 @@
--- What the walks of the functions over a `ChainReader` share: its type, and that it lends its slice and its index to a function over the bytes, and is kept.
+-- What the proofs of the functions over a `ChainReader` share: its type, and that it lends its slice and its index to a function over the bytes, and is kept.
 -- Assumes nothing.
 use mathlib.Core.Path.{_≡_, refl}
 use Prim.Native.Nat.{ℕ, _<_, _^_}
@@ -35,8 +35,8 @@ D κs = T.the-type (namedLft 1 0 tt κs)
 abbrev pub L : (κs : Lfts 1) → LL.Laws (D κs)
 L κs = T′.the-laws (namedLft 1 0 tt κs)
 
-abbrev pub Held : Lfts 1 → RattleType
-Held κs = T.the-row (namedLft 1 0 tt κs)
+abbrev pub Reader : Lfts 1 → RattleType
+Reader κs = T.the-row (namedLft 1 0 tt κs)
 
 -- the machine values of its slice, and of what is passed to a function over the bytes
 abbrev pub slice : ChainReader → Val
@@ -48,18 +48,19 @@ Passed = List Val × (List Val × (List Val × Unit {0}))
 abbrev pub passed : ChainReader → ℕ → Passed
 passed c n = (slice c ∷ [], (vint w64 n ∷ [], (vint w64 (c .index) ∷ [], tt)))
 
+-- what a reader owns, and what such a function is lent
+abbrev pub Own : Lft → ChainReader → Fml
+Own κ c = Reader (κ, tt) .own c (T′.lowered c ∷ [])
+
+abbrev pub Lent : Lft → ChainReader → ℕ → Fml
+Lent κ c n = owns (ShrSlice (named 0) κ u8 ∷ usize ∷ usize ∷ []) (c .mesh, (n, (c .index, tt))) (passed c n)
+
 module _ {M : Type 1} (𝓤 : URA M) (H : Heap 𝓤) (A : Atoms 𝓤) (W : Given 𝓤 H A) (κ : Lft) (c : ChainReader) (n : ℕ) where
-  abbrev pub Own : Fml
-  Own = Held (κ, tt) .own c (T′.lowered c ∷ [])
-
-  abbrev pub Lent : Fml
-  Lent = owns (ShrSlice (named 0) κ u8 ∷ usize ∷ usize ∷ []) (c .mesh, (n, (c .index, tt))) (passed c n)
-
   -- a reader is Copy: what it owns is had twice, and of one copy the slice is lent
-  pub lends : c .index < 2 ^ 64 → n < 2 ^ 64 → ent 𝓤 (sem 𝓤 H A (owns (Held (κ, tt) ∷ usize ∷ []) (c, (n, tt)) (T′.lowered c ∷ [], (vint w64 n ∷ [], tt)))) (sep 𝓤 (sem 𝓤 H A Lent) (sem 𝓤 H A Own))
+  pub lends : c .index < 2 ^ 64 → n < 2 ^ 64 → ent 𝓤 (sem 𝓤 H A (owns (Reader (κ, tt) ∷ usize ∷ []) (c, (n, tt)) (T′.lowered c ∷ [], (vint w64 n ∷ [], tt)))) (sep 𝓤 (sem 𝓤 H A (Lent κ c n)) (sem 𝓤 H A (Own κ c)))
   lends i-fits n-fits =
-      qed W (‵ (owns (Held (κ, tt) ∷ usize ∷ []) (c, (n, tt)) (T′.lowered c ∷ [], (vint w64 n ∷ [], tt))) ∷ []) ∵
-      fsplit ! $ move ! (1 ∷ []) $ drop ! $ use1 W (‵ Own ⊛ ‵ Own) (LL.copy (D (κ, tt)) (T′.the-copy (namedLft 1 0 tt (κ, tt))) 𝓤 H A W .twice c (T′.lowered c ∷ [])) $ split ! $
+      qed W (‵ (owns (Reader (κ, tt) ∷ usize ∷ []) (c, (n, tt)) (T′.lowered c ∷ [], (vint w64 n ∷ [], tt))) ∷ []) ∵
+      fsplit ! $ move ! (1 ∷ []) $ drop ! $ use1 W (‵ (Own κ c) ⊛ ‵ (Own κ c)) (LL.copy (D (κ, tt)) (T′.the-copy (namedLft 1 0 tt (κ, tt))) 𝓤 H A W .twice c (T′.lowered c ∷ [])) $ split ! $
       use1 W (given (T′.lowered c ∷ [] ≡ T′.lowered c ∷ []) (‵ (all-own (D (κ, tt) .parts) (L (κ, tt)) fields))) (own-open 𝓤 H A W (D (κ, tt)) (L (κ, tt)) fields (T′.lowered c)) $ learn ! (λ _.
       use1 W (‵ (ownAt (D (κ, tt) .parts) (L (κ, tt)) 0 (c .mesh)) ⊛ ‵ (rest (D (κ, tt) .parts) (L (κ, tt)) 0 fields)) (own-out 𝓤 H A W (D (κ, tt) .parts) (L (κ, tt)) 0 fields) $ split ! $
       -- [what the slice owns; what the index owns; what the reader owns]
