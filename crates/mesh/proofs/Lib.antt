@@ -8,3 +8,4 @@ pub mod ElementLaws
 pub mod ClosureLaws
 pub mod NumberLaws
 pub mod AcceptedLaws
+pub mod ReaderType

@@ -2,9 +2,8 @@
 use crate::inner::below_of;
 use crate::inner::count_of;
 use crate::inner::dimension_of;
-use crate::inner::element_in;
 use crate::inner::head_of;
-use crate::inner::next_of;
+use crate::inner::read_record;
 ghost use mathlib.Core.Path.{_≡_};
 ghost use mathlib.Core.Bool.{_||_};
 ghost use mathlib.Core.List.{map};
@@ -44,7 +43,8 @@ fn meet_chain(m: &[u8], n: usize, r: usize, h: usize, seen: &mut [u8; 12001]) ->
             return true;
         }
         seen[i] = 1;
-        i = next_of(m, n, i);
+        let here = read_record(m, n, i);
+        i = here.next;
     }
     false
 }
@@ -101,7 +101,8 @@ fn wrong_chain(
         if i < 1 {
             return false;
         }
-        let g = element_in(m, n, i);
+        let here = read_record(m, n, i);
+        let g = here.element;
         if g < 1 {
             return true;
         }
@@ -112,7 +113,7 @@ fn wrong_chain(
             return true;
         }
         marks[g] = mark;
-        i = next_of(m, n, i);
+        i = here.next;
     }
     false
 }

@@ -1,9 +1,8 @@
 // The tests 6 and 7: closed chains, and no element that is in no cell's chain. Each function answers true where the mesh is to be refused.
 use crate::inner::below_of;
 use crate::inner::count_of;
-use crate::inner::element_in;
 use crate::inner::head_of;
-use crate::inner::next_of;
+use crate::inner::read_record;
 use layout::number_at;
 use layout::put_number_at;
 ghost use mathlib.Core.Path.{_≡_};
@@ -32,8 +31,9 @@ fn stamp_chain(m: &[u8], n: usize, r: usize, h: usize, v: u16, marks: &mut [u16]
         if i < 1 {
             return;
         }
-        put_number_at(marks, element_in(m, n, i), v);
-        i = next_of(m, n, i);
+        let here = read_record(m, n, i);
+        put_number_at(marks, here.element, v);
+        i = here.next;
     }
 }
 
@@ -47,10 +47,11 @@ fn leaves_by(m: &[u8], n: usize, r: usize, f: usize, v: u16, marks: &[u16]) -> b
         if i < 1 {
             return false;
         }
-        if unmarked(marks, element_in(m, n, i), v) {
+        let here = read_record(m, n, i);
+        if unmarked(marks, here.element, v) {
             return true;
         }
-        i = next_of(m, n, i);
+        i = here.next;
     }
     false
 }
@@ -65,10 +66,11 @@ fn any_leaves(m: &[u8], n: usize, r: usize, h: usize, v: u16, marks: &[u16]) -> 
         if i < 1 {
             return false;
         }
-        if leaves_by(m, n, r, element_in(m, n, i), v, marks) {
+        let here = read_record(m, n, i);
+        if leaves_by(m, n, r, here.element, v, marks) {
             return true;
         }
-        i = next_of(m, n, i);
+        i = here.next;
     }
     false
 }

@@ -1,8 +1,10 @@
-// Readers of the mesh bytes. A word past the end reads as 0, so none of them supposes that the mesh was accepted.
+// What is read of the mesh bytes. A word past the end reads as 0, so none of these functions supposes that the mesh was accepted.
+pub use crate::reader::Record;
+pub use crate::reader::read_record;
 use layout::word_at;
 ghost use mathlib.Core.Path.{_≡_};
 ghost use Prim.Native.Nat.{ℕ, _+_, _*_, _<_, _≤_};
-ghost use Rattle.mesh.specs.Mesh.{top, counted, below, elements, recordCount, firstCell, cellCount, dimension, headOf, elementIn, nextOf};
+ghost use Rattle.mesh.specs.Mesh.{top, counted, below, elements, recordCount, firstCell, cellCount, dimension, headOf};
 
 // The dimension of the cells.
 pub fn top_of(m: &[u8]) -> usize
@@ -79,19 +81,4 @@ pub fn head_of(m: &[u8], e: usize) -> usize
     ensures { λ r. ⌜ (r ≡ headOf (now (m .entry)) e) × (r < 65536) ⌝ }
 {
     word_at(m, 5 + e)
-}
-
-// The element of record i, and its next record, in a mesh of n elements.
-pub fn element_in(m: &[u8], n: usize, i: usize) -> usize
-    requires { ⌜ (n ≡ elements (now m)) × (n < 4294967296) × (i < 65536) ⌝ }
-    ensures { λ r. ⌜ (r ≡ elementIn (now (m .entry)) i) × (r < 65536) ⌝ }
-{
-    word_at(m, 4 + n + 2 * i)
-}
-
-pub fn next_of(m: &[u8], n: usize, i: usize) -> usize
-    requires { ⌜ (n ≡ elements (now m)) × (n < 4294967296) × (i < 65536) ⌝ }
-    ensures { λ r. ⌜ (r ≡ nextOf (now (m .entry)) i) × (r < 65536) ⌝ }
-{
-    word_at(m, 5 + n + 2 * i)
 }

@@ -3,6 +3,7 @@ mod chains;
 mod closure;
 mod head;
 pub mod inner;
+mod reader;
 
 use chains::bad4;
 use chains::bad5;

@@ -1,9 +1,8 @@
 // The chains of the cells turned round: from an element to its cells.
 use layout::number_at;
 use layout::put_number_at;
-use mesh::inner::element_in;
 use mesh::inner::head_of;
-use mesh::inner::next_of;
+use mesh::inner::read_record;
 ghost use mathlib.Core.Path.{_≡_};
 ghost use mathlib.Core.List.{map};
 ghost use Prim.Native.Nat.{ℕ, _+_, _*_, _<_, _≤_};
@@ -45,8 +44,9 @@ fn link_chain(
         if i < 1 {
             return s;
         }
-        s = link(c, element_in(m, n, i), s, cell, prev, last);
-        i = next_of(m, n, i);
+        let here = read_record(m, n, i);
+        s = link(c, here.element, s, cell, prev, last);
+        i = here.next;
     }
     s
 }

@@ -1,9 +1,8 @@
 // Elements gathered in a step of a walk, each once.
 use layout::number_at;
 use layout::put_number_at;
-use mesh::inner::element_in;
 use mesh::inner::head_of;
-use mesh::inner::next_of;
+use mesh::inner::read_record;
 ghost use mathlib.Core.Path.{_≡_};
 ghost use lib.ListN.{getD};
 ghost use mathlib.Core.List.{[], _∷_, map};
@@ -81,8 +80,9 @@ pub fn visit_chain(
         if i < 1 {
             return s;
         }
-        s = visit_between(element_in(m, e, i), lo, hi, v, marks, found, s);
-        i = next_of(m, e, i);
+        let here = read_record(m, e, i);
+        s = visit_between(here.element, lo, hi, v, marks, found, s);
+        i = here.next;
     }
     s
 }

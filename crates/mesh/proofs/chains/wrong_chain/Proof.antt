@@ -33,7 +33,6 @@ wrong-chain-spec =
     (λ c. search meet-again)
     (λ c. search needs)
     (λ c. search needs)
-    (λ c κs. search needs)
     (λ c. search needs)
     (λ c. search needs)
     (λ c. (search needs, search needs, search meet-turn))

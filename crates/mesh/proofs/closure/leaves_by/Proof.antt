@@ -30,7 +30,6 @@ leaves-by-spec =
     (λ c κs. search needs)
     (λ c κs. search needs)
     (λ c. search try-found)
-    (λ c κs. search needs)
     (λ c. search needs)
     (λ c. search needs)
     (λ c. (search needs, search needs, search try-turn))

@@ -29,7 +29,6 @@ stamp-chain-spec =
     (λ c. search stamp-ended)
     (λ c κs. search needs)
     (λ c κs. search needs)
-    (λ c κs. search needs)
     (λ c. search needs)
     (λ c. search needs)
     (λ c. (search needs, search needs, search needs, search stamp-turn))

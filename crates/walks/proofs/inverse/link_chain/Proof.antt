@@ -31,7 +31,6 @@ link-chain-spec =
     (λ c. search link-ended)
     (λ c κs. search needs)
     (λ c κs. search room-one)
-    (λ c κs. search needs)
     (λ c. search needs)
     (λ c. search needs)
     (λ c. (search needs, search needs, search needs, search needs, search needs, search room-turn, search link-turn))

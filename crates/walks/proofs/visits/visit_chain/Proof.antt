@@ -30,7 +30,6 @@ visit-chain-spec =
     (λ c. (search needs, search (toward-done, between-ended), search needs))
     (λ c κs. search needs)
     (λ c κs. search needs)
-    (λ c κs. search needs)
     (λ c. search needs)
     (λ c. search needs)
     (λ c. (search needs, search needs, search needs, search needs, search needs, search needs, search (toward-turn, between-more)))

@@ -1,8 +1,8 @@
--- `mesh::inner::element_in` meets its contract. Assumes nothing.
+-- `mesh::reader::element_in` meets its contract. Assumes nothing.
 use Rattle.mesh.proofs.ReaderLaws.{reads-element}
 use borrow.Author.Needs.{needs}
-use Rattle.mesh.proofs.inner.element_in.Statement.{statement}
-use Rattle.mesh.proofs.inner.element_in.Tie as tie
+use Rattle.mesh.proofs.reader.element_in.Statement.{statement}
+use Rattle.mesh.proofs.reader.element_in.Tie as tie
 
 pub element-in-spec : {M : Type 1} → statement M
 element-in-spec =

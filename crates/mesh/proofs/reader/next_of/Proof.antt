@@ -1,8 +1,8 @@
--- `mesh::inner::next_of` meets its contract. Assumes nothing.
+-- `mesh::reader::next_of` meets its contract. Assumes nothing.
 use Rattle.mesh.proofs.ReaderLaws.{reads-next}
 use borrow.Author.Needs.{needs}
-use Rattle.mesh.proofs.inner.next_of.Statement.{statement}
-use Rattle.mesh.proofs.inner.next_of.Tie as tie
+use Rattle.mesh.proofs.reader.next_of.Statement.{statement}
+use Rattle.mesh.proofs.reader.next_of.Tie as tie
 
 pub next-of-spec : {M : Type 1} → statement M
 next-of-spec =
