@@ -1,0 +1,604 @@
+// Runs the examples of the specification on the compiled calls. Each line names an example and prints what its call answered: the count and what it
+// gave, or the number of the refusal. The file `stdout` has these lines, to be read beside the specification.
+use layout::Answer;
+use layout::byte_at;
+use layout::word_at;
+ghost use Prim.Native.Nat.{_<_};
+
+const OWNERS: [u8; 5] = [1, 1, 1, 2, 2];
+
+const STENCIL: [u8; 3] = [1, 0, 1];
+
+const WEIGHTS: [u8; 4] = [0, 2, 0, 1];
+
+// ---- printing
+
+// How what a call gave is printed: a message byte by byte in hexadecimal, all else in decimal.
+enum Form {
+    Words,
+    Depths,
+    Bytes,
+}
+
+fn print_depth(high: usize, low: usize)
+    requires { ⌜ (high < 65536) × (low < 65536) ⌝ }
+{
+    let v = high * 65536 + low;
+    if v < 2147483648 {
+        io::print_decimal(1, v as u64);
+    } else {
+        io::write_all(1, b"-");
+        io::print_decimal(1, (4294967296 - v) as u64);
+    }
+}
+
+fn print_value(form: Form, out: &[u8], i: u32) {
+    let k = i as usize;
+    io::write_all(1, b" ");
+    match form {
+        Form::Words => {
+            io::print_decimal(1, word_at(out, k) as u64);
+        }
+        Form::Depths => {
+            print_depth(word_at(out, 2 * k), word_at(out, 2 * k + 1));
+        }
+        Form::Bytes => {
+            io::print_hex(1, byte_at(out, k) as u64, 2);
+        }
+    }
+}
+
+// Prints the name and the answer; gives the count.
+fn print_answer(name: &[u8], a: Answer) -> u32 {
+    io::write_all(1, name);
+    match a {
+        Answer::Done(count) => {
+            io::write_all(1, b": count ");
+            io::print_decimal(1, count as u64);
+            count
+        }
+        Answer::Refused(number) => {
+            io::write_all(1, b": refused ");
+            io::print_decimal(1, number as u64);
+            0
+        }
+    }
+}
+
+fn say(name: &[u8], a: Answer) {
+    print_answer(name, a);
+    io::write_all(1, b"\n");
+}
+
+fn print_values(form: Form, out: &[u8], n: u32) {
+    for i in 0..n {
+        print_value(form, out, i);
+    }
+}
+
+// The answer and the values that it counts.
+fn say_all(form: Form, name: &[u8], a: Answer, out: &[u8]) {
+    let n = print_answer(name, a);
+    if n != 0 {
+        io::write_all(1, b":");
+    }
+    print_values(form, out, n);
+    io::write_all(1, b"\n");
+}
+
+// ---- inputs
+
+// Stores word i of m, if there is one.
+fn set_word(m: &mut [u8], i: usize, v: usize) {
+    if i < m.len() {
+        if 2 * i + 1 < m.len() {
+            m[2 * i] = (v / 256 % 256) as u8;
+            m[2 * i + 1] = (v % 256) as u8;
+        }
+    }
+}
+
+// One more digit of word i, or a space; gives the word to go on with.
+fn put_digit(m: &mut [u8], i: usize, c: u8) -> usize {
+    if c < 48 {
+        if i < m.len() { i + 1 } else { i }
+    } else {
+        set_word(m, i, word_at(m, i) * 10 + (c - 48) as usize);
+        i
+    }
+}
+
+// Puts the words of a text, in decimal, into bytes that are all 0, as many as fit.
+fn put_words(m: &mut [u8], text: &[u8]) {
+    let mut i = 0;
+    for k in 0..text.len() {
+        i = put_digit(m, i, text[k]);
+    }
+}
+
+// "d = 1; counts 6, 5, 0, 0; R = 10. Heads: six zeros, then 1, 3, 5, 7, 9. Records: (1,2) (2,0) .."
+fn put_five(m: &mut [u8]) {
+    put_words(
+        m,
+        b"1 6 5 0 0 10 0 0 0 0 0 0 1 3 5 7 9 1 2 2 0 2 4 3 0 3 6 4 0 4 8 5 0 5 10 6 0",
+    );
+}
+
+fn five_cells() -> [u8; 74] {
+    let mut m = [0u8; 74];
+    put_five(&mut m);
+    m
+}
+
+// "Triangles 15 (points 1 2 3), 16 (2 3 4), 17 (1 5 6), edges 7 to 14"
+fn triangles() -> [u8; 182] {
+    let mut m = [0u8; 182];
+    put_words(
+        &mut m,
+        b"2 6 8 3 0 34 0 0 0 0 0 0 1 3 5 7 9 11 13 15 17 23 29 1 2 2 0 2 4 3 0 1 6 3 0 2 8 4 0 3 10 4 0 1 12 5 0 5 14 6 0 1 16 6 0 1 18 2 19 3 20 7 21 8 22 9 0 2 24 3 25 4 26 8 27 10 28 11 0 1 30 5 31 6 32 12 33 13 34 14 0",
+    );
+    m
+}
+
+// ---- meshes: 1 to 7
+
+fn check_cut(name: &[u8], m: &mut [u8]) {
+    put_five(m);
+    say(name, mesh::check_mesh(m));
+}
+
+fn check_edited(name: &[u8], m: &mut [u8], i: usize, v: usize) {
+    set_word(m, i, v);
+    say(name, mesh::check_mesh(m));
+}
+
+// The five cells with word i changed.
+fn edited(name: &[u8], i: usize, v: usize) {
+    let mut m = five_cells();
+    check_edited(name, &mut m, i, v);
+}
+
+fn lengths() {
+    let mut m = [0u8; 73];
+    check_cut(b"73 bytes", &mut m);
+    let mut head = [0u8; 11];
+    check_cut(b"11 bytes", &mut head);
+}
+
+fn heads() {
+    edited(b"five cells", 0, 1);
+    edited(b"d 0", 0, 0);
+    edited(b"d 4", 0, 4);
+    edited(b"a count above d", 3, 1);
+    edited(b"no points", 1, 0);
+    edited(b"N 2,001", 1, 1996);
+    edited(b"N 2,000, of another length", 1, 1995);
+    edited(b"R 12,001", 5, 12001);
+    edited(b"R 12,000, of another length", 5, 12000);
+}
+
+fn chains() {
+    edited(b"a head above R", 12, 11);
+    edited(b"a next above R", 18, 11);
+    edited(b"a point with a head", 6, 1);
+    edited(b"a record met twice", 20, 1);
+    edited(b"element 0", 17, 0);
+    edited(b"an element above N", 17, 12);
+    edited(b"a cell in a cell's chain", 17, 7);
+    edited(b"an element twice in a chain", 17, 2);
+    edited(b"point 1 in no cell's chain", 17, 3);
+}
+
+fn closures() {
+    let mut m = triangles();
+    check_edited(b"triangles", &mut m, 0, 2);
+    let mut n = triangles();
+    check_edited(b"a triangle without a point of its edge", &mut n, 55, 4);
+}
+
+// The last cell loses its first record, which may then hold anything.
+fn ignored() {
+    let mut m = five_cells();
+    set_word(&mut m, 16, 10);
+    check_edited(b"a record in no chain", &mut m, 33, 65535);
+}
+
+// ---- lists: 8 to 10
+
+fn cells(i: u32) {
+    let m = five_cells();
+    let mut out = [0u8; 10];
+    let a = split::interior(&m, 2, &OWNERS, i, &STENCIL, &mut out);
+    say_all(Form::Words, b"interior", a, &out);
+    let b = split::halo(&m, 2, &OWNERS, i, &STENCIL, &mut out);
+    say_all(Form::Words, b"halo", b, &out);
+    let c = split::local_order(&m, 2, &OWNERS, i, &STENCIL, &mut out);
+    say_all(Form::Words, b"local order", c, &out);
+}
+
+fn trade(i: u32, j: u32) {
+    let m = five_cells();
+    let mut out = [0u8; 10];
+    let a = split::imports(&m, 2, &OWNERS, i, &STENCIL, j, &mut out);
+    say_all(Form::Words, b"imports", a, &out);
+    let b = split::exports(&m, 2, &OWNERS, i, &STENCIL, j, &mut out);
+    say_all(Form::Words, b"exports", b, &out);
+}
+
+fn own_points(i: u32) {
+    let m = five_cells();
+    let mut out = [0u8; 10];
+    let a = split::private_range(&m, 2, &OWNERS, i, &STENCIL, 0, &mut out);
+    say_all(Form::Words, b"private points", a, &out);
+    let b = split::exposed_range(&m, 2, &OWNERS, i, &STENCIL, 0, &mut out);
+    say_all(Form::Words, b"exposed points", b, &out);
+}
+
+fn other_points(i: u32) {
+    let m = five_cells();
+    let mut out = [0u8; 10];
+    let a = split::shared_range(&m, 2, &OWNERS, i, &STENCIL, 0, &mut out);
+    say_all(Form::Words, b"shared points", a, &out);
+    let b = split::copied_range(&m, 2, &OWNERS, i, &STENCIL, 0, &mut out);
+    say_all(Form::Words, b"copied points", b, &out);
+}
+
+// The lists of part i, beside part j.
+fn lists(i: u32, j: u32) {
+    io::write_all(1, b"lists of part ");
+    io::print_decimal(1, i as u64);
+    io::write_all(1, b"\n");
+    cells(i);
+    trade(i, j);
+    own_points(i);
+    other_points(i);
+}
+
+fn interior(name: &[u8], parts: u32, owners: &[u8], i: u32, st: &[u8]) {
+    let m = five_cells();
+    let mut out = [0u8; 10];
+    let a = split::interior(&m, parts, owners, i, st, &mut out);
+    say_all(Form::Words, name, a, &out);
+}
+
+fn maps() {
+    interior(b"P 0", 0, &OWNERS, 1, &STENCIL);
+    interior(b"P 17", 17, &OWNERS, 1, &STENCIL);
+    interior(b"part 0", 2, &OWNERS, 0, &STENCIL);
+    interior(b"part 3 of 2", 2, &OWNERS, 3, &STENCIL);
+    interior(b"owners 0 1 1 2 2", 2, b"\x00\x01\x01\x02\x02", 1, &STENCIL);
+    interior(b"owners 3 1 1 2 2", 2, b"\x03\x01\x01\x02\x02", 1, &STENCIL);
+    interior(b"four owners", 2, b"\x01\x01\x02\x02", 1, &STENCIL);
+    interior(b"owners 1 1 1 1 1", 2, b"\x01\x01\x01\x01\x01", 1, &STENCIL);
+}
+
+fn stencil(name: &[u8], st: &[u8]) {
+    interior(name, 2, &OWNERS, 1, st);
+}
+
+fn stencils() {
+    stencil(b"interior, stencil 1", b"\x01");
+    stencil(b"stencil of length 0", b"");
+    stencil(b"stencil of length 2", b"\x01\x00");
+    stencil(
+        b"stencil of length 9",
+        b"\x01\x00\x01\x00\x01\x00\x01\x00\x01",
+    );
+    stencil(
+        b"stencil of length 11",
+        b"\x01\x00\x01\x00\x01\x00\x01\x00\x01\x00\x01",
+    );
+    stencil(b"stencil 0 0 1", b"\x00\x00\x01");
+    stencil(b"stencil 1 1 1", b"\x01\x01\x01");
+}
+
+fn no_imports() {
+    let m = five_cells();
+    let mut out = [0u8; 10];
+    let a = split::imports(&m, 2, &OWNERS, 1, b"\x01", 2, &mut out);
+    say(b"imports, stencil 1", a);
+}
+
+// Each triangle has a part of its own; a part imports what its triangle reaches.
+fn reached(name: &[u8], i: u32, j: u32) {
+    let m = triangles();
+    let mut out = [0u8; 6];
+    let a = split::imports(
+        &m,
+        3,
+        b"\x01\x02\x03",
+        i,
+        b"\x02\x01\x02\x00\x02",
+        j,
+        &mut out,
+    );
+    say_all(Form::Words, name, a, &out);
+}
+
+fn reaches() {
+    reached(b"15 reaches 16", 1, 2);
+    reached(b"15 reaches 17", 1, 3);
+    reached(b"16 reaches 15", 2, 1);
+    reached(b"16 reaches 17", 2, 3);
+    reached(b"17 reaches 15", 3, 1);
+    reached(b"17 does not reach 16", 3, 2);
+}
+
+// ---- rounds: 11, 14
+
+// Makes a round of the five cells. A depth is two words of the text, the high one first.
+fn put_round(
+    name: &[u8],
+    kind: u32,
+    weights: &[u8],
+    text: &[u8],
+    field: &mut [u8],
+    out: &mut [u8],
+) {
+    let m = five_cells();
+    put_words(field, text);
+    io::write_all(1, name);
+    io::write_all(1, b" of");
+    print_values(Form::Depths, field, 5);
+    let a = round::undivided_round(&m, &STENCIL, kind, weights, field, out);
+    say_all(Form::Depths, b"", a, out);
+}
+
+fn one_round(name: &[u8], kind: u32, weights: &[u8], text: &[u8]) {
+    let mut field = [0u8; 20];
+    let mut out = [0u8; 20];
+    put_round(name, kind, weights, text, &mut field, &mut out);
+}
+
+fn rounds() {
+    one_round(b"mean 2 1", 1, &WEIGHTS, b"0 100 0 200 0 300 0 400 0 500");
+    one_round(b"mean 2 1", 1, &WEIGHTS, b"0 133 0 200 0 300 0 400 0 466");
+    one_round(b"hold", 0, b"", b"0 155 0 208 0 300 0 391 0 444");
+    one_round(b"shoalest", 2, b"", b"0 155 0 208 0 300 0 391 0 444");
+    // -1 and -2: the sum of the first cell is -7, of weights 4
+    one_round(
+        b"mean 1 3",
+        1,
+        b"\x00\x01\x00\x03",
+        b"65535 65535 65535 65534",
+    );
+}
+
+fn rules() {
+    one_round(b"kind 3", 3, b"", b"");
+    one_round(b"mean 2", 1, b"\x00\x02", b"");
+    one_round(b"mean 2 1 1", 1, b"\x00\x02\x00\x01\x00\x01", b"");
+    one_round(b"mean 0 1", 1, b"\x00\x00\x00\x01", b"");
+    one_round(b"mean 1 16", 1, b"\x00\x01\x00\x10", b"");
+    one_round(b"mean 1 15", 1, b"\x00\x01\x00\x0f", b"");
+    one_round(b"hold with weights", 0, &WEIGHTS, b"");
+}
+
+// 1,200,000 and one more, -1,200,000 and one less
+fn depths() {
+    one_round(b"hold", 0, b"", b"18 20352");
+    one_round(b"hold", 0, b"", b"18 20353");
+    one_round(b"hold", 0, b"", b"65517 45184");
+    one_round(b"hold", 0, b"", b"65517 45183");
+}
+
+fn fields() {
+    let mut field = [0u8; 19];
+    let mut out = [0u8; 20];
+    put_round(b"19 bytes", 0, b"", b"", &mut field, &mut out);
+    let mut whole = [0u8; 20];
+    let mut short = [0u8; 19];
+    put_round(b"into 19 bytes", 0, b"", b"", &mut whole, &mut short);
+}
+
+// Layers 0, 2 and 4 weigh 4, 2 and 1: 15 and 16 take 700 / 7, and 17, which does not reach 16, takes 4 * 700 / 5.
+fn layers() {
+    let m = triangles();
+    let mut out = [0u8; 12];
+    let a = round::undivided_round(
+        &m,
+        b"\x02\x01\x02\x00\x02",
+        1,
+        b"\x00\x04\x00\x02\x00\x01",
+        b"\x00\x00\x00\x00\x00\x00\x00\x00\x00\x00\x02\xbc",
+        &mut out,
+    );
+    say_all(Form::Depths, b"triangles, mean 4 2 1 of 0 0 700", a, &out);
+}
+
+// ---- parts: 15, 16, 20 to 28
+
+// What part 1 of the five cells needs, and enough for part 2; and what a message of one depth needs.
+type State = [u8; 190];
+
+type Message = [u8; 12];
+
+fn start(name: &[u8], i: u32, b: &mut State) {
+    let m = five_cells();
+    let mut field = [0u8; 20];
+    put_words(&mut field, b"0 100 0 200 0 300 0 400 0 500");
+    let a = parts::start(&m, 2, &OWNERS, i, &STENCIL, 1, &WEIGHTS, &field, b);
+    say(name, a);
+}
+
+fn write(name: &[u8], b: &mut State, to: u32, message: &mut Message) {
+    let a = parts::write(b, to, message);
+    say_all(Form::Bytes, name, a, message);
+}
+
+fn take_bytes(name: &[u8], b: &mut State, bytes: &[u8]) {
+    say(name, parts::take(b, bytes));
+}
+
+fn take(name: &[u8], b: &mut State, message: &Message) {
+    take_bytes(name, b, message);
+}
+
+fn advance(name: &[u8], b: &mut State) {
+    say(name, parts::advance(b));
+}
+
+fn collect(name: &[u8], b: &State, round: u32) {
+    let mut field = [0u8; 20];
+    let a = parts::collect(b, round, &mut field);
+    print_answer(name, a);
+    io::write_all(1, b":");
+    print_values(Form::Depths, &field, 5);
+    io::write_all(1, b"\n");
+}
+
+fn started(one: &mut State, two: &mut State) {
+    start(b"start of part 1", 1, one);
+    start(b"start of part 2", 2, two);
+    collect(b"part 1 at round 0", one, 0);
+    collect(b"part 2 for round 1 at round 0", two, 1);
+}
+
+// Part 2 goes on to round 1, and part 1 is behind.
+fn ahead(one: &mut State, two: &mut State, old: &mut Message, next: &mut Message) {
+    write(b"part 2 to part 1", two, 1, old);
+    take(b"part 2 takes its own message", two, old);
+    advance(b"part 2 advances, nothing taken", two);
+    write(b"part 1 to part 2", one, 2, next);
+    take(b"part 2 takes it", two, next);
+    take(b"part 2 takes it again", two, next);
+    advance(b"part 2 advances", two);
+    write(b"part 2 to part 1, round 1", two, 1, next);
+}
+
+fn behind(one: &mut State, old: &Message, next: &Message) {
+    take(b"part 1 takes the message for round 1", one, next);
+    take(b"part 1 takes the one for round 0", one, old);
+    advance(b"part 1 advances", one);
+    take(b"part 1 takes the message for round 1", one, next);
+    advance(b"part 1 advances, nothing written", one);
+}
+
+fn second(one: &mut State, two: &mut State) {
+    let mut message = [0u8; 12];
+    write(b"part 1 to part 2, round 1", one, 2, &mut message);
+    take(b"part 2 takes it", two, &message);
+    advance(b"part 1 advances", one);
+    advance(b"part 2 advances", two);
+    collect(b"part 1 at round 2", one, 2);
+    collect(b"part 2 at round 2", two, 2);
+}
+
+fn runs() {
+    let mut one = [0u8; 190];
+    let mut two = [0u8; 190];
+    let mut old = [0u8; 12];
+    let mut next = [0u8; 12];
+    started(&mut one, &mut two);
+    ahead(&mut one, &mut two, &mut old, &mut next);
+    behind(&mut one, &old, &next);
+    second(&mut one, &mut two);
+}
+
+// The round stands after the lists, whose length in words is word 0.
+fn set_round(b: &mut State, round: usize) {
+    let at = word_at(b, 0);
+    set_word(b, at, round);
+}
+
+// A message of six words.
+fn take_words(name: &[u8], b: &mut State, text: &[u8]) {
+    let mut message = [0u8; 12];
+    put_words(&mut message, text);
+    take(name, b, &message);
+}
+
+fn last_rounds() {
+    let mut b = [0u8; 190];
+    let mut message = [0u8; 12];
+    start(b"start of part 1", 1, &mut b);
+    write(b"part 1 to part 2", &mut b, 2, &mut message);
+    take_words(b"part 1 takes", &mut b, b"2 1 0 1 0 400");
+    set_round(&mut b, 60000);
+    advance(b"part 1 advances at round 60,000", &mut b);
+    set_round(&mut b, 59999);
+    advance(b"part 1 advances at round 59,999", &mut b);
+}
+
+fn wrong_calls() {
+    let mut b = [0u8; 190];
+    let mut message = [0u8; 12];
+    advance(b"advance of zeros", &mut b);
+    start(b"start of part 1", 1, &mut b);
+    write(b"part 1 to part 3", &mut b, 3, &mut message);
+    write(b"part 1 to part 1", &mut b, 1, &mut message);
+    take_bytes(b"take 7 bytes", &mut b, b"\x00\x02\x00\x01\x00\x00\x00");
+    take_words(b"take count 2 in 12 bytes", &mut b, b"2 1 0 2 0 400");
+    take_words(b"take depth 1,200,001", &mut b, b"2 1 0 1 18 20353");
+    take_words(b"take from part 3", &mut b, b"3 1 0 1 0 400");
+    take_bytes(b"take count 0", &mut b, b"\x00\x02\x00\x01\x00\x00\x00\x00");
+}
+
+// ---- the list program
+
+fn listed(name: &[u8], input: &[u8], out: &mut [u8]) {
+    io::write_all(1, name);
+    let t = listing::list_text(input, out);
+    io::write_all(1, &out[..t]);
+}
+
+// What the list program reads, as far as it fits: the mesh, P, the owners, the stencil's length, the stencil and a byte more.
+fn cut(name: &[u8], input: &mut [u8]) {
+    put_words(
+        input,
+        b"1 6 5 0 0 10 0 0 0 0 0 0 1 3 5 7 9 1 2 2 0 2 4 3 0 3 6 4 0 4 8 5 0 5 10 6 0 513 257 514 769 1",
+    );
+    let mut out = [0u8; 400];
+    listed(name, input, &mut out);
+}
+
+fn whole() {
+    let mut input = [0u8; 84];
+    cut(b"", &mut input);
+    let mut longer = [0u8; 85];
+    cut(b"list of 85 bytes: ", &mut longer);
+}
+
+fn pieces() {
+    let mut head = [0u8; 11];
+    cut(b"list cut to 11 bytes: ", &mut head);
+    let mut mesh = [0u8; 73];
+    cut(b"list cut to 73 bytes: ", &mut mesh);
+    let mut map = [0u8; 79];
+    cut(b"list cut to 79 bytes: ", &mut map);
+    let mut stencil = [0u8; 83];
+    cut(b"list cut to 83 bytes: ", &mut stencil);
+}
+
+fn longest() {
+    let fits = [0u8; 65536];
+    let long = [0u8; 65537];
+    let mut out = [0u8; 400];
+    listed(b"65,536 zeros: ", &fits, &mut out);
+    listed(b"65,537 zeros: ", &long, &mut out);
+}
+
+fn main() {
+    lengths();
+    heads();
+    chains();
+    closures();
+    ignored();
+    lists(1, 2);
+    lists(2, 1);
+    maps();
+    stencils();
+    no_imports();
+    reaches();
+    rounds();
+    rules();
+    depths();
+    fields();
+    layers();
+    runs();
+    last_rounds();
+    wrong_calls();
+    whole();
+    pieces();
+    longest();
+}
