@@ -16,7 +16,7 @@ use mir.ValLaws.{toZ-pos, toZ-ofZ}
 use borrow.Author.Tests.{lt-ltb, le-ltb, ltb-true, leb-true, leb-false, le-leb, lt-leb}
 use Rattle.vocabulary.specs.Bytes.{Bytes, byteAt, over}
 use Rattle.vocabulary.specs.ByteLaws.{byte-past, over-none, over-more, over-one, over-byte}
-use Rattle.layout.specs.Words.{wordAt, wordBytes}
+use Rattle.layout.specs.Words.{word, wordAt, wordBytes}
 use Rattle.layout.specs.WordLaws.{wordAt-none}
 use Rattle.layout.specs.Depths.{numberBytes, signed, unsigned, depthFrom, depthBytes, inRange, rangedAt}
 
@@ -24,6 +24,15 @@ use Rattle.layout.specs.Depths.{numberBytes, signed, unsigned, depthFrom
 
 pub byte-end : (b : Bytes) (i : ℕ) → length b ≤ i → 0 ≡ byteAt b i
 byte-end b i h = sym (byte-past b i h)
+
+pub word-here : (b : Bytes) (i r : ℕ) → r ≡ word b (2 * i) → r ≡ wordAt b i
+unfolding wordAt
+word-here b i r e = e
+
+-- the low byte is past the end
+pub word-half : (b : Bytes) (i h : ℕ) → length b / 2 ≤ i → h ≡ byteAt b (2 * i) → h * 256 ≡ wordAt b i
+unfolding wordAt word
+word-half b i h l e = omega (arith, byte-past b (2 * i + 1) (omega arith))
 
 pub word-end : (b : Bytes) (i : ℕ) → length b ≤ i → 0 ≡ wordAt b i
 word-end b i h = sym (wordAt-none b i (omega arith))

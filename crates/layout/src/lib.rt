@@ -2,6 +2,7 @@
 // suppose their bytes to be there are in `inner`.
 pub mod inner;
 
+use crate::inner::word_in;
 ghost use mathlib.Core.Path.{_≡_};
 ghost use Prim.Native.Nat.{ℕ, _<_};
 ghost use lib.ListN.{getD, set};
@@ -33,10 +34,11 @@ pub fn byte_at(b: &[u8], i: usize) -> u8
 pub fn word_at(b: &[u8], i: usize) -> usize
     ensures { λ r. ⌜ (r ≡ wordAt (now (b .entry)) i) × (r < 65536) ⌝ }
 {
+    if i < b.len() / 2 {
+        return word_in(b, 2 * i);
+    }
     if i < b.len() {
-        let high = wide(byte_at(b, 2 * i));
-        let low = wide(byte_at(b, 2 * i + 1));
-        high * 256 + low
+        wide(byte_at(b, 2 * i)) * 256
     } else {
         0
     }
