@@ -4,7 +4,6 @@ use mathlib.Core.Bool.{Bool, true, false, not, _||_, _&&_}
 use mathlib.Core.List.{List, [], _∷_, _++_, map}
 use Prim.Native.Nat.{ℕ, zero, suc, _+_, _-_, _≤_, _<_}
 use native.Mathlib.Nat.{sub-zero}
-use native.Mathlib.Numerals.{add-one}
 use native.Mathlib.Omega.{arith}
 use lib.Dec.{eqb, leb}
 use lib.ListN.{length, getD, set, replicate, length-set}
@@ -19,7 +18,7 @@ use Rattle.vocabulary.specs.ListLaws.{or-nothing, isIn-append, someOf-cong, som
 use Rattle.mesh.specs.Mesh.{counted, elements, recordCount, below, dimension, headOf, elementIn, follow, records, chain, wrongIn, wrongAt, leaves, unclosed, bare, bad5, bad6, bad7}
 use Rattle.mesh.specs.Meet.{Sizes, Under, stamp, unlike, leavesBy}
 use Rattle.mesh.proofs.MeetLaws.{outside}
-use Rattle.mesh.proofs.DimensionLaws.{below-more, lower-right, lower-small, dimension-le}
+use Rattle.mesh.proofs.DimensionLaws.{below-next, lower-right, lower-small, dimension-le}
 use Rattle.mesh.specs.WalkLaws.{below-grows}
 use Rattle.mesh.proofs.ElementLaws.{set-under, under-none}
 
@@ -157,8 +156,7 @@ module _ (m : Bytes) (d n r : ℕ) (z : Sizes m d n r) (w : bad5 m ≡ false) (l
   -- the cells are elements
   cells-in : low + cells ≤ n
   cells-in =
-      let q : below m (d + 1) ≡ low + cells = ap (below m) (add-one d) ∙ below-more m d ∙ (let y : below m d + counted m d ≡ low + cells = omega arith in y) in
-      omega (arith, below-grows m (d + 1) 4 (omega (arith, z .d-high)), z .n-is)
+      omega (arith, below-next m d, below-grows m (d + 1) 4 (omega (arith, z .d-high)), z .n-is)
 
   bare-told : (g : ℕ) → unlike 1 s g ≡ bare m g
   unfolding bare

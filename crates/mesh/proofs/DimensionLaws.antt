@@ -71,6 +71,9 @@ pub below-more : (m : Bytes) (k : ℕ) → below m (suc k) ≡ below m k + count
 unfolding below
 below-more m k = refl
 
+pub below-next : (m : Bytes) (k : ℕ) → below m (k + 1) ≡ below m k + counted m k
+below-next m k = ap (below m) (add-one k) ∙ below-more m k
+
 module _ (m : Bytes) (e : ℕ) where
   pub dimension-le : dimension m e ≤ top m
   unfolding dimension
@@ -94,7 +97,7 @@ past-none m e = record { each = λ h. let z : ⊥ = omega arith in absurd z }
 
 module _ (m : Bytes) (d e low k c : ℕ) (de : d ≡ top m) (le : low ≡ below m k) (ce : c ≡ counted m k) where
   next-below : below m (k + 1) ≡ low + c
-  next-below = ap (below m) (add-one k) ∙ below-more m k ∙ (let q : below m k + counted m k ≡ low + c = omega arith in q)
+  next-below = below-next m k ∙ (let q : below m k + counted m k ≡ low + c = omega arith in q)
 
   pub lower-turn : low + c ≡ below m (k + 1)
   lower-turn = sym next-below

@@ -15,6 +15,8 @@ use Rattle.vocabulary.specs.ListLaws.{and-true, and-intro, same-test, All-map, 
 use Rattle.mesh.specs.Mesh.{top, counted, below, firstCell, cellCount}
 use Rattle.mesh.specs.Walks.{incident}
 use Rattle.mesh.specs.WalkLaws.{below-grows}
+use Rattle.mesh.proofs.DimensionLaws.{below-next}
+use Rattle.walks.proofs.ReachLaws.{cells-few}
 use Rattle.split.specs.Split.{Split, splitOf, ownerAt, owns, holds, held, inside, imports, exports, interior, halo, locals, cellsAt, holdsLower, touches, another, isCopied, isShared, isExposed, isPrivate, range}
 use Rattle.split.specs.SplitLaws.{local-held, split-reach, split-own, split-owner}
 use Rattle.split.specs.Lists.{listOf}
@@ -109,9 +111,6 @@ module _ (m : Bytes) (parts : ℕ) (owners st table : Bytes) (ends : List ℕ) (
 
   owner-in : (q : ℕ) → q < cellCount m → (1 ≤ byteAt owners q) × (byteAt owners q ≤ parts)
   owner-in = map-right m parts owners (R .map) .3
-
-  cells-few : cellCount m ≤ 2000
-  cells-few = omega (arith, R .mesh .cells-in, R .mesh .sizes .n-high)
 
   back : (q : ℕ) → firstCell m + q - firstCell m ≡ q
   back q = omega arith
@@ -283,18 +282,15 @@ module _ (m : Bytes) (parts : ℕ) (owners st table : Bytes) (ends : List ℕ) (
 
   picked-few : (p : ℕ → Bool) → length (picked (S .first) (S .cells) p) ≤ 2000
   unfolding splitOf
-  picked-few p = omega (arith, picked-length-le (firstCell m) p (cellCount m), cells-few)
+  picked-few p = omega (arith, picked-length-le (firstCell m) p (cellCount m), cells-few m (cellCount m) (R .mesh) refl)
 
   range-few : (k : ℕ) (p : ℕ → Bool) → length (range m k p) ≤ 2000
   unfolding range
   range-few k p = cond-has (λ (xs : List ℕ). length xs ≤ 2000) (ltb k (top m)) (picked (below m k + 1) (counted m k) p) [] some-of (λ e. omega arith)
     where
-      more : below m (k + 1) ≡ below m k + counted m k
-      more = let q : k + 1 ≡ suc k = omega arith in ap (below m) q ∙ (unfold below in refl)
-
       some-of : ltb k (top m) ≡ true → length (picked (below m k + 1) (counted m k) p) ≤ 2000
       some-of e =
-          omega (arith, picked-length-le (below m k + 1) p (counted m k), more, below-grows m (k + 1) 4 (omega (arith, ltb-true k (top m) e, R .mesh .sizes .d-high)), R .mesh .sizes .n-high)
+          omega (arith, picked-length-le (below m k + 1) p (counted m k), below-next m k, below-grows m (k + 1) 4 (omega (arith, ltb-true k (top m) e, R .mesh .sizes .d-high)), R .mesh .sizes .n-high)
 
   pub locals-few : (i : ℕ) → length (locals S i) ≤ 2000
   locals-few i =

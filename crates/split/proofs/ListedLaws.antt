@@ -14,9 +14,6 @@ use Rattle.split.specs.declared.lists.Wanted.the-variants.{Interior, Hal
 pub cells-fit : (m : Bytes) (first cells : ℕ) → Accepted m → first ≡ firstCell m → cells ≡ cellCount m → first + cells ≤ 65536
 cells-fit m first cells A fe ce = omega (arith, A .cells-in, A .sizes .n-high)
 
-pub cells-few : (m : Bytes) (cells : ℕ) → Accepted m → cells ≡ cellCount m → cells ≤ 2000
-cells-few m cells A ce = omega (arith, A .cells-in, A .sizes .n-high)
-
 module _ (w : Wanted) (m : Bytes) (parts : ℕ) (owners table : Bytes) (ends : List ℕ) (held : Bytes) (i j k : ℕ) (a b : List ℕ) (n : ℕ) where
   module _ (first cells : ℕ) (fe : first ≡ firstCell m) (ce : cells ≡ cellCount m) where
     at : (p s : ℕ) → Added a b 0 n (cellsOf owners table ends held p first cells s) → Added a b 0 n (cellsOf owners table ends held p (firstCell m) (cellCount m) s)

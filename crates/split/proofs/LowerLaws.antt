@@ -23,6 +23,7 @@ use Rattle.walks.specs.Walking.{Ground, stepped}
 use Rattle.walks.proofs.GroundLaws.{grounded}
 use Rattle.walks.proofs.StepLaws.{someOf-like, up-told}
 use Rattle.walks.proofs.TrailLaws.{empty}
+use Rattle.mesh.proofs.DimensionLaws.{below-next}
 use Rattle.split.specs.Split.{range}
 use Rattle.split.specs.Sorting.{sideAt, someSide, lowerSort, trailSort, trailSorted, rangeOf, Added}
 use Rattle.split.proofs.SortLaws.{add-none}
@@ -75,13 +76,10 @@ module _ (m : Bytes) (A : Accepted m) (first cells : ℕ) (fe : first ≡ firstC
           let p : ℕ → Bool = λ e. eqb (lowerSort (picked (firstCell m) (cellCount m) (incident m e)) (firstCell m) owners held parts i) sort in
           blocks-cong 0 (λ q. cond (eqb (trailSort cell prev last first owners held parts i (lo + 1 + q)) sort) ((lo + 1 + q) ∷ []) [])
           (λ q. cond (p (lo + 1 + q)) ((lo + 1 + q) ∷ []) []) n
-          (λ q l. ap (λ x. cond (eqb x sort) ((lo + 1 + (0 + q)) ∷ []) []) (sort-like (lo + 1 + (0 + q)) (omega arith) (omega (arith, below-grows m (k + 1) (top m) (omega arith), more))))
+          (λ q l. ap (λ x. cond (eqb x sort) ((lo + 1 + (0 + q)) ∷ []) []) (sort-like (lo + 1 + (0 + q)) (omega arith) (omega (arith, below-grows m (k + 1) (top m) (omega arith), below-next m k))))
           ∙ blocks-picked (lo + 1) n p
           ∙ ap₂ (λ a c. picked (a + 1) c p) loe ne
           ∙ sym (ap (λ b. cond b (picked (below m k + 1) (counted m k) p) []) (lt-ltb k (top m) h))
-        where
-          more : below m (k + 1) ≡ below m k + counted m k
-          more = let q : k + 1 ≡ suc k = omega arith in ap (below m) q ∙ (unfold below in refl)
 
       pub range-added : (a b : List ℕ) (t : ℕ) → Added a b 0 t (blocks 0 n (trailSorted cell prev last first owners held parts i lo sort)) → Added a b 0 t (rangeOf m owners held parts i k sort)
       range-added a b t X = subst (Added a b 0 t) range-is X
@@ -98,7 +96,4 @@ range-none m owners held parts i k sort d b e h = subst (Added b b 0 0) (sym non
         (λ c. cond c (picked (below m k + 1) (counted m k) (λ e. eqb (lowerSort (picked (firstCell m) (cellCount m) (incident m e)) (firstCell m) owners held parts i) sort)) []) low
 
 pub range-fits : (m : Bytes) (d k lo n : ℕ) → Accepted m → d ≡ top m → k < d → lo ≡ below m k → n ≡ counted m k → lo + n < 65535
-range-fits m d k lo n A e h loe ne = omega (arith, more, below-grows m (k + 1) 4 (omega (arith, A .sizes .d-high)), A .sizes .n-high)
-  where
-    more : below m (k + 1) ≡ below m k + counted m k
-    more = let q : k + 1 ≡ suc k = omega arith in ap (below m) q ∙ (unfold below in refl)
+range-fits m d k lo n A e h loe ne = omega (arith, below-next m k, below-grows m (k + 1) 4 (omega (arith, A .sizes .d-high)), A .sizes .n-high)

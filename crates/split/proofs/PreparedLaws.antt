@@ -20,7 +20,7 @@ use Rattle.mesh.specs.Walks.{Near, reach, bad10, bad13}
 use Rattle.mesh.specs.Accepted.{Accepted}
 use Rattle.walks.specs.Tables.{placed, cellWords, tableWords, entryCount, Ends, Tabled}
 use Rattle.walks.specs.Rows.{rowMarks, Marks}
-use Rattle.walks.proofs.ReachLaws.{cell-count, table-count}
+use Rattle.walks.proofs.EntryLaws.{count-more, entry-is}
 use Rattle.walks.proofs.SizeLaws.{table-refused}
 use Rattle.split.specs.Split.{splitOf, ownerAt, owns, inside}
 use Rattle.split.specs.Lists.{bad8, bad12, sizeTests, sizesNumber}
@@ -54,44 +54,7 @@ owners-told m parts owners e =
 
 -- ---- the table of the reaches
 
-table-word : (before table : Bytes) (ws : List ℕ) (k : ℕ) → table ≡ over before 0 (bytesOf ws) → k < length ws → wordAt table k ≡ getD ws k 0
-table-word before table ws k e h =
-    ap (λ (b : Bytes). wordAt b k) (e ∙ over-front before (bytesOf ws)) ∙ wordAt-first ws (drop (length (bytesOf ws)) before) k h
-
-entry-words : (m st : Bytes) (c t : ℕ) (d : Near) → t < length (reach m st c)
-    → (getD (cellWords m st c) (2 * t) 0 ≡ getD (reach m st c) t d .cell - firstCell m) × (getD (cellWords m st c) (2 * t + 1) 0 ≡ getD (reach m st c) t d .layer)
-unfolding cellWords placed
-entry-words m st c t d h = pairs-at (λ (e : Near). e .cell - firstCell m) (λ (e : Near). e .layer) (reach m st c) t d h
-
-count-more : (m st : Bytes) (q : ℕ) → entryCount m st (q + 1) ≡ entryCount m st q + length (reach m st (firstCell m + q))
-unfolding entryCount
-count-more m st q = total-turn (firstCell m) (λ c. length (reach m st c)) q
-
--- a word of a cell's reach stands in the table
-cell-word : (m st : Bytes) (q u : ℕ) → q < cellCount m → u < length (cellWords m st (firstCell m + q))
-    → getD (tableWords m st (cellCount m)) (2 * entryCount m st q + u) 0 ≡ getD (cellWords m st (firstCell m + q)) u 0
-cell-word m st q u h k =
-    ap (λ n. getD (tableWords m st (cellCount m)) (n + u) 0) (sym (table-count m st q))
-    ∙ (unfold tableWords in blocks-at (firstCell m) (cellWords m st) (cellCount m) q u 0 h k)
-
-cell-fits : (m st : Bytes) (q u : ℕ) → q < cellCount m → u < length (cellWords m st (firstCell m + q)) → 2 * entryCount m st q + u < length (tableWords m st (cellCount m))
-cell-fits m st q u h k =
-    let g : entryCount m st (q + 1) ≤ entryCount m st (cellCount m) = unfold entryCount in total-grows (firstCell m) (λ c. length (reach m st c)) (q + 1) (cellCount m) (omega arith) in
-    omega (arith, cell-count m st (firstCell m + q), table-count m st (cellCount m), count-more m st q)
-
 module _ (m st before table : Bytes) (e : table ≡ over before 0 (bytesOf (tableWords m st (cellCount m)))) where
-  word-is : (q u x : ℕ) → q < cellCount m → u < length (cellWords m st (firstCell m + q)) → x ≡ 2 * entryCount m st q + u → wordAt table x ≡ getD (cellWords m st (firstCell m + q)) u 0
-  word-is q u x h k xe = ap (λ z. wordAt table z) xe ∙ table-word before table (tableWords m st (cellCount m)) (2 * entryCount m st q + u) e (cell-fits m st q u h k) ∙ cell-word m st q u h k
-
-  pub entries-are : (q t : ℕ) (d : Near) → q < cellCount m → t < length (reach m st (firstCell m + q))
-      → (wordAt table (2 * (entryCount m st q + t)) ≡ getD (reach m st (firstCell m + q)) t d .cell - firstCell m)
-      × (wordAt table (2 * (entryCount m st q + t) + 1) ≡ getD (reach m st (firstCell m + q)) t d .layer)
-  entries-are q t d h k =
-      let w = entry-words m st (firstCell m + q) t d k in (
-        word-is q (2 * t) (2 * (entryCount m st q + t)) h (omega (arith, cell-count m st (firstCell m + q))) (omega arith) ∙ w .0,
-        word-is q (2 * t + 1) (2 * (entryCount m st q + t) + 1) h (omega (arith, cell-count m st (firstCell m + q))) (omega arith) ∙ w .1,
-      )
-
   every-list : {A : Type 0} (a : ℕ) (p : ℕ → Bool) (xs : List A) (d : A) (r : A → Bool) → ((t : ℕ) → t < length xs → p (a + t) ≡ r (getD xs t d)) → every a (length xs) p ≡ everyOf xs r
   every-list a p xs d r f =
       same-test _ _ (λ s. everyOf-intro r xs (All-intro (λ x. r x ≡ true) xs d (λ t h. sym (f t h) ∙ every-at a p (length xs) t s h)))
@@ -107,7 +70,7 @@ module _ (m st before table : Bytes) (e : table ≡ over before 0 (bytesOf (tabl
       let d : Near = record { cell = 0; layer = 0 } in
       ap₂ (λ x y. every x y (λ t. eqb (byteAt owners (wordAt table (2 * t))) i)) a n
       ∙ every-list (entryCount m st q) (λ t. eqb (byteAt owners (wordAt table (2 * t))) i) (reach m st (firstCell m + q)) d (λ e. eqb (byteAt owners (e .cell - firstCell m)) i)
-      (λ t k. ap (λ x. eqb (byteAt owners x) i) (entries-are q t d h k .0))
+      (λ t k. ap (λ x. eqb (byteAt owners x) i) (entry-is m st before table e q t d h k .0))
 
 -- ---- the tests 12 and 13
 
@@ -142,7 +105,7 @@ prepared m parts owners st held start table ends r A right stencil H T k = recor
   map = right;
   stencil = stencil;
   ended = T .ended k;
-  entries = entries-are m st start table (T .text k);
+  entries = entry-is m st start table (T .text k);
   holding = H;
   insides = insides-are m st start table (T .text k) parts owners ends (T .ended k);
 }

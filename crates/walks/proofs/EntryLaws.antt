@@ -2,26 +2,21 @@
 use mathlib.Core.Path.{_≡_, sym, ap, _∙_}
 use mathlib.Core.List.{List}
 use Prim.Native.Nat.{ℕ, _+_, _-_, _*_, _≤_, _<_}
-use native.Mathlib.Nat.{zero-add}
 use native.Mathlib.Numerals.{add-one}
 use native.Mathlib.Omega.{arith}
-use lib.ListN.{length, getD}
+use lib.ListN.{length, getD, drop}
 use Rattle.vocabulary.specs.Bytes.{Bytes, over}
-use Rattle.vocabulary.specs.ByteLaws.{over-length}
+use Rattle.vocabulary.specs.ByteLaws.{over-front, over-length}
 use Rattle.vocabulary.specs.Ranges.{total}
 use Rattle.vocabulary.specs.RangeLaws.{blocks-length, blocks-at, total-fit}
 use Rattle.vocabulary.specs.CountLaws.{total-double}
 use Rattle.vocabulary.specs.ListLaws.{pairs-length, pairs-at}
 use Rattle.layout.specs.Words.{word, wordAt, bytesOf}
-use Rattle.layout.specs.WordLaws.{word-in, length-bytesOf, wordAt-bytesOf}
+use Rattle.layout.specs.WordLaws.{length-bytesOf, wordAt-first}
 use Rattle.mesh.specs.Mesh.{firstCell, cellCount}
 use Rattle.mesh.specs.Walks.{Near, reach}
 use Rattle.walks.specs.Tables.{placed, cellWords, tableWords, entryCount, Tabled}
 use Rattle.walks.proofs.TableLaws.{capped-few}
-
-word-back : (ws : List ℕ) (i : ℕ) → i < length ws → word (bytesOf ws) (2 * i) ≡ getD ws i 0
-unfolding wordAt
-word-back ws i h = wordAt-bytesOf ws i h
 
 -- ---- the words of the first cells
 
@@ -61,6 +56,25 @@ module _ (m st : Bytes) where
 
 -- ---- a table that was written
 
+module _ (m st before after : Bytes) (text : after ≡ over before 0 (bytesOf (tableWords m st (cellCount m)))) where
+  -- a word of a cell's reach stands in the table
+  word-is : (j s x : ℕ) → j < cellCount m → s < 2 * length (reach m st (firstCell m + j)) → x ≡ 2 * entryCount m st j + s → wordAt after x ≡ getD (cellWords m st (firstCell m + j)) s 0
+  word-is j s x h k xe =
+      let ws : List ℕ = tableWords m st (cellCount m) in
+      ap (λ (b : Bytes). wordAt b x) (text ∙ over-front before (bytesOf ws))
+      ∙ wordAt-first ws (drop (length (bytesOf ws)) before) x (omega (arith, words-length m st (cellCount m), count-fits m st (cellCount m) j h))
+      ∙ ap (λ i. getD ws i 0) xe
+      ∙ word-of m st (cellCount m) j s h k
+
+  pub entry-is : (j t : ℕ) (none : Near) → j < cellCount m → t < length (reach m st (firstCell m + j))
+      → (wordAt after (2 * (entryCount m st j + t)) ≡ getD (reach m st (firstCell m + j)) t none .cell - firstCell m)
+      × (wordAt after (2 * (entryCount m st j + t) + 1) ≡ getD (reach m st (firstCell m + j)) t none .layer)
+  entry-is j t none h k =
+      let w = row-pair m st (firstCell m + j) t none k in (
+        word-is j (2 * t) (2 * (entryCount m st j + t)) h (omega arith) (omega arith) ∙ w .0,
+        word-is j (2 * t + 1) (2 * (entryCount m st j + t) + 1) h (omega arith) (omega arith) ∙ w .1,
+      )
+
 module _ (m st before after : Bytes) (ends : List ℕ) (r : ℕ) (table : Tabled m st before after ends r) (few : r ≤ 8000) (room : length before ≡ 32000) where
   pub counted-few : entryCount m st (cellCount m) ≤ 8000
   counted-few = omega (arith, capped-few (entryCount m st (cellCount m)) r (table .count) few)
@@ -81,31 +95,15 @@ module _ (m st before after : Bytes) (ends : List ℕ) (r : ℕ) (table : Tabled
   pub row-size : (j : ℕ) → j < cellCount m → getD ends (j + 1) 0 ≡ getD ends j 0 + length (reach m st (firstCell m + j))
   row-size j h = omega (arith, row-start j (omega arith), row-start (j + 1) (omega arith), count-more m st j)
 
-  -- the word of index i of the table
-  word-is : (i : ℕ) → i < 2 * entryCount m st (cellCount m) → word after (2 * i) ≡ getD (tableWords m st (cellCount m)) i 0
-  word-is i h =
-      let ws : List ℕ = tableWords m st (cellCount m) in
-      let l : length (bytesOf ws) ≡ 2 * length ws = length-bytesOf ws in
-      let k : length ws ≡ 2 * entryCount m st (cellCount m) = words-length m st (cellCount m) in
-      let e : after ≡ over before 0 (bytesOf ws) = table .text few in
-      ap (λ (b : Bytes). word b (2 * i)) e
-      ∙ ap (word (over before 0 (bytesOf ws))) (sym (zero-add (2 * i)))
-      ∙ word-in before 0 (bytesOf ws) (omega (arith, counted-few)) (2 * i) (omega arith)
-      ∙ word-back ws i (omega arith)
-
   module _ (j t : ℕ) (none : Near) (h : j < cellCount m) (k : t < length (reach m st (firstCell m + j))) where
     pub row-cell : word after (4 * getD ends j 0 + 4 * t) ≡ getD (reach m st (firstCell m + j)) t none .cell - firstCell m
+    unfolding wordAt
     row-cell =
-        let p : 4 * getD ends j 0 + 4 * t ≡ 2 * (2 * entryCount m st j + 2 * t) = omega (arith, row-start j (omega arith)) in
-        ap (word after) p
-        ∙ word-is (2 * entryCount m st j + 2 * t) (omega (arith, count-fits m st (cellCount m) j h))
-        ∙ word-of m st (cellCount m) j (2 * t) h (omega arith)
-        ∙ row-pair m st (firstCell m + j) t none k .0
+        let p : 4 * getD ends j 0 + 4 * t ≡ 2 * (2 * (entryCount m st j + t)) = omega (arith, row-start j (omega arith)) in
+        ap (word after) p ∙ entry-is m st before after (table .text few) j t none h k .0
 
     pub row-layer : word after (4 * getD ends j 0 + 4 * t + 2) ≡ getD (reach m st (firstCell m + j)) t none .layer
+    unfolding wordAt
     row-layer =
-        let p : 4 * getD ends j 0 + 4 * t + 2 ≡ 2 * (2 * entryCount m st j + (2 * t + 1)) = omega (arith, row-start j (omega arith)) in
-        ap (word after) p
-        ∙ word-is (2 * entryCount m st j + (2 * t + 1)) (omega (arith, count-fits m st (cellCount m) j h))
-        ∙ word-of m st (cellCount m) j (2 * t + 1) h (omega arith)
-        ∙ row-pair m st (firstCell m + j) t none k .1
+        let p : 4 * getD ends j 0 + 4 * t + 2 ≡ 2 * (2 * (entryCount m st j + t) + 1) = omega (arith, row-start j (omega arith)) in
+        ap (word after) p ∙ entry-is m st before after (table .text few) j t none h k .1

@@ -16,7 +16,7 @@ use Rattle.vocabulary.specs.ListLaws.{or-nothing, All-intro, isIn-at, at-isIn, 
 use Rattle.mesh.specs.Mesh.{top, counted, below, firstCell, cellCount, dimension, chain}
 use Rattle.mesh.specs.Walks.{incident, stepTo}
 use Rattle.mesh.specs.Accepted.{Accepted, Cell}
-use Rattle.mesh.proofs.DimensionLaws.{below-more, dimension-le}
+use Rattle.mesh.proofs.DimensionLaws.{below-next, dimension-le}
 use Rattle.mesh.specs.WalkLaws.{below-grows}
 use Rattle.mesh.proofs.ClosureLaws.{isIn-blocks}
 use Rattle.walks.specs.Links.{trail}
@@ -127,7 +127,7 @@ module _ (m : Bytes) (A : Accepted m) where
       ∙ sym (isIn-picked (below m a + 1) (counted m a) z (λ x. someOf (take n from) (λ e. incident m e x)))
     where
       next : hi ≡ below m a + counted m a
-      next = he ∙ ap (below m) (let q : a + 1 ≡ suc a = omega arith in q) ∙ below-more m a
+      next = he ∙ below-next m a
 
       range : leb (below m a + 1) z && ltb z (below m a + 1 + counted m a) ≡ ltb lo z && leb z hi
       range = same-test _ _
