@@ -31,7 +31,7 @@ use Rattle.split.specs.Sorting.{cellsOf, localsOf, Added, Prepared}
 use Rattle.split.proofs.CallLaws.{Passed, passed-facts}
 use Rattle.split.proofs.ChosenLaws.{interior-is, halo-is, locals-are, locals-few}
 use Rattle.split.proofs.GivingLaws.{added-fits, added-take}
-use Rattle.walks.proofs.ReachLaws.{cells-few}
+use Rattle.reaches.proofs.ReachLaws.{cells-few}
 use Rattle.split.proofs.ListedLaws.{cells-fit}
 use Rattle.parts.specs.Start.{ownedIn, reachEnds, listsLong, stateSize, sizeNumber, sizeAnswer, firstState, startTests, startNumber, startAnswer, startState}
 use Rattle.parts.specs.Starting.{Put, rowEnds, sentEnds, startWords, startDepth, Fit, Cells, Planned}

@@ -19,8 +19,8 @@ use Rattle.layout.specs.Words.{wordAt}
 use Rattle.mesh.specs.Mesh.{firstCell, cellCount}
 use Rattle.mesh.specs.Walks.{Near, reach, layer, steps, stepsTo, bad13}
 use Rattle.mesh.specs.WalkLaws.{reach-in}
-use Rattle.walks.specs.Tables.{entryCount}
-use Rattle.walks.proofs.EntryLaws.{count-more}
+use Rattle.reaches.specs.Tables.{entryCount}
+use Rattle.reaches.proofs.EntryLaws.{count-more}
 use Rattle.split.specs.Split.{Split, splitOf, owns, held, inside, imports, exports, interior, halo, locals, localOf, globalOf}
 use Rattle.split.specs.SplitLaws.{Cell, ownCells, split-reach, split-own, split-owner, order-cells, order-length, own-count, own-first, held-length, imports-none, import-total, export-total}
 use Rattle.split.specs.Lists.{bad12}

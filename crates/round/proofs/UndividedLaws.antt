@@ -29,9 +29,9 @@ use Rattle.layout.specs.declared.Answer.the-variants.{Done, Refused}
 use Rattle.mesh.specs.Mesh.{top, firstCell, cellCount, meshTests, meshNumber}
 use Rattle.mesh.specs.Walks.{Near, reach, steps, bad10, bad13}
 use Rattle.mesh.specs.WalkLaws.{reach-in, reach-own, reach-layers}
-use Rattle.walks.specs.Tables.{Tabled}
-use Rattle.walks.proofs.SizeLaws.{table-refused}
-use Rattle.walks.proofs.EntryLaws.{row-fits, row-size, row-cell, row-layer, table-length}
+use Rattle.reaches.specs.Tables.{Tabled}
+use Rattle.reaches.proofs.SizeLaws.{table-refused}
+use Rattle.reaches.proofs.EntryLaws.{row-fits, row-size, row-cell, row-layer, table-length}
 use Rattle.round.specs.Rules.{newDepth, bad11}
 use Rattle.round.specs.RuleLaws.{new-length}
 use Rattle.round.specs.Rounds.{Scheme, schemeOf, depthIn, newIn, round, bad14, roundTests, roundNumber, roundAnswer, roundOut}

@@ -16,7 +16,7 @@ use Rattle.mesh.specs.Mesh.{top, counted, below, firstCell, cellCount}
 use Rattle.mesh.specs.Walks.{incident}
 use Rattle.mesh.specs.WalkLaws.{below-grows}
 use Rattle.mesh.proofs.DimensionLaws.{below-next}
-use Rattle.walks.proofs.ReachLaws.{cells-few}
+use Rattle.reaches.proofs.ReachLaws.{cells-few}
 use Rattle.split.specs.Split.{Split, splitOf, ownerAt, owns, holds, held, inside, imports, exports, interior, halo, locals, cellsAt, holdsLower, touches, another, isCopied, isShared, isExposed, isPrivate, range}
 use Rattle.split.specs.SplitLaws.{local-held, split-reach, split-own, split-owner}
 use Rattle.split.specs.Lists.{listOf}

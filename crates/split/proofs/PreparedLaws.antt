@@ -18,10 +18,10 @@ use Rattle.layout.specs.WordLaws.{wordAt-first}
 use Rattle.mesh.specs.Mesh.{top, firstCell, cellCount}
 use Rattle.mesh.specs.Walks.{Near, reach, bad10, bad13}
 use Rattle.mesh.specs.Accepted.{Accepted}
-use Rattle.walks.specs.Tables.{placed, cellWords, tableWords, entryCount, Ends, Tabled}
-use Rattle.walks.specs.Rows.{rowMarks, Marks}
-use Rattle.walks.proofs.EntryLaws.{count-more, entry-is}
-use Rattle.walks.proofs.SizeLaws.{table-refused}
+use Rattle.reaches.specs.Tables.{placed, cellWords, tableWords, entryCount, Ends, Tabled}
+use Rattle.reaches.specs.Rows.{rowMarks, Marks}
+use Rattle.reaches.proofs.EntryLaws.{count-more, entry-is}
+use Rattle.reaches.proofs.SizeLaws.{table-refused}
 use Rattle.split.specs.Split.{splitOf, ownerAt, owns, inside}
 use Rattle.split.specs.Lists.{bad8, bad12, sizeTests, sizesNumber}
 use Rattle.split.specs.Sorting.{ownsAt, rowCount, entryOwned, insideAt, Blank, Holding, Prepared}

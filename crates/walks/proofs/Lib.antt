@@ -4,10 +4,5 @@ pub mod VisitLaws
 pub mod StepLaws
 pub mod NoteLaws
 pub mod WalkLaws
-pub mod TableLaws
-pub mod SizeLaws
-pub mod EntryLaws
-pub mod ReachLaws
 pub mod GroundLaws
 pub mod StencilLaws
-pub mod RowLaws

@@ -1,5 +1,3 @@
 pub mod Links
 pub mod Visits
 pub mod Walking
-pub mod Tables
-pub mod Rows

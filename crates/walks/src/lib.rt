@@ -1,7 +1,6 @@
-// Walks over an accepted mesh, and the reaches of its cells. What supposes an accepted mesh and stencil is in `inner`.
+// Walks over an accepted mesh. What supposes an accepted mesh and stencil is in `inner`.
 pub mod inner;
 mod inverse;
-mod rows;
 mod stencil;
 mod steps;
 mod visits;

@@ -1,5 +1,5 @@
 -- `split::lists::list_words` meets its contract. Assumes nothing.
-use Rattle.walks.proofs.ReachLaws.{cells-few}
+use Rattle.reaches.proofs.ReachLaws.{cells-few}
 use Rattle.split.proofs.ListedLaws.{cells-fit, chose-interior, chose-halo, chose-locals, chose-imports, chose-exports, chose-private, chose-exposed, chose-shared, chose-copied}
 use borrow.Author.Needs.{needs}
 use Rattle.split.proofs.lists.list_words.Statement.{statement}

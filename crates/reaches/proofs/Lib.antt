@@ -1,0 +1,5 @@
+pub mod TableLaws
+pub mod SizeLaws
+pub mod EntryLaws
+pub mod ReachLaws
+pub mod RowLaws

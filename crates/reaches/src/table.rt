@@ -1,0 +1,187 @@
+// The reaches of all cells as a table.
+use layout::inner::put_word;
+use layout::put_number_at;
+use mesh::inner::cell_count;
+use mesh::inner::elements_of;
+use mesh::inner::first_cell;
+use mesh::inner::record_count;
+use walks::inner::entry;
+use walks::inner::invert;
+use walks::inner::walk;
+ghost use mathlib.Core.Path.{_≡_};
+ghost use mathlib.Core.Bool.{false};
+ghost use mathlib.Core.List.{[], _∷_};
+ghost use Prim.Native.Nat.{ℕ, _+_, _-_, _*_, _<_, _≤_};
+ghost use lib.ListN.{length};
+ghost use Rattle.vocabulary.specs.Bytes.{over};
+ghost use Rattle.vocabulary.specs.Ranges.{blocks};
+ghost use Rattle.layout.specs.Words.{bytesOf};
+ghost use Rattle.reaches.specs.Tables.{row, Emitted, cellWords, Tabled};
+ghost use Rattle.walks.specs.Visits.{Fresh};
+ghost use Rattle.walks.specs.Walking.{Ground};
+ghost use Rattle.mesh.specs.Mesh.{top, elements, recordCount, firstCell, cellCount};
+ghost use Rattle.mesh.specs.Walks.{bad10};
+ghost use Rattle.mesh.specs.Accepted.{Accepted, Cell};
+
+// Writes entry t.
+fn put_entry(table: &mut [u8], t: usize, place: usize, layer: usize)
+    requires { ⌜ (t < 8000) × (length (now table) ≡ 32000) × (place < 65536) × (layer < 65536) ⌝ }
+    ensures { λ _. ⌜ now (table .exit) ≡ over (now (table .entry)) (4 * t) (bytesOf (place ∷ layer ∷ [])) ⌝ }
+{
+    put_word(table, 4 * t, place);
+    put_word(table, 4 * t + 2, layer);
+}
+
+// The entry at place q, if that cell has a layer; 8,001 where there is no room.
+fn emit_one(layers: &[u16], first: usize, q: usize, table: &mut [u8], t: usize) -> usize
+    requires { ⌜ (first < 65536) × (q < 65536) × (t ≤ 8001) × (length (now table) ≡ 32000) ⌝ }
+    ensures { λ s. ⌜ Emitted (now (table .entry)) (now (table .exit)) t s (row (now (layers .entry)) first q) × (s ≤ 8001) ⌝ }
+{
+    let x = entry(layers, first + q);
+    if x < 1 {
+        return t;
+    }
+    if 8000 <= t {
+        return 8001;
+    }
+    put_entry(table, t, q, x - 1);
+    t + 1
+}
+
+// The entries of a cell's reach, from the layers of the cells from `low` up to but without `high`.
+fn emit(layers: &[u16], first: usize, low: usize, high: usize, table: &mut [u8], t: usize) -> usize
+    requires { ⌜ (first ≤ low) × (high < 65536) × (t ≤ 8001) × (length (now table) ≡ 32000) ⌝ }
+    ensures { λ s. ⌜ Emitted (now (table .entry)) (now (table .exit)) t s (blocks (low - first) (high - low) (row (now (layers .entry)) first)) × (s ≤ 8001) ⌝ }
+{
+    let mut s = t;
+    for x in low..high {
+        s = emit_one(layers, first, x - first, table, s);
+    }
+    s
+}
+
+// The entries of the reach of cell c, for a stencil of n steps.
+fn reach_of(
+    m: &[u8],
+    e: usize,
+    r: usize,
+    st: &[u8],
+    n: usize,
+    cell: &[u16],
+    prev: &[u16],
+    last: &[u16],
+    first: usize,
+    c: usize,
+    v: usize,
+    marks: &mut [u16],
+    from: &mut [u16],
+    found: &mut [u16],
+    table: &mut [u8],
+    t: usize,
+) -> usize
+    requires { ⌜ Ground (now m) (now st) (now cell) (now prev) (now last) × (e ≡ elements (now m)) × (r ≡ recordCount (now m)) × (first ≡ firstCell (now m)) × Cell (now m) c × (n + 1 ≡ length (now st)) × (n ≤ 8) × (v ≤ 60000) × Fresh v (now marks) × (length (now from) ≡ 2001) × (length (now found) ≡ 2001) × (length (now table) ≡ 32000) × (t ≤ 8001) ⌝ }
+    ensures { λ s. ⌜ Emitted (now (table .entry)) (now (table .exit)) t s (cellWords (now (m .entry)) (now (st .entry)) c) × (s ≤ 8001) × Fresh (v + n) (now (marks .exit)) × (length (now (from .exit)) ≡ 2001) × (length (now (found .exit)) ≡ 2001) ⌝ }
+{
+    let mut layers = [0u16; 2001];
+    put_number_at(from, 0, c as u16);
+    let w = walk(
+        m,
+        e,
+        r,
+        st,
+        cell,
+        prev,
+        last,
+        1,
+        n,
+        v,
+        marks,
+        from,
+        found,
+        &mut layers,
+    );
+    emit(&layers, first, w.low, w.high, table, t)
+}
+
+// The reaches of all cells, from the chains turned round.
+fn reach_all(
+    m: &[u8],
+    e: usize,
+    r: usize,
+    st: &[u8],
+    n: usize,
+    cell: &[u16],
+    prev: &[u16],
+    last: &[u16],
+    first: usize,
+    cells: usize,
+    table: &mut [u8],
+    ends: &mut [u16],
+) -> usize
+    requires { ⌜ Ground (now m) (now st) (now cell) (now prev) (now last) × (e ≡ elements (now m)) × (r ≡ recordCount (now m)) × (first ≡ firstCell (now m)) × (cells ≡ cellCount (now m)) × (n + 1 ≡ length (now st)) × (n ≤ 8) × (length (now table) ≡ 32000) × (length (now ends) ≡ 2001) ⌝ }
+    ensures { λ s. ⌜ Tabled (now (m .entry)) (now (st .entry)) (now (table .entry)) (now (table .exit)) (now (ends .exit)) s ⌝ }
+{
+    let mut marks = [0u16; 2001];
+    let mut from = [0u16; 2001];
+    let mut found = [0u16; 2001];
+    let mut t = 0;
+    let mut v = 1;
+    put_number_at(ends, 0, 0);
+    for x in first..first + cells {
+        t = reach_of(
+            m,
+            e,
+            r,
+            st,
+            n,
+            cell,
+            prev,
+            last,
+            first,
+            x,
+            v,
+            &mut marks,
+            &mut from,
+            &mut found,
+            table,
+            t,
+        );
+        if 8000 < t {
+            return t;
+        }
+        v += n;
+        put_number_at(ends, x + 1 - first, t as u16);
+    }
+    t
+}
+
+// The reaches of all cells under an accepted stencil: how many entries they have, 8,001 for all above 8,000. For each cell in rising order the
+// table has the cells of its reach, rising, as their places from 0 and their layers, and `ends` how many entries there are up to each cell.
+pub fn reach_table(m: &[u8], st: &[u8], table: &mut [u8], ends: &mut [u16]) -> usize
+    requires { ⌜ Accepted (now m) × (bad10 (top (now m)) (now st) ≡ false) × (length (now table) ≡ 32000) × (length (now ends) ≡ 2001) ⌝ }
+    ensures { λ s. ⌜ Tabled (now (m .entry)) (now (st .entry)) (now (table .entry)) (now (table .exit)) (now (ends .exit)) s ⌝ }
+{
+    let e = elements_of(m);
+    let r = record_count(m);
+    let first = first_cell(m);
+    let cells = cell_count(m);
+    let n = st.len() - 1;
+    let mut cell = [0u16; 12001];
+    let mut prev = [0u16; 12001];
+    let mut last = [0u16; 2001];
+    invert(m, e, r, first, cells, &mut cell, &mut prev, &mut last);
+    reach_all(
+        m,
+        e,
+        r,
+        st,
+        n,
+        &cell,
+        &prev,
+        &last,
+        first,
+        cells,
+        table,
+        ends,
+    )
+}
