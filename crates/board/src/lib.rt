@@ -6,8 +6,8 @@ ghost use Rattle.board.specs.Packed.{packed};
 ghost use Rattle.mesh.specs.Mesh.{checkAnswer};
 ghost use Rattle.round.specs.Rounds.{roundAnswer, roundOut};
 ghost use Rattle.split.specs.Lists.{interior-cells, halo-cells, local-order, imports-from, exports-to, private-range, exposed-range, shared-range, copied-range, listAnswer, listOut};
-ghost use Rattle.parts.specs.Start.{sizeAnswer, startAnswer, startState};
 ghost use Rattle.parts.specs.Calls.{writeAnswer, writeState, writeOut, takeAnswer, takeState, advanceAnswer, advanceState, collectAnswer, collectOut};
+ghost use Rattle.starts.specs.Start.{sizeAnswer, startAnswer, startState};
 
 // An answer as one number.
 fn pack(a: Answer) -> u64
@@ -194,7 +194,7 @@ pub extern "C" fn jem_state_size(
 ) -> u64
     ensures { λ r. ⌜ r ≡ packed (sizeAnswer (now (mesh .entry)) parts (now (owners .entry)) part (now (stencil .entry))) ⌝ }
 {
-    pack(parts::state_size(mesh, parts, owners, part, stencil))
+    pack(starts::state_size(mesh, parts, owners, part, stencil))
 }
 
 // Makes the state of a part at round 0.
@@ -212,7 +212,7 @@ pub extern "C" fn jem_start(
 ) -> u64
     ensures { λ r. ⌜ (r ≡ packed (startAnswer (now (mesh .entry)) parts (now (owners .entry)) part (now (stencil .entry)) kind (now (weights .entry)) (now (field .entry)) (now (state .entry)))) × (now (state .exit) ≡ startState (now (mesh .entry)) parts (now (owners .entry)) part (now (stencil .entry)) kind (now (weights .entry)) (now (field .entry)) (now (state .entry))) ⌝ }
 {
-    pack(parts::start(
+    pack(starts::start(
         mesh,
         parts,
         owners,

@@ -6,9 +6,3 @@ pub mod TakeLaws
 pub mod WriteLaws
 pub mod RenewLaws
 pub mod AdvanceLaws
-pub mod PutLaws
-pub mod StartCounts
-pub mod StartWords
-pub mod StartLists
-pub mod StartFit
-pub mod PlanLaws

@@ -1,15 +1,5 @@
 pub mod State
 pub mod Calls
 pub mod Checks
-pub mod Start
-pub mod Starting
-pub mod Run
 pub mod StateLaws
-pub mod FormLaws
-pub mod RunLaws
-pub mod WorldLaws
-pub mod StartLaws
-pub mod DemandLaws
-pub mod BoundLaws
-pub mod KeptLaws
-pub mod BegunLaws
+pub mod CallLaws

@@ -1,16 +1,13 @@
-// Part states, the five calls and runs: their definitions stand in specs/.
+// Part states and the four calls on them. Here stand the calls, which take any bytes; what supposes something is in `inner`.
 mod advancing;
-mod beginning;
 mod collecting;
+pub mod inner;
 mod lists;
-mod starting;
 mod state;
 mod taking;
 mod writing;
 
 pub use advancing::advance;
-pub use beginning::start;
-pub use beginning::state_size;
 pub use collecting::collect;
 pub use state::is_state;
 pub use taking::take;

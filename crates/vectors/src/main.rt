@@ -417,7 +417,7 @@ fn start(name: &[u8], i: u32, b: &mut State) {
     let m = five_cells();
     let mut field = [0u8; 20];
     put_words(&mut field, b"0 100 0 200 0 300 0 400 0 500");
-    let a = parts::start(&m, 2, &OWNERS, i, &STENCIL, 1, &WEIGHTS, &field, b);
+    let a = starts::start(&m, 2, &OWNERS, i, &STENCIL, 1, &WEIGHTS, &field, b);
     say(name, a);
 }
 

@@ -1,0 +1,64 @@
+-- What calls go by: the room that the test 20 says a state has, and what an accepted message says of itself. Assumes nothing.
+use mathlib.Core.Path.{_≡_}
+use mathlib.Core.Bool.{true, not, _&&_, _||_}
+use Prim.Native.Nat.{ℕ, _+_, _-_, _*_, _≤_}
+use native.Mathlib.Omega.{arith}
+use lib.Dec.{eqb, ltb}
+use lib.ListN.{length}
+use borrow.Author.Tests.{eqb-true, not-false}
+use Rattle.vocabulary.specs.Bytes.{Bytes}
+use Rattle.vocabulary.specs.ListLaws.{and-true, or-false}
+use Rattle.vocabulary.specs.Ranges.{isUpTo, every}
+use Rattle.vocabulary.specs.RangeLaws.{upTo-true}
+use Rattle.vocabulary.specs.Tests.{passed, firstOf}
+use Rattle.layout.specs.Depths.{rangedAt}
+use Rattle.messages.specs.Messages.{fromIn, toIn, roundIn, countIn, bad15}
+use Rattle.parts.specs.State.{Lists, listsIn, roundAt, stateLength}
+use Rattle.parts.specs.StateLaws.{Whole}
+use Rattle.parts.specs.Calls.{importsFrom, takeTestsIn}
+
+-- what the test 20 says, by the lists
+pub record Room (L : Lists) (d : ℕ) (b : Bytes) : Type 0 where
+  pub deep : 2 ≤ d
+  pub long : stateLength d (L .held) ≤ length b
+  pub own-le : L .owned ≤ L .held
+  pub fits : (j : ℕ) → 1 ≤ j → j ≤ 16 → L .before j + L .imported j ≤ L .held
+
+pub room-of : (st : Bytes) (d : ℕ) (b : Bytes) → Whole st d b → Room (listsIn st) d b
+unfolding listsIn
+room-of st d b w = record {
+  deep = omega (arith, w .lists-fit);
+  long = w .long;
+  own-le = w .ends 0 16 (omega arith) (omega arith);
+  fits = λ j h k. omega (arith, w .ends (j - 1) j (omega arith) k, w .ends j 16 k (omega arith));
+}
+
+-- what an accepted message says of itself
+pub record Taken (L : Lists) (d : ℕ) (b x : Bytes) : Type 0 where
+  pub size : length x ≡ 8 + 4 * countIn x
+  pub ranged : every 0 (countIn x) (rangedAt x 8) ≡ true
+  pub to-is : toIn x ≡ L .part
+  pub from-least : 1 ≤ fromIn x
+  pub from-most : fromIn x ≤ 16
+  pub count-is : countIn x ≡ L .imported (fromIn x)
+  pub now : roundIn x ≡ roundAt b d
+
+pub taken-facts : (L : Lists) (d : ℕ) (b x : Bytes) → firstOf (takeTestsIn L d b x) ≡ 0 → Taken L d b x
+unfolding takeTestsIn bad15 importsFrom
+taken-facts L d b x e =
+    let a = passed (takeTestsIn L d b x) tt e in
+    let m = or-false (ltb (length x) 8 || not (eqb (length x) (8 + 4 * countIn x))) (not (every 0 (countIn x) (rangedAt x 8))) (a .0) in
+    let n = or-false (ltb (length x) 8) (not (eqb (length x) (8 + 4 * countIn x))) (m .0) in
+    let p = or-false (not (eqb (toIn x) (L .part)) || not (isUpTo 16 (fromIn x) && ltb 0 (L .imported (fromIn x)))) (not (eqb (countIn x) (L .imported (fromIn x)))) (a .1 .1 .0) in
+    let q = or-false (not (eqb (toIn x) (L .part))) (not (isUpTo 16 (fromIn x) && ltb 0 (L .imported (fromIn x)))) (p .0) in
+    let r = and-true (isUpTo 16 (fromIn x)) (ltb 0 (L .imported (fromIn x))) (not-false _ (q .1)) in
+    let u = upTo-true 16 (fromIn x) (r .0) in
+    record {
+      size = eqb-true _ _ (not-false _ (n .1));
+      ranged = not-false _ (m .1);
+      to-is = eqb-true _ _ (not-false _ (q .0));
+      from-least = u .0;
+      from-most = u .1;
+      count-is = eqb-true _ _ (not-false _ (p .1));
+      now = eqb-true _ _ (not-false _ (a .1 .1 .1 .0));
+    }

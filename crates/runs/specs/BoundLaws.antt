@@ -1,0 +1,34 @@
+-- How long a state is at most. Assumes nothing.
+use mathlib.Core.Path.{_≡_}
+use mathlib.Core.List.{[], _∷_, _++_}
+use Prim.Native.Nat.{ℕ, _<_, _≤_}
+use native.Mathlib.Omega.{arith}
+use lib.ListN.{length}
+use Rattle.vocabulary.specs.Bytes.{Bytes, byteAt}
+use Rattle.vocabulary.specs.Ranges.{total}
+use Rattle.vocabulary.specs.Tests.{passed}
+use Rattle.mesh.specs.Mesh.{cellCount, meshTests}
+use Rattle.split.specs.Split.{Split, splitOf, exports}
+use Rattle.split.specs.Lists.{splitTests, sizeTests}
+use Rattle.split.specs.SplitLaws.{map-facts, split-reach, split-own, split-owner, order-length, local-held, export-total}
+use Rattle.starts.specs.Start.{reachEnds, exportEnds, listsLong, stateSize, sizeNumber}
+use Rattle.runs.specs.Run.{StateBound}
+
+-- sixteen numbers export no more than the parts
+exports-few : (m owners st : Bytes) (parts i : ℕ) → parts ≤ 16 → ((k : ℕ) → k < cellCount m → (1 ≤ byteAt owners k) × (byteAt owners k ≤ parts))
+    → total 1 16 (λ j. length (exports (splitOf m parts owners st) i j)) ≡ total 1 parts (λ j. length (exports (splitOf m parts owners st) i j))
+unfolding splitOf
+exports-few m owners st parts i few f = export-total (splitOf m parts owners st) (split-reach m parts owners st) (split-owner m parts owners st f) i few
+
+pub state-bound : StateBound
+unfolding StateBound sizeNumber splitTests meshTests sizeTests stateSize listsLong reachEnds exportEnds
+state-bound m owners st parts i e =
+    let S : Split = splitOf m parts owners st in
+    let a = passed (splitTests m parts owners (i ∷ []) st ++ sizeTests m parts owners st) tt e in
+    let b = map-facts m parts owners i (a .1 .1 .1 .1 .1 .1 .1 .0) in
+    omega (
+      arith,
+      order-length S i,
+      exports-few m owners st parts i (b .0) (b .3),
+      local-held S (split-reach m parts owners st) (split-owner m parts owners st (b .3)) (split-own m parts owners st) i,
+    )

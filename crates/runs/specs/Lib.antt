@@ -1,0 +1,9 @@
+pub mod Run
+pub mod FormLaws
+pub mod RunLaws
+pub mod WorldLaws
+pub mod StartLaws
+pub mod DemandLaws
+pub mod BoundLaws
+pub mod KeptLaws
+pub mod BegunLaws

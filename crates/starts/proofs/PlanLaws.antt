@@ -1,0 +1,295 @@
+-- The plan of a part, the state that is written by it, and what start and state size answer. Assumes nothing.
+use mathlib.Core.Path.{_≡_, refl, sym, ap, ap₂, _∙_, subst₂}
+use mathlib.Core.Bool.{Bool, true, false, not, _||_, _&&_, cond}
+use mathlib.Core.List.{List, [], _∷_, _++_}
+use Prim.Native.Nat.{ℕ, _+_, _-_, _*_, _≤_, _<_}
+use native.Mathlib.Omega.{arith}
+use lib.Dec.{eqb, ltb}
+use lib.ListN.{length, take, replicate, length-append}
+use borrow.Author.Tests.{ne-eqb, lt-ltb, le-ltb}
+use Rattle.vocabulary.specs.Bytes.{Bytes, over}
+use Rattle.vocabulary.specs.ByteLaws.{over-more}
+use Rattle.vocabulary.specs.Lists.{All, everyOf}
+use Rattle.vocabulary.specs.Ranges.{isUpTo, blocks}
+use Rattle.vocabulary.specs.RangeLaws.{blocks-cong}
+use Rattle.vocabulary.specs.Tests.{Test, refuse, firstOf, passed, none-holds, firstOf-left, firstOf-right}
+use Rattle.layout.specs.Words.{bytesOf}
+use Rattle.layout.specs.WordLaws.{length-bytesOf}
+use Rattle.layout.specs.Depths.{four}
+use Rattle.layout.specs.Answers.{answer}
+use Rattle.layout.specs.AnswerLaws.{answer-done, answer-refused}
+use Rattle.layout.specs.declared.Answer.{Answer}
+use Rattle.layout.specs.declared.Answer.the-variants.{Done, Refused}
+use Rattle.mesh.specs.Mesh.{top, firstCell, cellCount, meshTests}
+use Rattle.mesh.specs.Walks.{steps, bad10, bad13}
+use Rattle.round.specs.Rules.{bad11}
+use Rattle.round.specs.Rounds.{schemeOf, depthIn, bad14}
+use Rattle.split.specs.Split.{splitOf, interior, halo, locals, globalOf}
+use Rattle.split.specs.SplitLaws.{own-count}
+use Rattle.split.specs.Lists.{bad8, bad9, bad12, splitTests, sizeTests, splitNumber, sizesNumber}
+use Rattle.split.specs.Sorting.{cellsOf, localsOf, Added, Prepared}
+use Rattle.split.proofs.CallLaws.{Passed, passed-facts}
+use Rattle.split.proofs.ChosenLaws.{interior-is, halo-is, locals-are, locals-few}
+use Rattle.split.proofs.GivingLaws.{added-fits, added-take}
+use Rattle.reaches.proofs.ReachLaws.{cells-few}
+use Rattle.split.proofs.ListedLaws.{cells-fit}
+use Rattle.starts.specs.Start.{ownedIn, reachEnds, listsLong, stateSize, sizeNumber, sizeAnswer, firstState, startTests, startNumber, startAnswer, startState}
+use Rattle.starts.specs.Starting.{Put, rowEnds, sentEnds, startWords, startDepth, Fit, Cells, Planned}
+use Rattle.starts.proofs.PutLaws.{put-length}
+use Rattle.starts.proofs.StartFit.{fit-from, cells-from}
+use Rattle.starts.proofs.StartWords.{start-words, order-at, row-ends, sent-ends}
+
+-- ---- the plan
+
+module _ (m : Bytes) (parts : ℕ) (owners : Bytes) (i : ℕ) (st table : Bytes) (ends : List ℕ) (held : Bytes) (sn : splitNumber m parts owners (i ∷ i ∷ []) st ≡ 0)
+    (zn : sizesNumber m parts owners st ≡ 0) (R : Prepared m parts owners st table ends held) where
+  P : Passed m parts owners i i st
+  P = passed-facts m parts owners i i st sn
+
+  sizes-passed : All (λ t. t .holds ≡ false) (sizeTests m parts owners st)
+  unfolding sizesNumber sizeTests
+  sizes-passed = passed (sizeTests m parts owners st) tt zn
+
+  twelve : bad12 (splitOf m parts owners st) ≡ false
+  unfolding sizeTests
+  twelve = sizes-passed .0
+
+  thirteen : bad13 m st ≡ false
+  unfolding sizeTests
+  thirteen = sizes-passed .1 .0
+
+  module _ (first cells : ℕ) (fe : first ≡ firstCell m) (ce : cells ≡ cellCount m) where
+    pub plan-bounds : (i < 65536) × (first + cells ≤ 65536) × (cells ≤ 2000) × (parts ≤ 16)
+    plan-bounds = (omega (arith, P .i-in .1), cells-fit m first cells (P .mesh) fe ce, cells-few m cells (P .mesh) ce, P .few)
+
+    module _ (a order : List ℕ) (n inner outer : ℕ) (X : Added a order 0 n (localsOf owners table ends held i first cells parts)) (room : length a ≡ 2000)
+        (ie : inner ≡ length (cellsOf owners table ends held i first cells 17)) (he : outer ≡ length (cellsOf owners table ends held i first cells 18)) where
+      words-is : localsOf owners table ends held i first cells parts ≡ locals (splitOf m parts owners st) i
+      words-is = ap₂ (λ x y. localsOf owners table ends held i x y parts) fe ce ∙ locals-are m parts owners st table ends held R i (P .i-in .1)
+
+      few : length (localsOf owners table ends held i first cells parts) ≤ 2000
+      few = omega (arith, ap length words-is, locals-few m parts owners st table ends held R i)
+
+      order-is : take n order ≡ locals (splitOf m parts owners st) i
+      order-is = added-take a order n (localsOf owners table ends held i first cells parts) X room few ∙ words-is
+
+      held-is : n ≡ length (locals (splitOf m parts owners st) i)
+      held-is = omega (arith, X .count, ap length words-is)
+
+      owned-is : inner + outer ≡ ownedIn (splitOf m parts owners st) i
+      owned-is =
+          ap₂ _+_ (ie ∙ ap length (ap₂ (λ x y. cellsOf owners table ends held i x y 17) fe ce ∙ interior-is m parts owners st table ends held R i (P .i-in .1)))
+          (he ∙ ap length (ap₂ (λ x y. cellsOf owners table ends held i x y 18) fe ce ∙ halo-is m parts owners st table ends held R i (P .i-in .1)))
+          ∙ sym (length-append (interior (splitOf m parts owners st) i) (halo (splitOf m parts owners st) i))
+          ∙ own-count (splitOf m parts owners st) i
+
+      pub plan-fit : Fit owners table ends held i first cells order n (inner + outer)
+      plan-fit =
+          fit-from m parts owners st table ends held R i (P .i-in .0) (P .i-in .1) first cells fe ce order n (inner + outer) order-is held-is owned-is
+          (added-fits a order n (localsOf owners table ends held i first cells parts) X room few) twelve thirteen
+
+      pub plan-made : (long : ℕ) → long ≡ 46 + n + (inner + outer) + 2 * rowEnds table ends first order (inner + outer) + sentEnds owners table ends held i first cells 16
+          → Planned m parts owners i st table ends held order n (inner + outer) long
+      plan-made long le = record {
+        order-is = order-is;
+        held-is = held-is;
+        owned-is = owned-is;
+        fit = fit-from m parts owners st table ends held R i (P .i-in .0) (P .i-in .1) (firstCell m) (cellCount m) refl refl order n (inner + outer) order-is held-is owned-is
+            (added-fits a order n (localsOf owners table ends held i first cells parts) X room few) twelve thirteen;
+        long-is = le ∙ ap₂ (λ x y. 46 + n + (inner + outer) + 2 * rowEnds table ends x order (inner + outer) + sentEnds owners table ends held i x y 16) fe ce;
+      }
+
+-- ---- the bytes
+
+pub state-put : (b x y z : Bytes) (t long n : ℕ) (ws : List ℕ) (f : Bytes) (first : ℕ) (order : List ℕ) → 2 * long + 34 + 4 * n ≤ length b → length ws ≡ long → Put b x 0 t ws → y ≡ over x (2 * long) (replicate 34 0)
+    → z ≡ over y (2 * long + 34) (blocks 1 n (startDepth f first order)) → z ≡ over b 0 (bytesOf ws ++ (replicate 34 0 ++ blocks 1 n (startDepth f first order)))
+state-put b x y z t long n ws f first order room le P ye ze =
+    let l : length (bytesOf ws) ≡ 2 * length ws = length-bytesOf ws in
+    let k : 2 * long ≡ 0 + length (bytesOf ws) = omega arith in
+    let q : 2 * long + 34 ≡ 2 * long + length (replicate {A = ℕ} 34 0) = omega arith in
+    let lx : length x ≡ length b = put-length b x 0 t ws P (omega (arith, P .count)) in
+    let e : 2 * 0 ≡ 0 = omega arith in
+    let xe : x ≡ over b 0 (bytesOf ws) = P .text ∙ ap (λ o. over b o (bytesOf ws)) e in
+    ze
+    ∙ ap₂ (λ (u : Bytes) o. over u o (blocks 1 n (startDepth f first order))) ye q
+    ∙ over-more x (2 * long) (replicate 34 0) (omega arith) (blocks 1 n (startDepth f first order))
+    ∙ ap₂ (λ (u : Bytes) o. over u o (replicate 34 0 ++ blocks 1 n (startDepth f first order))) xe k
+    ∙ over-more b 0 (bytesOf ws) (omega arith) (replicate 34 0 ++ blocks 1 n (startDepth f first order))
+
+-- ---- one part named twice is one part named
+
+module _ (m : Bytes) (parts : ℕ) (owners : Bytes) (i : ℕ) (st : Bytes) where
+  once : (t : Bool) → t && (t && true) ≡ t && true
+  once true = refl
+  once false = refl
+
+  named-once : bad8 m parts owners (i ∷ i ∷ []) ≡ bad8 m parts owners (i ∷ [])
+  unfolding bad8 everyOf
+  named-once = ap (λ t. not (isUpTo 16 parts) || not t || not (eqb (length owners) (cellCount m)) || not (everyOf owners (isUpTo parts))) (once (isUpTo parts i))
+
+  tests-once : splitTests m parts owners (i ∷ i ∷ []) st ≡ splitTests m parts owners (i ∷ []) st
+  unfolding splitTests
+  tests-once = ap (λ t. meshTests m ++ (refuse 8 t ∷ refuse 9 (bad9 (splitOf m parts owners st)) ∷ refuse 10 (bad10 (top m) st) ∷ [])) named-once
+
+  number-once : splitNumber m parts owners (i ∷ i ∷ []) st ≡ firstOf (splitTests m parts owners (i ∷ []) st)
+  unfolding splitNumber
+  number-once = ap firstOf tests-once
+
+  split-passed : splitNumber m parts owners (i ∷ i ∷ []) st ≡ 0 → All (λ t. t .holds ≡ false) (splitTests m parts owners (i ∷ []) st)
+  unfolding splitTests meshTests
+  split-passed e = passed (splitTests m parts owners (i ∷ []) st) tt (sym number-once ∙ e)
+
+  sizes-out : sizesNumber m parts owners st ≡ 0 → All (λ t. t .holds ≡ false) (sizeTests m parts owners st)
+  unfolding sizesNumber sizeTests
+  sizes-out e = passed (sizeTests m parts owners st) tt e
+
+  -- ---- state size
+
+  pub size-split : (n : ℕ) → n ≡ splitNumber m parts owners (i ∷ i ∷ []) st → (n ≡ 0 → ⊥) → Refused n ≡ sizeAnswer m parts owners i st
+  unfolding sizeAnswer sizeNumber
+  size-split n e z =
+      let q : n ≡ firstOf (splitTests m parts owners (i ∷ []) st) = e ∙ number-once in
+      answer-refused n (stateSize m parts owners i st) z
+      ∙ ap (λ k. answer k (stateSize m parts owners i st)) (q ∙ sym (firstOf-left (splitTests m parts owners (i ∷ []) st) (sizeTests m parts owners st) (λ w. z (q ∙ w))))
+
+  module _ (sn : splitNumber m parts owners (i ∷ i ∷ []) st ≡ 0) where
+    pub size-sizes : (n : ℕ) → n ≡ sizesNumber m parts owners st → (n ≡ 0 → ⊥) → Refused n ≡ sizeAnswer m parts owners i st
+    unfolding sizeAnswer sizeNumber sizesNumber
+    size-sizes n e z =
+        answer-refused n (stateSize m parts owners i st) z
+        ∙ ap (λ k. answer k (stateSize m parts owners i st)) (e ∙ sym (firstOf-right (splitTests m parts owners (i ∷ []) st) (sizeTests m parts owners st) (split-passed sn)))
+
+    module _ (zn : sizesNumber m parts owners st ≡ 0) (table : Bytes) (ends : List ℕ) (held : Bytes) (R : Prepared m parts owners st table ends held) (order : List ℕ) (n owned long : ℕ)
+        (Q : Planned m parts owners i st table ends held order n owned long) where
+      I : (1 ≤ i) × (i ≤ 16)
+      I = passed-facts m parts owners i i st sn .i-in
+
+      long-is : long ≡ listsLong (splitOf m parts owners st) i (locals (splitOf m parts owners st) i)
+      unfolding listsLong
+      long-is =
+          omega (
+            arith,
+            Q .long-is,
+            Q .held-is,
+            Q .owned-is,
+            row-ends m parts owners st table ends held R i (I .0) (I .1) (firstCell m) (cellCount m) refl refl order n owned (Q .order-is) (Q .held-is) (Q .owned-is) owned (omega arith),
+            ap (reachEnds (splitOf m parts owners st) i (locals (splitOf m parts owners st) i)) (Q .owned-is),
+            sent-ends m parts owners st table ends held R i (I .0) (I .1) (firstCell m) (cellCount m) refl refl 16 (omega arith),
+          )
+
+      size-is : 2 * long + 34 + 4 * n ≡ stateSize m parts owners i st
+      unfolding stateSize
+      size-is = omega (arith, long-is, Q .held-is)
+
+      pub size-done : Done (2 * long + 34 + 4 * n) ≡ sizeAnswer m parts owners i st
+      unfolding sizeAnswer sizeNumber
+      size-done =
+          ap Done size-is
+          ∙ answer-done _ (stateSize m parts owners i st)
+          (firstOf-right (splitTests m parts owners (i ∷ []) st) (sizeTests m parts owners st) (split-passed sn) ∙ none-holds (sizeTests m parts owners st) (sizes-out zn))
+
+      pub size-small : 2 * long + 34 + 4 * n < 1000000
+      size-small = omega (arith, Q .long-is, Q .fit .long, Q .fit .order-few)
+
+-- ---- start
+
+module _ (m : Bytes) (parts : ℕ) (owners : Bytes) (i : ℕ) (st : Bytes) (kind : ℕ) (v f b : Bytes) where
+  abbrev pub Answered : Answer → Bytes → Type 0
+  Answered r x = (r ≡ startAnswer m parts owners i st kind v f b) × (x ≡ startState m parts owners i st kind v f b)
+
+  refused : (n : ℕ) → startNumber m parts owners i st kind v f b ≡ n → (n ≡ 0 → ⊥) → Answered (Refused n) b
+  unfolding startAnswer startState
+  refused n e z = (answer-refused n (stateSize m parts owners i st) z ∙ ap (λ k. answer k (stateSize m parts owners i st)) (sym e), simp (e, ne-eqb n 0 z))
+
+  done : startNumber m parts owners i st kind v f b ≡ 0 → Answered (Done (stateSize m parts owners i st)) (over b 0 (firstState m parts owners i st kind v f))
+  unfolding startAnswer startState
+  done e = (answer-done (startNumber m parts owners i st kind v f b) (stateSize m parts owners i st) e, simp e)
+
+  -- the tests after 10, and those after 13
+  abbrev rest : List Test
+  rest = refuse 14 (bad14 (cellCount m) f) ∷ refuse 16 (ltb (length b) (stateSize m parts owners i st)) ∷ []
+
+  abbrev later : List Test
+  later = refuse 11 (bad11 kind (steps st) v) ∷ sizeTests m parts owners st ++ rest
+
+  number-split : (n : ℕ) → n ≡ firstOf (splitTests m parts owners (i ∷ []) st) → (n ≡ 0 → ⊥) → startNumber m parts owners i st kind v f b ≡ n
+  unfolding startNumber startTests
+  number-split n q z = firstOf-left (splitTests m parts owners (i ∷ []) st) later (λ w. z (q ∙ w)) ∙ sym q
+
+  pub start-split : (n : ℕ) → n ≡ splitNumber m parts owners (i ∷ i ∷ []) st → (n ≡ 0 → ⊥) → Answered (Refused n) b
+  start-split n e z = refused n (number-split n (e ∙ number-once m parts owners i st) z) z
+
+  module _ (sn : splitNumber m parts owners (i ∷ i ∷ []) st ≡ 0) where
+    in-later : startNumber m parts owners i st kind v f b ≡ firstOf later
+    unfolding startNumber startTests
+    in-later = firstOf-right (splitTests m parts owners (i ∷ []) st) later (split-passed m parts owners i st sn)
+
+    pub start-11 : (u : Bool) → u ≡ bad11 kind (length st - 1) v → u ≡ true → Answered (Refused 11) b
+    unfolding steps
+    start-11 u ue ut = refused 11 (in-later ∙ ap (λ t. cond t 11 (firstOf (sizeTests m parts owners st ++ rest))) (sym ue ∙ ut)) (λ z. omega (arith, z))
+
+    module _ (eleven : bad11 kind (steps st) v ≡ false) where
+      in-sizes : startNumber m parts owners i st kind v f b ≡ firstOf (sizeTests m parts owners st ++ rest)
+      in-sizes = in-later ∙ ap (λ t. cond t 11 (firstOf (sizeTests m parts owners st ++ rest))) eleven
+
+      number-sizes : (n : ℕ) → n ≡ sizesNumber m parts owners st → (n ≡ 0 → ⊥) → startNumber m parts owners i st kind v f b ≡ n
+      unfolding sizesNumber
+      number-sizes n e z = in-sizes ∙ firstOf-left (sizeTests m parts owners st) rest (λ w. z (e ∙ w)) ∙ sym e
+
+      pub start-sizes : (n : ℕ) → n ≡ sizesNumber m parts owners st → (n ≡ 0 → ⊥) → Answered (Refused n) b
+      start-sizes n e z = refused n (number-sizes n e z) z
+
+      module _ (zn : sizesNumber m parts owners st ≡ 0) (cells : ℕ) (ce : cells ≡ cellCount m) (u : Bool) (ue : u ≡ bad14 cells f) where
+        in-rest : startNumber m parts owners i st kind v f b ≡ firstOf rest
+        in-rest = in-sizes ∙ firstOf-right (sizeTests m parts owners st) rest (sizes-out m parts owners i st zn)
+
+        fourteen : bad14 (cellCount m) f ≡ u
+        fourteen = ap (λ k. bad14 k f) (sym ce) ∙ sym ue
+
+        pub start-14 : u ≡ true → Answered (Refused 14) b
+        start-14 t = refused 14 (in-rest ∙ simp (fourteen, t)) (λ z. omega (arith, z))
+
+        module _ (uf : u ≡ false) (table : Bytes) (ends : List ℕ) (held : Bytes) (R : Prepared m parts owners st table ends held) (order : List ℕ) (n owned long : ℕ)
+            (Q : Planned m parts owners i st table ends held order n owned long) where
+          size : 2 * long + 34 + 4 * n ≡ stateSize m parts owners i st
+          size = size-is m parts owners i st sn zn table ends held R order n owned long Q
+
+          I₂ : (1 ≤ i) × (i ≤ 16)
+          I₂ = passed-facts m parts owners i i st sn .i-in
+
+          pub start-16 : length b < 2 * long + 34 + 4 * n → Answered (Refused 16) b
+          start-16 h = refused 16 (in-rest ∙ simp (fourteen, uf, lt-ltb (length b) (stateSize m parts owners i st) (omega (arith, size)))) (λ z. omega (arith, z))
+
+          module _ (first : ℕ) (fe : first ≡ firstCell m) where
+            pub start-fit : Fit owners table ends held i first cells order n owned
+            start-fit = subst₂ (λ x y. Fit owners table ends held i x y order n owned) (sym fe) (sym ce) (Q .fit)
+
+            pub start-long : long ≡ 46 + n + owned + 2 * rowEnds table ends first order owned + sentEnds owners table ends held i first cells 16
+            start-long = Q .long-is ∙ ap₂ (λ x y. 46 + n + owned + 2 * rowEnds table ends x order owned + sentEnds owners table ends held i x y 16) (sym fe) (sym ce)
+
+            pub start-cells : Cells f first order n
+            start-cells =
+                cells-from m parts owners st table ends held R i (I₂ .0) (I₂ .1) first cells fe ce order n owned (Q .order-is) (Q .held-is) (Q .owned-is) f (sym ue ∙ uf)
+
+            -- the depths of the held cells
+            depth-is : (l : ℕ) → 1 ≤ l → l ≤ n → startDepth f first order l ≡ depthIn (schemeOf m st kind v) f (globalOf (locals (splitOf m parts owners st) i) l)
+            unfolding startDepth depthIn schemeOf globalOf
+            depth-is l h k =
+                ap₂ (λ x y. four f (4 * (x - y)))
+                (order-at m parts owners st table ends held R i (I₂ .0) (I₂ .1) first cells fe ce order n owned (Q .order-is) (Q .held-is) (Q .owned-is) (l - 1) (omega arith)) fe
+
+            state-is : bytesOf (startWords owners table ends held i first cells order n owned (steps st) kind v) ++ (replicate 34 0 ++ blocks 1 n (startDepth f first order)) ≡ firstState m parts owners i st kind v f
+            unfolding firstState
+            state-is =
+                ap₂ (λ (ws : List ℕ) (ds : Bytes). bytesOf ws ++ (replicate 34 0 ++ ds))
+                (start-words m parts owners st table ends held R i (I₂ .0) (I₂ .1) first cells fe ce order n owned (Q .order-is) (Q .held-is) (Q .owned-is) kind v)
+                (blocks-cong 1 (startDepth f first order) (λ l. depthIn (schemeOf m st kind v) f (globalOf (locals (splitOf m parts owners st) i) l)) n (λ k h. depth-is (1 + k) (omega arith) (omega arith))
+                ∙ ap (λ k. blocks 1 k (λ l. depthIn (schemeOf m st kind v) f (globalOf (locals (splitOf m parts owners st) i) l))) (Q .held-is))
+
+            pub start-done : 2 * long + 34 + 4 * n ≤ length b → (y : Bytes)
+                → y ≡ over b 0 (bytesOf (startWords owners table ends held i first cells order n owned (length st - 1) kind v) ++ (replicate 34 0 ++ blocks 1 n (startDepth f first order)))
+                → Answered (Done (2 * long + 34 + 4 * n)) y
+            unfolding steps
+            start-done h y e =
+                let a = done (in-rest ∙ simp (fourteen, uf, le-ltb (length b) (stateSize m parts owners i st) (omega (arith, size)))) in
+                (ap Done size ∙ a .0, e ∙ ap (over b 0) state-is ∙ a .1)

@@ -1,0 +1,19 @@
+-- `starts::calls::size_from` meets its contract. Assumes nothing.
+use native.Mathlib.Omega.{arith}
+use Rattle.starts.proofs.PlanLaws.{size-done}
+use borrow.Author.Needs.{needs}
+use Rattle.starts.proofs.calls.size_from.Statement.{statement}
+use Rattle.starts.proofs.calls.size_from.Tie as tie
+
+pub size-from-spec : {M : Type 1} → statement M
+size-from-spec =
+    tie.close
+    (tie.spec
+    (λ c κs. search needs)
+    (λ c. search needs)
+    (λ c. search needs)
+    (λ c. search needs)
+    (λ c. search needs)
+    (λ c. search needs)
+    (λ c. search needs)
+    (λ c. size-done _ _ _ _ _ (c .before .before .before .before .before .before .before .before .before .before .before .before .before .pre .0) (c .before .before .before .before .before .before .before .before .before .before .before .before .before .pre .1) _ _ _ (c .before .before .before .before .before .before .before .before .before .before .before .before .before .pre .2) _ _ _ _ (c .before .before .before .before .make-plan .ensures)))

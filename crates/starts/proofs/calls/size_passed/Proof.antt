@@ -1,0 +1,23 @@
+-- `starts::calls::size_passed` meets its contract. Assumes nothing.
+use mathlib.Core.Path.{refl, sym, _∙_}
+use Rattle.split.proofs.CallLaws.{passed-facts, blank}
+use Rattle.starts.proofs.PlanLaws.{size-sizes}
+use borrow.Author.Needs.{needs}
+use Rattle.starts.proofs.calls.size_passed.Statement.{statement}
+use Rattle.starts.proofs.calls.size_passed.Tie as tie
+
+pub size-passed-spec : {M : Type 1} → statement M
+size-passed-spec =
+    tie.close
+    (tie.spec
+    (λ c. search needs)
+    (λ c. search needs)
+    (λ c. search needs)
+    (λ c κs. (passed-facts _ _ _ _ _ _ (c .before .before .before .before .before .before .pre) .mesh, passed-facts _ _ _ _ _ _ (c .before .before .before .before .before .before .pre) .map, passed-facts _ _ _ _ _ _ (c .before .before .before .before .before .before .pre) .stencil, refl, refl, blank))
+    (λ c. size-sizes _ _ _ _ _ (c .before .before .before .before .before .before .before .before .before .before .before .pre) _ (c .before .before .before .before .sizes-number .ensures .0) (c .if1 .taken))
+    (λ c. search needs)
+    (λ c. search needs)
+    (λ c. search needs)
+    (λ c. search needs)
+    (λ c κs. (c .before .before .before .before .before .before .before .before .before .before .before .before .before .before .before .pre, (sym (c .before .before .before .before .before .before .before .before .sizes-number .ensures .0) ∙ c .before .before .before .before .if1 .left), c .before .before .before .before .before .before .before .before .sizes-number .ensures .1 (c .before .before .before .before .if1 .left), refl))
+    (λ c. search needs))

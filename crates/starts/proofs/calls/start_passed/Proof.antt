@@ -1,0 +1,25 @@
+-- `starts::calls::start_passed` meets its contract. Assumes nothing.
+use mathlib.Core.Path.{refl, sym, _∙_}
+use Rattle.split.proofs.CallLaws.{passed-facts, blank}
+use Rattle.starts.proofs.PlanLaws.{start-sizes}
+use borrow.Author.Needs.{needs}
+use Rattle.starts.proofs.calls.start_passed.Statement.{statement}
+use Rattle.starts.proofs.calls.start_passed.Tie as tie
+
+pub start-passed-spec : {M : Type 1} → statement M
+start-passed-spec =
+    tie.close
+    (tie.spec
+    (λ c. search needs)
+    (λ c. search needs)
+    (λ c. search needs)
+    (λ c κs. (passed-facts _ _ _ _ _ _ (c .before .before .before .before .before .before .before .before .before .pre .0) .mesh, passed-facts _ _ _ _ _ _ (c .before .before .before .before .before .before .before .before .before .pre .0) .map, passed-facts _ _ _ _ _ _ (c .before .before .before .before .before .before .before .before .before .pre .0) .stencil, refl, refl, blank))
+    (λ c. start-sizes _ _ _ _ _ _ _ _ _ (c .before .before .before .before .before .before .before .before .before .before .before .before .before .before .pre .0) (c .before .before .before .before .before .before .before .before .before .before .before .before .before .before .pre .1) _ (c .before .before .before .before .sizes-number .ensures .0) (c .if1 .taken))
+    (λ c. search needs)
+    (λ c. search needs)
+    (λ c. search needs)
+    (λ c. search needs)
+    (λ c. search needs)
+    (λ c κs. (c .before .before .before .before .before .before .before .before .before .before .before .before .before .before .before .before .before .before .before .before .pre .0, (sym (c .before .before .before .before .before .before .before .before .before .before .sizes-number .ensures .0) ∙ c .before .before .before .before .before .before .if1 .left), c .before .before .before .before .before .before .before .before .before .before .sizes-number .ensures .1 (c .before .before .before .before .before .before .if1 .left), refl, c .before .before .before .before .before .before .before .before .before .before .before .before .before .before .before .before .before .before .before .before .pre .1, refl))
+    (λ c. search needs)
+    (λ c. search needs))

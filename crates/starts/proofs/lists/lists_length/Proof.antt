@@ -1,0 +1,18 @@
+-- `starts::lists::lists_length` meets its contract. Assumes nothing.
+use Rattle.starts.proofs.StartLists.{long-told}
+use borrow.Author.Needs.{needs}
+use Rattle.starts.proofs.lists.lists_length.Statement.{statement}
+use Rattle.starts.proofs.lists.lists_length.Tie as tie
+
+pub lists-length-spec : {M : Type 1} → statement M
+lists-length-spec =
+    tie.close
+    (tie.spec
+    (λ c κs. search needs)
+    (λ c κs. search needs)
+    (λ c. search needs)
+    (λ c. search needs)
+    (λ c. search needs)
+    (λ c. search needs)
+    (λ c. search needs)
+    (λ c. long-told _ _ _ _ _ _ _ _ _ _ (c .before .before .before .before .before .before .before .pre) _ _ (c .before .last-end .ensures) (c .last-end2 .ensures)))

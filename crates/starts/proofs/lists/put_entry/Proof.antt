@@ -1,0 +1,23 @@
+-- `starts::lists::put_entry` meets its contract. Assumes nothing.
+use Rattle.starts.proofs.StartCounts.{entry-put}
+use borrow.Author.Needs.{needs}
+use Rattle.starts.proofs.lists.put_entry.Statement.{statement}
+use Rattle.starts.proofs.lists.put_entry.Tie as tie
+
+pub put-entry-spec : {M : Type 1} → statement M
+put-entry-spec =
+    tie.close
+    (tie.spec
+    (λ c. search needs)
+    (λ c κs. search needs)
+    (λ c. search needs)
+    (λ c. search needs)
+    (λ c κs. search needs)
+    (λ c. search needs)
+    (λ c κs. search needs)
+    (λ c. search needs)
+    (λ c. search needs)
+    (λ c κs. search needs)
+    (λ c κs. search needs)
+    (λ c. search needs)
+    (λ c. search entry-put))

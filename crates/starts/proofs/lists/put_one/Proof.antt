@@ -1,0 +1,15 @@
+-- `starts::lists::put_one` meets its contract. Assumes nothing.
+use Rattle.starts.proofs.PutLaws.{put-word}
+use borrow.Author.Needs.{needs}
+use Rattle.starts.proofs.lists.put_one.Statement.{statement}
+use Rattle.starts.proofs.lists.put_one.Tie as tie
+
+pub put-one-spec : {M : Type 1} → statement M
+put-one-spec =
+    tie.close
+    (tie.spec
+    (λ c. search needs)
+    (λ c κs. search needs)
+    (λ c. search needs)
+    (λ c. search needs)
+    (λ c. search put-word))

@@ -1,0 +1,21 @@
+-- `starts::lists::row_size` meets its contract. Assumes nothing.
+use Rattle.starts.proofs.StartCounts.{size-none, size-some}
+use borrow.Author.Needs.{needs}
+use Rattle.starts.proofs.lists.row_size.Statement.{statement}
+use Rattle.starts.proofs.lists.row_size.Tie as tie
+
+pub row-size-spec : {M : Type 1} → statement M
+row-size-spec =
+    tie.close
+    (tie.spec
+    (λ c. search needs)
+    (λ c κs. search needs)
+    (λ c. search needs)
+    (λ c. search needs)
+    (λ c κs. search needs)
+    (λ c. search needs)
+    (λ c. search needs)
+    (λ c κs. search needs)
+    (λ c. search needs)
+    (λ c. (search size-none, search needs))
+    (λ c. (search size-some, search needs)))

@@ -1,0 +1,113 @@
+-- Start and the size of a state. Assumes nothing.
+--
+-- "Start takes a mesh, a part map, a part's number, a stencil, a rule and a field, and makes a state at round 0."
+use mathlib.Core.Bool.{cond}
+use mathlib.Core.List.{List, [], _∷_, _++_, map}
+use Prim.Native.Nat.{ℕ, _+_, _*_}
+use lib.Dec.{eqb, ltb}
+use lib.ListN.{length, replicate}
+use Rattle.vocabulary.specs.Ranges.{listed, blocks, total}
+use Rattle.vocabulary.specs.Lists.{joined}
+use Rattle.vocabulary.specs.Tests.{Test, refuse, firstOf}
+use Rattle.vocabulary.specs.Bytes.{Bytes, over}
+use Rattle.layout.specs.Words.{wordAt, bytesOf}
+use Rattle.layout.specs.Answers.{answer}
+use Rattle.layout.specs.declared.Answer.{Answer}
+use Rattle.mesh.specs.Mesh.{cellCount}
+use Rattle.mesh.specs.Walks.{Near, steps}
+use Rattle.round.specs.Rules.{bad11}
+use Rattle.round.specs.Rounds.{schemeOf, depthIn, bad14}
+use Rattle.split.specs.Split.{Split, splitOf, owned, imports, exports, locals, localOf, globalOf}
+use Rattle.split.specs.Lists.{splitTests, sizeTests}
+use Rattle.parts.specs.State.{stateLength}
+
+-- ---- the lists of a part as the words of its state
+
+-- how many cells part i owns
+abbrev pub ownedIn : Split → ℕ → ℕ
+ownedIn S i = length (owned S i)
+
+-- of part i, whose held cells in local order are `order`
+module _ (S : Split) (i : ℕ) (order : List ℕ) where
+  -- the reach of its local cell l
+  abbrev pub reachOf : ℕ → List Near
+  reachOf l = S .reach (globalOf order l)
+
+  -- how many held cells are owned or imported from the parts up to j, exports go to the parts up to j, entries the reaches up to l have
+  unfoldable pub importEnds : ℕ → ℕ
+  importEnds j = ownedIn S i + total 1 j (λ k. length (imports S i k))
+
+  unfoldable pub exportEnds : ℕ → ℕ
+  exportEnds j = total 1 j (λ k. length (exports S i k))
+
+  unfoldable pub reachEnds : ℕ → ℕ
+  reachEnds l = total 1 l (λ k. length (reachOf k))
+
+  -- the reach of a local cell in local numbers, two words an entry
+  unfoldable pub reachWords : ℕ → List ℕ
+  reachWords l = joined (map (λ e. localOf order (e .cell) ∷ e .layer ∷ []) (reachOf l))
+
+  -- what is exported to part j, in local numbers
+  unfoldable pub exportWords : ℕ → List ℕ
+  exportWords j = map (localOf order) (exports S i j)
+
+  -- the length of the lists in words
+  unfoldable pub listsLong : ℕ
+  listsLong = 46 + length order + ownedIn S i + 2 * reachEnds (ownedIn S i) + exportEnds 16
+
+  -- the words, for a stencil of n steps and a rule
+  unfoldable pub listsWords : ℕ → ℕ → Bytes → List ℕ
+  listsWords n kind v =
+      (listsLong ∷ i ∷ n ∷ kind ∷ [])
+      ++ (listed 0 5 (wordAt v)
+      ++ ((S .first ∷ S .cells ∷ [])
+      ++ (listed 0 17 importEnds
+      ++ (listed 0 17 exportEnds
+      ++ (order
+      ++ (listed 0 (ownedIn S i + 1) reachEnds
+      ++ (blocks 1 (ownedIn S i) reachWords
+      ++ blocks 1 16 exportWords)))))))
+
+-- ---- the calls: mesh m, P and owners, part i, stencil st, and for start rule kind and weights v, field f, state
+
+module _ (m : Bytes) (parts : ℕ) (owners : Bytes) (i : ℕ) (st : Bytes) where
+  abbrev pub orderOf : List ℕ
+  orderOf = locals (splitOf m parts owners st) i
+
+  -- the bytes that start needs
+  unfoldable pub stateSize : ℕ
+  stateSize = stateLength (2 * listsLong (splitOf m parts owners st) i orderOf) (length orderOf)
+
+  unfoldable pub sizeNumber : ℕ
+  sizeNumber = firstOf (splitTests m parts owners (i ∷ []) st ++ sizeTests m parts owners st)
+
+  unfoldable pub sizeAnswer : Answer
+  sizeAnswer = answer sizeNumber stateSize
+
+  module _ (kind : ℕ) (v f : Bytes) where
+    -- the state of the part at round 0: "nothing is taken and nothing written"
+    unfoldable pub firstState : Bytes
+    firstState =
+        let S : Split = splitOf m parts owners st in
+        let order : List ℕ = orderOf in
+        bytesOf (listsWords S i order (steps st) kind v)
+        ++ (replicate 34 0 ++ blocks 1 (length order) (λ l. depthIn (schemeOf m st kind v) f (globalOf order l)))
+
+    unfoldable pub startTests : Bytes → List Test
+    startTests state =
+        splitTests m parts owners (i ∷ []) st
+        ++ (refuse 11 (bad11 kind (steps st) v)
+        ∷ sizeTests m parts owners st
+        ++ (refuse 14 (bad14 (cellCount m) f)
+        ∷ refuse 16 (ltb (length state) stateSize)
+        ∷ []))
+
+    unfoldable pub startNumber : Bytes → ℕ
+    startNumber state = firstOf (startTests state)
+
+    -- it gives the length of the state
+    unfoldable pub startAnswer : Bytes → Answer
+    startAnswer state = answer (startNumber state) stateSize
+
+    unfoldable pub startState : Bytes → Bytes
+    startState state = cond (eqb (startNumber state) 0) (over state 0 firstState) state

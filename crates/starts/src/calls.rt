@@ -1,0 +1,287 @@
+// Start and state size.
+use crate::lists::got_count;
+use crate::lists::lists_length;
+use crate::lists::put_cells;
+use crate::lists::put_lists;
+use layout::Answer;
+use mesh::inner::cell_count;
+use mesh::inner::first_cell;
+use parts::inner::clear;
+use round::bad_field;
+use round::bad_rule;
+use split::inner::HALO;
+use split::inner::INTERIOR;
+use split::inner::add_locals;
+use split::inner::sizes_number;
+use split::split_number;
+ghost use mathlib.Core.Path.{_≡_};
+ghost use mathlib.Core.Bool.{false};
+ghost use mathlib.Core.List.{[], _∷_, _++_};
+ghost use Prim.Native.Nat.{_+_, _*_, _<_, _≤_};
+ghost use lib.ListN.{length, replicate};
+ghost use Rattle.vocabulary.specs.Bytes.{over};
+ghost use Rattle.vocabulary.specs.Ranges.{blocks};
+ghost use Rattle.layout.specs.Words.{bytesOf};
+ghost use Rattle.mesh.specs.Walks.{steps};
+ghost use Rattle.round.specs.Rules.{bad11};
+ghost use Rattle.split.specs.Lists.{splitNumber, sizesNumber};
+ghost use Rattle.split.specs.Sorting.{Prepared};
+ghost use Rattle.starts.specs.Start.{sizeAnswer, startAnswer, startState};
+ghost use Rattle.starts.specs.Starting.{rowEnds, sentEnds, startWords, startDepth, Fit, Cells, Planned};
+
+// How many cells a part holds and owns, and how many words its lists have.
+pub struct Plan {
+    pub held: usize,
+    pub owned: usize,
+    pub long: usize,
+}
+
+// Writes a whole state at round 0.
+fn put_state(
+    b: &mut [u8],
+    long: usize,
+    steps: usize,
+    kind: usize,
+    v: &[u8],
+    owners: &[u8],
+    table: &[u8],
+    ends: &[u16],
+    held: &[u8],
+    i: usize,
+    first: usize,
+    cells: usize,
+    order: &[u16],
+    n: usize,
+    owned: usize,
+    f: &[u8],
+    list: &mut [u16],
+)
+    requires { ⌜ Fit (now owners) (now table) (now ends) (now held) i first cells (now order) n owned × (long ≡ 46 + n + owned + 2 * rowEnds (now table) (now ends) first (now order) owned + sentEnds (now owners) (now table) (now ends) (now held) i first cells 16) × (2 * long + 34 + 4 * n ≤ length (now b)) × (steps < 65536) × (kind < 65536) × (length (now list) ≡ 2000) × Cells (now f) first (now order) n ⌝ }
+    ensures { λ _. ⌜ now (b .exit) ≡ over (now (b .entry)) 0 (bytesOf (startWords (now (owners .entry)) (now (table .entry)) (now (ends .entry)) (now (held .entry)) i first cells (now (order .entry)) n owned steps kind (now (v .entry))) ++ (replicate 34 0 ++ blocks 1 n (startDepth (now (f .entry)) first (now (order .entry))))) ⌝ }
+{
+    put_lists(
+        b,
+        long,
+        steps,
+        kind,
+        v,
+        owners,
+        table,
+        ends,
+        held,
+        i,
+        first,
+        cells,
+        order,
+        n,
+        owned,
+        list,
+    );
+    clear(b, 2 * long, 34);
+    put_cells(b, 2 * long + 34, f, first, order, n);
+}
+
+// The local order of part i, and what comes of it.
+fn make_plan(
+    m: &[u8],
+    parts: usize,
+    owners: &[u8],
+    i: usize,
+    st: &[u8],
+    table: &[u8],
+    ends: &[u16],
+    held: &[u8],
+    order: &mut [u16],
+) -> Plan
+    requires { ⌜ (splitNumber (now m) parts (now owners) (i ∷ i ∷ []) (now st) ≡ 0) × (sizesNumber (now m) parts (now owners) (now st) ≡ 0) × Prepared (now m) parts (now owners) (now st) (now table) (now ends) (now held) × (length (now order) ≡ 2000) ⌝ }
+    ensures { λ p. ⌜ Planned (now (m .entry)) parts (now (owners .entry)) i (now (st .entry)) (now (table .entry)) (now (ends .entry)) (now (held .entry)) (now (order .exit)) (p .held) (p .owned) (p .long) ⌝ }
+{
+    let first = first_cell(m);
+    let cells = cell_count(m);
+    let n = add_locals(owners, table, ends, held, i, first, cells, parts, order);
+    let inner = got_count(owners, table, ends, held, i, first, cells, INTERIOR);
+    let owned = inner + got_count(owners, table, ends, held, i, first, cells, HALO);
+    let long = lists_length(owners, table, ends, held, i, first, cells, order, n, owned);
+    Plan {
+        held: n,
+        owned,
+        long,
+    }
+}
+
+// The size, from prepared tables.
+fn size_from(
+    m: &[u8],
+    parts: usize,
+    owners: &[u8],
+    i: usize,
+    st: &[u8],
+    table: &[u8],
+    ends: &[u16],
+    held: &[u8],
+    order: &mut [u16],
+) -> Answer
+    requires { ⌜ (splitNumber (now m) parts (now owners) (i ∷ i ∷ []) (now st) ≡ 0) × (sizesNumber (now m) parts (now owners) (now st) ≡ 0) × Prepared (now m) parts (now owners) (now st) (now table) (now ends) (now held) × (length (now order) ≡ 2000) ⌝ }
+    ensures { λ r. ⌜ r ≡ sizeAnswer (now (m .entry)) parts (now (owners .entry)) i (now (st .entry)) ⌝ }
+{
+    let p = make_plan(m, parts, owners, i, st, table, ends, held, order);
+    Answer::Done((2 * p.long + 34 + 4 * p.held) as u32)
+}
+
+// The size, where the tests up to 10 are passed.
+fn size_passed(m: &[u8], parts: u32, owners: &[u8], i: u32, st: &[u8]) -> Answer
+    requires { ⌜ splitNumber (now m) parts (now owners) (i ∷ i ∷ []) (now st) ≡ 0 ⌝ }
+    ensures { λ r. ⌜ r ≡ sizeAnswer (now (m .entry)) parts (now (owners .entry)) i (now (st .entry)) ⌝ }
+{
+    let mut table = [0u8; 32000];
+    let mut ends = [0u16; 2001];
+    let mut held = [0u8; 34000];
+    let mut order = [0u16; 2000];
+    let number = sizes_number(m, parts, owners, st, &mut table, &mut ends, &mut held);
+    if number != 0 {
+        return Answer::Refused(number);
+    }
+    size_from(
+        m,
+        parts as usize,
+        owners,
+        i as usize,
+        st,
+        &table,
+        &ends,
+        &held,
+        &mut order,
+    )
+}
+
+// How many bytes the state of part i needs.
+pub fn state_size(m: &[u8], parts: u32, owners: &[u8], i: u32, st: &[u8]) -> Answer
+    ensures { λ r. ⌜ r ≡ sizeAnswer (now (m .entry)) parts (now (owners .entry)) i (now (st .entry)) ⌝ }
+{
+    let number = split_number(m, parts, owners, i, i, st);
+    if number != 0 {
+        return Answer::Refused(number);
+    }
+    size_passed(m, parts, owners, i, st)
+}
+
+// Start, from prepared tables.
+fn start_from(
+    m: &[u8],
+    parts: usize,
+    owners: &[u8],
+    i: usize,
+    st: &[u8],
+    kind: usize,
+    v: &[u8],
+    f: &[u8],
+    table: &[u8],
+    ends: &[u16],
+    held: &[u8],
+    order: &mut [u16],
+    list: &mut [u16],
+    b: &mut [u8],
+) -> Answer
+    requires { ⌜ (splitNumber (now m) parts (now owners) (i ∷ i ∷ []) (now st) ≡ 0) × (sizesNumber (now m) parts (now owners) (now st) ≡ 0) × Prepared (now m) parts (now owners) (now st) (now table) (now ends) (now held) × (length (now order) ≡ 2000) × (bad11 kind (steps (now st)) (now v) ≡ false) × (length (now list) ≡ 2000) ⌝ }
+    ensures { λ r. ⌜ (r ≡ startAnswer (now (m .entry)) parts (now (owners .entry)) i (now (st .entry)) kind (now (v .entry)) (now (f .entry)) (now (b .entry))) × (now (b .exit) ≡ startState (now (m .entry)) parts (now (owners .entry)) i (now (st .entry)) kind (now (v .entry)) (now (f .entry)) (now (b .entry))) ⌝ }
+{
+    let first = first_cell(m);
+    let cells = cell_count(m);
+    if bad_field(cells, f) {
+        return Answer::Refused(14);
+    }
+    let p = make_plan(m, parts, owners, i, st, table, ends, held, order);
+    let long = p.long;
+    let n = p.held;
+    let owned = p.owned;
+    let size = 2 * long + 34 + 4 * n;
+    if b.len() < size {
+        return Answer::Refused(16);
+    }
+    put_state(
+        b,
+        long,
+        st.len() - 1,
+        kind,
+        v,
+        owners,
+        table,
+        ends,
+        held,
+        i,
+        first,
+        cells,
+        order,
+        n,
+        owned,
+        f,
+        list,
+    );
+    Answer::Done(size as u32)
+}
+
+// Start, where the tests up to 11 are passed.
+fn start_passed(
+    m: &[u8],
+    parts: u32,
+    owners: &[u8],
+    i: u32,
+    st: &[u8],
+    kind: u32,
+    v: &[u8],
+    f: &[u8],
+    b: &mut [u8],
+) -> Answer
+    requires { ⌜ (splitNumber (now m) parts (now owners) (i ∷ i ∷ []) (now st) ≡ 0) × (bad11 kind (steps (now st)) (now v) ≡ false) ⌝ }
+    ensures { λ r. ⌜ (r ≡ startAnswer (now (m .entry)) parts (now (owners .entry)) i (now (st .entry)) kind (now (v .entry)) (now (f .entry)) (now (b .entry))) × (now (b .exit) ≡ startState (now (m .entry)) parts (now (owners .entry)) i (now (st .entry)) kind (now (v .entry)) (now (f .entry)) (now (b .entry))) ⌝ }
+{
+    let mut table = [0u8; 32000];
+    let mut ends = [0u16; 2001];
+    let mut held = [0u8; 34000];
+    let mut order = [0u16; 2000];
+    let mut list = [0u16; 2000];
+    let number = sizes_number(m, parts, owners, st, &mut table, &mut ends, &mut held);
+    if number != 0 {
+        return Answer::Refused(number);
+    }
+    start_from(
+        m,
+        parts as usize,
+        owners,
+        i as usize,
+        st,
+        kind as usize,
+        v,
+        f,
+        &table,
+        &ends,
+        &held,
+        &mut order,
+        &mut list,
+        b,
+    )
+}
+
+// Makes the state of part i at round 0 at the front of b: mesh, number of parts and owners, the part, stencil, rule kind and weights, field.
+pub fn start(
+    m: &[u8],
+    parts: u32,
+    owners: &[u8],
+    i: u32,
+    st: &[u8],
+    kind: u32,
+    v: &[u8],
+    f: &[u8],
+    b: &mut [u8],
+) -> Answer
+    ensures { λ r. ⌜ (r ≡ startAnswer (now (m .entry)) parts (now (owners .entry)) i (now (st .entry)) kind (now (v .entry)) (now (f .entry)) (now (b .entry))) × (now (b .exit) ≡ startState (now (m .entry)) parts (now (owners .entry)) i (now (st .entry)) kind (now (v .entry)) (now (f .entry)) (now (b .entry))) ⌝ }
+{
+    let number = split_number(m, parts, owners, i, i, st);
+    if number != 0 {
+        return Answer::Refused(number);
+    }
+    if bad_rule(kind, st.len() - 1, v) {
+        return Answer::Refused(11);
+    }
+    start_passed(m, parts, owners, i, st, kind, v, f, b)
+}
