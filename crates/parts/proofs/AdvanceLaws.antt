@@ -19,9 +19,9 @@ use Rattle.layout.specs.Answers.{answer}
 use Rattle.layout.specs.AnswerLaws.{answer-done, answer-refused}
 use Rattle.layout.specs.declared.Answer.{Answer}
 use Rattle.layout.specs.declared.Answer.the-variants.{Done, Refused}
-use Rattle.parts.specs.State.{Lists, listsIn, listsOf, dynamic, ownedCount, isState, bad20, takenPlace, writtenPlace, exportEnd, exportAt, localExports}
+use Rattle.states.specs.State.{Lists, listsIn, listsOf, dynamic, ownedCount, isState, bad20, takenPlace, writtenPlace, exportEnd, exportAt, localExports}
 use Rattle.parts.specs.Calls.{importsFrom, exportsTo, allTaken, allWritten, newAt, advancedIn, advanceTestsIn, advanceNumber, advanceAnswer, advanceState}
-use Rattle.parts.specs.Checks.{Opened, settledAt, advanceRest}
+use Rattle.parts.specs.Opened.{Opened, settledAt, advanceRest}
 use Rattle.parts.proofs.OpenedLaws.{whole, own-few, long, good-state, not-state, cut, lists-is}
 use Rattle.parts.proofs.RenewLaws.{new-four}
 

@@ -1,5 +1,3 @@
-pub mod ListChecks
-pub mod StateChecks
 pub mod OpenedLaws
 pub mod CollectLaws
 pub mod TakeLaws

@@ -10,9 +10,9 @@ use Rattle.vocabulary.specs.Ranges.{blocks}
 use Rattle.layout.specs.Words.{wordAt}
 use Rattle.layout.specs.Depths.{four}
 use Rattle.layout.specs.DepthLaws.{fours-of}
-use Rattle.parts.specs.State.{listsIn, listsOf, heldCount, ownedCount, isState, bad20}
-use Rattle.parts.specs.StateLaws.{Whole, isStateAt, state-at, whole-is}
-use Rattle.parts.specs.Checks.{Opened}
+use Rattle.states.specs.State.{listsIn, listsOf, heldCount, ownedCount, isState, bad20}
+use Rattle.states.specs.StateLaws.{Whole, isStateAt, state-at, whole-is}
+use Rattle.parts.specs.Opened.{Opened}
 
 module _ (st : Bytes) (d : ℕ) (b : Bytes) (o : Opened st d b) where
   pub whole : Whole st d b

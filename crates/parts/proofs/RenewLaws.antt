@@ -27,10 +27,10 @@ use Rattle.round.specs.Update.{entries, oldsAt, Ready}
 use Rattle.round.specs.Update as update
 use Rattle.round.specs.UpdateLaws.{weightSum-own}
 use Rattle.round.proofs.Registers.{depth-held}
-use Rattle.parts.specs.State.{LocalNear, listsIn, ruleKind, stepCount, weights, heldCount, ownedCount, reachEnd, reachCount, entryAt, localReach, ownFound}
+use Rattle.states.specs.State.{LocalNear, listsIn, ruleKind, stepCount, weights, heldCount, ownedCount, reachEnd, reachCount, entryAt, localReach, ownFound}
 use Rattle.parts.specs.Calls.{depthAt, newAt}
-use Rattle.parts.specs.StateLaws.{Whole}
-use Rattle.parts.specs.Checks.{Opened}
+use Rattle.states.specs.StateLaws.{Whole}
+use Rattle.parts.specs.Opened.{Opened}
 use Rattle.parts.proofs.OpenedLaws.{whole, own-few, long}
 
 listed-moved : {A : Type 0} (a b : ℕ) (f g : ℕ → A) (n : ℕ) → ((i : ℕ) → i < n → f (a + i) ≡ g (b + i)) → listed a n f ≡ listed b n g

@@ -21,9 +21,10 @@ use Rattle.layout.specs.AnswerLaws.{answer-done, answer-refused}
 use Rattle.layout.specs.declared.Answer.{Answer}
 use Rattle.layout.specs.declared.Answer.the-variants.{Done, Refused}
 use Rattle.messages.specs.Messages.{encode}
-use Rattle.parts.specs.State.{Lists, listsIn, listsOf, dynamic, roundAt, exportEnd, exportCount, exportAt, localExports, heldCount, ownedCount, reachCount, isState, bad20, depthPlace}
+use Rattle.states.specs.State.{Lists, listsIn, listsOf, dynamic, roundAt, exportEnd, exportCount, exportAt, localExports, heldCount, ownedCount, reachCount, isState, bad20, depthPlace}
 use Rattle.parts.specs.Calls.{exportsTo, depthAt, messageTo, writeTestsIn, writtenIn, writeNumber, message, writeAnswer, writeState, writeOut}
-use Rattle.parts.specs.Checks.{Opened, Counts, sentTo, sentAt}
+use Rattle.states.specs.Checks.{Counts}
+use Rattle.parts.specs.Opened.{Opened, sentTo, sentAt}
 use Rattle.parts.proofs.OpenedLaws.{whole, own-few, long, good-state, not-state, four-cut, cut, lists-is}
 use Rattle.parts.proofs.TakeLaws.{part-few}
 

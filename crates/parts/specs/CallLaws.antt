@@ -13,8 +13,8 @@ use Rattle.vocabulary.specs.RangeLaws.{upTo-true}
 use Rattle.vocabulary.specs.Tests.{passed, firstOf}
 use Rattle.layout.specs.Depths.{rangedAt}
 use Rattle.messages.specs.Messages.{fromIn, toIn, roundIn, countIn, bad15}
-use Rattle.parts.specs.State.{Lists, listsIn, roundAt, stateLength}
-use Rattle.parts.specs.StateLaws.{Whole}
+use Rattle.states.specs.State.{Lists, listsIn, roundAt, stateLength}
+use Rattle.states.specs.StateLaws.{Whole}
 use Rattle.parts.specs.Calls.{importsFrom, takeTestsIn}
 
 -- what the test 20 says, by the lists

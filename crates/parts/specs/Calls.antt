@@ -16,7 +16,7 @@ use Rattle.layout.specs.Answers.{answer}
 use Rattle.layout.specs.declared.Answer.{Answer}
 use Rattle.layout.specs.Depths.{four}
 use Rattle.messages.specs.Messages.{encode, fromIn, toIn, roundIn, countIn, bad15}
-use Rattle.parts.specs.State.{Lists, listsOf, dynamic, bad20, roundAt, takenPlace, writtenPlace, depthPlace}
+use Rattle.states.specs.State.{Lists, listsOf, dynamic, bad20, roundAt, takenPlace, writtenPlace, depthPlace}
 
 -- the part imports from j, exports to j
 unfoldable pub importsFrom : Lists → ℕ → Bool

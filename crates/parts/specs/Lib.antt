@@ -1,5 +1,3 @@
-pub mod State
 pub mod Calls
-pub mod Checks
-pub mod StateLaws
+pub mod Opened
 pub mod CallLaws

@@ -1,7 +1,4 @@
 // Advance: one round of the owned cells.
-use crate::lists::between;
-use crate::lists::weight_count;
-use crate::state::is_state;
 use layout::Answer;
 use layout::byte_at;
 use layout::inner::copy;
@@ -10,6 +7,9 @@ use layout::inner::put_word;
 use layout::inner::word_in;
 use layout::word_at;
 use round::inner::new_depth;
+use states::inner::between;
+use states::inner::weight_count;
+use states::is_state;
 ghost use mathlib.Core.Path.{_≡_};
 ghost use mathlib.Core.List.{_++_};
 ghost use Prim.Native.Nat.{_+_, _*_, _<_, _≤_};
@@ -18,8 +18,8 @@ ghost use Rattle.vocabulary.specs.Bytes.{over};
 ghost use Rattle.vocabulary.specs.Ranges.{every, blocks};
 ghost use Rattle.layout.specs.Words.{wordBytes};
 ghost use Rattle.layout.specs.Depths.{depthBytes};
-ghost use Rattle.parts.specs.State.{listsIn, ruleKind, weights, heldCount, ownedCount};
-ghost use Rattle.parts.specs.Checks.{Opened, settledAt, advanceRest};
+ghost use Rattle.states.specs.State.{listsIn, ruleKind, weights, heldCount, ownedCount};
+ghost use Rattle.parts.specs.Opened.{Opened, settledAt, advanceRest};
 ghost use Rattle.parts.specs.Calls.{newAt, advanceAnswer, advanceState};
 
 // Whether nothing is to be taken from (written to) part j, or its flag is set.

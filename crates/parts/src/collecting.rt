@@ -1,14 +1,14 @@
 // Collect: the owned depths put into a field.
-use crate::state::is_state;
 use layout::Answer;
 use layout::inner::copy;
 use layout::inner::word_in;
 use layout::word_at;
+use states::is_state;
 ghost use mathlib.Core.Path.{_≡_};
 ghost use Prim.Native.Nat.{_*_, _<_, _≤_};
 ghost use lib.ListN.{length};
-ghost use Rattle.parts.specs.State.{listsIn, firstOfMesh, cellsOfMesh, ownedCount};
-ghost use Rattle.parts.specs.Checks.{Opened};
+ghost use Rattle.states.specs.State.{listsIn, firstOfMesh, cellsOfMesh, ownedCount};
+ghost use Rattle.parts.specs.Opened.{Opened};
 ghost use Rattle.parts.specs.Calls.{collectedIn, collectAnswer, collectOut};
 
 // Puts the depths of the owned cells at their places in the field.

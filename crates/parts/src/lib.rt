@@ -1,14 +1,12 @@
-// Part states and the four calls on them. Here stand the calls, which take any bytes; what supposes something is in `inner`.
+// The four calls on a part's state. Here stand the calls, which take any bytes; what supposes something is in `inner`.
 mod advancing;
 mod collecting;
+mod flags;
 pub mod inner;
-mod lists;
-mod state;
 mod taking;
 mod writing;
 
 pub use advancing::advance;
 pub use collecting::collect;
-pub use state::is_state;
 pub use taking::take;
 pub use writing::write;

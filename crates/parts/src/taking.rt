@@ -1,8 +1,5 @@
 // Take: one message into a state.
-use crate::lists::between;
-use crate::lists::up_to;
-use crate::state::is_state;
-use crate::state::set_flag;
+use crate::flags::set_flag;
 use layout::Answer;
 use layout::byte_at;
 use layout::inner::copy;
@@ -11,14 +8,17 @@ use layout::word_at;
 use messages::Reading;
 use messages::read;
 use messages::refusal_of;
+use states::inner::between;
+use states::is_state;
+use states::up_to;
 ghost use mathlib.Core.Path.{_≡_};
 ghost use mathlib.Core.Bool.{false};
 ghost use Prim.Native.Nat.{_+_, _*_, _<_, _≤_};
 ghost use lib.ListN.{length, set, take, drop};
 ghost use Rattle.vocabulary.specs.Bytes.{over};
 ghost use Rattle.messages.specs.Messages.{bad15, fromIn, toIn, roundIn, countIn};
-ghost use Rattle.parts.specs.State.{listsIn};
-ghost use Rattle.parts.specs.Checks.{Opened, wrongSender, takeRest};
+ghost use Rattle.states.specs.State.{listsIn};
+ghost use Rattle.parts.specs.Opened.{Opened, wrongSender, takeRest};
 ghost use Rattle.parts.specs.Calls.{takeAnswer, takeState};
 
 // Whether a message with these words is no message to this part from one that it imports from, with as many depths (21).

@@ -1,20 +1,21 @@
 // Write: the message to one importer.
-use crate::lists::between;
-use crate::lists::up_to;
-use crate::state::is_state;
-use crate::state::set_flag;
+use crate::flags::set_flag;
 use layout::Answer;
 use layout::inner::copy;
 use layout::inner::word_in;
 use layout::word_at;
 use messages::inner::write_head;
+use states::inner::between;
+use states::is_state;
+use states::up_to;
 ghost use mathlib.Core.Path.{_≡_};
 ghost use Prim.Native.Nat.{_+_, _*_, _<_, _≤_};
 ghost use lib.ListN.{length, take};
 ghost use Rattle.vocabulary.specs.Bytes.{over};
 ghost use Rattle.vocabulary.specs.Ranges.{blocks};
-ghost use Rattle.parts.specs.State.{listsIn, exportCount};
-ghost use Rattle.parts.specs.Checks.{Opened, Counts, sentTo, sentAt};
+ghost use Rattle.states.specs.State.{listsIn, exportCount};
+ghost use Rattle.states.specs.Checks.{Counts};
+ghost use Rattle.parts.specs.Opened.{Opened, sentTo, sentAt};
 ghost use Rattle.parts.specs.Calls.{messageTo, writeAnswer, writeState, writeOut};
 
 // How many depths go to part j: none where j is no part.

@@ -24,8 +24,8 @@ use Rattle.round.specs.Rounds.{schemeOf, depthIn}
 use Rattle.round.specs.RoundLaws.{field-depth}
 use Rattle.split.specs.Split.{Split, splitOf, held, holds, imports, exports, locals, localOf, globalOf}
 use Rattle.split.specs.SplitLaws.{Cell, split-own, order-cells, own-is, own-number, own-local, import-own, local-back, local-held, reach-held}
-use Rattle.parts.specs.State.{LocalNear, fineEntry, partNumber, stepCount, ruleKind, weights, firstOfMesh, cellsOfMesh, importEnd, ownedCount, heldCount, exportEnd, exportCount, globalAt, reachEnd, reachCount, entryAt, exportAt, localReach, listsLength, rises, listsTests, dynamicTests, isState, roundAt, takenPlace, writtenPlace, stateLength}
-use Rattle.parts.specs.StateLaws.{rises-intro, isStateAt, state-at}
+use Rattle.states.specs.State.{LocalNear, fineEntry, partNumber, stepCount, ruleKind, weights, firstOfMesh, cellsOfMesh, importEnd, ownedCount, heldCount, exportEnd, exportCount, globalAt, reachEnd, reachCount, entryAt, exportAt, localReach, listsLength, rises, listsTests, dynamicTests, isState, roundAt, takenPlace, writtenPlace, stateLength}
+use Rattle.states.specs.StateLaws.{rises-intro, isStateAt, state-at}
 use Rattle.starts.specs.Start.{ownedIn, reachOf, importEnds, exportEnds, reachEnds, exportWords, listsLong}
 use Rattle.runs.specs.FormLaws.{front-length, part-back, steps-back, kind-back, first-back, cells-back, weights-back, import-back, export-back, owned-back, global-back, held-back, ends-back, count-back, entry-back, reach-back, export-word, exports-length}
 use Rattle.runs.specs.Run.{Inputs, startNumberIn, startStateIn, StatesKept}

@@ -16,7 +16,7 @@ use Rattle.layout.specs.DepthLaws.{fours-same}
 use Rattle.mesh.specs.Mesh.{cellCount}
 use Rattle.round.specs.Rounds.{schemeOf, undivided}
 use Rattle.round.specs.RoundLaws.{field-length, undivided-good}
-use Rattle.parts.specs.State.{isState}
+use Rattle.states.specs.State.{isState}
 use Rattle.starts.specs.Start.{firstState}
 use Rattle.runs.specs.Run.{Inputs, schemeIn, startNumberIn, startStateIn, begin, Run, collectsOf, Right, Gathered, RunTheorem}
 use Rattle.runs.specs.WorldLaws.{Holds, Inv, run-inv}

@@ -20,7 +20,7 @@ use Rattle.layout.specs.WordLaws.{length-bytesOf, bytesOf-append, bytesOf-high,
 use Rattle.mesh.specs.Walks.{Near}
 use Rattle.round.specs.Rules.{weightCount, tooHeavy, bad11}
 use Rattle.split.specs.Split.{Split, imports, exports, localOf, globalOf}
-use Rattle.parts.specs.State.{LocalNear, partNumber, stepCount, ruleKind, weights, firstOfMesh, cellsOfMesh, importEnd, ownedCount, heldCount, exportEnd, globalAt, reachEnd, entryAt, exportAt, localReach, localExports}
+use Rattle.states.specs.State.{LocalNear, partNumber, stepCount, ruleKind, weights, firstOfMesh, cellsOfMesh, importEnd, ownedCount, heldCount, exportEnd, globalAt, reachEnd, entryAt, exportAt, localReach, localExports}
 use Rattle.starts.specs.Start.{ownedIn, reachOf, importEnds, exportEnds, reachEnds, reachWords, exportWords, listsLong, listsWords}
 
 -- ---- the words by their places

@@ -22,8 +22,8 @@ use Rattle.layout.specs.DepthLaws.{length-four, four-set, depth-four, range-int
 use Rattle.round.specs.Rules.{Old}
 use Rattle.round.specs.RuleLaws.{Small, new-small, new-length}
 use Rattle.messages.specs.Messages.{fromIn, countIn}
-use Rattle.parts.specs.State.{LocalNear, listsIn, listsOf, dynamic, ruleKind, weights, heldCount, ownedCount, localReach, isState, roundAt, takenPlace, writtenPlace, depthPlace}
-use Rattle.parts.specs.StateLaws.{isStateAt, state-at, Whole, whole-is, still-whole, near-whole, Frame, frame-take, frame-dynamic}
+use Rattle.states.specs.State.{LocalNear, listsIn, listsOf, dynamic, ruleKind, weights, heldCount, ownedCount, localReach, isState, roundAt, takenPlace, writtenPlace, depthPlace}
+use Rattle.states.specs.StateLaws.{isStateAt, state-at, Whole, whole-is, still-whole, near-whole, Frame, frame-take, frame-dynamic}
 use Rattle.parts.specs.Calls.{depthAt, writtenIn, takenIn, advanceTestsIn, newAt, advancedIn, writeNumber, writeState, takeNumber, takeState, advanceNumber, advanceState}
 use Rattle.parts.specs.CallLaws.{Room, room-of, Taken, taken-facts}
 use Rattle.runs.specs.RunLaws.{take-room, take-flag, take-frame, take-word, take-in, take-below, take-above, advance-frame, advance-word, advance-flag, advance-owned, advance-others}

@@ -13,7 +13,7 @@ use Rattle.layout.specs.Depths.{four}
 use Rattle.mesh.specs.Mesh.{cellCount}
 use Rattle.round.specs.Rounds.{Scheme, schemeOf, undivided}
 use Rattle.split.specs.Split.{Split, splitOf, ownerAt, owned, held, exports, locals, globalOf}
-use Rattle.parts.specs.State.{isState}
+use Rattle.states.specs.State.{isState}
 use Rattle.parts.specs.Calls.{writeNumber, message, writeState, writeOut, takeNumber, takeState, advanceNumber, advanceState, collectNumber, collectOut}
 use Rattle.starts.specs.Start.{startNumber, startState, sizeNumber, stateSize}
 

@@ -27,8 +27,8 @@ use Rattle.mesh.specs.Walks.{Near}
 use Rattle.round.specs.Rules.{Old}
 use Rattle.round.specs.Rounds.{Scheme, depthIn, oldsIn, newIn, round, undivided}
 use Rattle.messages.specs.Messages.{encode, fromIn, toIn, roundIn, countIn}
-use Rattle.parts.specs.State.{LocalNear, Lists, dynamic, roundAt, takenPlace, writtenPlace, depthPlace}
-use Rattle.parts.specs.StateLaws.{Frame, frame-take, frame-dynamic}
+use Rattle.states.specs.State.{LocalNear, Lists, dynamic, roundAt, takenPlace, writtenPlace, depthPlace}
+use Rattle.states.specs.StateLaws.{Frame, frame-take, frame-dynamic}
 use Rattle.parts.specs.Calls.{importsFrom, depthAt, messageTo, writtenIn, takenIn, allTaken, advanceTestsIn, newAt, advancedIn, collectedIn}
 use Rattle.parts.specs.CallLaws.{Room, Taken}
 

@@ -29,7 +29,7 @@ use Rattle.round.specs.Rounds.{schemeOf, depthIn, undivided, bad14}
 use Rattle.split.specs.Split.{Split, splitOf, ownerAt, owned, imports, exports, locals, localOf, globalOf}
 use Rattle.split.specs.Lists.{splitTests, sizeTests}
 use Rattle.split.specs.SplitLaws.{map-facts, split-reach, split-owner, Cell, order-length, own-is, own-has, own-local, local-back, own-first, import-own, import-at, local-cases, reach-held, import-total, ownCells, own-count}
-use Rattle.parts.specs.State.{LocalNear, Lists, listsIn, dynamic, roundAt, takenPlace, depthPlace}
+use Rattle.states.specs.State.{LocalNear, Lists, listsIn, dynamic, roundAt, takenPlace, depthPlace}
 use Rattle.starts.specs.Start.{ownedIn, importEnds, listsWords, stateSize, firstState, startTests, startNumber, startState}
 use Rattle.runs.specs.FormLaws.{front, words-length, front-length, part-back, kind-back, first-back, cells-back, owned-back, held-back, global-back, import-back, reach-back, exports-back, weights-back}
 use Rattle.runs.specs.Run.{Inputs, schemeIn, ownerIn, startNumberIn, startStateIn}

@@ -23,8 +23,8 @@ use Rattle.round.specs.Rules.{Old}
 use Rattle.round.specs.RuleLaws.{new-length}
 use Rattle.round.specs.Rounds.{schemeOf, depthIn, undivided}
 use Rattle.messages.specs.Messages.{fromIn, roundIn}
-use Rattle.parts.specs.State.{Lists, listsIn, listsOf, dynamic, isState, bad20}
-use Rattle.parts.specs.StateLaws.{isStateAt, state-at, whole-is}
+use Rattle.states.specs.State.{Lists, listsIn, listsOf, dynamic, isState, bad20}
+use Rattle.states.specs.StateLaws.{isStateAt, state-at, whole-is}
 use Rattle.parts.specs.Calls.{exportsTo, messageTo, writeTestsIn, writtenIn, takeTestsIn, takenIn, advanceTestsIn, advancedIn, collectTestsIn, collectedIn, writeNumber, message, writeState, writeOut, takeNumber, takeState, advanceNumber, advanceState, collectNumber, collectOut}
 use Rattle.runs.specs.Run.{Call, write, take-in, advance, collect, World, put, more, step, run, Fair, Honest, Inputs, schemeIn, ownerIn, Right}
 use Rattle.parts.specs.CallLaws.{Room, room-of, taken-facts}

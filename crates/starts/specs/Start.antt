@@ -19,7 +19,7 @@ use Rattle.round.specs.Rules.{bad11}
 use Rattle.round.specs.Rounds.{schemeOf, depthIn, bad14}
 use Rattle.split.specs.Split.{Split, splitOf, owned, imports, exports, locals, localOf, globalOf}
 use Rattle.split.specs.Lists.{splitTests, sizeTests}
-use Rattle.parts.specs.State.{stateLength}
+use Rattle.states.specs.State.{stateLength}
 
 -- ---- the lists of a part as the words of its state
 

@@ -4,7 +4,7 @@ use mathlib.Core.Bool.{true}
 use Prim.Native.Nat.{_+_, _-_, _≤_}
 use Rattle.vocabulary.specs.Ranges.{every}
 use Rattle.vocabulary.specs.ScanLaws.{every-start-from, every-stop-from, every-turn-from, every-end-from}
-use Rattle.parts.specs.Checks.{settledAt}
+use Rattle.parts.specs.Opened.{settledAt}
 use borrow.Author.Needs.{needs}
 use Rattle.parts.proofs.advancing.all_settled.Statement.{statement}
 use Rattle.parts.proofs.advancing.all_settled.Tie as tie

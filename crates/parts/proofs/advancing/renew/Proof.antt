@@ -5,7 +5,7 @@ use Prim.Native.Nat.{_+_, _-_, _≤_}
 use lib.ListN.{length}
 use Rattle.vocabulary.specs.Bytes.{over}
 use Rattle.vocabulary.specs.Ranges.{blocks}
-use Rattle.parts.specs.State.{listsIn}
+use Rattle.states.specs.State.{listsIn}
 use Rattle.parts.specs.Calls.{newAt}
 use Rattle.parts.proofs.RenewLaws.{renew-start, renew-turn, renew-end}
 use borrow.Author.Needs.{needs}

@@ -3,7 +3,7 @@ use native.Mathlib.Omega.{arith}
 use mathlib.Core.Path.{_≡_, refl}
 use Prim.Native.Nat.{_+_, _-_, _≤_}
 use lib.ListN.{length}
-use Rattle.parts.specs.State.{listsIn}
+use Rattle.states.specs.State.{listsIn}
 use Rattle.parts.specs.Calls.{collectedIn}
 use Rattle.parts.proofs.CollectLaws.{gather-start, cell-low, cell-room, depth-room, gather-turn, gather-end}
 use borrow.Author.Needs.{needs}

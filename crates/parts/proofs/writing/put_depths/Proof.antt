@@ -4,7 +4,7 @@ use Prim.Native.Nat.{_+_, _-_, _*_, _≤_}
 use lib.ListN.{length}
 use Rattle.vocabulary.specs.Bytes.{over}
 use Rattle.vocabulary.specs.Ranges.{blocks}
-use Rattle.parts.specs.Checks.{sentAt}
+use Rattle.parts.specs.Opened.{sentAt}
 use Rattle.parts.proofs.WriteLaws.{put-start, put-room, put-turn, put-end}
 use borrow.Author.Needs.{needs}
 use Rattle.parts.proofs.writing.put_depths.Statement.{statement}

@@ -1,7 +1,7 @@
 -- `parts::writing::put_message` meets its contract. Assumes nothing.
 use native.Mathlib.Omega.{arith}
 use Rattle.parts.proofs.OpenedLaws.{long}
-use Rattle.parts.proofs.StateChecks.{counts}
+use Rattle.states.proofs.StateChecks.{counts}
 use Rattle.parts.proofs.WriteLaws.{part-there, sent-fits, message-put}
 use borrow.Author.Needs.{needs}
 use Rattle.parts.proofs.writing.put_message.Statement.{statement}

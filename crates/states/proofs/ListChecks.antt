@@ -1,0 +1,318 @@
+-- What the tests of a state's lists answer, by the tests that the code makes one after the other. Assumes nothing.
+use mathlib.Core.Path.{_≡_, refl, sym, ap, ap₂, _∙_}
+use mathlib.Core.Bool.{Bool, true, false, not, _&&_, _||_}
+use mathlib.Core.List.{List, [], _∷_, _++_}
+use Prim.Native.Nat.{ℕ, zero, suc, _+_, _-_, _*_, _/_, _%_, _≤_, _<_}
+use native.Mathlib.Omega.{arith}
+use lib.Dec.{eqb, ltb, leb}
+use lib.ListN.{take, drop}
+use borrow.Author.Tests.{le-leb, lt-leb, eq-eqb, ne-eqb, not-true, not-false}
+use Rattle.vocabulary.specs.Bytes.{Bytes}
+use Rattle.vocabulary.specs.Lists.{someOf}
+use Rattle.vocabulary.specs.ListLaws.{or-nothing, or-assoc}
+use Rattle.vocabulary.specs.Ranges.{isUpTo, every, some, listed}
+use Rattle.vocabulary.specs.ScanLaws.{some-start-from, some-stop-from, some-turn-from, some-end-from}
+use Rattle.vocabulary.specs.Tests.{allOf}
+use Rattle.layout.specs.Words.{wordAt}
+use Rattle.round.specs.Rules.{weightCount, bad11}
+use Rattle.states.specs.State.{LocalNear, partNumber, stepCount, ruleKind, weights, ownedCount, heldCount, importEnd, exportEnd, reachEnd, reachCount, entryAt, exportAt, localReach, globalFine, entryFine, ownFound, exportFine, exportCount, rises, listsTests}
+use Rattle.states.specs.Checks.{Counts, fineAt, ownEntry, headTests, endTests, entryTests}
+
+-- ---- a number from 1 to n
+
+module _ (n x : ℕ) where
+  pub up-low : x < 1 → false ≡ isUpTo n x
+  unfolding isUpTo
+  up-low h = simp (lt-leb _ _ h)
+
+  pub up-rest : 1 ≤ x → leb x n ≡ isUpTo n x
+  unfolding isUpTo
+  up-rest h = simp (le-leb _ _ h)
+
+-- ---- one place
+
+pub rises-told : (b : Bytes) (k x y : ℕ) → x ≡ wordAt b k → y ≡ wordAt b (k + 1) → leb x y ≡ leb (wordAt b k) (wordAt b (k + 1))
+rises-told b k x y e f = ap₂ leb e f
+
+module _ (b : Bytes) (l first g : ℕ) (fe : first ≡ wordAt b 9) (ge : g ≡ wordAt b (44 + l)) where
+  pub global-low : g < first → false ≡ globalFine b l
+  global-low h = simp (sym fe, sym ge, lt-leb _ _ h)
+
+  pub global-rest : (n : ℕ) → first ≤ g → n ≡ wordAt b 10 → ltb g (first + n) ≡ globalFine b l
+  global-rest n h e = simp (sym fe, sym ge, sym e, le-leb _ _ h)
+
+module _ (b : Bytes) (held owned reached : ℕ) (C : Counts b held owned reached) where
+  module _ (t l : ℕ) (le : l ≡ wordAt b (46 + held + owned + 2 * t)) where
+    entry-local : (entryAt b t) .local ≡ l
+    entry-local = ap₂ (λ h o. wordAt b (46 + h + o + 2 * t)) (sym (C .held-is)) (sym (C .owned-is)) ∙ sym le
+
+    module _ (layer : ℕ) (ye : layer ≡ wordAt b (46 + held + owned + 2 * t + 1)) where
+      entry-layer : (entryAt b t) .layer ≡ layer
+      entry-layer =
+          let p : 47 + heldCount b + ownedCount b + 2 * t ≡ 46 + held + owned + 2 * t + 1 = omega (arith, C .held-is, C .owned-is) in
+          ap (wordAt b) p ∙ sym ye
+
+      module _ (u : Bool) (ue : u ≡ isUpTo held l) where
+        entry-held : isUpTo (heldCount b) ((entryAt b t) .local) ≡ u
+        entry-held = ap₂ isUpTo (sym (C .held-is)) entry-local ∙ sym ue
+
+        pub entry-outside : not u ≡ true → false ≡ entryFine b t
+        entry-outside z = simp (entry-held, not-true u z)
+
+        pub entry-odd : not u ≡ false → (layer % 2 ≡ 0 → ⊥) → false ≡ entryFine b t
+        entry-odd z o = simp (entry-held, not-false u z, entry-layer, ne-eqb _ _ o)
+
+        pub entry-rest : (n : ℕ) → not u ≡ false → layer % 2 ≡ 0 → n ≡ wordAt b 2 → leb layer n ≡ entryFine b t
+        entry-rest n z o e = simp (entry-held, not-false u z, entry-layer, eq-eqb _ _ o, sym e)
+
+    pub own-other : (c : ℕ) → (l ≡ c → ⊥) → false ≡ ownEntry b c t
+    unfolding ownEntry
+    own-other c h = simp (entry-local, ne-eqb _ _ h)
+
+    pub own-same : (c layer : ℕ) → l ≡ c → layer ≡ wordAt b (46 + held + owned + 2 * t + 1) → eqb layer 0 ≡ ownEntry b c t
+    unfolding ownEntry
+    own-same c layer h e = simp (entry-local, entry-layer layer e, eq-eqb _ _ h)
+
+  module _ (t l : ℕ) (le : l ≡ wordAt b (46 + held + owned + 2 * reached + t)) where
+    export-local : exportAt b t ≡ l
+    export-local =
+        let p : 46 + heldCount b + ownedCount b + 2 * reachCount b + t ≡ 46 + held + owned + 2 * reached + t = omega (arith, C .held-is, C .owned-is, C .reached-is) in
+        ap (wordAt b) p ∙ sym le
+
+    pub export-told : (r : Bool) → r ≡ isUpTo owned l → r ≡ exportFine b t
+    export-told r e = e ∙ ap₂ isUpTo (C .owned-is) (sym export-local)
+
+-- ---- a cell in its own reach
+
+someOf-append : {A : Type 0} (p : A → Bool) (xs ys : List A) → someOf (xs ++ ys) p ≡ someOf xs p || someOf ys p
+unfolding someOf
+someOf-append p [] ys = refl
+someOf-append p (x ∷ xs) ys = ap (λ t. p x || t) (someOf-append p xs ys) ∙ sym (or-assoc (p x) (someOf xs p) (someOf ys p))
+
+someOf-listed : {A : Type 0} (p : A → Bool) (g : ℕ → A) (a n : ℕ) → someOf (listed a n g) p ≡ some a n (λ t. p (g t))
+unfolding listed some someOf
+someOf-listed p g a zero = refl
+someOf-listed p g a (suc n) = someOf-append p (listed a n g) (g (a + n) ∷ []) ∙ ap₂ _||_ (someOf-listed p g a n) (or-nothing (p (g (a + n))))
+
+module _ (b : Bytes) (held owned reached : ℕ) (C : Counts b held owned reached) (l from to : ℕ) (fe : from ≡ wordAt b (45 + held + (l - 1))) (te : to ≡ wordAt b (45 + held + l)) where
+  own-is : some from (to - from) (ownEntry b l) ≡ ownFound b l
+  unfolding ownEntry localReach
+  own-is =
+      ap₂ (λ x y. some x (y - x) (λ t. eqb ((entryAt b t) .local) l && eqb ((entryAt b t) .layer) 0)) fe te
+      ∙ ap (λ h. some (wordAt b (45 + h + (l - 1))) (wordAt b (45 + h + l) - wordAt b (45 + h + (l - 1))) (λ t. eqb ((entryAt b t) .local) l && eqb ((entryAt b t) .layer) 0)) (C .held-is)
+      ∙ sym (someOf-listed (λ (e : LocalNear). eqb (e .local) l && eqb (e .layer) 0) (entryAt b) (reachEnd b (l - 1)) (reachEnd b l - reachEnd b (l - 1)))
+
+  pub own-start : some from (from - from) (ownEntry b l) ≡ false
+  own-start = some-start-from from (ownEntry b l)
+
+  pub own-stop : (t : ℕ) (r : Bool) → from ≤ t → t < to → r ≡ ownEntry b l t → r ≡ true → true ≡ ownFound b l
+  own-stop t r h k e z = some-stop-from from (ownEntry b l) (to - from) t r e z h (omega arith) ∙ own-is
+
+  pub own-turn : (t : ℕ) (r : Bool) → from ≤ t → some from (t - from) (ownEntry b l) ≡ false → r ≡ ownEntry b l t → r ≡ false → some from (t + 1 - from) (ownEntry b l) ≡ false
+  own-turn t r h i e z = some-turn-from from (ownEntry b l) t r h i e z
+
+  pub own-end : (t : ℕ) → from ≤ t → t ≤ from + (to - from) → to ≤ t → some from (t - from) (ownEntry b l) ≡ false → false ≡ ownFound b l
+  own-end t h k q i = some-end-from from (ownEntry b l) (to - from) t i k (omega arith) ∙ own-is
+
+-- ---- the tests of a range, by number
+
+module _ (b : Bytes) (which x : ℕ) (r : Bool) where
+  pub fine-0 : which ≡ 0 → r ≡ leb (wordAt b (11 + x)) (wordAt b (11 + x + 1)) → r ≡ fineAt which b x
+  unfolding fineAt
+  fine-0 e q = rw e (let p : 11 + x + 1 ≡ 11 + (x + 1) = omega arith in rw p at q)
+
+  pub fine-1 : which ≡ 1 → r ≡ leb (wordAt b (28 + x)) (wordAt b (28 + x + 1)) → r ≡ fineAt which b x
+  unfolding fineAt
+  fine-1 e q = rw e (let p : 28 + x + 1 ≡ 28 + (x + 1) = omega arith in rw p at q)
+
+  pub fine-2 : (held : ℕ) → which ≡ 2 → held ≡ heldCount b → r ≡ leb (wordAt b (45 + held + x)) (wordAt b (45 + held + x + 1)) → r ≡ fineAt which b x
+  unfolding fineAt
+  fine-2 held e h q = rw e (let p : 45 + heldCount b + x + 1 ≡ 45 + heldCount b + (x + 1) = omega arith in rw p at (rw h at q))
+
+  pub fine-3 : which ≡ 3 → r ≡ globalFine b x → r ≡ fineAt which b x
+  unfolding fineAt
+  fine-3 e q = rw e q
+
+  pub fine-4 : which ≡ 4 → r ≡ entryFine b x → r ≡ fineAt which b x
+  unfolding fineAt
+  fine-4 e q = rw e q
+
+  pub fine-5 : which ≡ 5 → r ≡ ownFound b x → r ≡ fineAt which b x
+  unfolding fineAt
+  fine-5 e q = rw e q
+
+pub fine-6 : (b : Bytes) (which x : ℕ) (r : Bool) → (which ≡ 0 → ⊥) → (which ≡ 1 → ⊥) → (which ≡ 2 → ⊥) → (which ≡ 3 → ⊥) → (which ≡ 4 → ⊥) → (which ≡ 5 → ⊥)
+    → r ≡ exportFine b x → r ≡ fineAt which b x
+unfolding fineAt
+fine-6 b zero x r a c d e f g q = absurd (a refl)
+fine-6 b (suc zero) x r a c d e f g q = absurd (c refl)
+fine-6 b (suc (suc zero)) x r a c d e f g q = absurd (d refl)
+fine-6 b (suc (suc (suc zero))) x r a c d e f g q = absurd (e refl)
+fine-6 b (suc (suc (suc (suc zero)))) x r a c d e f g q = absurd (f refl)
+fine-6 b (suc (suc (suc (suc (suc zero))))) x r a c d e f g q = absurd (g refl)
+fine-6 b (suc (suc (suc (suc (suc (suc k)))))) x r a c d e f g q = q
+
+-- ---- the rule and the head
+
+pub and-all : (a : Bool) → a && true ≡ a
+and-all true = refl
+and-all false = refl
+
+pub weights-mean : (kind n : ℕ) → kind ≡ 1 → n / 2 + 1 ≡ weightCount kind n
+unfolding weightCount
+weights-mean kind n e = simp (eq-eqb _ _ e)
+
+pub weights-none : (kind n : ℕ) → (kind ≡ 1 → ⊥) → 0 ≡ weightCount kind n
+unfolding weightCount
+weights-none kind n e = simp (ne-eqb _ _ e)
+
+pub rule-told : (b : Bytes) (kind n count : ℕ) (r : Bool) → count ≡ weightCount kind n → r ≡ bad11 kind n (take (8 + 2 * count - 8) (drop 8 b))
+    → not r ≡ not (bad11 kind n (take (2 * weightCount kind n) (drop 8 b)))
+rule-told b kind n count r e q =
+    let p : 8 + 2 * count - 8 ≡ 2 * weightCount kind n = omega (arith, e) in ap not (q ∙ ap (λ k. bad11 kind n (take k (drop 8 b))) p)
+
+module _ (b : Bytes) (part : ℕ) (u : Bool) (pe : part ≡ wordAt b 1) (ue : u ≡ isUpTo 16 part) where
+  head-part : isUpTo 16 (partNumber b) ≡ u
+  head-part = ap (isUpTo 16) (sym pe) ∙ sym ue
+
+  pub head-1 : not u ≡ true → false ≡ allOf (headTests b)
+  head-1 z = simp (head-part, not-true u z)
+
+  module _ (uf : not u ≡ false) (n : ℕ) (ne : n ≡ wordAt b 2) where
+    pub head-2 : (n % 2 ≡ 0 → ⊥) → false ≡ allOf (headTests b)
+    head-2 o = simp (head-part, not-false u uf, sym ne, ne-eqb _ _ o)
+
+    module _ (ev : n % 2 ≡ 0) where
+      pub head-3 : 8 < n → false ≡ allOf (headTests b)
+      head-3 h = simp (head-part, not-false u uf, sym ne, eq-eqb _ _ ev, lt-leb _ _ h)
+
+      module _ (few : n ≤ 8) (kind : ℕ) (ke : kind ≡ wordAt b 3) (w : Bool) (we : w ≡ not (bad11 kind n (take (2 * weightCount kind n) (drop 8 b)))) where
+        head-rule : not (bad11 (ruleKind b) (stepCount b) (weights b)) ≡ w
+        unfolding weights
+        head-rule = ap₂ (λ k m. not (bad11 k m (take (2 * weightCount k m) (drop 8 b)))) (sym ke) (sym ne) ∙ sym we
+
+        head-steps : eqb (stepCount b % 2) 0 && leb (stepCount b) 8 ≡ true
+        head-steps = simp (sym ne, eq-eqb _ _ ev, le-leb _ _ few)
+
+        pub head-4 : not w ≡ true → false ≡ allOf (headTests b)
+        head-4 z = simp (head-part, not-false u uf, head-steps, head-rule, not-true w z)
+
+        pub head-5 : (held : ℕ) → not w ≡ false → held ≡ wordAt b 27 → leb held 2000 ≡ allOf (headTests b)
+        head-5 held z e = simp (head-part, not-false u uf, head-steps, head-rule, not-false w z, sym e, and-all)
+
+-- ---- the tables of ends, and the entries
+
+module _ (b : Bytes) where
+  range-0 : every 0 16 (fineAt 0 b) ≡ rises 16 (importEnd b)
+  unfolding fineAt rises
+  range-0 = refl
+
+  range-1 : every 0 16 (fineAt 1 b) ≡ rises 16 (exportEnd b)
+  unfolding fineAt rises
+  range-1 = refl
+
+  range-2 : (n : ℕ) → every 0 n (fineAt 2 b) ≡ rises n (reachEnd b)
+  unfolding fineAt rises
+  range-2 n = refl
+
+  range-3 : (n : ℕ) → every 1 n (fineAt 3 b) ≡ every 1 n (globalFine b)
+  unfolding fineAt
+  range-3 n = refl
+
+  range-4 : (n : ℕ) → every 0 n (fineAt 4 b) ≡ every 0 n (entryFine b)
+  unfolding fineAt
+  range-4 n = refl
+
+  range-5 : (n : ℕ) → every 1 n (fineAt 5 b) ≡ every 1 n (ownFound b)
+  unfolding fineAt
+  range-5 n = refl
+
+  range-6 : (n : ℕ) → every 0 n (fineAt 6 b) ≡ every 0 n (exportFine b)
+  unfolding fineAt
+  range-6 n = refl
+
+module _ (b : Bytes) (held owned reached : ℕ) (C : Counts b held owned reached) where
+  module _ (r : Bool) (re : r ≡ every 0 16 (fineAt 0 b)) where
+    imports-rise : rises 16 (importEnd b) ≡ r
+    imports-rise = sym (re ∙ range-0 b)
+
+    pub ends-1 : not r ≡ true → false ≡ allOf (endTests b)
+    ends-1 z = simp (imports-rise, not-true r z)
+
+    module _ (rt : not r ≡ false) (x : ℕ) (xe : x ≡ wordAt b 28) where
+      pub ends-2 : (x ≡ 0 → ⊥) → false ≡ allOf (endTests b)
+      ends-2 z = simp (imports-rise, not-false r rt, sym xe, ne-eqb _ _ z)
+
+      module _ (xz : x ≡ 0) (s : Bool) (se : s ≡ every 0 16 (fineAt 1 b)) where
+        exports-rise : eqb (exportEnd b 0) 0 && rises 16 (exportEnd b) ≡ s
+        exports-rise = ap₂ _&&_ (ap (λ y. eqb y 0) (sym xe) ∙ eq-eqb _ _ xz) (sym (se ∙ range-1 b))
+
+        pub ends-3 : not s ≡ true → false ≡ allOf (endTests b)
+        ends-3 z = simp (imports-rise, not-false r rt, exports-rise, not-true s z)
+
+        module _ (st : not s ≡ false) (y : ℕ) (ye : y ≡ wordAt b (45 + held)) where
+          first-end : reachEnd b 0 ≡ y
+          first-end = let p : 45 + heldCount b + 0 ≡ 45 + held = omega (arith, C .held-is) in ap (wordAt b) p ∙ sym ye
+
+          pub ends-4 : (y ≡ 0 → ⊥) → false ≡ allOf (endTests b)
+          ends-4 z = simp (imports-rise, not-false r rt, exports-rise, not-false s st, first-end, ne-eqb _ _ z)
+
+          pub ends-5 : (t : Bool) → y ≡ 0 → t ≡ every 0 owned (fineAt 2 b) → t ≡ allOf (endTests b)
+          ends-5 t z e = simp (imports-rise, not-false r rt, exports-rise, not-false s st, reaches-rise, and-all)
+            where
+              reaches-rise : eqb (reachEnd b 0) 0 && rises (ownedCount b) (reachEnd b) ≡ t
+              reaches-rise =
+                  ap₂ _&&_ (ap (λ y. eqb y 0) first-end ∙ eq-eqb _ _ z)
+                  (sym (e ∙ range-2 b owned ∙ ap (λ n. rises n (reachEnd b)) (C .owned-is)))
+
+  module _ (r : Bool) (re : r ≡ every 1 held (fineAt 3 b)) where
+    globals-are : every 1 (heldCount b) (globalFine b) ≡ r
+    globals-are = sym (re ∙ range-3 b held ∙ ap (λ n. every 1 n (globalFine b)) (C .held-is))
+
+    pub entries-1 : not r ≡ true → false ≡ allOf (entryTests b)
+    entries-1 z = simp (globals-are, not-true r z)
+
+    module _ (rt : not r ≡ false) (s : Bool) (se : s ≡ every 0 reached (fineAt 4 b)) where
+      reaches-are : every 0 (reachCount b) (entryFine b) ≡ s
+      reaches-are = sym (se ∙ range-4 b reached ∙ ap (λ n. every 0 n (entryFine b)) (C .reached-is))
+
+      pub entries-2 : not s ≡ true → false ≡ allOf (entryTests b)
+      entries-2 z = simp (globals-are, not-false r rt, reaches-are, not-true s z)
+
+      module _ (st : not s ≡ false) (t : Bool) (te : t ≡ every 1 owned (fineAt 5 b)) where
+        owns-are : every 1 (ownedCount b) (ownFound b) ≡ t
+        owns-are = sym (te ∙ range-5 b owned ∙ ap (λ n. every 1 n (ownFound b)) (C .owned-is))
+
+        pub entries-3 : not t ≡ true → false ≡ allOf (entryTests b)
+        entries-3 z = simp (globals-are, not-false r rt, reaches-are, not-false s st, owns-are, not-true t z)
+
+        pub entries-4 : (x : ℕ) (u : Bool) → not t ≡ false → x ≡ wordAt b 44 → u ≡ every 0 x (fineAt 6 b) → u ≡ allOf (entryTests b)
+        entries-4 x u tt xe ue = simp (globals-are, not-false r rt, reaches-are, not-false s st, owns-are, not-false t tt, exports-are, and-all)
+          where
+            exports-are : every 0 (exportCount b) (exportFine b) ≡ u
+            exports-are = sym (ue ∙ range-6 b x ∙ ap (λ n. every 0 n (exportFine b)) xe)
+
+-- ---- the three groups
+
+and-assoc : (a b c : Bool) → (a && b) && c ≡ a && (b && c)
+and-assoc true b c = refl
+and-assoc false b c = refl
+
+allOf-append : (xs ys : List Bool) → allOf (xs ++ ys) ≡ allOf xs && allOf ys
+allOf-append [] ys = refl
+allOf-append (x ∷ xs) ys = ap (λ t. x && t) (allOf-append xs ys) ∙ sym (and-assoc x (allOf xs) (allOf ys))
+
+in-groups : (b : Bytes) → allOf (listsTests b) ≡ allOf (headTests b) && (allOf (endTests b) && allOf (entryTests b))
+unfolding listsTests
+in-groups b = allOf-append (headTests b) (endTests b ++ entryTests b) ∙ ap (λ t. allOf (headTests b) && t) (allOf-append (endTests b) (entryTests b))
+
+module _ (b : Bytes) (r : Bool) (re : r ≡ allOf (headTests b)) where
+  pub lists-1 : not r ≡ true → false ≡ allOf (listsTests b)
+  lists-1 z = simp (in-groups b, sym re, not-true r z)
+
+  module _ (rt : not r ≡ false) (s : Bool) (se : s ≡ allOf (endTests b)) where
+    pub lists-2 : not s ≡ true → false ≡ allOf (listsTests b)
+    lists-2 z = simp (in-groups b, sym re, not-false r rt, sym se, not-true s z)
+
+    pub lists-3 : (t : Bool) → not s ≡ false → t ≡ allOf (entryTests b) → t ≡ allOf (listsTests b)
+    lists-3 t st e = simp (in-groups b, sym re, not-false r rt, sym se, not-false s st, sym e)

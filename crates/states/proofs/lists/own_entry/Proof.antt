@@ -1,0 +1,19 @@
+-- `states::lists::own_entry` meets its contract. Assumes nothing.
+use Rattle.states.proofs.ListChecks.{own-other, own-same}
+use borrow.Author.Needs.{needs}
+use Rattle.states.proofs.lists.own_entry.Statement.{statement}
+use Rattle.states.proofs.lists.own_entry.Tie as tie
+
+pub own-entry-spec : {M : Type 1} → statement M
+own-entry-spec =
+    tie.close
+    (tie.spec
+    (λ c. search needs)
+    (λ c. search needs)
+    (λ c. search needs)
+    (λ c. search needs)
+    (λ c κs. search needs)
+    (λ c. search own-other)
+    (λ c. search needs)
+    (λ c κs. search needs)
+    (λ c. search own-same))

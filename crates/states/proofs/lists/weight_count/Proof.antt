@@ -1,0 +1,13 @@
+-- `states::lists::weight_count` meets its contract. Assumes nothing.
+use Rattle.states.proofs.ListChecks.{weights-mean, weights-none}
+use borrow.Author.Needs.{needs}
+use Rattle.states.proofs.lists.weight_count.Statement.{statement}
+use Rattle.states.proofs.lists.weight_count.Tie as tie
+
+pub weight-count-spec : {M : Type 1} → statement M
+weight-count-spec =
+    tie.close
+    (tie.spec
+    (λ c. search needs)
+    (λ c. (search weights-mean, search needs))
+    (λ c. (search weights-none, search needs)))

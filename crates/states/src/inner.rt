@@ -1,0 +1,3 @@
+// What the calls on a state read off its lists.
+pub use crate::lists::between;
+pub use crate::lists::weight_count;

@@ -1,0 +1,81 @@
+// Whether bytes begin with a part's state (20).
+use crate::lists::lists_fine;
+use layout::byte_at;
+use layout::inner::depths_in_range;
+use layout::inner::word_in;
+use layout::word_at;
+ghost use mathlib.Core.Path.{_≡_};
+ghost use Prim.Native.Nat.{_+_, _*_, _<_};
+ghost use lib.ListN.{length};
+ghost use Rattle.vocabulary.specs.Ranges.{every};
+ghost use Rattle.vocabulary.specs.Tests.{allOf};
+ghost use Rattle.states.specs.State.{flagsFine, dynamicTests, isState};
+ghost use Rattle.states.specs.StateLaws.{isStateAt};
+
+// The flags of part j.
+fn flag_fine(b: &[u8], d: usize, j: usize) -> bool
+    requires { ⌜ (d < 1000000) × (j < 65536) ⌝ }
+    ensures { λ r. ⌜ r ≡ flagsFine (now (b .entry)) d j ⌝ }
+{
+    if 1 < byte_at(b, d + 1 + j) {
+        return false;
+    }
+    byte_at(b, d + 17 + j) <= 1
+}
+
+fn flags_fine(b: &[u8], d: usize) -> bool
+    requires { ⌜ d < 1000000 ⌝ }
+    ensures { λ r. ⌜ r ≡ every 1 16 (flagsFine (now (b .entry)) d) ⌝ }
+{
+    for j in 1..17 {
+        if !flag_fine(b, d, j) {
+            return false;
+        }
+    }
+    true
+}
+
+// What calls change, from d on, where n cells are held.
+fn changes_fine(b: &[u8], d: usize, n: usize) -> bool
+    requires { ⌜ (d < 1000000) × (n < 65536) ⌝ }
+    ensures { λ r. ⌜ r ≡ allOf (dynamicTests (now (b .entry)) d n) ⌝ }
+{
+    if b.len() < d + 34 + 4 * n {
+        return false;
+    }
+    if 60000 < word_in(b, d) {
+        return false;
+    }
+    if !flags_fine(b, d) {
+        return false;
+    }
+    depths_in_range(b, d + 34, n)
+}
+
+// The state b, whose lists end at d.
+fn state_fine(lists: &[u8], b: &[u8], d: usize) -> bool
+    requires { ⌜ (d ≡ length (now lists)) × (d < 1000000) ⌝ }
+    ensures { λ r. ⌜ r ≡ isStateAt (now (lists .entry)) d (now (b .entry)) ⌝ }
+{
+    let owned = word_at(lists, 11);
+    let held = word_at(lists, 27);
+    let reached = word_at(lists, 45 + held + owned);
+    if d != 2 * (46 + held + owned + 2 * reached + word_at(lists, 44)) {
+        return false;
+    }
+    if !lists_fine(lists, held, owned, reached) {
+        return false;
+    }
+    changes_fine(b, d, held)
+}
+
+// Whether the bytes begin with a part's state.
+pub fn is_state(b: &[u8]) -> bool
+    ensures { λ r. ⌜ r ≡ isState (now (b .entry)) ⌝ }
+{
+    let d = 2 * word_at(b, 0);
+    if b.len() < d {
+        return false;
+    }
+    state_fine(&b[0..d], b, d)
+}
