@@ -54,7 +54,7 @@ pub extern "C" fn jem_interior(
 ) -> u64
     ensures { λ r. ⌜ (r ≡ packed (listAnswer (now (mesh .entry)) parts (now (owners .entry)) part (now (stencil .entry)) interior-cells (now (out .entry)))) × (now (out .exit) ≡ listOut (now (mesh .entry)) parts (now (owners .entry)) part (now (stencil .entry)) interior-cells (now (out .entry))) ⌝ }
 {
-    pack(split::interior(mesh, parts, owners, part, stencil, out))
+    pack(part_lists::interior(mesh, parts, owners, part, stencil, out))
 }
 
 // The halo cells of a part.
@@ -69,7 +69,7 @@ pub extern "C" fn jem_halo(
 ) -> u64
     ensures { λ r. ⌜ (r ≡ packed (listAnswer (now (mesh .entry)) parts (now (owners .entry)) part (now (stencil .entry)) halo-cells (now (out .entry)))) × (now (out .exit) ≡ listOut (now (mesh .entry)) parts (now (owners .entry)) part (now (stencil .entry)) halo-cells (now (out .entry))) ⌝ }
 {
-    pack(split::halo(mesh, parts, owners, part, stencil, out))
+    pack(part_lists::halo(mesh, parts, owners, part, stencil, out))
 }
 
 // The cells that a part holds, in local order.
@@ -84,7 +84,7 @@ pub extern "C" fn jem_locals(
 ) -> u64
     ensures { λ r. ⌜ (r ≡ packed (listAnswer (now (mesh .entry)) parts (now (owners .entry)) part (now (stencil .entry)) local-order (now (out .entry)))) × (now (out .exit) ≡ listOut (now (mesh .entry)) parts (now (owners .entry)) part (now (stencil .entry)) local-order (now (out .entry))) ⌝ }
 {
-    pack(split::local_order(mesh, parts, owners, part, stencil, out))
+    pack(part_lists::local_order(mesh, parts, owners, part, stencil, out))
 }
 
 // The cells that a part imports from another.
@@ -100,7 +100,7 @@ pub extern "C" fn jem_imports(
 ) -> u64
     ensures { λ r. ⌜ (r ≡ packed (listAnswer (now (mesh .entry)) parts (now (owners .entry)) part (now (stencil .entry)) (imports-from other) (now (out .entry)))) × (now (out .exit) ≡ listOut (now (mesh .entry)) parts (now (owners .entry)) part (now (stencil .entry)) (imports-from other) (now (out .entry))) ⌝ }
 {
-    pack(split::imports(mesh, parts, owners, part, stencil, other, out))
+    pack(part_lists::imports(mesh, parts, owners, part, stencil, other, out))
 }
 
 // The cells that a part exports to another.
@@ -116,7 +116,7 @@ pub extern "C" fn jem_exports(
 ) -> u64
     ensures { λ r. ⌜ (r ≡ packed (listAnswer (now (mesh .entry)) parts (now (owners .entry)) part (now (stencil .entry)) (exports-to other) (now (out .entry)))) × (now (out .exit) ≡ listOut (now (mesh .entry)) parts (now (owners .entry)) part (now (stencil .entry)) (exports-to other) (now (out .entry))) ⌝ }
 {
-    pack(split::exports(mesh, parts, owners, part, stencil, other, out))
+    pack(part_lists::exports(mesh, parts, owners, part, stencil, other, out))
 }
 
 // The private elements of a dimension.
@@ -132,7 +132,7 @@ pub extern "C" fn jem_private(
 ) -> u64
     ensures { λ r. ⌜ (r ≡ packed (listAnswer (now (mesh .entry)) parts (now (owners .entry)) part (now (stencil .entry)) (private-range dimension) (now (out .entry)))) × (now (out .exit) ≡ listOut (now (mesh .entry)) parts (now (owners .entry)) part (now (stencil .entry)) (private-range dimension) (now (out .entry))) ⌝ }
 {
-    pack(split::private_range(mesh, parts, owners, part, stencil, dimension, out))
+    pack(part_lists::private_range(mesh, parts, owners, part, stencil, dimension, out))
 }
 
 // The exposed elements of a dimension.
@@ -148,7 +148,7 @@ pub extern "C" fn jem_exposed(
 ) -> u64
     ensures { λ r. ⌜ (r ≡ packed (listAnswer (now (mesh .entry)) parts (now (owners .entry)) part (now (stencil .entry)) (exposed-range dimension) (now (out .entry)))) × (now (out .exit) ≡ listOut (now (mesh .entry)) parts (now (owners .entry)) part (now (stencil .entry)) (exposed-range dimension) (now (out .entry))) ⌝ }
 {
-    pack(split::exposed_range(mesh, parts, owners, part, stencil, dimension, out))
+    pack(part_lists::exposed_range(mesh, parts, owners, part, stencil, dimension, out))
 }
 
 // The shared elements of a dimension.
@@ -164,7 +164,7 @@ pub extern "C" fn jem_shared(
 ) -> u64
     ensures { λ r. ⌜ (r ≡ packed (listAnswer (now (mesh .entry)) parts (now (owners .entry)) part (now (stencil .entry)) (shared-range dimension) (now (out .entry)))) × (now (out .exit) ≡ listOut (now (mesh .entry)) parts (now (owners .entry)) part (now (stencil .entry)) (shared-range dimension) (now (out .entry))) ⌝ }
 {
-    pack(split::shared_range(mesh, parts, owners, part, stencil, dimension, out))
+    pack(part_lists::shared_range(mesh, parts, owners, part, stencil, dimension, out))
 }
 
 // The copied elements of a dimension.
@@ -180,7 +180,7 @@ pub extern "C" fn jem_copied(
 ) -> u64
     ensures { λ r. ⌜ (r ≡ packed (listAnswer (now (mesh .entry)) parts (now (owners .entry)) part (now (stencil .entry)) (copied-range dimension) (now (out .entry)))) × (now (out .exit) ≡ listOut (now (mesh .entry)) parts (now (owners .entry)) part (now (stencil .entry)) (copied-range dimension) (now (out .entry))) ⌝ }
 {
-    pack(split::copied_range(mesh, parts, owners, part, stencil, dimension, out))
+    pack(part_lists::copied_range(mesh, parts, owners, part, stencil, dimension, out))
 }
 
 // How many bytes the state of a part needs.

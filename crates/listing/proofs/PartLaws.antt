@@ -12,11 +12,11 @@ use Rattle.mesh.specs.Mesh.{top}
 use Rattle.split.specs.Split.{splitOf}
 use Rattle.split.specs.Lists.{listOf}
 use Rattle.split.specs.Sorting.{Added, Prepared}
-use Rattle.split.specs.Giving.{meant, chosen}
-use Rattle.split.specs.declared.lists.Wanted.{Wanted}
-use Rattle.split.specs.declared.lists.Wanted.the-variants.{Interior, Halo, Imports, Exports, Private, Exposed, Shared, Copied}
-use Rattle.split.proofs.ChosenLaws.{chosen-is, list-few}
-use Rattle.split.proofs.GivingLaws.{added-fits, added-take}
+use Rattle.part_lists.specs.Giving.{meant, chosen}
+use Rattle.part_lists.specs.declared.lists.Wanted.{Wanted}
+use Rattle.part_lists.specs.declared.lists.Wanted.the-variants.{Interior, Halo, Imports, Exports, Private, Exposed, Shared, Copied}
+use Rattle.part_lists.proofs.ChosenLaws.{chosen-is, list-few}
+use Rattle.part_lists.proofs.GivingLaws.{added-fits, added-take}
 use Rattle.listing.specs.Listing.{ascii, spaced, line, lineUnlessEmpty, dimensionText, partText}
 use Rattle.listing.specs.Printing.{Printed, Ready, numbers, wantedOf, cellsLine, passing, rangeLine, dimensionOf, partOf}
 use Rattle.listing.proofs.PrintLaws.{print-none, print-both}

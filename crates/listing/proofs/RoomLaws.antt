@@ -23,7 +23,7 @@ use Rattle.split.specs.Split.{Split, splitOf, held, holds, owns, inside as insi
 use Rattle.split.specs.SplitLaws.{own-count, order-length, local-held, split-reach, split-own, split-owner}
 use Rattle.split.specs.Lists.{bad8, bad12, splitTests, sizeTests, splitNumber}
 use Rattle.split.proofs.PreparedLaws.{map-right}
-use Rattle.split.proofs.CallLaws.{passed-facts}
+use Rattle.part_lists.proofs.CallLaws.{passed-facts}
 use Rattle.listing.specs.Listing.{ascii, digits, decimal, spaced, line, lineUnlessEmpty, dimensionText, partText, splitText, meshPiece, partsPiece, ownersPiece, stencilPiece, listingNumber, listText}
 use Rattle.listing.specs.Printing.{fitting, Printed, Listed, piecesNumber, piecesText}
 use Rattle.listing.proofs.PrintLaws.{room}

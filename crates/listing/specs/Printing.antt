@@ -11,8 +11,8 @@ use Rattle.vocabulary.specs.Tests.{firstOf}
 use Rattle.split.specs.Split.{Split, splitOf}
 use Rattle.split.specs.Lists.{splitTests, sizeTests, listOf}
 use Rattle.split.specs.Sorting.{Prepared}
-use Rattle.split.specs.Giving.{meant}
-use Rattle.split.specs.declared.lists.Wanted.{Wanted}
+use Rattle.part_lists.specs.Giving.{meant}
+use Rattle.part_lists.specs.declared.lists.Wanted.{Wanted}
 use Rattle.listing.specs.Listing.{ascii, spaced, line, lineUnlessEmpty, dimensionText, partText, splitText}
 
 -- what of a text has room from the place s on

@@ -4,15 +4,15 @@ use crate::text::put_numbers;
 use crate::text::put_spaced;
 use crate::text::put_text;
 use mesh::inner::top_of;
-use split::inner::Wanted;
-use split::inner::list_words;
+use part_lists::inner::Wanted;
+use part_lists::inner::list_words;
 ghost use Prim.Native.Nat.{_≤_};
 ghost use mathlib.Core.List.{_++_};
 ghost use lib.ListN.{length, take};
 ghost use Rattle.vocabulary.specs.Ranges.{blocks};
 ghost use Rattle.mesh.specs.Mesh.{top};
 ghost use Rattle.split.specs.Sorting.{Prepared};
-ghost use Rattle.split.specs.declared.lists.Wanted.the-variants.{Imports, Exports};
+ghost use Rattle.part_lists.specs.declared.lists.Wanted.the-variants.{Imports, Exports};
 ghost use Rattle.listing.specs.Listing.{ascii, spaced, lineUnlessEmpty};
 ghost use Rattle.listing.specs.Printing.{Printed, Ready, numbers, wantedOf, cellsLine, passing, rangeLine, dimensionOf, partOf};
 

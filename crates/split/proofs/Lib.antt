@@ -1,12 +1,4 @@
 pub mod MapLaws
 pub mod HeldLaws
 pub mod PreparedLaws
-pub mod SortLaws
-pub mod RangeSorts
-pub mod LowerLaws
-pub mod ChosenLaws
-pub mod GivingLaws
-pub mod ListedLaws
-pub mod CallLaws
-pub mod OrderLaws
 pub mod UnitLaws

@@ -2,4 +2,3 @@ pub mod Split
 pub mod Lists
 pub mod SplitLaws
 pub mod Sorting
-pub mod Giving

@@ -28,11 +28,11 @@ use Rattle.split.specs.Split.{splitOf, interior, halo, locals, globalOf}
 use Rattle.split.specs.SplitLaws.{own-count}
 use Rattle.split.specs.Lists.{bad8, bad9, bad12, splitTests, sizeTests, splitNumber, sizesNumber}
 use Rattle.split.specs.Sorting.{cellsOf, localsOf, Added, Prepared}
-use Rattle.split.proofs.CallLaws.{Passed, passed-facts}
-use Rattle.split.proofs.ChosenLaws.{interior-is, halo-is, locals-are, locals-few}
-use Rattle.split.proofs.GivingLaws.{added-fits, added-take}
+use Rattle.part_lists.proofs.CallLaws.{Passed, passed-facts}
+use Rattle.part_lists.proofs.ChosenLaws.{interior-is, halo-is, locals-are, locals-few}
+use Rattle.part_lists.proofs.GivingLaws.{added-fits, added-take}
 use Rattle.reaches.proofs.ReachLaws.{cells-few}
-use Rattle.split.proofs.ListedLaws.{cells-fit}
+use Rattle.part_lists.proofs.ListedLaws.{cells-fit}
 use Rattle.starts.specs.Start.{ownedIn, reachEnds, listsLong, stateSize, sizeNumber, sizeAnswer, firstState, startTests, startNumber, startAnswer, startState}
 use Rattle.starts.specs.Starting.{Put, rowEnds, sentEnds, startWords, startDepth, Fit, Cells, Planned}
 use Rattle.starts.proofs.PutLaws.{put-length}

@@ -14,7 +14,7 @@ use Rattle.vocabulary.specs.CountLaws.{total-double}
 use Rattle.layout.specs.Words.{wordAt}
 use Rattle.split.specs.Split.{localOf}
 use Rattle.split.specs.Sorting.{cellsOf, Added}
-use Rattle.split.proofs.GivingLaws.{added-take}
+use Rattle.part_lists.proofs.GivingLaws.{added-take}
 use Rattle.starts.proofs.PutLaws.{put-as, put-none, put-both, many-room, many-turn}
 use Rattle.starts.specs.Starting.{Put, placeAt, rowSize, partCount, endsOf, Counted, Before, entryWords, rowEnds, rowWords, Row, Rows, sentEnds, sentWords}
 

@@ -208,38 +208,38 @@ fn ignored() {
 fn cells(i: u32) {
     let m = five_cells();
     let mut out = [0u8; 10];
-    let a = split::interior(&m, 2, &OWNERS, i, &STENCIL, &mut out);
+    let a = part_lists::interior(&m, 2, &OWNERS, i, &STENCIL, &mut out);
     say_all(Form::Words, b"interior", a, &out);
-    let b = split::halo(&m, 2, &OWNERS, i, &STENCIL, &mut out);
+    let b = part_lists::halo(&m, 2, &OWNERS, i, &STENCIL, &mut out);
     say_all(Form::Words, b"halo", b, &out);
-    let c = split::local_order(&m, 2, &OWNERS, i, &STENCIL, &mut out);
+    let c = part_lists::local_order(&m, 2, &OWNERS, i, &STENCIL, &mut out);
     say_all(Form::Words, b"local order", c, &out);
 }
 
 fn trade(i: u32, j: u32) {
     let m = five_cells();
     let mut out = [0u8; 10];
-    let a = split::imports(&m, 2, &OWNERS, i, &STENCIL, j, &mut out);
+    let a = part_lists::imports(&m, 2, &OWNERS, i, &STENCIL, j, &mut out);
     say_all(Form::Words, b"imports", a, &out);
-    let b = split::exports(&m, 2, &OWNERS, i, &STENCIL, j, &mut out);
+    let b = part_lists::exports(&m, 2, &OWNERS, i, &STENCIL, j, &mut out);
     say_all(Form::Words, b"exports", b, &out);
 }
 
 fn own_points(i: u32) {
     let m = five_cells();
     let mut out = [0u8; 10];
-    let a = split::private_range(&m, 2, &OWNERS, i, &STENCIL, 0, &mut out);
+    let a = part_lists::private_range(&m, 2, &OWNERS, i, &STENCIL, 0, &mut out);
     say_all(Form::Words, b"private points", a, &out);
-    let b = split::exposed_range(&m, 2, &OWNERS, i, &STENCIL, 0, &mut out);
+    let b = part_lists::exposed_range(&m, 2, &OWNERS, i, &STENCIL, 0, &mut out);
     say_all(Form::Words, b"exposed points", b, &out);
 }
 
 fn other_points(i: u32) {
     let m = five_cells();
     let mut out = [0u8; 10];
-    let a = split::shared_range(&m, 2, &OWNERS, i, &STENCIL, 0, &mut out);
+    let a = part_lists::shared_range(&m, 2, &OWNERS, i, &STENCIL, 0, &mut out);
     say_all(Form::Words, b"shared points", a, &out);
-    let b = split::copied_range(&m, 2, &OWNERS, i, &STENCIL, 0, &mut out);
+    let b = part_lists::copied_range(&m, 2, &OWNERS, i, &STENCIL, 0, &mut out);
     say_all(Form::Words, b"copied points", b, &out);
 }
 
@@ -257,7 +257,7 @@ fn lists(i: u32, j: u32) {
 fn interior(name: &[u8], parts: u32, owners: &[u8], i: u32, st: &[u8]) {
     let m = five_cells();
     let mut out = [0u8; 10];
-    let a = split::interior(&m, parts, owners, i, st, &mut out);
+    let a = part_lists::interior(&m, parts, owners, i, st, &mut out);
     say_all(Form::Words, name, a, &out);
 }
 
@@ -295,7 +295,7 @@ fn stencils() {
 fn no_imports() {
     let m = five_cells();
     let mut out = [0u8; 10];
-    let a = split::imports(&m, 2, &OWNERS, 1, b"\x01", 2, &mut out);
+    let a = part_lists::imports(&m, 2, &OWNERS, 1, b"\x01", 2, &mut out);
     say(b"imports, stencil 1", a);
 }
 
@@ -303,7 +303,7 @@ fn no_imports() {
 fn reached(name: &[u8], i: u32, j: u32) {
     let m = triangles();
     let mut out = [0u8; 6];
-    let a = split::imports(
+    let a = part_lists::imports(
         &m,
         3,
         b"\x01\x02\x03",

@@ -3,7 +3,7 @@ use mathlib.Core.Path.{_≡_, refl}
 use Prim.Native.Nat.{_-_, _≤_}
 use lib.ListN.{length}
 use Rattle.vocabulary.specs.Ranges.{blocks}
-use Rattle.split.specs.declared.lists.Wanted.the-variants.{Exports}
+use Rattle.part_lists.specs.declared.lists.Wanted.the-variants.{Exports}
 use Rattle.listing.specs.Listing.{ascii}
 use Rattle.listing.specs.Printing.{Printed, passing}
 use Rattle.listing.proofs.PartLaws.{texts-start, exports-turn, texts-end}

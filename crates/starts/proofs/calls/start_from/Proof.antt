@@ -1,6 +1,6 @@
 -- `starts::calls::start_from` meets its contract. Assumes nothing.
 use native.Mathlib.Omega.{arith}
-use Rattle.split.proofs.CallLaws.{passed-facts}
+use Rattle.part_lists.proofs.CallLaws.{passed-facts}
 use Rattle.walks.proofs.StencilLaws.{stencil-some}
 use mathlib.Core.Path.{refl}
 use Rattle.round.specs.RuleLaws.{rule-known}

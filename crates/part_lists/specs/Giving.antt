@@ -1,0 +1,69 @@
+-- How the code chooses a list and gives it. No public contract rests on this page; the laws in proofs/ tie it to the definitions. Assumes
+-- nothing.
+use mathlib.Core.Bool.{cond}
+use mathlib.Core.List.{List, [], _∷_, _++_}
+use Prim.Native.Nat.{ℕ, _*_}
+use lib.Dec.{eqb, ltb}
+use lib.ListN.{length}
+use Rattle.vocabulary.specs.Bytes.{Bytes, over}
+use Rattle.vocabulary.specs.Tests.{Test, refuse, firstOf}
+use Rattle.layout.specs.Words.{bytesOf}
+use Rattle.layout.specs.Answers.{answer}
+use Rattle.layout.specs.declared.Answer.{Answer}
+use Rattle.mesh.specs.Mesh.{firstCell, cellCount}
+use Rattle.split.specs.Split.{splitOf}
+use Rattle.split.specs.Lists as Lists
+use Rattle.split.specs.Lists.{splitTests, sizeTests, listOf}
+use Rattle.split.specs.Sorting.{cellsOf, localsOf, rangeOf}
+use Rattle.part_lists.specs.declared.lists.Wanted.{Wanted}
+use Rattle.part_lists.specs.declared.lists.Wanted.the-variants.{Interior, Halo, Locals, Imports, Exports, Private, Exposed, Shared, Copied}
+
+-- the list that is meant, with the other part j and the dimension k
+unfoldable pub meant : Wanted → ℕ → ℕ → Lists.Wanted
+meant Interior j k = Lists.interior-cells
+meant Halo j k = Lists.halo-cells
+meant Locals j k = Lists.local-order
+meant Imports j k = Lists.imports-from j
+meant Exports j k = Lists.exports-to j
+meant Private j k = Lists.private-range k
+meant Exposed j k = Lists.exposed-range k
+meant Shared j k = Lists.shared-range k
+meant Copied j k = Lists.copied-range k
+
+-- its words, from prepared tables
+unfoldable pub chosen : Wanted → Bytes → ℕ → Bytes → Bytes → List ℕ → Bytes → ℕ → ℕ → ℕ → List ℕ
+chosen Interior m parts owners table ends held i j k = cellsOf owners table ends held i (firstCell m) (cellCount m) 17
+chosen Halo m parts owners table ends held i j k = cellsOf owners table ends held i (firstCell m) (cellCount m) 18
+chosen Locals m parts owners table ends held i j k = localsOf owners table ends held i (firstCell m) (cellCount m) parts
+chosen Imports m parts owners table ends held i j k = cellsOf owners table ends held i (firstCell m) (cellCount m) j
+chosen Exports m parts owners table ends held i j k = cellsOf owners table ends held j (firstCell m) (cellCount m) i
+chosen Private m parts owners table ends held i j k = rangeOf m owners held parts i k 1
+chosen Exposed m parts owners table ends held i j k = rangeOf m owners held parts i k 2
+chosen Shared m parts owners table ends held i j k = rangeOf m owners held parts i k 3
+chosen Copied m parts owners table ends held i j k = rangeOf m owners held parts i k 4
+
+-- words given where there is room: 16, the last test, or their count; and the output
+unfoldable pub givenNumber : List ℕ → Bytes → ℕ
+givenNumber ws out = firstOf (refuse 16 (ltb (length out) (2 * length ws)) ∷ [])
+
+unfoldable pub givenAnswer : List ℕ → Bytes → Answer
+givenAnswer ws out = answer (givenNumber ws out) (length ws)
+
+unfoldable pub givenOut : List ℕ → Bytes → Bytes
+givenOut ws out = cond (eqb (givenNumber ws out) 0) (over out 0 (bytesOf ws)) out
+
+-- the call, where it names the parts i and j
+module _ (w : Wanted) (m : Bytes) (parts : ℕ) (owners : Bytes) (i j k : ℕ) (st : Bytes) where
+  unfoldable pub namedWords : List ℕ
+  namedWords = listOf m (splitOf m parts owners st) i (meant w j k)
+
+  unfoldable pub namedTests : Bytes → List Test
+  namedTests out =
+      splitTests m parts owners (i ∷ j ∷ []) st
+      ++ (sizeTests m parts owners st ++ (refuse 16 (ltb (length out) (2 * length namedWords)) ∷ []))
+
+  unfoldable pub namedAnswer : Bytes → Answer
+  namedAnswer out = answer (firstOf (namedTests out)) (length namedWords)
+
+  unfoldable pub namedOut : Bytes → Bytes
+  namedOut out = cond (eqb (firstOf (namedTests out)) 0) (over out 0 (bytesOf namedWords)) out

@@ -1,0 +1,117 @@
+// The public calls. Each writes a list of part `i` as words, and answers their count or its refusal.
+use crate::lists::Wanted;
+use crate::lists::list;
+use layout::Answer;
+ghost use mathlib.Core.Path.{_≡_};
+ghost use Rattle.split.specs.Lists.{listAnswer, listOut, interior-cells, halo-cells, local-order, imports-from, exports-to, private-range, exposed-range, shared-range, copied-range};
+
+// The interior of a part: its cells with only its own cells in their reach.
+pub fn interior(m: &[u8], parts: u32, owners: &[u8], i: u32, st: &[u8], out: &mut [u8]) -> Answer
+    ensures { λ r. ⌜ (r ≡ listAnswer (now (m .entry)) parts (now (owners .entry)) i (now (st .entry)) interior-cells (now (out .entry))) × (now (out .exit) ≡ listOut (now (m .entry)) parts (now (owners .entry)) i (now (st .entry)) interior-cells (now (out .entry))) ⌝ }
+{
+    list(Wanted::Interior, m, parts, owners, i, i, 0, st, out)
+}
+
+// The halo of a part: its other cells.
+pub fn halo(m: &[u8], parts: u32, owners: &[u8], i: u32, st: &[u8], out: &mut [u8]) -> Answer
+    ensures { λ r. ⌜ (r ≡ listAnswer (now (m .entry)) parts (now (owners .entry)) i (now (st .entry)) halo-cells (now (out .entry))) × (now (out .exit) ≡ listOut (now (m .entry)) parts (now (owners .entry)) i (now (st .entry)) halo-cells (now (out .entry))) ⌝ }
+{
+    list(Wanted::Halo, m, parts, owners, i, i, 0, st, out)
+}
+
+// The cells of a part in local order: local numbers count from 1 in this list.
+pub fn local_order(m: &[u8], parts: u32, owners: &[u8], i: u32, st: &[u8], out: &mut [u8]) -> Answer
+    ensures { λ r. ⌜ (r ≡ listAnswer (now (m .entry)) parts (now (owners .entry)) i (now (st .entry)) local-order (now (out .entry))) × (now (out .exit) ≡ listOut (now (m .entry)) parts (now (owners .entry)) i (now (st .entry)) local-order (now (out .entry))) ⌝ }
+{
+    list(Wanted::Locals, m, parts, owners, i, i, 0, st, out)
+}
+
+// What a part imports from another.
+pub fn imports(
+    m: &[u8],
+    parts: u32,
+    owners: &[u8],
+    i: u32,
+    st: &[u8],
+    from: u32,
+    out: &mut [u8],
+) -> Answer
+    ensures { λ r. ⌜ (r ≡ listAnswer (now (m .entry)) parts (now (owners .entry)) i (now (st .entry)) (imports-from from) (now (out .entry))) × (now (out .exit) ≡ listOut (now (m .entry)) parts (now (owners .entry)) i (now (st .entry)) (imports-from from) (now (out .entry))) ⌝ }
+{
+    list(Wanted::Imports, m, parts, owners, i, from, 0, st, out)
+}
+
+// What a part exports to another: what that one imports from it.
+pub fn exports(
+    m: &[u8],
+    parts: u32,
+    owners: &[u8],
+    i: u32,
+    st: &[u8],
+    to: u32,
+    out: &mut [u8],
+) -> Answer
+    ensures { λ r. ⌜ (r ≡ listAnswer (now (m .entry)) parts (now (owners .entry)) i (now (st .entry)) (exports-to to) (now (out .entry))) × (now (out .exit) ≡ listOut (now (m .entry)) parts (now (owners .entry)) i (now (st .entry)) (exports-to to) (now (out .entry))) ⌝ }
+{
+    list(Wanted::Exports, m, parts, owners, i, to, 0, st, out)
+}
+
+// The lower elements of a dimension that no other part holds,
+pub fn private_range(
+    m: &[u8],
+    parts: u32,
+    owners: &[u8],
+    i: u32,
+    st: &[u8],
+    dimension: u32,
+    out: &mut [u8],
+) -> Answer
+    ensures { λ r. ⌜ (r ≡ listAnswer (now (m .entry)) parts (now (owners .entry)) i (now (st .entry)) (private-range dimension) (now (out .entry))) × (now (out .exit) ≡ listOut (now (m .entry)) parts (now (owners .entry)) i (now (st .entry)) (private-range dimension) (now (out .entry))) ⌝ }
+{
+    list(Wanted::Private, m, parts, owners, i, i, dimension, st, out)
+}
+
+// those that touch no other part, though another holds them,
+pub fn exposed_range(
+    m: &[u8],
+    parts: u32,
+    owners: &[u8],
+    i: u32,
+    st: &[u8],
+    dimension: u32,
+    out: &mut [u8],
+) -> Answer
+    ensures { λ r. ⌜ (r ≡ listAnswer (now (m .entry)) parts (now (owners .entry)) i (now (st .entry)) (exposed-range dimension) (now (out .entry))) × (now (out .exit) ≡ listOut (now (m .entry)) parts (now (owners .entry)) i (now (st .entry)) (exposed-range dimension) (now (out .entry))) ⌝ }
+{
+    list(Wanted::Exposed, m, parts, owners, i, i, dimension, st, out)
+}
+
+// those that touch another part, too,
+pub fn shared_range(
+    m: &[u8],
+    parts: u32,
+    owners: &[u8],
+    i: u32,
+    st: &[u8],
+    dimension: u32,
+    out: &mut [u8],
+) -> Answer
+    ensures { λ r. ⌜ (r ≡ listAnswer (now (m .entry)) parts (now (owners .entry)) i (now (st .entry)) (shared-range dimension) (now (out .entry))) × (now (out .exit) ≡ listOut (now (m .entry)) parts (now (owners .entry)) i (now (st .entry)) (shared-range dimension) (now (out .entry))) ⌝ }
+{
+    list(Wanted::Shared, m, parts, owners, i, i, dimension, st, out)
+}
+
+// and those that it holds and that do not touch it.
+pub fn copied_range(
+    m: &[u8],
+    parts: u32,
+    owners: &[u8],
+    i: u32,
+    st: &[u8],
+    dimension: u32,
+    out: &mut [u8],
+) -> Answer
+    ensures { λ r. ⌜ (r ≡ listAnswer (now (m .entry)) parts (now (owners .entry)) i (now (st .entry)) (copied-range dimension) (now (out .entry))) × (now (out .exit) ≡ listOut (now (m .entry)) parts (now (owners .entry)) i (now (st .entry)) (copied-range dimension) (now (out .entry))) ⌝ }
+{
+    list(Wanted::Copied, m, parts, owners, i, i, dimension, st, out)
+}
