@@ -9,16 +9,15 @@ use mesh::inner::elements_of;
 use mesh::inner::first_cell;
 use mesh::inner::record_count;
 use mesh::inner::top_of;
-use split::inner::held_elsewhere;
 use split::inner::holds_at;
 use walks::inner::invert;
 ghost use mathlib.Core.Path.{_≡_};
 ghost use mathlib.Core.Bool.{not};
 ghost use Prim.Native.Nat.{_+_, _-_, _≤_, _<_};
-ghost use Rattle.vocabulary.specs.Ranges.{blocks};
+ghost use Rattle.vocabulary.specs.Ranges.{some, blocks};
 ghost use Rattle.mesh.specs.Accepted.{Accepted};
 ghost use Rattle.walks.specs.Links.{trail};
-ghost use Rattle.split.specs.Sorting.{sideAt, someSide, trailSort, trailSorted, rangeOf, Added};
+ghost use Rattle.split.specs.Sorting.{elsewhereAt, sideAt, someSide, trailSort, trailSorted, rangeOf, Added};
 
 // The sorts of a lower element.
 pub const PRIVATE: usize = 1;
@@ -40,6 +39,30 @@ const HELD_BY_ANOTHER: usize = 3;
 
 // The most entries that the chains of all cells have, and one more.
 const ENTRIES: usize = 12001;
+
+// Whether j is another part than i and holds the cell at place q.
+fn is_elsewhere(held: &[u8], i: usize, q: usize, j: usize) -> bool
+    requires { ⌜ (j < 65536) × (q < 65536) ⌝ }
+    ensures { λ b. ⌜ b ≡ elsewhereAt (now (held .entry)) i q j ⌝ }
+{
+    if i == j {
+        return false;
+    }
+    holds_at(held, j, q)
+}
+
+// Whether another part than i holds the cell at place q.
+pub fn held_elsewhere(held: &[u8], parts: usize, i: usize, q: usize) -> bool
+    requires { ⌜ (parts ≤ 16) × (q < 65536) ⌝ }
+    ensures { λ b. ⌜ b ≡ some 1 parts (elsewhereAt (now (held .entry)) i q) ⌝ }
+{
+    for k in 0..parts {
+        if is_elsewhere(held, i, q, k + 1) {
+            return true;
+        }
+    }
+    false
+}
 
 // The cell at place q, asked by part i.
 fn has_side(side: usize, owners: &[u8], held: &[u8], parts: usize, i: usize, q: usize) -> bool

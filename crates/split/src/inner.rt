@@ -1,6 +1,5 @@
 // The tables that all lists are read off, and the numbers of cells, for an accepted mesh, map and stencil.
 pub use crate::tables::bad_holdings;
-pub use crate::tables::held_elsewhere;
 pub use crate::tables::holds_at;
 pub use crate::tables::sizes_number;
 pub use crate::units::to_global;

@@ -8,13 +8,13 @@ ghost use mathlib.Core.Bool.{false};
 ghost use mathlib.Core.List.{[]};
 ghost use Prim.Native.Nat.{_≤_, _<_, _*_};
 ghost use lib.ListN.{length};
-ghost use Rattle.vocabulary.specs.Ranges.{some, total};
+ghost use Rattle.vocabulary.specs.Ranges.{total};
 ghost use Rattle.mesh.specs.Mesh.{top};
 ghost use Rattle.mesh.specs.Walks.{bad10};
 ghost use Rattle.mesh.specs.Accepted.{Accepted};
 ghost use Rattle.split.specs.Split.{splitOf};
 ghost use Rattle.split.specs.Lists.{bad8, bad12, sizesNumber};
-ghost use Rattle.split.specs.Sorting.{heldAt, elsewhereAt, markAt, rowCount, Blank, Holding, Prepared};
+ghost use Rattle.split.specs.Sorting.{heldAt, markAt, rowCount, Blank, Holding, Prepared};
 
 // Whether part i holds the cell at place q.
 pub fn holds_at(held: &[u8], i: usize, q: usize) -> bool
@@ -22,30 +22,6 @@ pub fn holds_at(held: &[u8], i: usize, q: usize) -> bool
     ensures { λ b. ⌜ b ≡ heldAt (now (held .entry)) i q ⌝ }
 {
     byte_at(held, 2000 * i + q) == 1
-}
-
-// Whether j is another part than i and holds the cell at place q.
-fn is_elsewhere(held: &[u8], i: usize, q: usize, j: usize) -> bool
-    requires { ⌜ (j < 65536) × (q < 65536) ⌝ }
-    ensures { λ b. ⌜ b ≡ elsewhereAt (now (held .entry)) i q j ⌝ }
-{
-    if i == j {
-        return false;
-    }
-    holds_at(held, j, q)
-}
-
-// Whether another part than i holds the cell at place q.
-pub fn held_elsewhere(held: &[u8], parts: usize, i: usize, q: usize) -> bool
-    requires { ⌜ (parts ≤ 16) × (q < 65536) ⌝ }
-    ensures { λ b. ⌜ b ≡ some 1 parts (elsewhereAt (now (held .entry)) i q) ⌝ }
-{
-    for k in 0..parts {
-        if is_elsewhere(held, i, q, k + 1) {
-            return true;
-        }
-    }
-    false
 }
 
 // Whether part i holds the cell at place q, as a number to be counted.

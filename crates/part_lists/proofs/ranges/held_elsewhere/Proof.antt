@@ -1,14 +1,14 @@
--- `split::tables::held_elsewhere` meets its contract. The invariant: none of the first k parts is another that holds it. Assumes nothing.
+-- `part_lists::ranges::held_elsewhere` meets its contract. The invariant: none of the first k parts is another that holds it. Assumes nothing.
 use mathlib.Core.Path.{_≡_}
 use mathlib.Core.Bool.{false}
 use Prim.Native.Nat.{_-_, _≤_}
 use Rattle.vocabulary.specs.Ranges.{some}
 use Rattle.vocabulary.specs.RangeLaws.{some-start}
 use Rattle.split.specs.Sorting.{elsewhereAt}
-use Rattle.split.proofs.RangeSorts.{elsewhere-found, elsewhere-turn, elsewhere-end}
+use Rattle.part_lists.proofs.RangeSorts.{elsewhere-found, elsewhere-turn, elsewhere-end}
 use borrow.Author.Needs.{needs}
-use Rattle.split.proofs.tables.held_elsewhere.Statement.{statement}
-use Rattle.split.proofs.tables.held_elsewhere.Tie as tie
+use Rattle.part_lists.proofs.ranges.held_elsewhere.Statement.{statement}
+use Rattle.part_lists.proofs.ranges.held_elsewhere.Tie as tie
 
 abbrev Inv-loop : tie.InvT-loop
 Inv-loop held parts i q k₀ k = (k ≤ parts) × (some 1 k (elsewhereAt held i q) ≡ false)
