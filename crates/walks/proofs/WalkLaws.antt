@@ -22,7 +22,7 @@ use Rattle.mesh.proofs.DimensionLaws.{below-more}
 use Rattle.mesh.specs.WalkLaws.{below-grows}
 use Rattle.walks.proofs.StepLaws.{someOf-like}
 use Rattle.walks.specs.Visits.{Fresh, Gathered, Toward}
-use Rattle.walks.specs.Walking.{Ground, Cells, Lowers, Sided, Clear, stepped, firstMark, layerMark, noted, Noted, among, walkedFrom, Walk, Within, Lowest, Past}
+use Rattle.walks.specs.Walking.{Ground, Cells, Lowers, Sided, Clear, stepped, firstMark, layerMark, noted, Noted, among, walkedFrom, Walk, Within, Widened}
 
 -- ---- the copy
 
@@ -184,52 +184,40 @@ notes-room m st cs k w n v s marks₀ from₀ marks from found layers W G e = rw
 pub cells-fit : (m st : Bytes) (cell prev last layers from : List ℕ) (s : ℕ) → Ground m st cell prev last → Cells m from s → Clear layers → All (λ y. y < length layers) (take s from)
 cells-fit m st cell prev last layers from s G C K = All-map (take s from) (λ y h. omega (arith, h .high, G .mesh .cells-in, G .mesh .sizes .n-high, K .size)) (C .each)
 
+pub walk-count : (m st : Bytes) (cs : List ℕ) (k v n r : ℕ) (marks from layers : List ℕ) → r ≡ n → Walk m st cs k v marks from layers n → Walk m st cs k v marks from layers r
+walk-count m st cs k v n r marks from layers e W = subst (Walk m st cs k v marks from layers) (sym e) W
+
 -- ---- the bounds of the cells met
 
-pub lesser-second : (x y : ℕ) → y < x → Lowest x y (y ∷ [])
-lesser-second x y h = record { at-most = omega arith; each = (omega arith, tt); at-least = λ b p a. a .0 }
+pub widened-one : (low high low′ high′ y z : ℕ) → z ≡ y + 1 → (low′ ≤ low) × (low′ ≤ y) × ((a : ℕ) → a ≤ low → a ≤ y → a ≤ low′)
+    → (high ≤ high′) × (z ≤ high′) × ((b : ℕ) → high ≤ b → z ≤ b → high′ ≤ b) → Widened low high low′ high′ (y ∷ [])
+widened-one low high low′ high′ y z e L H = record {
+  down = L .0;
+  up = H .0;
+  each = ((L .1, omega (arith, H .1)), tt);
+  least = λ a b p q r. (L .2 a p (r .0 .0), H .2 b q (omega (arith, r .0 .1)));
+}
 
-pub lesser-first : (x y : ℕ) → x ≤ y → Lowest x x (y ∷ [])
-lesser-first x y h = record { at-most = omega arith; each = (h, tt); at-least = λ b p a. p }
+pub widen-start : (low high : ℕ) (list : List ℕ) → Widened low high low high (take 0 list)
+widen-start low high list = record { down = omega arith; up = omega arith; each = tt; least = λ a b p q r. (p, q) }
 
-pub past-second : (x y : ℕ) → x < y + 1 → Past x (y + 1) (y ∷ [])
-past-second x y h = record { at-least = omega arith; each = (omega arith, tt); at-most = λ b p a. omega (arith, a .0) }
+pub widen-turn : (low high low′ high′ low″ high″ y j n : ℕ) (list : List ℕ) → length (take n list) ≡ n → j < n → y ≡ getD list j 0 → Widened low high low′ high′ (take j list)
+    → Widened low′ high′ low″ high″ (y ∷ []) → Widened low high low″ high″ (take (j + 1) list)
+widen-turn low high low′ high′ low″ high″ y j n list c h e X Y = record {
+  down = omega (arith, X .down, Y .down);
+  up = omega (arith, X .up, Y .up);
+  each = rw longer (All-append _ (take j list) (y ∷ []) (All-map (take j list) (λ z g. (omega (arith, g .0, Y .down), omega (arith, g .1, Y .up))) (X .each)) (Y .each));
+  least = λ a b p q r.
+      let r′ = All-split (λ z. (a ≤ z) × (z < b)) (take j list) (y ∷ []) (subst (All (λ z. (a ≤ z) × (z < b))) longer r) in
+      let u = X .least a b p q (r′ .0) in
+      Y .least a b (u .0) (u .1) (r′ .1);
+}
+  where
+    longer : take (j + 1) list ≡ take j list ++ (y ∷ [])
+    longer = rw (add-one j, e) (take-suc list j 0 (omega (arith, c, length-take n list)))
 
-pub past-first : (x y : ℕ) → y + 1 ≤ x → Past x x (y ∷ [])
-past-first x y h = record { at-least = omega arith; each = (omega arith, tt); at-most = λ b p a. p }
-
-pub lowest-start : (x : ℕ) (list : List ℕ) → Lowest x x (take 0 list)
-lowest-start x list = record { at-most = omega arith; each = tt; at-least = λ b p a. p }
-
-pub past-start : (x : ℕ) (list : List ℕ) → Past x x (take 0 list)
-past-start x list = record { at-least = omega arith; each = tt; at-most = λ b p a. p }
-
-module _ (x r s j n : ℕ) (list : List ℕ) (c : length (take n list) ≡ n) (h : j < n) where
-  longer : take (j + 1) list ≡ take j list ++ (getD list j 0 ∷ [])
-  longer = rw (add-one j) (take-suc list j 0 (omega (arith, c, length-take n list)))
-
-  both : (P : ℕ → Type 0) → All P (take (j + 1) list) → All P (take j list) × All P (getD list j 0 ∷ [])
-  both P a = All-split P (take j list) (getD list j 0 ∷ []) (subst (All P) longer a)
-
-  pub lowest-turn : Lowest x r (take j list) → (y : ℕ) → y ≡ getD list j 0 → Lowest r s (y ∷ []) → Lowest x s (take (j + 1) list)
-  lowest-turn L y e M = record {
-    at-most = omega (arith, L .at-most, M .at-most);
-    each = rw longer (All-append (λ y. s ≤ y) (take j list) _ (All-map (take j list) (λ y h. omega (arith, h, M .at-most)) (L .each)) (subst (λ y. All (λ z. s ≤ z) (y ∷ [])) e (M .each)));
-    at-least = λ b p a. let q = both (λ y. b ≤ y) a in M .at-least b (L .at-least b p (q .0)) (subst (λ y. All (λ z. b ≤ z) (y ∷ [])) (sym e) (q .1));
-  }
-
-  pub past-turn : Past x r (take j list) → (y : ℕ) → y ≡ getD list j 0 → Past r s (y ∷ []) → Past x s (take (j + 1) list)
-  past-turn L y e M = record {
-    at-least = omega (arith, L .at-least, M .at-least);
-    each = rw longer (All-append (λ y. y < s) (take j list) _ (All-map (take j list) (λ y h. omega (arith, h, M .at-least)) (L .each)) (subst (λ y. All (λ z. z < s) (y ∷ [])) e (M .each)));
-    at-most = λ b p a. let q = both (λ y. y < b) a in M .at-most b (L .at-most b p (q .0)) (subst (λ y. All (λ z. z < b) (y ∷ [])) (sym e) (q .1));
-  }
-
-pub lowest-end : (x r j n : ℕ) (list : List ℕ) → j ≤ n → n ≤ j → Lowest x r (take j list) → Lowest x r (take n list)
-lowest-end x r j n list g h L = let q : j ≡ n = omega arith in subst (λ i. Lowest x r (take i list)) q L
-
-pub past-end : (x r j n : ℕ) (list : List ℕ) → j ≤ n → n ≤ j → Past x r (take j list) → Past x r (take n list)
-past-end x r j n list g h L = let q : j ≡ n = omega arith in subst (λ i. Past x r (take i list)) q L
+pub widen-end : (low high low′ high′ j n : ℕ) (list : List ℕ) → j ≤ n → n ≤ j → Widened low high low′ high′ (take j list) → Widened low high low′ high′ (take n list)
+widen-end low high low′ high′ j n list g h U = let q : j ≡ n = omega arith in subst (λ i. Widened low high low′ high′ (take i list)) q U
 
 -- an element that is not noted keeps its layer
 kept : (k n z : ℕ) (from layers layers′ : List ℕ) → Noted k layers layers′ (among from n) → (isIn z (take n from) ≡ true → ⊥) → getD layers′ z 0 ≡ getD layers z 0
@@ -243,14 +231,17 @@ outside : (P : ℕ → Type 0) (z : ℕ) (xs : List ℕ) → All P xs → (P z �
 outside P z xs a n e = n (at-all P z xs a (isIn-at z xs e))
 
 module _ (m : Bytes) (k n low high : ℕ) (from layers layers′ : List ℕ) (N : Noted k layers layers′ (among from n)) (W : Within m layers low high) where
-  within-cells : (low′ high′ : ℕ) → All (Cell m) (take n from) → Lowest low low′ (take n from) → Past high high′ (take n from) → Within m layers′ low′ high′
-  within-cells low′ high′ C L P = record {
-    starts = L .at-least (firstCell m) (W .starts) (All-map (take n from) (λ y h. h .low) C);
-    ends = omega (arith, L .at-most, W .ends);
-    stops = P .at-most (firstCell m + cellCount m) (W .stops) (All-map (take n from) (λ y h. h .high) C);
-    before = λ z h l. kept k n z from layers layers′ N (outside (λ y. low′ ≤ y) z (take n from) (L .each) (λ q. let o : ⊥ = omega arith in o)) ∙ W .before z h (omega (arith, L .at-most));
-    after = λ z h l. kept k n z from layers layers′ N (outside (λ y. y < high′) z (take n from) (P .each) (λ q. let o : ⊥ = omega arith in o)) ∙ W .after z h (omega (arith, P .at-least));
+  within-cells : (low′ high′ : ℕ) → All (Cell m) (take n from) → Widened low high low′ high′ (take n from) → Within m layers′ low′ high′
+  within-cells low′ high′ C U = record {
+    starts = bounds .0;
+    ends = omega (arith, U .down, W .ends);
+    stops = bounds .1;
+    before = λ z h l. kept k n z from layers layers′ N (outside (λ y. (low′ ≤ y) × (y < high′)) z (take n from) (U .each) (λ q. let o : ⊥ = omega (arith, q .0) in o)) ∙ W .before z h (omega (arith, U .down));
+    after = λ z h l. kept k n z from layers layers′ N (outside (λ y. (low′ ≤ y) × (y < high′)) z (take n from) (U .each) (λ q. let o : ⊥ = omega (arith, q .1) in o)) ∙ W .after z h (omega (arith, U .up));
   }
+    where
+      bounds : (firstCell m ≤ low′) × (high′ ≤ firstCell m + cellCount m)
+      bounds = U .least (firstCell m) (firstCell m + cellCount m) (W .starts) (W .stops) (All-map (take n from) (λ y h. (h .low, h .high)) C)
 
   within-lowers : All (λ x. (1 ≤ x) × (x ≤ below m (top m))) (take n from) → Within m layers′ low high
   within-lowers C = record {
@@ -265,17 +256,17 @@ module _ (m : Bytes) (k n low high : ℕ) (from layers layers′ : List ℕ) (N 
       out z h = outside _ z (take n from) C (λ q. let l : below m (top m) + 1 ≤ z = h in let o : ⊥ = omega (arith, q .1, l) in o)
 
 pub within-none : (m st : Bytes) (cell prev last : List ℕ) (e s low high : ℕ) (from layers layers′ : List ℕ) → Ground m st cell prev last → e ≡ elements m → Cells m from s → Clear layers
-    → Noted 0 layers layers′ (among from s) → Lowest (e + 1) low (take s from) → Past 0 high (take s from) → Within m layers′ low high
-within-none m st cell prev last e s low high from layers layers′ G ee C K N L P =
+    → Noted 0 layers layers′ (among from s) → Widened (e + 1) 0 low high (take s from) → Within m layers′ low high
+within-none m st cell prev last e s low high from layers layers′ G ee C K N U =
     within-cells m 0 s (e + 1) 0 from layers layers′ N
     (record { starts = omega (arith, G .mesh .cells-in); ends = omega (arith, G .mesh .cells-in); stops = omega arith; before = λ z h l. K .each z; after = λ z h l. K .each z })
-    low high (C .each) L P
+    low high (C .each) U
 
 module _ (m st : Bytes) (cell prev last cs : List ℕ) (k v n low high : ℕ) (marks from layers layers′ : List ℕ) (G : Ground m st cell prev last) (C : All (Cell m) cs) (h : k < length st)
     (W : Walk m st cs k v marks from layers′ n) (N : Noted k layers layers′ (among from n)) (I : Within m layers low high) where
   pub within-odd : k % 2 ≡ 1 → Within m layers′ low high
   within-odd o = within-lowers m k n low high from layers layers′ N I (each-of m st (G .mesh) (G .stencil) cs C _ k n from (W .ends) (λ z e. walked-odd m st (G .mesh) (G .stencil) cs C k z h o e))
 
-  pub within-even : (k % 2 ≡ 1 → ⊥) → (low′ high′ : ℕ) → Lowest low low′ (take n from) → Past high high′ (take n from) → Within m layers′ low′ high′
-  within-even o low′ high′ L P =
-      within-cells m k n low high from layers layers′ N I low′ high′ (each-of m st (G .mesh) (G .stencil) cs C _ k n from (W .ends) (λ z e. walked-even m st (G .mesh) (G .stencil) cs C k z h (omega arith) e)) L P
+  pub within-even : (k % 2 ≡ 1 → ⊥) → (low′ high′ : ℕ) → Widened low high low′ high′ (take n from) → Within m layers′ low′ high′
+  within-even o low′ high′ U =
+      within-cells m k n low high from layers layers′ N I low′ high′ (each-of m st (G .mesh) (G .stencil) cs C _ k n from (W .ends) (λ z e. walked-even m st (G .mesh) (G .stencil) cs C k z h (omega arith) e)) U

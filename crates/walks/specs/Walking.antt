@@ -82,17 +82,12 @@ pub record Within (m : Bytes) (layers : List ℕ) (low high : ℕ) : Type 0 wher
   pub before : (z : ℕ) → firstCell m ≤ z → z < low → getD layers z 0 ≡ 0
   pub after : (z : ℕ) → firstCell m ≤ z → high ≤ z → getD layers z 0 ≡ 0
 
--- low is x or one of the numbers ys, and none of them is less
-pub record Lowest (x low : ℕ) (ys : List ℕ) : Type 0 where
-  pub at-most : low ≤ x
-  pub each : All (λ y. low ≤ y) ys
-  pub at-least : (b : ℕ) → b ≤ x → All (λ y. b ≤ y) ys → b ≤ low
-
--- high is x or comes just after one of the numbers ys, and none of them is as great
-pub record Past (x high : ℕ) (ys : List ℕ) : Type 0 where
-  pub at-least : x ≤ high
-  pub each : All (λ y. y < high) ys
-  pub at-most : (b : ℕ) → x ≤ b → All (λ y. y < b) ys → high ≤ b
+-- bounds that hold the numbers ys as well, and no more than they have to
+pub record Widened (low high low′ high′ : ℕ) (ys : List ℕ) : Type 0 where
+  pub down : low′ ≤ low
+  pub up : high ≤ high′
+  pub each : All (λ y. (low′ ≤ y) × (y < high′)) ys
+  pub least : (a b : ℕ) → a ≤ low → high ≤ b → All (λ y. (a ≤ y) × (y < b)) ys → (a ≤ low′) × (high′ ≤ b)
 
 -- before step k: cells where it goes down, lower elements where it goes up
 pub record Sided (m : Bytes) (k : ℕ) (from : List ℕ) (n : ℕ) : Type 0 where

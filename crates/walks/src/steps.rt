@@ -16,7 +16,7 @@ ghost use Rattle.vocabulary.specs.Lists.{All};
 ghost use Rattle.mesh.specs.Mesh.{top, elements, recordCount};
 ghost use Rattle.mesh.specs.Accepted.{Accepted};
 ghost use Rattle.walks.specs.Visits.{Fresh, Gathered, Toward};
-ghost use Rattle.walks.specs.Walking.{Ground, Cells, Lowers, Sided, Clear, stepped, Noted, among, Walk, Within, Lowest, Past};
+ghost use Rattle.walks.specs.Walking.{Ground, Cells, Lowers, Sided, Clear, stepped, Noted, among, Walk, Within, Widened};
 
 // Down from the first n cells of `from` to the elements of dimension a.
 pub fn walk_down(
@@ -113,50 +113,48 @@ fn copy_list(src: &[u16], n: usize, dst: &mut [u16])
     }
 }
 
-// The lesser of two numbers.
-fn lesser(x: usize, y: usize) -> usize
-    ensures { λ r. ⌜ Lowest x r (y ∷ []) ⌝ }
-{
-    if y < x { y } else { x }
-}
-
-// The least of x and the first n numbers of a list.
-fn lowest(list: &[u16], n: usize, x: usize) -> usize
-    requires { ⌜ length (take n (now list)) ≡ n ⌝ }
-    ensures { λ r. ⌜ Lowest x r (take n (now (list .entry))) ⌝ }
-{
-    let mut r = x;
-    for j in 0..n {
-        r = lesser(r, entry(list, j));
-    }
-    r
-}
-
-// The greater of x and the number after y.
-fn past(x: usize, y: usize) -> usize
-    requires { ⌜ y < 65536 ⌝ }
-    ensures { λ r. ⌜ Past x r (y ∷ []) ⌝ }
-{
-    if x < y + 1 { y + 1 } else { x }
-}
-
-// The greatest of x and the numbers after the first n of a list.
-fn past_all(list: &[u16], n: usize, x: usize) -> usize
-    requires { ⌜ length (take n (now list)) ≡ n ⌝ }
-    ensures { λ r. ⌜ Past x r (take n (now (list .entry))) ⌝ }
-{
-    let mut r = x;
-    for j in 0..n {
-        r = past(r, entry(list, j));
-    }
-    r
-}
-
 // Where walks end: how many elements those are; and the bounds of all cells met on the way, from `low` up to but without `high`.
 pub struct Ends {
     pub count: usize,
     pub low: usize,
     pub high: usize,
+}
+
+// The lesser and the greater of two numbers.
+fn lesser(x: usize, y: usize) -> usize
+    ensures { λ r. ⌜ (r ≤ x) × (r ≤ y) × ((a : ℕ) → a ≤ x → a ≤ y → a ≤ r) ⌝ }
+{
+    if y < x { y } else { x }
+}
+
+fn greater(x: usize, y: usize) -> usize
+    ensures { λ r. ⌜ (x ≤ r) × (y ≤ r) × ((b : ℕ) → x ≤ b → y ≤ b → r ≤ b) ⌝ }
+{
+    if x < y { y } else { x }
+}
+
+// The bounds that hold cell y as well.
+fn widened(w: Ends, y: usize) -> Ends
+    requires { ⌜ y < 65536 ⌝ }
+    ensures { λ r. ⌜ (r .count ≡ w .count) × Widened (w .low) (w .high) (r .low) (r .high) (y ∷ []) ⌝ }
+{
+    Ends {
+        count: w.count,
+        low: lesser(w.low, y),
+        high: greater(w.high, y + 1),
+    }
+}
+
+// The bounds that hold the first n numbers of a list as well.
+fn widen(list: &[u16], n: usize, w: Ends) -> Ends
+    requires { ⌜ length (take n (now list)) ≡ n ⌝ }
+    ensures { λ r. ⌜ (r .count ≡ w .count) × Widened (w .low) (w .high) (r .low) (r .high) (take n (now (list .entry))) ⌝ }
+{
+    let mut r = w;
+    for j in 0..n {
+        r = widened(r, entry(list, j));
+    }
+    r
 }
 
 // Where the walks of k steps from the first s cells of `from` end: a walk of k - 1 steps, and one step more. Each element met bears its layer.
@@ -181,11 +179,15 @@ pub fn walk(
 {
     if k == 0 {
         note_all(0, from, s, layers);
-        return Ends {
-            count: s,
-            low: lowest(from, s, e + 1),
-            high: past_all(from, s, 0),
-        };
+        return widen(
+            from,
+            s,
+            Ends {
+                count: s,
+                low: e + 1,
+                high: 0,
+            },
+        );
     }
     let w = walk(
         m,
@@ -220,16 +222,13 @@ pub fn walk(
     );
     copy_list(found, n, from);
     note_all(k as u16, from, n, layers);
-    if k % 2 == 1 {
-        return Ends {
-            count: n,
-            low: w.low,
-            high: w.high,
-        };
-    }
-    Ends {
+    let met = Ends {
         count: n,
-        low: lowest(from, n, w.low),
-        high: past_all(from, n, w.high),
+        low: w.low,
+        high: w.high,
+    };
+    if k % 2 == 1 {
+        return met;
     }
+    widen(from, n, met)
 }
