@@ -1,4 +1,4 @@
-// The mesh bytes, walks and reaches. Here stand the calls that take any bytes; what supposes an accepted mesh is in `inner`.
+// The mesh bytes and their tests. Here stand the calls that take any bytes; what supposes an accepted mesh is in `inner`.
 mod chains;
 mod closure;
 mod head;

@@ -30,7 +30,7 @@ pub record Marks (before after : Bytes) (p : ℕ → Bool) : Type 0 where
   pub size : length after ≡ length before
   pub each : (z : ℕ) → z < length before → eqb (byteAt after z) 1 ≡ eqb (byteAt before z) 1 || p z
 
--- ---- how the code marks them
+-- ---- how the code marks them; no public contract rests on what follows
 
 -- place q has a layer, and z is its byte; or one of the first n places
 unfoldable pub layerAt : List ℕ → ℕ → ℕ → ℕ → ℕ → Bool

@@ -32,7 +32,7 @@ entryCount m st n = total (firstCell m) n (λ c. length (reach m st c))
 unfoldable pub capped : ℕ → ℕ
 capped n = cond (leb n 8000) n 8001
 
--- ---- how the code writes them
+-- ---- how the code writes them; no public contract rests on what follows
 
 -- the words at place q, by the layers' marks
 unfoldable pub row : List ℕ → ℕ → ℕ → List ℕ
