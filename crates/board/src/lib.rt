@@ -24,7 +24,7 @@ fn pack(a: Answer) -> u64
 pub extern "C" fn jem_check_mesh(mesh: &[u8]) -> u64
     ensures { λ r. ⌜ r ≡ packed (checkAnswer (now (mesh .entry))) ⌝ }
 {
-    pack(mesh::check_mesh(mesh))
+    pack(mesh_tests::check_mesh(mesh))
 }
 
 // One undivided round: the new field at the front of `out`.
@@ -230,7 +230,7 @@ pub extern "C" fn jem_start(
 pub extern "C" fn jem_write(state: &mut [u8], to: u32, out: &mut [u8]) -> u64
     ensures { λ r. ⌜ (r ≡ packed (writeAnswer (now (state .entry)) to (now (out .entry)))) × (now (state .exit) ≡ writeState (now (state .entry)) to (now (out .entry))) × (now (out .exit) ≡ writeOut (now (state .entry)) to (now (out .entry))) ⌝ }
 {
-    pack(parts::write(state, to, out))
+    pack(writing::write(state, to, out))
 }
 
 // Takes one message.
@@ -238,7 +238,7 @@ pub extern "C" fn jem_write(state: &mut [u8], to: u32, out: &mut [u8]) -> u64
 pub extern "C" fn jem_take(state: &mut [u8], message: &[u8]) -> u64
     ensures { λ r. ⌜ (r ≡ packed (takeAnswer (now (state .entry)) (now (message .entry)))) × (now (state .exit) ≡ takeState (now (state .entry)) (now (message .entry))) ⌝ }
 {
-    pack(parts::take(state, message))
+    pack(taking::take(state, message))
 }
 
 // Makes one round of the owned cells.
@@ -246,7 +246,7 @@ pub extern "C" fn jem_take(state: &mut [u8], message: &[u8]) -> u64
 pub extern "C" fn jem_advance(state: &mut [u8]) -> u64
     ensures { λ r. ⌜ (r ≡ packed (advanceAnswer (now (state .entry)))) × (now (state .exit) ≡ advanceState (now (state .entry))) ⌝ }
 {
-    pack(parts::advance(state))
+    pack(advancing::advance(state))
 }
 
 // Puts the owned depths into a field.
@@ -254,5 +254,5 @@ pub extern "C" fn jem_advance(state: &mut [u8]) -> u64
 pub extern "C" fn jem_collect(state: &[u8], round: u32, field: &mut [u8]) -> u64
     ensures { λ r. ⌜ (r ≡ packed (collectAnswer (now (state .entry)) round (now (field .entry)))) × (now (field .exit) ≡ collectOut (now (state .entry)) round (now (field .entry))) ⌝ }
 {
-    pack(parts::collect(state, round, field))
+    pack(collecting::collect(state, round, field))
 }

@@ -1,4 +1,2 @@
-pub mod PrintLaws
-pub mod PartLaws
 pub mod PieceLaws
 pub mod RoomLaws

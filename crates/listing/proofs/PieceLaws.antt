@@ -4,7 +4,7 @@ use mathlib.Core.Bool.{Bool, true, false, not, _&&_, _||_, cond}
 use mathlib.Core.List.{[], _∷_, _++_}
 use Prim.Native.Nat.{ℕ, _+_, _-_, _*_, _≤_, _<_}
 use native.Mathlib.Omega.{arith}
-use lib.Dec.{T, eqb}
+use lib.Dec.{eqb}
 use lib.ListN.{length, take, drop, length-drop, drop-of-length-le}
 use lib.Seq.{length-take-le, take-all, take-length, drop-length, drop-drop}
 use borrow.Author.Tests.{lt-ltb, le-ltb, eq-eqb, ne-eqb}
@@ -12,15 +12,16 @@ use Rattle.vocabulary.specs.Bytes.{Bytes, byteAt}
 use Rattle.vocabulary.specs.Ranges.{isUpTo, blocks}
 use Rattle.vocabulary.specs.RangeLaws.{upTo-true, upTo-intro}
 use Rattle.vocabulary.specs.Lists.{everyOf, joined}
-use Rattle.vocabulary.specs.Tests.{refuse, firstOf, numbered, firstOf-append}
+use Rattle.vocabulary.specs.Tests.{refuse, firstOf, firstOf-append}
 use Rattle.mesh.specs.Mesh.{top, elements, recordCount, cellCount, meshLength, meshTests}
 use Rattle.mesh.specs.Walks.{bad10}
 use Rattle.split.specs.Split.{splitOf}
 use Rattle.split.specs.Lists.{bad8, bad9, splitTests, sizeTests, splitNumber, sizesNumber}
-use Rattle.listing.specs.Listing.{ascii, line, splitText, meshPiece, mapPiece, partsPiece, ownersPiece, lastPiece, stencilPiece, listingNumber, listText}
-use Rattle.listing.specs.Printing.{Printed, partOf, piecesNumber, piecesText, stencilText, lastText, ownersText, mapText}
-use Rattle.listing.proofs.PrintLaws.{print-both}
-use Rattle.listing.proofs.PartLaws.{b-parts, b-refused}
+use Rattle.split.proofs.PassedLaws.{tests-numbered}
+use Rattle.part_text.specs.Listing.{ascii, line, splitText, meshPiece, mapPiece, partsPiece, ownersPiece, lastPiece, stencilPiece, listingNumber, listText}
+use Rattle.part_text.specs.Printing.{Printed, partOf, piecesNumber, piecesText, stencilText, lastText, ownersText, mapText}
+use Rattle.part_text.proofs.PrintLaws.{print-both}
+use Rattle.part_text.proofs.PartLaws.{b-parts, b-refused}
 
 -- ---- cuts
 
@@ -106,11 +107,8 @@ module _ (m : Bytes) (parts : ℕ) (owners st : Bytes) where
   number-is : piecesNumber m parts owners st ≡ cond (eqb (splitNumber m parts owners (1 ∷ 1 ∷ []) st) 0) (sizesNumber m parts owners st) (splitNumber m parts owners (1 ∷ 1 ∷ []) st)
   unfolding piecesNumber splitNumber sizesNumber
   number-is =
-      firstOf-append (splitTests m parts owners [] st) (sizeTests m parts owners st) counted
+      firstOf-append (splitTests m parts owners [] st) (sizeTests m parts owners st) (tests-numbered m parts owners [] st)
       ∙ ap (λ ts. cond (eqb (firstOf ts) 0) (firstOf (sizeTests m parts owners st)) (firstOf ts)) (sym tests-are)
-    where
-      counted : T (numbered (splitTests m parts owners [] st))
-      counted = unfold splitTests meshTests in tt
 
   module _ (a z : Bytes) (t : ℕ) where
     refused : (n : ℕ) → (n ≡ 0 → ⊥) → piecesNumber m parts owners st ≡ n → Printed a z 0 t (line b-refused (n ∷ [])) → Printed a z 0 t (piecesText m parts owners st)

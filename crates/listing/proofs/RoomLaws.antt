@@ -5,7 +5,7 @@ use mathlib.Core.List.{List, [], _∷_, _++_, map}
 use Prim.Native.Nat.{ℕ, zero, suc, _+_, _-_, _*_, _/_, _%_, _≤_, _<_}
 use native.Mathlib.Nat.{zero-add}
 use native.Mathlib.Omega.{arith}
-use lib.Dec.{T, eqb, ltb}
+use lib.Dec.{eqb, ltb}
 use lib.ListN.{length, take, drop, length-append}
 use lib.Seq.{take-all, take-append-seam}
 use borrow.Author.Tests.{ltb-true, ltb-false, lt-ltb, eqb-true}
@@ -15,7 +15,7 @@ use Rattle.vocabulary.specs.Ranges.{picked, blocks, total}
 use Rattle.vocabulary.specs.RangeLaws.{picked-all, picked-length-le, blocks-length, total-mono, total-bound}
 use Rattle.vocabulary.specs.Lists.{All, joined}
 use Rattle.vocabulary.specs.ListLaws.{and-true, cond-has}
-use Rattle.vocabulary.specs.Tests.{Test, firstOf, numbered, passed, passed-append}
+use Rattle.vocabulary.specs.Tests.{Test, firstOf, passed, passed-append}
 use Rattle.mesh.specs.Mesh.{top, counted, below, firstCell, cellCount, meshTests}
 use Rattle.mesh.specs.WalkLaws.{below-grows}
 use Rattle.mesh.specs.Accepted.{Accepted}
@@ -23,10 +23,10 @@ use Rattle.split.specs.Split.{Split, splitOf, held, holds, owns, inside as insi
 use Rattle.split.specs.SplitLaws.{own-count, order-length, local-held, split-reach, split-own, split-owner}
 use Rattle.split.specs.Lists.{bad8, bad12, splitTests, sizeTests, splitNumber}
 use Rattle.split.proofs.PreparedLaws.{map-right}
-use Rattle.part_lists.proofs.CallLaws.{passed-facts}
-use Rattle.listing.specs.Listing.{ascii, digits, decimal, spaced, line, lineUnlessEmpty, dimensionText, partText, splitText, meshPiece, partsPiece, ownersPiece, stencilPiece, listingNumber, listText}
-use Rattle.listing.specs.Printing.{fitting, Printed, Listed, piecesNumber, piecesText}
-use Rattle.listing.proofs.PrintLaws.{room}
+use Rattle.split.proofs.PassedLaws.{tests-numbered, passed-facts}
+use Rattle.part_text.specs.Listing.{ascii, digits, decimal, spaced, line, lineUnlessEmpty, dimensionText, partText, splitText, meshPiece, partsPiece, ownersPiece, stencilPiece, listingNumber, listText}
+use Rattle.part_text.specs.Printing.{fitting, Printed, Listed, piecesNumber, piecesText}
+use Rattle.part_text.proofs.PrintLaws.{room}
 use Rattle.listing.proofs.PieceLaws.{tests-are}
 
 -- ---- numbers of at most four digits
@@ -332,11 +332,8 @@ module _ (m : Bytes) (parts : ℕ) (owners st : Bytes) where
             later (q .1),
           )
         where
-          counted-tests : T (numbered (splitTests m parts owners [] st))
-          counted-tests = unfold splitTests meshTests in tt
-
           parted : piecesNumber m parts owners st ≡ 0 → (firstOf (splitTests m parts owners [] st) ≡ 0) × (firstOf (sizeTests m parts owners st) ≡ 0)
-          parted y = passed-append (splitTests m parts owners [] st) (sizeTests m parts owners st) counted-tests (unfold piecesNumber in y)
+          parted y = passed-append (splitTests m parts owners [] st) (sizeTests m parts owners st) (tests-numbered m parts owners [] st) (unfold piecesNumber in y)
 
           later : firstOf (sizeTests m parts owners st) ≡ 0 → bad12 (splitOf m parts owners st) ≡ false
           later y = unfold sizeTests in passed (sizeTests m parts owners st) tt y .0

@@ -1,11 +1,11 @@
 // The text of an input: it is cut into its pieces, one function a cut, and cut short they are as long as they are.
-use crate::lists::put_parts;
-use crate::text::put_line;
-use crate::text::put_text;
 use layout::byte_at;
 use mesh::inner::cell_count;
 use mesh::inner::elements_of;
 use mesh::inner::record_count;
+use part_text::inner::put_line;
+use part_text::inner::put_parts;
+use part_text::inner::put_text;
 use split::inner::sizes_number;
 use split::split_number;
 ghost use mathlib.Core.Path.{_≡_};
@@ -16,8 +16,8 @@ ghost use Rattle.mesh.specs.Mesh.{meshLength};
 ghost use Rattle.split.specs.Split.{splitOf};
 ghost use Rattle.split.specs.Lists.{splitNumber};
 ghost use Rattle.split.specs.Sorting.{Prepared};
-ghost use Rattle.listing.specs.Listing.{splitText, listText};
-ghost use Rattle.listing.specs.Printing.{Printed, Listed, piecesText, stencilText, lastText, ownersText, mapText};
+ghost use Rattle.part_text.specs.Listing.{splitText, listText};
+ghost use Rattle.part_text.specs.Printing.{Printed, Listed, piecesText, stencilText, lastText, ownersText, mapText};
 
 // The number of parts, and the parts.
 fn put_split(

@@ -189,3 +189,9 @@ accepted-mesh m e =
       chain-closed = closed-chain m p;
       covered = in-cell m p;
     }
+
+pub cells-few : (m : Bytes) (cells : ℕ) → Accepted m → cells ≡ cellCount m → cells ≤ 2000
+cells-few m cells A e = omega (arith, A .cells-in, A .sizes .n-high)
+
+pub cells-fit : (m : Bytes) (first cells : ℕ) → Accepted m → first ≡ firstCell m → cells ≡ cellCount m → first + cells ≤ 65536
+cells-fit m first cells A fe ce = omega (arith, A .cells-in, A .sizes .n-high)

@@ -1,11 +1,8 @@
 pub mod ReaderLaws
-pub mod HeadLaws
 pub mod FollowLaws
 pub mod MeetLaws
 pub mod RecordLaws
 pub mod DimensionLaws
-pub mod ElementLaws
-pub mod ClosureLaws
 pub mod NumberLaws
 pub mod AcceptedLaws
 pub mod ReaderType

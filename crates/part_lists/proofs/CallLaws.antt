@@ -1,88 +1,26 @@
 -- The call that gives a list: what its tests give, and what it answers. Assumes nothing.
 use mathlib.Core.Path.{_≡_, refl, sym, ap, ap₂, _∙_, subst}
-use mathlib.Core.Bool.{Bool, true, false, not, _&&_, _||_, cond}
+use mathlib.Core.Bool.{cond}
 use mathlib.Core.List.{List, [], _∷_, _++_}
 use Prim.Native.Nat.{ℕ, _+_, _*_, _≤_}
-use native.Mathlib.Omega.{arith}
 use lib.Dec.{T, eqb, ltb}
-use lib.ListN.{length, replicate, length-replicate}
-use borrow.Author.Tests.{eq-eqb, ne-eqb, not-false}
+use lib.ListN.{length}
+use borrow.Author.Tests.{eq-eqb, ne-eqb}
 use Rattle.vocabulary.specs.Bytes.{Bytes, over}
-use Rattle.vocabulary.specs.Ranges.{isUpTo}
-use Rattle.vocabulary.specs.RangeLaws.{upTo-true}
-use Rattle.vocabulary.specs.Lists.{everyOf}
-use Rattle.vocabulary.specs.ListLaws.{or-false, and-true}
-use Rattle.vocabulary.specs.Tests.{Test, refuse, firstOf, numbered, passed, passed-append, firstOf-append}
+use Rattle.vocabulary.specs.Tests.{refuse, firstOf, numbered, firstOf-append}
 use Rattle.layout.specs.Words.{bytesOf}
 use Rattle.layout.specs.Answers.{answer}
 use Rattle.layout.specs.declared.Answer.{Answer}
 use Rattle.layout.specs.declared.Answer.the-variants.{Done, Refused}
-use Rattle.mesh.specs.Mesh.{top, cellCount, meshTests, meshNumber}
-use Rattle.mesh.specs.Walks.{bad10}
-use Rattle.mesh.specs.Accepted.{Accepted}
-use Rattle.mesh.proofs.AcceptedLaws.{accepted-mesh}
-use Rattle.walks.proofs.TrailLaws.{zeros-at}
 use Rattle.split.specs.Split.{splitOf}
 use Rattle.split.specs.Lists as Lists
-use Rattle.split.specs.Lists.{bad8, bad9, splitTests, sizeTests, splitNumber, sizesNumber, others, listOf, listWords, listTests, listNumber, listAnswer, listOut}
-use Rattle.split.specs.Sorting.{Blank, Prepared}
+use Rattle.split.specs.Lists.{splitTests, sizeTests, splitNumber, sizesNumber, others, listOf, listWords, listTests, listNumber, listAnswer, listOut}
+use Rattle.split.proofs.PassedLaws.{tests-numbered, twice, passed-facts}
+use Rattle.split.specs.Sorting.{Prepared}
 use Rattle.part_lists.specs.Giving.{meant, chosen, givenNumber, givenAnswer, givenOut, namedWords, namedTests, namedAnswer, namedOut}
 use Rattle.part_lists.specs.declared.lists.Wanted.{Wanted}
 use Rattle.part_lists.specs.declared.lists.Wanted.the-variants.{Interior, Halo, Locals, Imports, Exports, Private, Exposed, Shared, Copied}
 use Rattle.part_lists.proofs.ChosenLaws.{chosen-is, list-few}
-
-pub blank : Blank (replicate 34000 0)
-blank = record { size = length-replicate {A = ℕ} 34000 0; each = zeros-at 34000 }
-
--- ---- what the tests up to 10 give
-
-pub record Passed (m : Bytes) (parts : ℕ) (owners : Bytes) (i j : ℕ) (st : Bytes) : Type 0 where
-  pub mesh : Accepted m
-  pub map : bad8 m parts owners [] ≡ false
-  pub stencil : bad10 (top m) st ≡ false
-  pub few : parts ≤ 16
-  pub i-in : (1 ≤ i) × (i ≤ 16)
-  pub j-in : (1 ≤ j) × (j ≤ 16)
-
-module _ (m : Bytes) (parts : ℕ) (owners : Bytes) (i j : ℕ) (st : Bytes) where
-  named-parts : bad8 m parts owners (i ∷ j ∷ []) ≡ false → (parts ≤ 16) × ((1 ≤ i) × (i ≤ parts)) × ((1 ≤ j) × (j ≤ parts)) × (bad8 m parts owners [] ≡ false)
-  unfolding bad8 everyOf
-  named-parts e =
-      let a = not (isUpTo 16 parts) in
-      let b = not (isUpTo parts i && (isUpTo parts j && true)) in
-      let c = not (eqb (length owners) (cellCount m)) in
-      let d = not (everyOf owners (isUpTo parts)) in
-      let p = or-false (a || b || c) d e in
-      let q = or-false (a || b) c (p .0) in
-      let r = or-false a b (q .0) in
-      let u = and-true (isUpTo parts i) (isUpTo parts j && true) (not-false _ (r .1)) in
-      let v = and-true (isUpTo parts j) true (u .1) in (
-        upTo-true 16 parts (not-false _ (r .0)) .1,
-        upTo-true parts i (u .0),
-        upTo-true parts j (v .0),
-        λ x. (r .0 x || false) || q .1 x || p .1 x,
-      )
-
-  abbrev later : List Test
-  later = refuse 8 (bad8 m parts owners (i ∷ j ∷ [])) ∷ refuse 9 (bad9 (splitOf m parts owners st)) ∷ refuse 10 (bad10 (top m) st) ∷ []
-
-  both-parts : splitNumber m parts owners (i ∷ j ∷ []) st ≡ 0 → (meshNumber m ≡ 0) × (firstOf later ≡ 0)
-  unfolding splitNumber splitTests meshNumber meshTests
-  both-parts e = passed-append (meshTests m) later tt e
-
-  pub passed-facts : splitNumber m parts owners (i ∷ j ∷ []) st ≡ 0 → Passed m parts owners i j st
-  passed-facts e =
-      let p = both-parts e in
-      let a = passed later tt (p .1) in
-      let n = named-parts (a .0) in
-      record {
-        mesh = accepted-mesh m (p .0);
-        map = n .3;
-        stencil = a .1 .1 .0;
-        few = n .0;
-        i-in = (n .1 .0, omega (arith, n .0, n .1 .1));
-        j-in = (n .2 .0, omega (arith, n .0, n .2 .1));
-      }
 
 -- ---- the answer, where the call names the parts i and j
 
@@ -93,13 +31,10 @@ module _ (w : Wanted) (m : Bytes) (parts : ℕ) (owners : Bytes) (i j k : ℕ) (
       (splitNumber m parts owners (i ∷ j ∷ []) st)
   unfolding namedTests splitNumber sizesNumber givenNumber
   number-is =
-      firstOf-append (splitTests m parts owners (i ∷ j ∷ []) st) _ counted
+      firstOf-append (splitTests m parts owners (i ∷ j ∷ []) st) _ (tests-numbered m parts owners (i ∷ j ∷ []) st)
       ∙ ap (λ n. cond (eqb (firstOf (splitTests m parts owners (i ∷ j ∷ []) st)) 0) n (firstOf (splitTests m parts owners (i ∷ j ∷ []) st)))
       (firstOf-append (sizeTests m parts owners st) (refuse 16 (ltb (length out) (2 * length (namedWords w m parts owners i j k st))) ∷ []) sized)
     where
-      counted : T (numbered (splitTests m parts owners (i ∷ j ∷ []) st))
-      counted = unfold splitTests meshTests in tt
-
       sized : T (numbered (sizeTests m parts owners st))
       sized = unfold sizeTests in tt
 
@@ -151,19 +86,11 @@ module _ (m : Bytes) (parts : ℕ) (owners : Bytes) (i : ℕ) (st out : Bytes) (
   abbrev Given : Lists.Wanted → Type 0
   Given w = (r ≡ listAnswer m parts owners i st w out) × (after ≡ listOut m parts owners i st w out)
 
-  twice : splitTests m parts owners (i ∷ i ∷ []) st ≡ splitTests m parts owners (i ∷ []) st
-  unfolding splitTests bad8 everyOf
-  twice = ap (λ b. meshTests m ++ (refuse 8 (not (isUpTo 16 parts) || not b || not (eqb (length owners) (cellCount m)) || not (everyOf owners (isUpTo parts))) ∷ refuse 9 (bad9 (splitOf m parts owners st)) ∷ refuse 10 (bad10 (top m) st) ∷ [])) (same (isUpTo parts i))
-    where
-      same : (b : Bool) → b && (b && true) ≡ b && true
-      same true = refl
-      same false = refl
-
   one-list : (w : Wanted) (k : ℕ) → others (meant w i k) ≡ [] → Told w i k → Given (meant w i k)
   unfolding namedAnswer namedOut namedTests namedWords listAnswer listOut listNumber listTests listWords
   one-list w k none g =
       let x : List ℕ = listOf m (splitOf m parts owners st) i (meant w i k) in
-      let e : splitTests m parts owners (i ∷ i ∷ []) st ≡ splitTests m parts owners (i ∷ others (meant w i k)) st = twice ∙ ap (λ ns. splitTests m parts owners (i ∷ ns) st) (sym none) in (
+      let e : splitTests m parts owners (i ∷ i ∷ []) st ≡ splitTests m parts owners (i ∷ others (meant w i k)) st = twice m parts owners i st ∙ ap (λ ns. splitTests m parts owners (i ∷ ns) st) (sym none) in (
         g .0 ∙ ap (λ ts. answer (firstOf (ts ++ (sizeTests m parts owners st ++ (refuse 16 (ltb (length out) (2 * length (listOf m (splitOf m parts owners st) i (meant w i k)))) ∷ [])))) (length (listOf m (splitOf m parts owners st) i (meant w i k)))) e,
         g .1 ∙ ap (λ ts. cond (eqb (firstOf (ts ++ (sizeTests m parts owners st ++ (refuse 16 (ltb (length out) (2 * length (listOf m (splitOf m parts owners st) i (meant w i k)))) ∷ [])))) 0) (over out 0 (bytesOf (listOf m (splitOf m parts owners st) i (meant w i k)))) out) e,
       )

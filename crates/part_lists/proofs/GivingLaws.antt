@@ -6,17 +6,18 @@ use Prim.Native.Nat.{ℕ, _+_, _*_, _≤_, _<_}
 use native.Mathlib.Numerals.{add-one}
 use native.Mathlib.Omega.{arith}
 use lib.Dec.{eqb}
-use lib.ListN.{length, getD, take, drop}
-use lib.Seq.{length-take-le, take-suc, take-append-seam}
+use lib.ListN.{length, getD, take}
+use lib.Seq.{length-take-le, take-suc}
 use borrow.Author.Tests.{lt-ltb, le-ltb}
 use Rattle.vocabulary.specs.Bytes.{Bytes, over}
-use Rattle.vocabulary.specs.ByteLaws.{over-none, over-front}
+use Rattle.vocabulary.specs.ByteLaws.{over-none}
 use Rattle.layout.specs.Words.{wordBytes, bytesOf}
 use Rattle.layout.specs.WordLaws.{bytesOf-store}
 use Rattle.layout.specs.Answers.{answer}
 use Rattle.layout.specs.declared.Answer.{Answer}
 use Rattle.layout.specs.declared.Answer.the-variants.{Done, Refused}
 use Rattle.split.specs.Sorting.{Added}
+use Rattle.cell_lists.proofs.SortLaws.{added-take}
 use Rattle.part_lists.specs.Giving.{givenNumber, givenAnswer, givenOut}
 
 -- ---- the words, one after another
@@ -68,15 +69,7 @@ module _ (list out : List ℕ) (n : ℕ) (fits : n ≤ length list) where
   unfolding givenOut
   give-written after h e = e ∙ sym (ap (λ k. cond (eqb k 0) (over out 0 (bytesOf (take n list))) out) (long h))
 
--- ---- what was added to an empty list
-
-pub added-fits : (a b : List ℕ) (n : ℕ) (ws : List ℕ) → Added a b 0 n ws → length a ≡ 2000 → length ws ≤ 2000 → n ≤ length b
-added-fits a b n ws X l h = omega (arith, X .size, X .count)
-
-pub added-take : (a b : List ℕ) (n : ℕ) (ws : List ℕ) → Added a b 0 n ws → length a ≡ 2000 → length ws ≤ 2000 → take n b ≡ ws
-added-take a b n ws X l h =
-    let e : n ≡ length ws = omega (arith, X .count) in
-    ap₂ (λ k (xs : List ℕ). take k xs) e (X .text (omega arith) ∙ over-front a ws) ∙ take-append-seam ws (drop (length ws) a)
+-- ---- what was added to an empty list, given
 
 pub given-answer : (a b : List ℕ) (n : ℕ) (ws : List ℕ) (out : Bytes) (r : Answer) → Added a b 0 n ws → length a ≡ 2000 → length ws ≤ 2000 → r ≡ givenAnswer (take n b) out → r ≡ givenAnswer ws out
 given-answer a b n ws out r X l h e = e ∙ ap (λ xs. givenAnswer xs out) (added-take a b n ws X l h)

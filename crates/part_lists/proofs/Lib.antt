@@ -1,6 +1,3 @@
-pub mod SortLaws
-pub mod RangeSorts
-pub mod LowerLaws
 pub mod ChosenLaws
 pub mod GivingLaws
 pub mod ListedLaws

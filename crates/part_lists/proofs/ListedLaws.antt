@@ -1,18 +1,13 @@
 -- Which list each kind wanted is. Assumes nothing.
 use mathlib.Core.Path.{_≡_, subst}
 use mathlib.Core.List.{List}
-use Prim.Native.Nat.{ℕ, _+_, _≤_}
-use native.Mathlib.Omega.{arith}
+use Prim.Native.Nat.{ℕ}
 use Rattle.vocabulary.specs.Bytes.{Bytes}
 use Rattle.mesh.specs.Mesh.{firstCell, cellCount}
-use Rattle.mesh.specs.Accepted.{Accepted}
 use Rattle.split.specs.Sorting.{cellsOf, localsOf, rangeOf, Added}
 use Rattle.part_lists.specs.Giving.{chosen}
 use Rattle.part_lists.specs.declared.lists.Wanted.{Wanted}
 use Rattle.part_lists.specs.declared.lists.Wanted.the-variants.{Interior, Halo, Locals, Imports, Exports, Private, Exposed, Shared, Copied}
-
-pub cells-fit : (m : Bytes) (first cells : ℕ) → Accepted m → first ≡ firstCell m → cells ≡ cellCount m → first + cells ≤ 65536
-cells-fit m first cells A fe ce = omega (arith, A .cells-in, A .sizes .n-high)
 
 module _ (w : Wanted) (m : Bytes) (parts : ℕ) (owners table : Bytes) (ends : List ℕ) (held : Bytes) (i j k : ℕ) (a b : List ℕ) (n : ℕ) where
   module _ (first cells : ℕ) (fe : first ≡ firstCell m) (ce : cells ≡ cellCount m) where

@@ -2,8 +2,6 @@
 mod calls;
 pub mod inner;
 mod lists;
-mod ranges;
-mod sorts;
 
 pub use calls::copied_range;
 pub use calls::exports;

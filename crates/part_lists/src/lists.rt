@@ -1,18 +1,18 @@
 // The lists of a part, as the calls give them.
-use crate::ranges::COPIED;
-use crate::ranges::EXPOSED;
-use crate::ranges::PRIVATE;
-use crate::ranges::SHARED;
-use crate::ranges::add_range;
-use crate::sorts::HALO;
-use crate::sorts::INTERIOR;
-use crate::sorts::add_cells;
-use crate::sorts::add_locals;
+use cell_lists::inner::HALO;
+use cell_lists::inner::INTERIOR;
+use cell_lists::inner::add_cells;
+use cell_lists::inner::add_locals;
 use layout::Answer;
 use layout::inner::put_word;
 use layout::number_at;
 use mesh::inner::cell_count;
 use mesh::inner::first_cell;
+use ranges::inner::COPIED;
+use ranges::inner::EXPOSED;
+use ranges::inner::PRIVATE;
+use ranges::inner::SHARED;
+use ranges::inner::add_range;
 use split::inner::sizes_number;
 use split::split_number;
 ghost use mathlib.Core.Path.{_≡_};

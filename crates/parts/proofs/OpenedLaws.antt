@@ -6,7 +6,8 @@ use native.Mathlib.Omega.{arith}
 use lib.ListN.{length, take, drop}
 use borrow.Author.Tests.{not-false}
 use Rattle.vocabulary.specs.Bytes.{Bytes}
-use Rattle.vocabulary.specs.Ranges.{blocks}
+use Rattle.vocabulary.specs.Ranges.{isUpTo, blocks}
+use Rattle.vocabulary.specs.RangeLaws.{upTo-true}
 use Rattle.layout.specs.Words.{wordAt}
 use Rattle.layout.specs.Depths.{four}
 use Rattle.layout.specs.DepthLaws.{fours-of}
@@ -61,3 +62,7 @@ good-state st d b o = ap not (o .state)
 pub four-cut : (b : Bytes) (o : ℕ) → o + 4 ≤ length b → take 4 (drop o b) ≡ four b o
 unfolding blocks
 four-cut b o h = let e : o ≡ o + 4 * (0 + 0) = omega arith in sym (ap (four b) e ∙ fours-of b o 1 (omega arith))
+
+-- a part that is up to 16, as the test finds it
+pub part-few : (j : ℕ) (u : Bool) → u ≡ isUpTo 16 j → not u ≡ false → (1 ≤ j) × (j ≤ 16)
+part-few j u ue uf = upTo-true 16 j (sym ue ∙ not-false u uf)

@@ -1,21 +1,24 @@
 -- What calls go by: the room that the test 20 says a state has, and what an accepted message says of itself. Assumes nothing.
 use mathlib.Core.Path.{_≡_}
 use mathlib.Core.Bool.{true, not, _&&_, _||_}
+use mathlib.Core.List.{List, [], _∷_, map}
 use Prim.Native.Nat.{ℕ, _+_, _-_, _*_, _≤_}
 use native.Mathlib.Omega.{arith}
 use lib.Dec.{eqb, ltb}
 use lib.ListN.{length}
 use borrow.Author.Tests.{eqb-true, not-false}
 use Rattle.vocabulary.specs.Bytes.{Bytes}
+use Rattle.vocabulary.specs.Lists.{All}
 use Rattle.vocabulary.specs.ListLaws.{and-true, or-false}
 use Rattle.vocabulary.specs.Ranges.{isUpTo, every}
 use Rattle.vocabulary.specs.RangeLaws.{upTo-true}
 use Rattle.vocabulary.specs.Tests.{passed, firstOf}
 use Rattle.layout.specs.Depths.{rangedAt}
+use Rattle.layout.specs.DepthLaws.{length-four}
 use Rattle.messages.specs.Messages.{fromIn, toIn, roundIn, countIn, bad15}
-use Rattle.states.specs.State.{Lists, listsIn, roundAt, stateLength}
+use Rattle.states.specs.State.{Lists, listsIn, roundAt, stateLength, depthPlace}
 use Rattle.states.specs.StateLaws.{Whole}
-use Rattle.parts.specs.Calls.{importsFrom, takeTestsIn}
+use Rattle.parts.specs.Calls.{importsFrom, depthAt, takeTestsIn}
 
 -- what the test 20 says, by the lists
 pub record Room (L : Lists) (d : ℕ) (b : Bytes) : Type 0 where
@@ -62,3 +65,8 @@ taken-facts L d b x e =
       count-is = eqb-true _ _ (not-false _ (p .1));
       now = eqb-true _ _ (not-false _ (a .1 .1 .1 .0));
     }
+
+-- what is sent is four bytes a depth
+pub fours-long : (d : ℕ) (b : Bytes) (ls : List ℕ) → All (λ x. length x ≡ 4) (map (depthAt d b) ls)
+fours-long d b [] = tt
+fours-long d b (l ∷ ls) = (length-four b (depthPlace d l), fours-long d b ls)

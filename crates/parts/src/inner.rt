@@ -1,2 +1,3 @@
-// What start uses too, where the caller knows that the bytes are there.
-pub use crate::advancing::clear;
+// What the calls use, where they know that the bytes are there.
+pub use crate::flags::clear;
+pub use crate::flags::set_flag;

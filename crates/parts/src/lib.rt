@@ -1,12 +1,3 @@
-// The four calls on a part's state. Here stand the calls, which take any bytes; what supposes something is in `inner`.
-mod advancing;
-mod collecting;
+// What the calls on a part's state share: their definitions (specs/), and the flags that tell what was taken and written.
 mod flags;
 pub mod inner;
-mod taking;
-mod writing;
-
-pub use advancing::advance;
-pub use collecting::collect;
-pub use taking::take;
-pub use writing::write;

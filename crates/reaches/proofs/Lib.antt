@@ -2,4 +2,3 @@ pub mod TableLaws
 pub mod SizeLaws
 pub mod EntryLaws
 pub mod ReachLaws
-pub mod RowLaws

@@ -8,20 +8,18 @@ use native.Mathlib.Omega.{arith}
 use lib.Dec.{eqb, leb, ltb}
 use borrow.Author.Tests.{eqb-true, eqb-false, eq-eqb, ne-eqb, lt-ltb, leb-true, leb-false}
 use lib.Seq.{getD-set-same, getD-set-other, take-suc-set}
-use lib.ListN.{length, getD, set, take, length-append, replicate, length-replicate}
+use lib.ListN.{length, getD, set, take, length-append}
 use Rattle.vocabulary.specs.Bytes.{Bytes, byteAt}
 use Rattle.vocabulary.specs.Ranges.{picked, blocks, total}
-use Rattle.vocabulary.specs.RangeLaws.{blocks-turn, total-grows, picked-cong}
+use Rattle.vocabulary.specs.RangeLaws.{blocks-turn, total-grows, picked-cong, blocks-part}
 use Rattle.vocabulary.specs.Lists.{isIn, joined}
 use Rattle.vocabulary.specs.ListLaws.{map-append}
 use Rattle.mesh.specs.Mesh.{firstCell, cellCount}
 use Rattle.mesh.specs.Walks.{Near, steps, stepsTo, layer, reach, stepTo, walked}
-use Rattle.walks.specs.Walking.{firstMark, layerMark, walkedFrom, Walk, Within, Cells, Clear}
+use Rattle.walks.specs.Walking.{firstMark, layerMark, walkedFrom, Walk, Within, Cells}
 use Rattle.mesh.specs.Accepted.{Accepted, Cell}
-use Rattle.walks.proofs.TrailLaws.{zeros-at}
 use Rattle.reaches.specs.Tables.{placed, cellWords, tableWords, entryCount, capped, row, Emitted, Ends, Tabled}
-use Rattle.walks.specs.Visits.{Fresh}
-use Rattle.reaches.proofs.TableLaws.{capped-low, capped-high, capped-few, emit-none, emit-both, blocks-part}
+use Rattle.reaches.proofs.TableLaws.{capped-low, capped-high, capped-few, emit-none, emit-both}
 
 pub joined-append : {A : Type 0} (xs ys : List (List A)) → joined (xs ++ ys) ≡ joined xs ++ joined ys
 unfolding joined
@@ -119,26 +117,13 @@ table-count m st (suc n) = omega (arith, length-append (blocks (firstCell m) n (
 
 -- ---- what the calls suppose
 
-pub clear : Clear (replicate 2001 0)
-clear = record { size = length-replicate {A = ℕ} 2001 0; each = zeros-at 2001 }
-
 pub first-small : (m : Bytes) (first : ℕ) → Accepted m → first ≡ firstCell m → first < 65536
 first-small m first A e = omega (arith, A .cells-in, A .sizes .n-high)
 
 pub high-small : (m : Bytes) (layers : List ℕ) (low high : ℕ) → Accepted m → Within m layers low high → high < 65536
 high-small m layers low high A I = omega (arith, I .stops, A .cells-in, A .sizes .n-high)
 
-pub cells-few : (m : Bytes) (cells : ℕ) → Accepted m → cells ≡ cellCount m → cells ≤ 2000
-cells-few m cells A e = omega (arith, A .cells-in, A .sizes .n-high)
-
-pub steps-is : (st : Bytes) (n : ℕ) → n + 1 ≡ length st → n ≡ steps st
-unfolding steps
-steps-is st n e = omega arith
-
 -- ---- the loop over the cells
-
-pub fresh : Fresh 1 (replicate 2001 0)
-fresh = record { size = length-replicate {A = ℕ} 2001 0; each = λ y. omega (arith, zeros-at 2001 y) }
 
 pub cell-is : (m : Bytes) (first cells x : ℕ) → first ≡ firstCell m → cells ≡ cellCount m → first ≤ x → x < first + cells → Cell m x
 cell-is m first cells x fe ce l h = record { low = omega arith; high = omega arith }

@@ -1,9 +1,8 @@
 -- The table of the reaches as the code writes it. Assumes nothing.
 use mathlib.Core.Path.{_≡_, refl, sym, ap, ap₂, _∙_, subst}
 use mathlib.Core.Bool.{Bool, true, false, cond}
-use mathlib.Core.List.{List, [], _∷_, _++_, append-nil}
-use Prim.Native.Nat.{ℕ, zero, suc, _+_, _-_, _*_, _/_, _≤_, _<_}
-use native.Mathlib.Nat.{zero-add}
+use mathlib.Core.List.{List, [], _∷_, _++_}
+use Prim.Native.Nat.{ℕ, _+_, _-_, _*_, _/_, _≤_, _<_}
 use native.Mathlib.Omega.{arith}
 use lib.Dec.{leb}
 use lib.ListN.{length, getD, length-append}
@@ -11,7 +10,7 @@ use borrow.Author.Tests.{eq-eqb, ne-eqb, le-leb, lt-leb, leb-true, leb-false}
 use Rattle.vocabulary.specs.Bytes.{Bytes, over}
 use Rattle.vocabulary.specs.ByteLaws.{over-none, over-more, over-length}
 use Rattle.vocabulary.specs.Ranges.{blocks}
-use Rattle.vocabulary.specs.RangeLaws.{blocks-turn, blocks-split}
+use Rattle.vocabulary.specs.RangeLaws.{blocks-turn}
 use Rattle.layout.specs.Words.{wordBytes, bytesOf}
 use Rattle.layout.specs.WordLaws.{length-bytesOf, bytesOf-append}
 use Rattle.reaches.specs.Tables.{capped, row, Emitted}
@@ -131,18 +130,3 @@ module _ (first low : ℕ) (layers : List ℕ) where
   pub emit-end : (a b : Bytes) (s t x high : ℕ) → x - low ≤ high - low → high ≤ x → Emitted a b s t (blocks (low - first) (x - low) (row layers first))
       → Emitted a b s t (blocks (low - first) (high - low) (row layers first))
   emit-end a b s t x high g h X = let z : x - low ≡ high - low = omega arith in subst (λ k. Emitted a b s t (blocks (low - first) k (row layers first))) z X
-
--- lists over a range that are empty but for a part of it
-blocks-empty : {A : Type 0} (a : ℕ) (g : ℕ → List A) (n : ℕ) → ((i : ℕ) → i < n → g (a + i) ≡ []) → blocks a n g ≡ []
-unfolding blocks
-blocks-empty a g zero f = refl
-blocks-empty a g (suc n) f = ap₂ _++_ (blocks-empty a g n (λ i h. f i (omega arith))) (f n (omega arith))
-
-pub blocks-part : {A : Type 0} (g : ℕ → List A) (a k n : ℕ) → a + k ≤ n → ((i : ℕ) → i < a → g i ≡ []) → ((i : ℕ) → a + k ≤ i → i < n → g i ≡ []) → blocks 0 n g ≡ blocks a k g
-blocks-part g a k n h before after =
-    let p : n ≡ a + (k + (n - (a + k))) = omega arith in
-    ap (λ x. blocks 0 x g) p
-    ∙ blocks-split 0 g a (k + (n - (a + k)))
-    ∙ ap₂ _++_ (blocks-empty 0 g a (λ i l. rw zero-add (before i l))) (ap (λ x. blocks x (k + (n - (a + k))) g) (zero-add a) ∙ blocks-split a g k (n - (a + k)))
-    ∙ ap (λ xs. blocks a k g ++ xs) (blocks-empty (a + k) g (n - (a + k)) (λ i l. after (a + k + i) (omega arith) (omega arith)))
-    ∙ append-nil (blocks a k g)

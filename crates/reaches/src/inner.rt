@@ -1,3 +1,2 @@
-// The reaches of all cells as a table, and as marks in rows.
-pub use crate::rows::mark_reaches;
+// The table of the reaches.
 pub use crate::table::reach_table;

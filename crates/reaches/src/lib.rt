@@ -1,4 +1,3 @@
-// The reaches of the cells of an accepted mesh, by the walks over it. All of it supposes an accepted mesh and stencil, so it is in `inner`.
+// The reaches of all cells as a table, by the walks over the mesh: all that stands here, in `inner`, supposes an accepted mesh and stencil.
 pub mod inner;
-mod rows;
 mod table;

@@ -1,12 +1,12 @@
 // The reaches of all cells as a table.
 use layout::inner::put_word;
 use layout::put_number_at;
+use links::inner::invert;
 use mesh::inner::cell_count;
 use mesh::inner::elements_of;
 use mesh::inner::first_cell;
 use mesh::inner::record_count;
-use walks::inner::entry;
-use walks::inner::invert;
+use visits::inner::entry;
 use walks::inner::walk;
 ghost use mathlib.Core.Path.{_≡_};
 ghost use mathlib.Core.Bool.{false};
@@ -17,7 +17,7 @@ ghost use Rattle.vocabulary.specs.Bytes.{over};
 ghost use Rattle.vocabulary.specs.Ranges.{blocks};
 ghost use Rattle.layout.specs.Words.{bytesOf};
 ghost use Rattle.reaches.specs.Tables.{row, Emitted, cellWords, Tabled};
-ghost use Rattle.walks.specs.Visits.{Fresh};
+ghost use Rattle.visits.specs.Visits.{Fresh};
 ghost use Rattle.walks.specs.Walking.{Ground};
 ghost use Rattle.mesh.specs.Mesh.{top, elements, recordCount, firstCell, cellCount};
 ghost use Rattle.mesh.specs.Walks.{bad10};

@@ -12,7 +12,7 @@ use Rattle.vocabulary.specs.Lists.{All}
 use Rattle.vocabulary.specs.Tests.{Test, refuse, firstOf, passed, passed-append, firstOf-right, none-holds}
 use Rattle.mesh.specs.Mesh.{top, cellCount, meshTests}
 use Rattle.mesh.specs.Walks.{steps, bad10, bad13}
-use Rattle.round.specs.Rules.{bad11}
+use Rattle.rules.specs.Rules.{bad11}
 use Rattle.round.specs.Rounds.{schemeOf, round, undivided, bad14, roundTests, roundNumber, roundOut}
 use Rattle.round.specs.RoundLaws.{undivided-good, field-length}
 

@@ -1,6 +1,3 @@
-pub mod Refusals
-pub mod Registers
-pub mod Reaches
-pub mod Chosen
+pub mod FieldLaws
 pub mod UndividedLaws
 pub mod CallLaws

@@ -32,14 +32,14 @@ use Rattle.mesh.specs.WalkLaws.{reach-in, reach-own, reach-layers}
 use Rattle.reaches.specs.Tables.{Tabled}
 use Rattle.reaches.proofs.SizeLaws.{table-refused}
 use Rattle.reaches.proofs.EntryLaws.{row-fits, row-size, row-cell, row-layer, table-length}
-use Rattle.round.specs.Rules.{newDepth, bad11}
-use Rattle.round.specs.RuleLaws.{new-length}
+use Rattle.rules.specs.Rules.{newDepth, bad11}
+use Rattle.rules.specs.RuleLaws.{new-length}
 use Rattle.round.specs.Rounds.{Scheme, schemeOf, depthIn, newIn, round, bad14, roundTests, roundNumber, roundAnswer, roundOut}
 use Rattle.round.specs.RoundLaws.{field-length, field-ranged, placed, olds-placed}
-use Rattle.round.specs.Update.{entryAt, entries, oldsAt, Ready}
-use Rattle.round.specs.UpdateLaws.{ready-from}
+use Rattle.rules.specs.Update.{entryAt, entries, oldsAt, Ready}
+use Rattle.rules.specs.UpdateLaws.{ready-from}
 use Rattle.round.specs.Rows.{rowNew, Row, Rows}
-use Rattle.round.proofs.Registers.{depth-held}
+use Rattle.rules.proofs.Registers.{depth-held}
 
 -- ---- one row
 

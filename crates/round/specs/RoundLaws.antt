@@ -20,9 +20,9 @@ use Rattle.layout.specs.Words.{word}
 use Rattle.layout.specs.Depths.{four, numberFrom, signed, depthFrom, depthOf, rangedAt}
 use Rattle.layout.specs.DepthLaws.{length-four, four-same, depth-same, depth-four, fours-length, fours-at, range-intro, ranged-size}
 use Rattle.mesh.specs.Walks.{Near}
-use Rattle.round.specs.RuleLaws.{Small, new-small, new-length}
+use Rattle.rules.specs.RuleLaws.{Small, new-small, new-length}
 use Rattle.round.specs.Rounds.{bad14, Scheme, schemeOf, depthIn, oldsIn, newIn, round, undivided}
-use Rattle.round.specs.Update.{oldsAt}
+use Rattle.rules.specs.Update.{oldsAt}
 
 -- ---- an accepted field of n cells
 

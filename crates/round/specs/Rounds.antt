@@ -12,7 +12,7 @@ use Rattle.layout.specs.Answers.{answer}
 use Rattle.layout.specs.declared.Answer.{Answer}
 use Rattle.mesh.specs.Mesh.{top, firstCell, cellCount, meshTests}
 use Rattle.mesh.specs.Walks.{Near, reach, steps, bad10, bad13}
-use Rattle.round.specs.Rules.{Old, newDepth, bad11}
+use Rattle.rules.specs.Rules.{Old, newDepth, bad11}
 
 -- ---- fields: "A field is four bytes a cell", in rising number of the cells
 

@@ -4,8 +4,8 @@ use mathlib.Core.List.{List}
 use lib.ListN.{getD}
 use Rattle.vocabulary.specs.Bytes.{Bytes}
 use Rattle.layout.specs.Depths.{four}
-use Rattle.round.specs.Rules.{newDepth}
-use Rattle.round.specs.Update.{entries, oldsAt, Ready}
+use Rattle.rules.specs.Rules.{newDepth}
+use Rattle.rules.specs.Update.{entries, oldsAt, Ready}
 
 -- the new depth of the cell at place j, from 0; its entries are those after `ends` at j, up to `ends` at j + 1
 unfoldable pub rowNew : ℕ → Bytes → Bytes → List ℕ → Bytes → ℕ → Bytes

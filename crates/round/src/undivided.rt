@@ -1,15 +1,15 @@
 // The undivided round.
 use crate::bad_field;
-use crate::bad_rule;
-use crate::inner::new_depth;
 use layout::Answer;
 use layout::inner::put_depth;
 use layout::number_at;
 use mesh::inner::cell_count;
 use mesh::inner::top_of;
-use mesh::mesh_number;
+use mesh_tests::mesh_number;
 use reaches::inner::reach_table;
-use walks::bad_stencil;
+use rules::bad_rule;
+use rules::inner::new_depth;
+use stencils::bad_stencil;
 ghost use mathlib.Core.Path.{_≡_};
 ghost use mathlib.Core.Bool.{false};
 ghost use Prim.Native.Nat.{_*_, _≤_};
@@ -19,7 +19,7 @@ ghost use Rattle.vocabulary.specs.Ranges.{blocks};
 ghost use Rattle.layout.specs.Depths.{depthBytes};
 ghost use Rattle.mesh.specs.Mesh.{top, meshNumber};
 ghost use Rattle.mesh.specs.Walks.{steps, bad10};
-ghost use Rattle.round.specs.Rules.{bad11};
+ghost use Rattle.rules.specs.Rules.{bad11};
 ghost use Rattle.round.specs.Rounds.{roundAnswer, roundOut};
 ghost use Rattle.round.specs.Rows.{rowNew, Row, Rows};
 

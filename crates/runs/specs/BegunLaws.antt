@@ -19,7 +19,7 @@ use Rattle.layout.specs.DepthLaws.{depth-four}
 use Rattle.mesh.specs.Mesh.{top, below, elements, recordCount, firstCell, cellCount, bad1, bad2, wrongCount, meshTests}
 use Rattle.mesh.specs.Walks.{Near, steps}
 use Rattle.mesh.specs.WalkLaws.{reach-own, below-grows, steps-even, reach-layers}
-use Rattle.round.specs.Rules.{bad11}
+use Rattle.rules.specs.Rules.{bad11}
 use Rattle.round.specs.Rounds.{schemeOf, depthIn}
 use Rattle.round.specs.RoundLaws.{field-depth}
 use Rattle.split.specs.Split.{Split, splitOf, held, holds, imports, exports, locals, localOf, globalOf}

@@ -18,7 +18,7 @@ use Rattle.vocabulary.specs.CountLaws.{total-double}
 use Rattle.layout.specs.Words.{word, wordAt, bytesOf}
 use Rattle.layout.specs.WordLaws.{length-bytesOf, bytesOf-append, bytesOf-high, bytesOf-low, word-any}
 use Rattle.mesh.specs.Walks.{Near}
-use Rattle.round.specs.Rules.{weightCount, tooHeavy, bad11}
+use Rattle.rules.specs.Rules.{weightCount, tooHeavy, bad11}
 use Rattle.split.specs.Split.{Split, imports, exports, localOf, globalOf}
 use Rattle.states.specs.State.{LocalNear, partNumber, stepCount, ruleKind, weights, firstOfMesh, cellsOfMesh, importEnd, ownedCount, heldCount, exportEnd, globalAt, reachEnd, entryAt, exportAt, localReach, localExports}
 use Rattle.starts.specs.Start.{ownedIn, reachOf, importEnds, exportEnds, reachEnds, reachWords, exportWords, listsLong, listsWords}

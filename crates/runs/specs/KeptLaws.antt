@@ -19,8 +19,8 @@ use Rattle.vocabulary.specs.Tests.{passed}
 use Rattle.layout.specs.WordLaws.{word-set}
 use Rattle.layout.specs.Depths.{four, depthFrom, depthOf, rangedAt}
 use Rattle.layout.specs.DepthLaws.{length-four, four-set, depth-four, range-intro, ranged-size}
-use Rattle.round.specs.Rules.{Old}
-use Rattle.round.specs.RuleLaws.{Small, new-small, new-length}
+use Rattle.rules.specs.Rules.{Old}
+use Rattle.rules.specs.RuleLaws.{Small, new-small, new-length}
 use Rattle.messages.specs.Messages.{fromIn, countIn}
 use Rattle.states.specs.State.{LocalNear, listsIn, listsOf, dynamic, ruleKind, weights, heldCount, ownedCount, localReach, isState, roundAt, takenPlace, writtenPlace, depthPlace}
 use Rattle.states.specs.StateLaws.{isStateAt, state-at, Whole, whole-is, still-whole, near-whole, Frame, frame-take, frame-dynamic}

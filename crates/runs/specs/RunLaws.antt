@@ -24,13 +24,13 @@ use Rattle.layout.specs.WordLaws.{word-same, word-set, word-in, word-left, word
 use Rattle.layout.specs.Depths.{four}
 use Rattle.layout.specs.DepthLaws.{length-four, four-set, four-in, four-before, four-after, four-past, four-drop, four-stored, fours-length, fours-at, joined-at}
 use Rattle.mesh.specs.Walks.{Near}
-use Rattle.round.specs.Rules.{Old}
+use Rattle.rules.specs.Rules.{Old}
 use Rattle.round.specs.Rounds.{Scheme, depthIn, oldsIn, newIn, round, undivided}
 use Rattle.messages.specs.Messages.{encode, fromIn, toIn, roundIn, countIn}
 use Rattle.states.specs.State.{LocalNear, Lists, dynamic, roundAt, takenPlace, writtenPlace, depthPlace}
 use Rattle.states.specs.StateLaws.{Frame, frame-take, frame-dynamic}
 use Rattle.parts.specs.Calls.{importsFrom, depthAt, messageTo, writtenIn, takenIn, allTaken, advanceTestsIn, newAt, advancedIn, collectedIn}
-use Rattle.parts.specs.CallLaws.{Room, Taken}
+use Rattle.parts.specs.CallLaws.{Room, Taken, fours-long}
 
 -- ---- what the lists of all parts must have
 
@@ -222,10 +222,6 @@ message-words L d b j =
       wordAt-first ws (joined ds) 2 (omega arith),
       wordAt-first ws (joined ds) 3 (omega arith) ∙ length-map (L .exports j) (depthAt d b),
     )
-
-fours-long : (d : ℕ) (b : Bytes) (ls : List ℕ) → All (λ x. length x ≡ 4) (map (depthAt d b) ls)
-fours-long d b [] = tt
-fours-long d b (l ∷ ls) = (length-four b (depthPlace d l), fours-long d b ls)
 
 pub message-depth : (L : Lists) (d : ℕ) (b : Bytes) (j t : ℕ) → t < length (L .exports j) → four (messageTo L d b j) (8 + 4 * t) ≡ depthAt d b (getD (L .exports j) t 0)
 unfolding messageTo encode

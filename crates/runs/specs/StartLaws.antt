@@ -24,7 +24,7 @@ use Rattle.layout.specs.DepthLaws.{length-four, four-left, four-past, fours-len
 use Rattle.mesh.specs.Mesh.{top, cellCount, meshTests}
 use Rattle.mesh.specs.Walks.{Near, reach, steps, bad10}
 use Rattle.mesh.specs.WalkLaws.{steps-few}
-use Rattle.round.specs.Rules.{newDepth, bad11}
+use Rattle.rules.specs.Rules.{newDepth, bad11}
 use Rattle.round.specs.Rounds.{schemeOf, depthIn, undivided, bad14}
 use Rattle.split.specs.Split.{Split, splitOf, ownerAt, owned, imports, exports, locals, localOf, globalOf}
 use Rattle.split.specs.Lists.{splitTests, sizeTests}

@@ -19,8 +19,8 @@ use Rattle.vocabulary.specs.Tests.{passed, firstOf}
 use Rattle.vocabulary.specs.RangeLaws.{upTo-true}
 use Rattle.layout.specs.Depths.{four}
 use Rattle.mesh.specs.Mesh.{cellCount}
-use Rattle.round.specs.Rules.{Old}
-use Rattle.round.specs.RuleLaws.{new-length}
+use Rattle.rules.specs.Rules.{Old}
+use Rattle.rules.specs.RuleLaws.{new-length}
 use Rattle.round.specs.Rounds.{schemeOf, depthIn, undivided}
 use Rattle.messages.specs.Messages.{fromIn, roundIn}
 use Rattle.states.specs.State.{Lists, listsIn, listsOf, dynamic, isState, bad20}

@@ -16,7 +16,7 @@ use Rattle.vocabulary.specs.ListLaws.{and-true, and-intro, same-test, All-getD,
 use Rattle.mesh.specs.Mesh.{firstCell, cellCount}
 use Rattle.mesh.specs.Walks.{Near, layer, stepsTo, reach}
 use Rattle.mesh.specs.Accepted.{Accepted}
-use Rattle.reaches.specs.Rows.{walkedTo, reachMark, rowMarks, Marks}
+use Rattle.reach_rows.specs.Rows.{walkedTo, reachMark, rowMarks, Marks}
 use Rattle.split.specs.Split.{splitOf, ownerAt, owns, owned, reaches, holds, held}
 use Rattle.split.specs.Lists.{bad12}
 use Rattle.split.specs.Sorting.{heldAt, markAt, rowCount, Blank}

@@ -2,3 +2,4 @@ pub mod MapLaws
 pub mod HeldLaws
 pub mod PreparedLaws
 pub mod UnitLaws
+pub mod PassedLaws

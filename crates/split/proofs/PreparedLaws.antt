@@ -5,21 +5,19 @@ use mathlib.Core.List.{List, [], map}
 use Prim.Native.Nat.{ℕ, _+_, _-_, _*_, _≤_, _<_}
 use native.Mathlib.Omega.{arith}
 use lib.Dec.{eqb, ltb}
-use lib.ListN.{length, getD, drop}
+use lib.ListN.{length, getD}
 use borrow.Author.Tests.{eqb-true, lt-ltb, le-ltb, not-false}
 use Rattle.vocabulary.specs.Bytes.{Bytes, byteAt, over}
-use Rattle.vocabulary.specs.ByteLaws.{over-front}
 use Rattle.vocabulary.specs.Ranges.{isUpTo, every, total}
-use Rattle.vocabulary.specs.RangeLaws.{every-at, every-intro, blocks-at, total-turn, total-grows, upTo-true, upTo-intro}
+use Rattle.vocabulary.specs.RangeLaws.{every-at, every-intro, upTo-true, upTo-intro}
 use Rattle.vocabulary.specs.Lists.{everyOf}
-use Rattle.vocabulary.specs.ListLaws.{same-test, or-false, everyOf-at, everyOf-intro, All-intro, pairs-at}
+use Rattle.vocabulary.specs.ListLaws.{same-test, or-false, everyOf-at, everyOf-intro, All-intro}
 use Rattle.layout.specs.Words.{wordAt, bytesOf}
-use Rattle.layout.specs.WordLaws.{wordAt-first}
 use Rattle.mesh.specs.Mesh.{top, firstCell, cellCount}
 use Rattle.mesh.specs.Walks.{Near, reach, bad10, bad13}
 use Rattle.mesh.specs.Accepted.{Accepted}
-use Rattle.reaches.specs.Tables.{placed, cellWords, tableWords, entryCount, Ends, Tabled}
-use Rattle.reaches.specs.Rows.{rowMarks, Marks}
+use Rattle.reaches.specs.Tables.{tableWords, entryCount, Ends, Tabled}
+use Rattle.reach_rows.specs.Rows.{rowMarks, Marks}
 use Rattle.reaches.proofs.EntryLaws.{count-more, entry-is}
 use Rattle.reaches.proofs.SizeLaws.{table-refused}
 use Rattle.split.specs.Split.{splitOf, ownerAt, owns, inside}

@@ -13,7 +13,7 @@ use Rattle.layout.specs.Words.{wordAt}
 use Rattle.mesh.specs.Mesh.{top, firstCell, cellCount}
 use Rattle.mesh.specs.Walks.{Near, incident, reach, bad10}
 use Rattle.mesh.specs.Accepted.{Accepted}
-use Rattle.walks.specs.Links.{trail}
+use Rattle.links.specs.Links.{trail}
 use Rattle.reaches.specs.Tables.{entryCount, Ends}
 use Rattle.split.specs.Split.{splitOf, holds, inside, range}
 use Rattle.split.specs.Lists.{bad8}

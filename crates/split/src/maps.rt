@@ -2,8 +2,8 @@
 use layout::byte_at;
 use mesh::inner::cell_count;
 use mesh::inner::top_of;
-use mesh::mesh_number;
-use walks::bad_stencil;
+use mesh_tests::mesh_number;
+use stencils::bad_stencil;
 ghost use mathlib.Core.Path.{_≡_};
 ghost use mathlib.Core.List.{[], _∷_};
 ghost use lib.ListN.{length};

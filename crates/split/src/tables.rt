@@ -1,7 +1,7 @@
 // What the lists of all parts are read off: a table of the reaches, and which cells each part holds. The tests 12 and 13.
 use layout::byte_at;
 use mesh::inner::cell_count;
-use reaches::inner::mark_reaches;
+use reach_rows::inner::mark_reaches;
 use reaches::inner::reach_table;
 ghost use mathlib.Core.Path.{_≡_};
 ghost use mathlib.Core.Bool.{false};

@@ -1,16 +1,16 @@
 -- The plan of a part, the state that is written by it, and what start and state size answer. Assumes nothing.
 use mathlib.Core.Path.{_≡_, refl, sym, ap, ap₂, _∙_, subst₂}
-use mathlib.Core.Bool.{Bool, true, false, not, _||_, _&&_, cond}
+use mathlib.Core.Bool.{Bool, true, false, cond}
 use mathlib.Core.List.{List, [], _∷_, _++_}
 use Prim.Native.Nat.{ℕ, _+_, _-_, _*_, _≤_, _<_}
 use native.Mathlib.Omega.{arith}
-use lib.Dec.{eqb, ltb}
+use lib.Dec.{ltb}
 use lib.ListN.{length, take, replicate, length-append}
 use borrow.Author.Tests.{ne-eqb, lt-ltb, le-ltb}
 use Rattle.vocabulary.specs.Bytes.{Bytes, over}
 use Rattle.vocabulary.specs.ByteLaws.{over-more}
-use Rattle.vocabulary.specs.Lists.{All, everyOf}
-use Rattle.vocabulary.specs.Ranges.{isUpTo, blocks}
+use Rattle.vocabulary.specs.Lists.{All}
+use Rattle.vocabulary.specs.Ranges.{blocks}
 use Rattle.vocabulary.specs.RangeLaws.{blocks-cong}
 use Rattle.vocabulary.specs.Tests.{Test, refuse, firstOf, passed, none-holds, firstOf-left, firstOf-right}
 use Rattle.layout.specs.Words.{bytesOf}
@@ -20,24 +20,24 @@ use Rattle.layout.specs.Answers.{answer}
 use Rattle.layout.specs.AnswerLaws.{answer-done, answer-refused}
 use Rattle.layout.specs.declared.Answer.{Answer}
 use Rattle.layout.specs.declared.Answer.the-variants.{Done, Refused}
-use Rattle.mesh.specs.Mesh.{top, firstCell, cellCount, meshTests}
-use Rattle.mesh.specs.Walks.{steps, bad10, bad13}
-use Rattle.round.specs.Rules.{bad11}
+use Rattle.mesh.specs.Mesh.{firstCell, cellCount, meshTests}
+use Rattle.mesh.specs.Walks.{steps, bad13}
+use Rattle.rules.specs.Rules.{bad11}
 use Rattle.round.specs.Rounds.{schemeOf, depthIn, bad14}
 use Rattle.split.specs.Split.{splitOf, interior, halo, locals, globalOf}
 use Rattle.split.specs.SplitLaws.{own-count}
-use Rattle.split.specs.Lists.{bad8, bad9, bad12, splitTests, sizeTests, splitNumber, sizesNumber}
+use Rattle.split.specs.Lists.{bad12, splitTests, sizeTests, splitNumber, sizesNumber}
 use Rattle.split.specs.Sorting.{cellsOf, localsOf, Added, Prepared}
-use Rattle.part_lists.proofs.CallLaws.{Passed, passed-facts}
-use Rattle.part_lists.proofs.ChosenLaws.{interior-is, halo-is, locals-are, locals-few}
-use Rattle.part_lists.proofs.GivingLaws.{added-fits, added-take}
-use Rattle.reaches.proofs.ReachLaws.{cells-few}
-use Rattle.part_lists.proofs.ListedLaws.{cells-fit}
+use Rattle.split.proofs.PassedLaws.{Passed, twice, passed-facts}
+use Rattle.cell_lists.proofs.CellLaws.{interior-is, halo-is, locals-are, locals-few}
+use Rattle.cell_lists.proofs.SortLaws.{added-fits, added-take}
 use Rattle.starts.specs.Start.{ownedIn, reachEnds, listsLong, stateSize, sizeNumber, sizeAnswer, firstState, startTests, startNumber, startAnswer, startState}
-use Rattle.starts.specs.Starting.{Put, rowEnds, sentEnds, startWords, startDepth, Fit, Cells, Planned}
-use Rattle.starts.proofs.PutLaws.{put-length}
+use Rattle.start_lists.specs.Starting.{Put, rowEnds, sentEnds, startWords, startDepth, Fit, Cells}
+use Rattle.starts.specs.Planning.{Planned}
+use Rattle.start_lists.proofs.PutLaws.{put-length}
 use Rattle.starts.proofs.StartFit.{fit-from, cells-from}
 use Rattle.starts.proofs.StartWords.{start-words, order-at, row-ends, sent-ends}
+use Rattle.mesh.proofs.AcceptedLaws.{cells-few, cells-fit}
 
 -- ---- the plan
 
@@ -119,21 +119,9 @@ state-put b x y z t long n ws f first order room le P ye ze =
 -- ---- one part named twice is one part named
 
 module _ (m : Bytes) (parts : ℕ) (owners : Bytes) (i : ℕ) (st : Bytes) where
-  once : (t : Bool) → t && (t && true) ≡ t && true
-  once true = refl
-  once false = refl
-
-  named-once : bad8 m parts owners (i ∷ i ∷ []) ≡ bad8 m parts owners (i ∷ [])
-  unfolding bad8 everyOf
-  named-once = ap (λ t. not (isUpTo 16 parts) || not t || not (eqb (length owners) (cellCount m)) || not (everyOf owners (isUpTo parts))) (once (isUpTo parts i))
-
-  tests-once : splitTests m parts owners (i ∷ i ∷ []) st ≡ splitTests m parts owners (i ∷ []) st
-  unfolding splitTests
-  tests-once = ap (λ t. meshTests m ++ (refuse 8 t ∷ refuse 9 (bad9 (splitOf m parts owners st)) ∷ refuse 10 (bad10 (top m) st) ∷ [])) named-once
-
   number-once : splitNumber m parts owners (i ∷ i ∷ []) st ≡ firstOf (splitTests m parts owners (i ∷ []) st)
   unfolding splitNumber
-  number-once = ap firstOf tests-once
+  number-once = ap firstOf (twice m parts owners i st)
 
   split-passed : splitNumber m parts owners (i ∷ i ∷ []) st ≡ 0 → All (λ t. t .holds ≡ false) (splitTests m parts owners (i ∷ []) st)
   unfolding splitTests meshTests

@@ -14,8 +14,8 @@ use Rattle.split.specs.Split.{splitOf, locals}
 use Rattle.split.specs.Lists.{bad12}
 use Rattle.split.specs.Sorting.{Prepared}
 use Rattle.starts.specs.Start.{ownedIn}
-use Rattle.starts.specs.Starting.{Fit, Cells}
-use Rattle.starts.proofs.StartLists.{got-is, sent-is, reached-is}
+use Rattle.start_lists.specs.Starting.{Fit, Cells}
+use Rattle.start_lists.proofs.StartLists.{got-is, sent-is, reached-is}
 use Rattle.starts.proofs.StartWords.{got-all, sent-few, ends-few, long-few, order-few, own-few, order-low, cell-at, entry-high}
 
 module _ (m : Bytes) (parts : ℕ) (owners st table : Bytes) (ends : List ℕ) (held : Bytes) (R : Prepared m parts owners st table ends held)

@@ -26,9 +26,9 @@ use Rattle.split.specs.SplitLaws.{Cell, ownCells, split-reach, split-own, split
 use Rattle.split.specs.Lists.{bad12}
 use Rattle.split.specs.Sorting.{cellsOf, Prepared}
 use Rattle.split.proofs.PreparedLaws.{map-right}
-use Rattle.part_lists.proofs.ChosenLaws.{imports-are, locals-few}
+use Rattle.cell_lists.proofs.CellLaws.{imports-are, locals-few}
 use Rattle.starts.specs.Start.{ownedIn, reachOf, importEnds, exportEnds, reachEnds, reachWords, exportWords, listsLong, listsWords}
-use Rattle.starts.specs.Starting.{gotEnds, sentEnds, sentWords, placeAt, rowSize, rowEnds, entryWords, rowWords, startWords}
+use Rattle.start_lists.specs.Starting.{gotEnds, sentEnds, sentWords, placeAt, rowSize, rowEnds, entryWords, rowWords, startWords}
 
 -- ---- lists
 

@@ -15,7 +15,7 @@ use Rattle.layout.specs.Answers.{answer}
 use Rattle.layout.specs.declared.Answer.{Answer}
 use Rattle.mesh.specs.Mesh.{cellCount}
 use Rattle.mesh.specs.Walks.{Near, steps}
-use Rattle.round.specs.Rules.{bad11}
+use Rattle.rules.specs.Rules.{bad11}
 use Rattle.round.specs.Rounds.{schemeOf, depthIn, bad14}
 use Rattle.split.specs.Split.{Split, splitOf, owned, imports, exports, locals, localOf, globalOf}
 use Rattle.split.specs.Lists.{splitTests, sizeTests}

@@ -1,19 +1,19 @@
 // Start and state size.
-use crate::lists::got_count;
-use crate::lists::lists_length;
-use crate::lists::put_cells;
-use crate::lists::put_lists;
+use cell_lists::inner::HALO;
+use cell_lists::inner::INTERIOR;
+use cell_lists::inner::add_locals;
 use layout::Answer;
 use mesh::inner::cell_count;
 use mesh::inner::first_cell;
-use part_lists::inner::HALO;
-use part_lists::inner::INTERIOR;
-use part_lists::inner::add_locals;
 use parts::inner::clear;
 use round::bad_field;
-use round::bad_rule;
+use rules::bad_rule;
 use split::inner::sizes_number;
 use split::split_number;
+use start_lists::inner::got_count;
+use start_lists::inner::lists_length;
+use start_lists::inner::put_cells;
+use start_lists::inner::put_lists;
 ghost use mathlib.Core.Path.{_≡_};
 ghost use mathlib.Core.Bool.{false};
 ghost use mathlib.Core.List.{[], _∷_, _++_};
@@ -23,11 +23,12 @@ ghost use Rattle.vocabulary.specs.Bytes.{over};
 ghost use Rattle.vocabulary.specs.Ranges.{blocks};
 ghost use Rattle.layout.specs.Words.{bytesOf};
 ghost use Rattle.mesh.specs.Walks.{steps};
-ghost use Rattle.round.specs.Rules.{bad11};
+ghost use Rattle.rules.specs.Rules.{bad11};
 ghost use Rattle.split.specs.Lists.{splitNumber, sizesNumber};
 ghost use Rattle.split.specs.Sorting.{Prepared};
 ghost use Rattle.starts.specs.Start.{sizeAnswer, startAnswer, startState};
-ghost use Rattle.starts.specs.Starting.{rowEnds, sentEnds, startWords, startDepth, Fit, Cells, Planned};
+ghost use Rattle.start_lists.specs.Starting.{rowEnds, sentEnds, startWords, startDepth, Fit, Cells};
+ghost use Rattle.starts.specs.Planning.{Planned};
 
 // How many cells a part holds and owns, and how many words its lists have.
 pub struct Plan {

@@ -1,6 +1,5 @@
 // Start, which makes a part's state, and the size of a state.
 mod calls;
-mod lists;
 
 pub use calls::start;
 pub use calls::state_size;

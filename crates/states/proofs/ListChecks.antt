@@ -1,6 +1,6 @@
 -- What the tests of a state's lists answer, by the tests that the code makes one after the other. Assumes nothing.
 use mathlib.Core.Path.{_≡_, refl, sym, ap, ap₂, _∙_}
-use mathlib.Core.Bool.{Bool, true, false, not, _&&_, _||_}
+use mathlib.Core.Bool.{Bool, true, false, not, _&&_}
 use mathlib.Core.List.{List, [], _∷_, _++_}
 use Prim.Native.Nat.{ℕ, zero, suc, _+_, _-_, _*_, _/_, _%_, _≤_, _<_}
 use native.Mathlib.Omega.{arith}
@@ -8,15 +8,15 @@ use lib.Dec.{eqb, ltb, leb}
 use lib.ListN.{take, drop}
 use borrow.Author.Tests.{le-leb, lt-leb, eq-eqb, ne-eqb, not-true, not-false}
 use Rattle.vocabulary.specs.Bytes.{Bytes}
-use Rattle.vocabulary.specs.Lists.{someOf}
-use Rattle.vocabulary.specs.ListLaws.{or-nothing, or-assoc}
-use Rattle.vocabulary.specs.Ranges.{isUpTo, every, some, listed}
+use Rattle.vocabulary.specs.ListLaws.{and-all, and-assoc}
+use Rattle.vocabulary.specs.Ranges.{isUpTo, every, some}
 use Rattle.vocabulary.specs.ScanLaws.{some-start-from, some-stop-from, some-turn-from, some-end-from}
 use Rattle.vocabulary.specs.Tests.{allOf}
 use Rattle.layout.specs.Words.{wordAt}
-use Rattle.round.specs.Rules.{weightCount, bad11}
+use Rattle.rules.specs.Rules.{weightCount, bad11}
 use Rattle.states.specs.State.{LocalNear, partNumber, stepCount, ruleKind, weights, ownedCount, heldCount, importEnd, exportEnd, reachEnd, reachCount, entryAt, exportAt, localReach, globalFine, entryFine, ownFound, exportFine, exportCount, rises, listsTests}
 use Rattle.states.specs.Checks.{Counts, fineAt, ownEntry, headTests, endTests, entryTests}
+use Rattle.vocabulary.specs.RangeLaws.{someOf-listed}
 
 -- ---- a number from 1 to n
 
@@ -84,16 +84,6 @@ module _ (b : Bytes) (held owned reached : ℕ) (C : Counts b held owned reached
 
 -- ---- a cell in its own reach
 
-someOf-append : {A : Type 0} (p : A → Bool) (xs ys : List A) → someOf (xs ++ ys) p ≡ someOf xs p || someOf ys p
-unfolding someOf
-someOf-append p [] ys = refl
-someOf-append p (x ∷ xs) ys = ap (λ t. p x || t) (someOf-append p xs ys) ∙ sym (or-assoc (p x) (someOf xs p) (someOf ys p))
-
-someOf-listed : {A : Type 0} (p : A → Bool) (g : ℕ → A) (a n : ℕ) → someOf (listed a n g) p ≡ some a n (λ t. p (g t))
-unfolding listed some someOf
-someOf-listed p g a zero = refl
-someOf-listed p g a (suc n) = someOf-append p (listed a n g) (g (a + n) ∷ []) ∙ ap₂ _||_ (someOf-listed p g a n) (or-nothing (p (g (a + n))))
-
 module _ (b : Bytes) (held owned reached : ℕ) (C : Counts b held owned reached) (l from to : ℕ) (fe : from ≡ wordAt b (45 + held + (l - 1))) (te : to ≡ wordAt b (45 + held + l)) where
   own-is : some from (to - from) (ownEntry b l) ≡ ownFound b l
   unfolding ownEntry localReach
@@ -153,10 +143,6 @@ fine-6 b (suc (suc (suc (suc (suc zero))))) x r a c d e f g q = absurd (g refl)
 fine-6 b (suc (suc (suc (suc (suc (suc k)))))) x r a c d e f g q = q
 
 -- ---- the rule and the head
-
-pub and-all : (a : Bool) → a && true ≡ a
-and-all true = refl
-and-all false = refl
 
 pub weights-mean : (kind n : ℕ) → kind ≡ 1 → n / 2 + 1 ≡ weightCount kind n
 unfolding weightCount
@@ -293,10 +279,6 @@ module _ (b : Bytes) (held owned reached : ℕ) (C : Counts b held owned reached
             exports-are = sym (ue ∙ range-6 b x ∙ ap (λ n. every 0 n (exportFine b)) xe)
 
 -- ---- the three groups
-
-and-assoc : (a b c : Bool) → (a && b) && c ≡ a && (b && c)
-and-assoc true b c = refl
-and-assoc false b c = refl
 
 allOf-append : (xs ys : List Bool) → allOf (xs ++ ys) ≡ allOf xs && allOf ys
 allOf-append [] ys = refl

@@ -7,7 +7,7 @@ use lib.Dec.{eqb, leb}
 use lib.ListN.{length, take, drop}
 use borrow.Author.Tests.{le-leb, lt-leb, eq-eqb, ne-eqb, not-true, not-false}
 use Rattle.vocabulary.specs.Bytes.{Bytes, byteAt}
-use Rattle.vocabulary.specs.ListLaws.{and-right}
+use Rattle.vocabulary.specs.ListLaws.{and-right, and-all}
 use Rattle.vocabulary.specs.Ranges.{every}
 use Rattle.vocabulary.specs.Tests.{allOf}
 use Rattle.layout.specs.Words.{word, wordAt}
@@ -15,7 +15,6 @@ use Rattle.layout.specs.Depths.{rangedAt}
 use Rattle.states.specs.State.{heldCount, listsLength, listsTests, dynamicTests, flagsFine, isState}
 use Rattle.states.specs.StateLaws.{isStateAt, state-at}
 use Rattle.states.specs.Checks.{Counts}
-use Rattle.states.proofs.ListChecks.{and-all}
 
 -- ---- flags
 

@@ -7,7 +7,7 @@ use Prim.Native.Nat.{ℕ, zero, suc, _+_, _%_, _<_}
 use lib.Dec.{eqb, leb}
 use Rattle.vocabulary.specs.Bytes.{Bytes}
 use Rattle.vocabulary.specs.Ranges.{isUpTo, every}
-use Rattle.round.specs.Rules.{bad11}
+use Rattle.rules.specs.Rules.{bad11}
 use Rattle.states.specs.State.{partNumber, stepCount, ruleKind, weights, importEnd, ownedCount, heldCount, exportEnd, exportCount, reachEnd, reachCount, entryAt, globalFine, entryFine, ownFound, exportFine, rises}
 
 -- the lists b in three groups

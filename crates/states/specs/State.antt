@@ -14,7 +14,7 @@ use Rattle.vocabulary.specs.Tests.{allOf}
 use Rattle.vocabulary.specs.Bytes.{Bytes, byteAt}
 use Rattle.layout.specs.Words.{word, wordAt}
 use Rattle.layout.specs.Depths.{rangedAt}
-use Rattle.round.specs.Rules.{Old, newDepth, weightCount, bad11}
+use Rattle.rules.specs.Rules.{Old, newDepth, weightCount, bad11}
 
 -- a cell of a reach by its local number, with its layer
 pub record LocalNear : Type 0 where

@@ -1,6 +1,6 @@
 // Whether the lists of a state are as its form asks. `lists` are the bytes before what calls change.
 use layout::word_at;
-use round::bad_rule;
+use rules::bad_rule;
 ghost use mathlib.Core.Path.{_≡_};
 ghost use mathlib.Core.Bool.{not};
 ghost use Prim.Native.Nat.{_+_, _-_, _*_, _<_, _≤_};
@@ -9,7 +9,7 @@ ghost use lib.ListN.{length, take, drop};
 ghost use Rattle.vocabulary.specs.Ranges.{isUpTo, every};
 ghost use Rattle.vocabulary.specs.Tests.{allOf};
 ghost use Rattle.layout.specs.Words.{wordAt};
-ghost use Rattle.round.specs.Rules.{weightCount, bad11};
+ghost use Rattle.rules.specs.Rules.{weightCount, bad11};
 ghost use Rattle.states.specs.State.{globalFine, entryFine, ownFound, exportFine, listsTests};
 ghost use Rattle.states.specs.Checks.{Counts, fineAt, ownEntry, headTests, endTests, entryTests};
 

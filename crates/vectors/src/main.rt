@@ -144,12 +144,12 @@ fn triangles() -> [u8; 182] {
 
 fn check_cut(name: &[u8], m: &mut [u8]) {
     put_five(m);
-    say(name, mesh::check_mesh(m));
+    say(name, mesh_tests::check_mesh(m));
 }
 
 fn check_edited(name: &[u8], m: &mut [u8], i: usize, v: usize) {
     set_word(m, i, v);
-    say(name, mesh::check_mesh(m));
+    say(name, mesh_tests::check_mesh(m));
 }
 
 // The five cells with word i changed.
@@ -205,42 +205,67 @@ fn ignored() {
 
 // ---- lists: 8 to 10
 
-fn cells(i: u32) {
+fn interior_of(i: u32) {
     let m = five_cells();
     let mut out = [0u8; 10];
     let a = part_lists::interior(&m, 2, &OWNERS, i, &STENCIL, &mut out);
     say_all(Form::Words, b"interior", a, &out);
-    let b = part_lists::halo(&m, 2, &OWNERS, i, &STENCIL, &mut out);
-    say_all(Form::Words, b"halo", b, &out);
-    let c = part_lists::local_order(&m, 2, &OWNERS, i, &STENCIL, &mut out);
-    say_all(Form::Words, b"local order", c, &out);
 }
 
-fn trade(i: u32, j: u32) {
+fn halo_of(i: u32) {
+    let m = five_cells();
+    let mut out = [0u8; 10];
+    let a = part_lists::halo(&m, 2, &OWNERS, i, &STENCIL, &mut out);
+    say_all(Form::Words, b"halo", a, &out);
+}
+
+fn local_order_of(i: u32) {
+    let m = five_cells();
+    let mut out = [0u8; 10];
+    let a = part_lists::local_order(&m, 2, &OWNERS, i, &STENCIL, &mut out);
+    say_all(Form::Words, b"local order", a, &out);
+}
+
+fn imports_of(i: u32, j: u32) {
     let m = five_cells();
     let mut out = [0u8; 10];
     let a = part_lists::imports(&m, 2, &OWNERS, i, &STENCIL, j, &mut out);
     say_all(Form::Words, b"imports", a, &out);
-    let b = part_lists::exports(&m, 2, &OWNERS, i, &STENCIL, j, &mut out);
-    say_all(Form::Words, b"exports", b, &out);
 }
 
-fn own_points(i: u32) {
+fn exports_of(i: u32, j: u32) {
+    let m = five_cells();
+    let mut out = [0u8; 10];
+    let a = part_lists::exports(&m, 2, &OWNERS, i, &STENCIL, j, &mut out);
+    say_all(Form::Words, b"exports", a, &out);
+}
+
+fn private_points(i: u32) {
     let m = five_cells();
     let mut out = [0u8; 10];
     let a = part_lists::private_range(&m, 2, &OWNERS, i, &STENCIL, 0, &mut out);
     say_all(Form::Words, b"private points", a, &out);
-    let b = part_lists::exposed_range(&m, 2, &OWNERS, i, &STENCIL, 0, &mut out);
-    say_all(Form::Words, b"exposed points", b, &out);
 }
 
-fn other_points(i: u32) {
+fn exposed_points(i: u32) {
+    let m = five_cells();
+    let mut out = [0u8; 10];
+    let a = part_lists::exposed_range(&m, 2, &OWNERS, i, &STENCIL, 0, &mut out);
+    say_all(Form::Words, b"exposed points", a, &out);
+}
+
+fn shared_points(i: u32) {
     let m = five_cells();
     let mut out = [0u8; 10];
     let a = part_lists::shared_range(&m, 2, &OWNERS, i, &STENCIL, 0, &mut out);
     say_all(Form::Words, b"shared points", a, &out);
-    let b = part_lists::copied_range(&m, 2, &OWNERS, i, &STENCIL, 0, &mut out);
-    say_all(Form::Words, b"copied points", b, &out);
+}
+
+fn copied_points(i: u32) {
+    let m = five_cells();
+    let mut out = [0u8; 10];
+    let a = part_lists::copied_range(&m, 2, &OWNERS, i, &STENCIL, 0, &mut out);
+    say_all(Form::Words, b"copied points", a, &out);
 }
 
 // The lists of part i, beside part j.
@@ -248,10 +273,15 @@ fn lists(i: u32, j: u32) {
     io::write_all(1, b"lists of part ");
     io::print_decimal(1, i as u64);
     io::write_all(1, b"\n");
-    cells(i);
-    trade(i, j);
-    own_points(i);
-    other_points(i);
+    interior_of(i);
+    halo_of(i);
+    local_order_of(i);
+    imports_of(i, j);
+    exports_of(i, j);
+    private_points(i);
+    exposed_points(i);
+    shared_points(i);
+    copied_points(i);
 }
 
 fn interior(name: &[u8], parts: u32, owners: &[u8], i: u32, st: &[u8]) {
@@ -261,22 +291,33 @@ fn interior(name: &[u8], parts: u32, owners: &[u8], i: u32, st: &[u8]) {
     say_all(Form::Words, name, a, &out);
 }
 
+fn part(name: &[u8], parts: u32, i: u32) {
+    interior(name, parts, &OWNERS, i, &STENCIL);
+}
+
+fn numbers() {
+    part(b"P 0", 0, 1);
+    part(b"P 17", 17, 1);
+    part(b"part 0", 2, 0);
+    part(b"part 3 of 2", 2, 3);
+}
+
+fn map(name: &[u8], owners: &[u8]) {
+    interior(name, 2, owners, 1, &STENCIL);
+}
+
 fn maps() {
-    interior(b"P 0", 0, &OWNERS, 1, &STENCIL);
-    interior(b"P 17", 17, &OWNERS, 1, &STENCIL);
-    interior(b"part 0", 2, &OWNERS, 0, &STENCIL);
-    interior(b"part 3 of 2", 2, &OWNERS, 3, &STENCIL);
-    interior(b"owners 0 1 1 2 2", 2, b"\x00\x01\x01\x02\x02", 1, &STENCIL);
-    interior(b"owners 3 1 1 2 2", 2, b"\x03\x01\x01\x02\x02", 1, &STENCIL);
-    interior(b"four owners", 2, b"\x01\x01\x02\x02", 1, &STENCIL);
-    interior(b"owners 1 1 1 1 1", 2, b"\x01\x01\x01\x01\x01", 1, &STENCIL);
+    map(b"owners 0 1 1 2 2", b"\x00\x01\x01\x02\x02");
+    map(b"owners 3 1 1 2 2", b"\x03\x01\x01\x02\x02");
+    map(b"four owners", b"\x01\x01\x02\x02");
+    map(b"owners 1 1 1 1 1", b"\x01\x01\x01\x01\x01");
 }
 
 fn stencil(name: &[u8], st: &[u8]) {
     interior(name, 2, &OWNERS, 1, st);
 }
 
-fn stencils() {
+fn lengths_of_stencils() {
     stencil(b"interior, stencil 1", b"\x01");
     stencil(b"stencil of length 0", b"");
     stencil(b"stencil of length 2", b"\x01\x00");
@@ -284,6 +325,9 @@ fn stencils() {
         b"stencil of length 9",
         b"\x01\x00\x01\x00\x01\x00\x01\x00\x01",
     );
+}
+
+fn stencils() {
     stencil(
         b"stencil of length 11",
         b"\x01\x00\x01\x00\x01\x00\x01\x00\x01\x00\x01",
@@ -350,12 +394,25 @@ fn one_round(name: &[u8], kind: u32, weights: &[u8], text: &[u8]) {
     put_round(name, kind, weights, text, &mut field, &mut out);
 }
 
+// Weights 2 and 1.
+fn mean(text: &[u8]) {
+    one_round(b"mean 2 1", 1, &WEIGHTS, text);
+}
+
+// A rule with no weights.
+fn bare(name: &[u8], kind: u32, text: &[u8]) {
+    one_round(name, kind, b"", text);
+}
+
 fn rounds() {
-    one_round(b"mean 2 1", 1, &WEIGHTS, b"0 100 0 200 0 300 0 400 0 500");
-    one_round(b"mean 2 1", 1, &WEIGHTS, b"0 133 0 200 0 300 0 400 0 466");
-    one_round(b"hold", 0, b"", b"0 155 0 208 0 300 0 391 0 444");
-    one_round(b"shoalest", 2, b"", b"0 155 0 208 0 300 0 391 0 444");
-    // -1 and -2: the sum of the first cell is -7, of weights 4
+    mean(b"0 100 0 200 0 300 0 400 0 500");
+    mean(b"0 133 0 200 0 300 0 400 0 466");
+    bare(b"hold", 0, b"0 155 0 208 0 300 0 391 0 444");
+    bare(b"shoalest", 2, b"0 155 0 208 0 300 0 391 0 444");
+}
+
+// -1 and -2: the sum of the first cell is -7, of weights 4.
+fn below_zero() {
     one_round(
         b"mean 1 3",
         1,
@@ -364,22 +421,30 @@ fn rounds() {
     );
 }
 
-fn rules() {
-    one_round(b"kind 3", 3, b"", b"");
-    one_round(b"mean 2", 1, b"\x00\x02", b"");
-    one_round(b"mean 2 1 1", 1, b"\x00\x02\x00\x01\x00\x01", b"");
-    one_round(b"mean 0 1", 1, b"\x00\x00\x00\x01", b"");
-    one_round(b"mean 1 16", 1, b"\x00\x01\x00\x10", b"");
-    one_round(b"mean 1 15", 1, b"\x00\x01\x00\x0f", b"");
-    one_round(b"hold with weights", 0, &WEIGHTS, b"");
+// A rule on a field of zeros.
+fn rule(name: &[u8], kind: u32, weights: &[u8]) {
+    one_round(name, kind, weights, b"");
+}
+
+fn counts_of_weights() {
+    rule(b"kind 3", 3, b"");
+    rule(b"mean 2", 1, b"\x00\x02");
+    rule(b"mean 2 1 1", 1, b"\x00\x02\x00\x01\x00\x01");
+}
+
+fn weights() {
+    rule(b"mean 0 1", 1, b"\x00\x00\x00\x01");
+    rule(b"mean 1 16", 1, b"\x00\x01\x00\x10");
+    rule(b"mean 1 15", 1, b"\x00\x01\x00\x0f");
+    rule(b"hold with weights", 0, &WEIGHTS);
 }
 
 // 1,200,000 and one more, -1,200,000 and one less
 fn depths() {
-    one_round(b"hold", 0, b"", b"18 20352");
-    one_round(b"hold", 0, b"", b"18 20353");
-    one_round(b"hold", 0, b"", b"65517 45184");
-    one_round(b"hold", 0, b"", b"65517 45183");
+    bare(b"hold", 0, b"18 20352");
+    bare(b"hold", 0, b"18 20353");
+    bare(b"hold", 0, b"65517 45184");
+    bare(b"hold", 0, b"65517 45183");
 }
 
 fn fields() {
@@ -422,12 +487,12 @@ fn start(name: &[u8], i: u32, b: &mut State) {
 }
 
 fn write(name: &[u8], b: &mut State, to: u32, message: &mut Message) {
-    let a = parts::write(b, to, message);
+    let a = writing::write(b, to, message);
     say_all(Form::Bytes, name, a, message);
 }
 
 fn take_bytes(name: &[u8], b: &mut State, bytes: &[u8]) {
-    say(name, parts::take(b, bytes));
+    say(name, taking::take(b, bytes));
 }
 
 fn take(name: &[u8], b: &mut State, message: &Message) {
@@ -435,12 +500,12 @@ fn take(name: &[u8], b: &mut State, message: &Message) {
 }
 
 fn advance(name: &[u8], b: &mut State) {
-    say(name, parts::advance(b));
+    say(name, advancing::advance(b));
 }
 
 fn collect(name: &[u8], b: &State, round: u32) {
     let mut field = [0u8; 20];
-    let a = parts::collect(b, round, &mut field);
+    let a = collecting::collect(b, round, &mut field);
     print_answer(name, a);
     io::write_all(1, b":");
     print_values(Form::Depths, &field, 5);
@@ -454,11 +519,14 @@ fn started(one: &mut State, two: &mut State) {
     collect(b"part 2 for round 1 at round 0", two, 1);
 }
 
-// Part 2 goes on to round 1, and part 1 is behind.
-fn ahead(one: &mut State, two: &mut State, old: &mut Message, next: &mut Message) {
+fn before(two: &mut State, old: &mut Message) {
     write(b"part 2 to part 1", two, 1, old);
     take(b"part 2 takes its own message", two, old);
     advance(b"part 2 advances, nothing taken", two);
+}
+
+// Part 2 goes on to round 1, and part 1 is behind.
+fn ahead(one: &mut State, two: &mut State, next: &mut Message) {
     write(b"part 1 to part 2", one, 2, next);
     take(b"part 2 takes it", two, next);
     take(b"part 2 takes it again", two, next);
@@ -490,7 +558,8 @@ fn runs() {
     let mut old = [0u8; 12];
     let mut next = [0u8; 12];
     started(&mut one, &mut two);
-    ahead(&mut one, &mut two, &mut old, &mut next);
+    before(&mut two, &mut old);
+    ahead(&mut one, &mut two, &mut next);
     behind(&mut one, &old, &next);
     second(&mut one, &mut two);
 }
@@ -520,62 +589,26 @@ fn last_rounds() {
     advance(b"part 1 advances at round 59,999", &mut b);
 }
 
+fn wrong_parts(b: &mut State) {
+    let mut message = [0u8; 12];
+    advance(b"advance of zeros", b);
+    start(b"start of part 1", 1, b);
+    write(b"part 1 to part 3", b, 3, &mut message);
+    write(b"part 1 to part 1", b, 1, &mut message);
+}
+
+fn wrong_messages(b: &mut State) {
+    take_bytes(b"take 7 bytes", b, b"\x00\x02\x00\x01\x00\x00\x00");
+    take_words(b"take count 2 in 12 bytes", b, b"2 1 0 2 0 400");
+    take_words(b"take depth 1,200,001", b, b"2 1 0 1 18 20353");
+    take_words(b"take from part 3", b, b"3 1 0 1 0 400");
+    take_bytes(b"take count 0", b, b"\x00\x02\x00\x01\x00\x00\x00\x00");
+}
+
 fn wrong_calls() {
     let mut b = [0u8; 190];
-    let mut message = [0u8; 12];
-    advance(b"advance of zeros", &mut b);
-    start(b"start of part 1", 1, &mut b);
-    write(b"part 1 to part 3", &mut b, 3, &mut message);
-    write(b"part 1 to part 1", &mut b, 1, &mut message);
-    take_bytes(b"take 7 bytes", &mut b, b"\x00\x02\x00\x01\x00\x00\x00");
-    take_words(b"take count 2 in 12 bytes", &mut b, b"2 1 0 2 0 400");
-    take_words(b"take depth 1,200,001", &mut b, b"2 1 0 1 18 20353");
-    take_words(b"take from part 3", &mut b, b"3 1 0 1 0 400");
-    take_bytes(b"take count 0", &mut b, b"\x00\x02\x00\x01\x00\x00\x00\x00");
-}
-
-// ---- the list program
-
-fn listed(name: &[u8], input: &[u8], out: &mut [u8]) {
-    io::write_all(1, name);
-    let t = listing::list_text(input, out);
-    io::write_all(1, &out[..t]);
-}
-
-// What the list program reads, as far as it fits: the mesh, P, the owners, the stencil's length, the stencil and a byte more.
-fn cut(name: &[u8], input: &mut [u8]) {
-    put_words(
-        input,
-        b"1 6 5 0 0 10 0 0 0 0 0 0 1 3 5 7 9 1 2 2 0 2 4 3 0 3 6 4 0 4 8 5 0 5 10 6 0 513 257 514 769 1",
-    );
-    let mut out = [0u8; 400];
-    listed(name, input, &mut out);
-}
-
-fn whole() {
-    let mut input = [0u8; 84];
-    cut(b"", &mut input);
-    let mut longer = [0u8; 85];
-    cut(b"list of 85 bytes: ", &mut longer);
-}
-
-fn pieces() {
-    let mut head = [0u8; 11];
-    cut(b"list cut to 11 bytes: ", &mut head);
-    let mut mesh = [0u8; 73];
-    cut(b"list cut to 73 bytes: ", &mut mesh);
-    let mut map = [0u8; 79];
-    cut(b"list cut to 79 bytes: ", &mut map);
-    let mut stencil = [0u8; 83];
-    cut(b"list cut to 83 bytes: ", &mut stencil);
-}
-
-fn longest() {
-    let fits = [0u8; 65536];
-    let long = [0u8; 65537];
-    let mut out = [0u8; 400];
-    listed(b"65,536 zeros: ", &fits, &mut out);
-    listed(b"65,537 zeros: ", &long, &mut out);
+    wrong_parts(&mut b);
+    wrong_messages(&mut b);
 }
 
 fn main() {
@@ -586,19 +619,20 @@ fn main() {
     ignored();
     lists(1, 2);
     lists(2, 1);
+    numbers();
     maps();
+    lengths_of_stencils();
     stencils();
     no_imports();
     reaches();
     rounds();
-    rules();
+    below_zero();
+    counts_of_weights();
+    weights();
     depths();
     fields();
     layers();
     runs();
     last_rounds();
     wrong_calls();
-    whole();
-    pieces();
-    longest();
 }

@@ -7,7 +7,7 @@ use mathlib.Core.List.{List, [], _∷_, _++_, map, List·Memᴰ, List·Memᴰ·n
 use Prim.Native.Nat.{ℕ, zero, suc, _+_, _*_, _<_, _≤_, suc-le-suc}
 use native.Mathlib.Nat.{not-suc-le-zero, le-of-suc-le-suc, zero-lt-suc}
 use native.Mathlib.Omega.{arith}
-use lib.ListN.{length, getD, length-append, List·getD-append}
+use lib.ListN.{length, getD, length-append, List·getD-append, replicate}
 use lib.Seq.{getD-append-add}
 use lib.Dec.{eqb}
 use borrow.Author.Tests.{eq-eqb, ne-eqb, eqb-true, eqb-false}
@@ -461,3 +461,26 @@ repeats-snoc (y ∷ ys) x e f =
     or-none (isIn y (ys ++ (x ∷ []))) (repeats (ys ++ (x ∷ [])))
     (isIn-append y ys (x ∷ []) ∙ or-none (isIn y ys) (eqb y x || false) (g .0) (or-none (eqb y x) false (ne-eqb y x (λ q. eqb-false x y (h .0) (sym q))) refl))
     (repeats-snoc ys x (g .1) (h .1))
+
+pub someOf-append : {A : Type 0} (p : A → Bool) (xs ys : List A) → someOf (xs ++ ys) p ≡ someOf xs p || someOf ys p
+unfolding someOf
+someOf-append p [] ys = refl
+someOf-append p (x ∷ xs) ys = ap (λ t. p x || t) (someOf-append p xs ys) ∙ sym (or-assoc (p x) (someOf xs p) (someOf ys p))
+
+pub and-all : (a : Bool) → a && true ≡ a
+and-all true = refl
+and-all false = refl
+
+pub and-assoc : (a b c : Bool) → (a && b) && c ≡ a && (b && c)
+and-assoc true b c = refl
+and-assoc false b c = refl
+
+pub isIn-some : (z : ℕ) (ys : List ℕ) → isIn z ys ≡ someOf ys (λ c. isIn z (c ∷ []))
+unfolding isIn someOf
+isIn-some z [] = refl
+isIn-some z (y ∷ ys) = ap₂ _||_ (sym (or-nothing (eqb z y))) (isIn-some z ys)
+
+pub zeros-at : (n i : ℕ) → _≡_ {A = ℕ} (getD (replicate n 0) i 0) 0
+zeros-at zero i = refl
+zeros-at (suc n) zero = refl
+zeros-at (suc n) (suc i) = zeros-at n i

@@ -10,9 +10,9 @@ use native.Mathlib.Omega.{arith}
 use lib.ListN.{length, getD, length-append, List·getD-append}
 use lib.Seq.{getD-append-add, getD-append-seam, ext-getD}
 use lib.Dec.{eqb, ltb, leb}
-use borrow.Author.Tests.{eqb-true, eqb-false, ltb-true, ltb-false, leb-true, le-leb, not-true, not-false}
-use Rattle.vocabulary.specs.Lists.{repeats, joined, All}
-use Rattle.vocabulary.specs.ListLaws.{and-true, and-intro, and-false, or-left, or-right, or-true, or-none, not-both, All-append, All-getD, At, at-left, at-right, repeats-none, map-append}
+use borrow.Author.Tests.{eqb-true, eqb-false, ltb-true, ltb-false, lt-ltb, leb-true, le-leb, not-true, not-false}
+use Rattle.vocabulary.specs.Lists.{isIn, someOf, repeats, joined, All}
+use Rattle.vocabulary.specs.ListLaws.{isIn-append, someOf-append, someOf-witness, someOf-has, or-nothing, same-test, and-true, and-intro, and-false, or-left, or-right, or-true, or-none, not-both, All-append, All-getD, At, at-left, at-right, repeats-none, map-append}
 use Rattle.vocabulary.specs.Ranges.{isUpTo, picked, every, some, listed, blocks, total}
 
 -- a number below suc n is the last or comes before it
@@ -495,3 +495,72 @@ module _ (p : ℕ → Bool) (n k : ℕ) where
 
   pub some-end : k ≤ n → n ≤ k → some 0 k p ≡ false → false ≡ some 0 n p
   some-end g h i = let q : k ≡ n = omega arith in sym (rw q at i)
+
+pub isIn-blocks : (g a n : ℕ) (f : ℕ → List ℕ) → isIn g (blocks a n f) ≡ some a n (λ c. isIn g (f c))
+unfolding blocks some isIn
+isIn-blocks g a zero f = refl
+isIn-blocks g a (suc n) f = isIn-append g (blocks a n f) (f (a + n)) ∙ ap (λ b. b || isIn g (f (a + n))) (isIn-blocks g a n f)
+
+pub someOf-listed : {A : Type 0} (p : A → Bool) (g : ℕ → A) (a n : ℕ) → someOf (listed a n g) p ≡ some a n (λ t. p (g t))
+unfolding listed some someOf
+someOf-listed p g a zero = refl
+someOf-listed p g a (suc n) = someOf-append p (listed a n g) (g (a + n) ∷ []) ∙ ap₂ _||_ (someOf-listed p g a n) (or-nothing (p (g (a + n))))
+
+pub listed-moved : {A : Type 0} (a b : ℕ) (f g : ℕ → A) (n : ℕ) → ((i : ℕ) → i < n → f (a + i) ≡ g (b + i)) → listed a n f ≡ listed b n g
+unfolding listed
+listed-moved a b f g zero h = refl
+listed-moved a b f g (suc n) h = ap₂ (λ xs x. xs ++ (x ∷ [])) (listed-moved a b f g n (λ i k. h i (omega arith))) (h n (omega arith))
+
+-- lists over a range that are empty but for a part of it
+pub blocks-empty : {A : Type 0} (a : ℕ) (g : ℕ → List A) (n : ℕ) → ((i : ℕ) → i < n → g (a + i) ≡ []) → blocks a n g ≡ []
+unfolding blocks
+blocks-empty a g zero f = refl
+blocks-empty a g (suc n) f = ap₂ _++_ (blocks-empty a g n (λ i h. f i (omega arith))) (f n (omega arith))
+
+pub blocks-part : {A : Type 0} (g : ℕ → List A) (a k n : ℕ) → a + k ≤ n → ((i : ℕ) → i < a → g i ≡ []) → ((i : ℕ) → a + k ≤ i → i < n → g i ≡ []) → blocks 0 n g ≡ blocks a k g
+blocks-part g a k n h before after =
+    let p : n ≡ a + (k + (n - (a + k))) = omega arith in
+    ap (λ x. blocks 0 x g) p
+    ∙ blocks-split 0 g a (k + (n - (a + k)))
+    ∙ ap₂ _++_ (blocks-empty 0 g a (λ i l. rw zero-add (before i l))) (ap (λ x. blocks x (k + (n - (a + k))) g) (zero-add a) ∙ blocks-split a g k (n - (a + k)))
+    ∙ ap (λ xs. blocks a k g ++ xs) (blocks-empty (a + k) g (n - (a + k)) (λ i l. after (a + k + i) (omega arith) (omega arith)))
+    ∙ append-nil (blocks a k g)
+
+pub some-next : (a n : ℕ) (p : ℕ → Bool) → some a (n + 1) p ≡ some a n p || p (a + n)
+unfolding some
+some-next a n p = rw add-one refl
+
+pub picked-some : (a : ℕ) (p : ℕ → Bool) (n : ℕ) → ltb 0 (length (picked a n p)) ≡ some a n p
+picked-some a p n = same-test (ltb 0 (length (picked a n p))) (some a n p) there back
+  where
+    there : ltb 0 (length (picked a n p)) ≡ true → some a n p ≡ true
+    there e =
+        let w = picked-passes a p n (getD (picked a n p) 0 0) (record { place = 0; place-lt = ltb-true 0 (length (picked a n p)) e; place-is = refl }) in
+        some-in a p n (getD (picked a n p) 0 0) (w .0) (w .1) (w .2)
+
+    back : some a n p ≡ true → ltb 0 (length (picked a n p)) ≡ true
+    back e =
+        let w = some-witness a p n e in
+        let t = picked-at a p n (w .0) (w .1) (w .2) in
+        lt-ltb 0 (length (picked a n p)) (omega (arith, t .place-lt))
+
+pub some-swap : (a n : ℕ) (cs : List ℕ) (f : ℕ → ℕ → Bool) → some a n (λ j. someOf cs (f j)) ≡ someOf cs (λ c. some a n (λ j. f j c))
+some-swap a n cs f = same-test (some a n (λ j. someOf cs (f j))) (someOf cs (λ c. some a n (λ j. f j c))) there back
+  where
+    there : some a n (λ j. someOf cs (f j)) ≡ true → someOf cs (λ c. some a n (λ j. f j c)) ≡ true
+    there e =
+        let w = some-witness a (λ j. someOf cs (f j)) n e in
+        let u = someOf-witness (f (a + w .0)) cs 0 (w .2) in
+        someOf-has (λ c. some a n (λ j. f j c)) cs 0 (u .0) (u .1) (some-has a (λ j. f j (getD cs (u .0) 0)) n (w .0) (w .1) (u .2))
+
+    back : someOf cs (λ c. some a n (λ j. f j c)) ≡ true → some a n (λ j. someOf cs (f j)) ≡ true
+    back e =
+        let u = someOf-witness (λ c. some a n (λ j. f j c)) cs 0 e in
+        let w = some-witness a (λ j. f j (getD cs (u .0) 0)) n (u .2) in
+        some-has a (λ j. someOf cs (f j)) n (w .0) (w .1) (someOf-has (f (a + w .0)) cs 0 (u .0) (u .1) (w .2))
+
+-- numbers that pass, each as a list of one or none
+pub blocks-picked : (a n : ℕ) (p : ℕ → Bool) → blocks 0 n (λ q. cond (p (a + q)) ((a + q) ∷ []) []) ≡ picked a n p
+unfolding blocks picked
+blocks-picked a zero p = refl
+blocks-picked a (suc n) p = ap₂ _++_ (blocks-picked a n p) (ap (λ q. cond (p (a + q)) ((a + q) ∷ []) []) (zero-add n))

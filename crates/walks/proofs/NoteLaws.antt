@@ -15,7 +15,7 @@ use Rattle.vocabulary.specs.Lists.{isIn, repeats, All}
 use Rattle.vocabulary.specs.ListLaws.{or-nothing, eqb-swap, isIn-append, All-getD}
 use Rattle.mesh.specs.Mesh.{top, below}
 use Rattle.mesh.specs.Accepted.{Accepted}
-use Rattle.walks.specs.Visits.{Fresh, Gathered, Toward, with, down, up, Upward}
+use Rattle.visits.specs.Visits.{Fresh, Gathered, Toward, with, down, up, Upward}
 use Rattle.walks.specs.Walking.{Ground, Cells, Lowers, stepped, noted, Noted, among}
 use Rattle.walks.proofs.StepLaws.{down-told, up-told, upward}
 use Rattle.mesh.specs.WalkLaws.{below-grows}

@@ -2,7 +2,7 @@
 use mathlib.Core.Path.{_≡_, refl, sym, ap, ap₂, _∙_}
 use mathlib.Core.Bool.{Bool, true, false, _||_, _&&_, cond}
 use mathlib.Core.List.{List, [], _∷_}
-use Prim.Native.Nat.{ℕ, suc, _+_, _≤_, _<_}
+use Prim.Native.Nat.{ℕ, _+_, _≤_, _<_}
 use native.Mathlib.Omega.{arith}
 use lib.Dec.{eqb, ltb, leb}
 use lib.ListN.{length, getD, take}
@@ -10,7 +10,7 @@ use lib.Seq.{getD-take}
 use borrow.Author.Tests.{eqb-true, lt-ltb, le-leb, ltb-true, leb-true}
 use Rattle.vocabulary.specs.Bytes.{Bytes}
 use Rattle.vocabulary.specs.Ranges.{picked, some, blocks}
-use Rattle.vocabulary.specs.RangeLaws.{some-none, some-has, some-witness, some-cong, picked-in, picked-passes}
+use Rattle.vocabulary.specs.RangeLaws.{some-none, some-has, some-witness, some-cong, picked-in, picked-passes, isIn-blocks}
 use Rattle.vocabulary.specs.Lists.{isIn, someOf}
 use Rattle.vocabulary.specs.ListLaws.{or-nothing, All-intro, isIn-at, at-isIn, not-isIn, and-true, and-intro, same-test, someOf-cong, someOf-has, someOf-witness, All-map, All-getD}
 use Rattle.mesh.specs.Mesh.{top, counted, below, firstCell, cellCount, dimension, chain}
@@ -18,9 +18,8 @@ use Rattle.mesh.specs.Walks.{incident, stepTo}
 use Rattle.mesh.specs.Accepted.{Accepted, Cell}
 use Rattle.mesh.proofs.DimensionLaws.{below-next, dimension-le}
 use Rattle.mesh.specs.WalkLaws.{below-grows}
-use Rattle.mesh.proofs.ClosureLaws.{isIn-blocks}
-use Rattle.walks.specs.Links.{trail}
-use Rattle.walks.specs.Visits.{between, down, up, Upward}
+use Rattle.links.specs.Links.{trail}
+use Rattle.visits.specs.Visits.{between, down, up, Upward}
 use Rattle.walks.specs.Walking.{isCell, Ground, Cells, Lowers, stepped}
 
 -- ---- lists by what stands in them

@@ -1,6 +1,6 @@
 -- A walk of k steps is a walk of k - 1 steps and one step more, as the code makes it. Assumes nothing.
 use mathlib.Core.Path.{_≡_, refl, sym, ap, ap₂, _∙_, subst}
-use mathlib.Core.Bool.{Bool, true, false, _||_, _&&_, cond}
+use mathlib.Core.Bool.{Bool, true, false, _&&_, cond}
 use mathlib.Core.List.{List, [], _∷_, _++_}
 use Prim.Native.Nat.{ℕ, zero, suc, _+_, _-_, _%_, _≤_, _<_}
 use native.Mathlib.Numerals.{add-one}
@@ -8,7 +8,7 @@ use native.Mathlib.Omega.{arith}
 use lib.Dec.{eqb}
 use lib.ListN.{length, getD, set, take, length-take}
 use lib.Seq.{take-suc, take-suc-set}
-use borrow.Author.Tests.{eqb-true, ne-eqb}
+use borrow.Author.Tests.{eqb-true, eqb-false, ne-eqb}
 use Rattle.vocabulary.specs.Bytes.{Bytes, byteAt}
 use Rattle.vocabulary.specs.Ranges.{picked}
 use Rattle.vocabulary.specs.RangeLaws.{picked-passes, picked-cong}
@@ -21,8 +21,8 @@ use Rattle.mesh.specs.Accepted.{Accepted, Cell}
 use Rattle.mesh.proofs.DimensionLaws.{below-more}
 use Rattle.mesh.specs.WalkLaws.{below-grows}
 use Rattle.walks.proofs.StepLaws.{someOf-like}
-use Rattle.walks.specs.Visits.{Fresh, Gathered, Toward}
-use Rattle.walks.specs.Walking.{Ground, Cells, Lowers, Sided, Clear, stepped, firstMark, layerMark, noted, Noted, among, walkedFrom, Walk, Within, Widened}
+use Rattle.visits.specs.Visits.{Fresh, Gathered, Toward}
+use Rattle.walks.specs.Walking.{Ground, Cells, Lowers, Sided, Clear, stepped, firstMark, layerMark, noted, Noted, among, walkedFrom, Walk, Within, Widened, Departed, Arrived}
 
 -- ---- the copy
 
@@ -124,7 +124,7 @@ layer-more m st cs k z =
 
 -- ---- no step, and one step more
 
-pub walk-none : (m st : Bytes) (s k v : ℕ) (marks from layers layers′ : List ℕ) → k ≡ 0 → Cells m from s → s ≤ 2000 → Fresh v marks → length from ≡ 2001 → Clear layers
+walk-none : (m st : Bytes) (s k v : ℕ) (marks from layers layers′ : List ℕ) → k ≡ 0 → Cells m from s → s ≤ 2000 → Fresh v marks → length from ≡ 2001 → Clear layers
     → Noted 0 layers layers′ (among from s) → Walk m st (take s from) k (v + k) marks from layers′ s
 walk-none m st s k v marks from layers layers′ z C few F r K N = subst (λ x. Walk m st (take s from) x (v + x) marks from layers′ s) (sym z) (record {
   fresh = record { size = F .size; each = λ y. omega (arith, F .each y) };
@@ -165,7 +165,7 @@ more m st cs j v n s marks marks′ from from′ found layers layers′ W G t fe
     ends : (z : ℕ) → isIn z (take s from′) ≡ isIn z (stepTo m (byteAt st (suc j)) (walkedFrom m st cs j))
     ends z = ap (isIn z) e ∙ sym (or-nothing (isIn z (take s found))) ∙ t .each z ∙ ap (isIn z) (step-like m (byteAt st (suc j)) (take n from) (walkedFrom m st cs j) (W .ends))
 
-pub walk-more : (m st : Bytes) (cs : List ℕ) (k v n s : ℕ) (marks marks′ from from′ found layers layers′ : List ℕ) → (k ≡ 0 → ⊥) → Walk m st cs (k - 1) (v + (k - 1)) marks from layers n
+walk-more : (m st : Bytes) (cs : List ℕ) (k v n s : ℕ) (marks marks′ from from′ found layers layers′ : List ℕ) → (k ≡ 0 → ⊥) → Walk m st cs (k - 1) (v + (k - 1)) marks from layers n
     → Gathered (v + (k - 1)) marks′ found s → Toward found s [] (stepped m (byteAt st k) from n) → s ≤ 2000 → take s from′ ≡ take s found → length from′ ≡ length from
     → Noted k layers layers′ (among from′ s) → Walk m st cs k (v + k) marks′ from′ layers′ s
 walk-more m st cs zero v n s marks marks′ from from′ found layers layers′ z W G t few e r N = absurd (z refl)
@@ -174,18 +174,12 @@ walk-more m st cs (suc j) v n s marks marks′ from from′ found layers layers�
     more m st cs j v n s marks marks′ from from′ found layers layers′ (rw q at W) (rw q at G) t few e r N
 
 -- what the calls of a walk suppose
-pub notes-count : (v s : ℕ) (marks from found : List ℕ) → Gathered v marks found s → take s from ≡ take s found → length (take s from) ≡ s
-notes-count v s marks from found G e = ap length e ∙ G .count
-
-pub notes-room : (m st : Bytes) (cs : List ℕ) (k w n v s : ℕ) (marks₀ from₀ marks from found layers : List ℕ) → Walk m st cs k w marks₀ from₀ layers n → Gathered v marks found s
-    → take s from ≡ take s found → All (λ y. y < length layers) (take s from)
-notes-room m st cs k w n v s marks₀ from₀ marks from found layers W G e = rw e (All-map (take s found) (λ y h. omega (arith, h .1, W .size)) (G .in-range))
+pub notes-room : (m st : Bytes) (cs : List ℕ) (k w n v s : ℕ) (marks₀ from marks found layers : List ℕ) → Walk m st cs k w marks₀ from layers n → Gathered v marks found s
+    → All (λ y. y < length layers) (take s found)
+notes-room m st cs k w n v s marks₀ from marks found layers W G = All-map (take s found) (λ y h. omega (arith, h .1, W .size)) (G .in-range)
 
 pub cells-fit : (m st : Bytes) (cell prev last layers from : List ℕ) (s : ℕ) → Ground m st cell prev last → Cells m from s → Clear layers → All (λ y. y < length layers) (take s from)
 cells-fit m st cell prev last layers from s G C K = All-map (take s from) (λ y h. omega (arith, h .high, G .mesh .cells-in, G .mesh .sizes .n-high, K .size)) (C .each)
-
-pub walk-count : (m st : Bytes) (cs : List ℕ) (k v n r : ℕ) (marks from layers : List ℕ) → r ≡ n → Walk m st cs k v marks from layers n → Walk m st cs k v marks from layers r
-walk-count m st cs k v n r marks from layers e W = subst (Walk m st cs k v marks from layers) (sym e) W
 
 -- ---- the bounds of the cells met
 
@@ -255,7 +249,7 @@ module _ (m : Bytes) (k n low high : ℕ) (from layers layers′ : List ℕ) (N 
       out : (z : ℕ) → firstCell m ≤ z → isIn z (take n from) ≡ true → ⊥
       out z h = outside _ z (take n from) C (λ q. let l : below m (top m) + 1 ≤ z = h in let o : ⊥ = omega (arith, q .1, l) in o)
 
-pub within-none : (m st : Bytes) (cell prev last : List ℕ) (e s low high : ℕ) (from layers layers′ : List ℕ) → Ground m st cell prev last → e ≡ elements m → Cells m from s → Clear layers
+within-none : (m st : Bytes) (cell prev last : List ℕ) (e s low high : ℕ) (from layers layers′ : List ℕ) → Ground m st cell prev last → e ≡ elements m → Cells m from s → Clear layers
     → Noted 0 layers layers′ (among from s) → Widened (e + 1) 0 low high (take s from) → Within m layers′ low high
 within-none m st cell prev last e s low high from layers layers′ G ee C K N U =
     within-cells m 0 s (e + 1) 0 from layers layers′ N
@@ -264,9 +258,61 @@ within-none m st cell prev last e s low high from layers layers′ G ee C K N U 
 
 module _ (m st : Bytes) (cell prev last cs : List ℕ) (k v n low high : ℕ) (marks from layers layers′ : List ℕ) (G : Ground m st cell prev last) (C : All (Cell m) cs) (h : k < length st)
     (W : Walk m st cs k v marks from layers′ n) (N : Noted k layers layers′ (among from n)) (I : Within m layers low high) where
-  pub within-odd : k % 2 ≡ 1 → Within m layers′ low high
+  within-odd : k % 2 ≡ 1 → Within m layers′ low high
   within-odd o = within-lowers m k n low high from layers layers′ N I (each-of m st (G .mesh) (G .stencil) cs C _ k n from (W .ends) (λ z e. walked-odd m st (G .mesh) (G .stencil) cs C k z h o e))
 
-  pub within-even : (k % 2 ≡ 1 → ⊥) → (low′ high′ : ℕ) → Widened low high low′ high′ (take n from) → Within m layers′ low′ high′
+  within-even : (k % 2 ≡ 1 → ⊥) → (low′ high′ : ℕ) → Widened low high low′ high′ (take n from) → Within m layers′ low′ high′
   within-even o low′ high′ U =
       within-cells m k n low high from layers layers′ N I low′ high′ (each-of m st (G .mesh) (G .stencil) cs C _ k n from (W .ends) (λ z e. walked-even m st (G .mesh) (G .stencil) cs C k z h (omega arith) e)) U
+
+-- ---- what a walk answers
+
+pub ends-none : (m st : Bytes) (cell prev last : List ℕ) (e s k v f n low high : ℕ) (marks from layers layers′ : List ℕ) → Ground m st cell prev last → e ≡ elements m → Cells m from s
+    → s ≤ 2000 → Fresh v marks → length from ≡ 2001 → f ≡ 2001 → Clear layers → k ≡ 0 → Departed e from s layers layers′ n low high
+    → Walk m st (take s from) k (v + k) marks from layers′ n × (f ≡ 2001) × Within m layers′ low high
+ends-none m st cell prev last e s k v f n low high marks from layers layers′ G ee C few F r fe K z D = (
+  subst (Walk m st (take s from) k (v + k) marks from layers′) (sym (D .count)) (walk-none m st s k v marks from layers layers′ z C few F r K (D .notes)),
+  fe,
+  within-none m st cell prev last e s low high from layers layers′ G ee C K (D .notes) (D .bounds),
+)
+
+pub ends-more : (m st : Bytes) (cell prev last cs : List ℕ) (k v n f s n′ low high low′ high′ : ℕ) (marks marks′ from from′ found layers layers′ : List ℕ) → Ground m st cell prev last
+    → All (Cell m) cs → k < length st → (k ≡ 0 → ⊥)
+    → Walk m st cs (k - 1) (v + (k - 1)) marks from layers n × (f ≡ 2001) × Within m layers low high
+    → Gathered (v + (k - 1)) marks′ found s × Toward found s [] (stepped m (byteAt st k) from n) × (s ≤ 2000)
+    → Arrived k found s from from′ layers layers′ low high n′ low′ high′
+    → Walk m st cs k (v + k) marks′ from′ layers′ n′ × (length found ≡ 2001) × Within m layers′ low′ high′
+ends-more m st cell prev last cs k v n f s n′ low high low′ high′ marks marks′ from from′ found layers layers′ G C h z W T A = (
+  subst (Walk m st cs k (v + k) marks′ from′ layers′) (sym (A .count)) here,
+  T .0 .room,
+  inside (eqb (k % 2) 1) refl,
+)
+  where
+    here : Walk m st cs k (v + k) marks′ from′ layers′ s
+    here = walk-more m st cs k v n s marks marks′ from from′ found layers layers′ z (W .0) (T .0) (T .1) (T .2) (A .moved) (A .size) (A .notes)
+
+    inside : (b : Bool) → eqb (k % 2) 1 ≡ b → Within m layers′ low′ high′
+    inside true q =
+        let o = eqb-true (k % 2) 1 q in
+        let e = A .odd o in
+        rw (e .0, e .1) (within-odd m st cell prev last cs k (v + k) s low high marks′ from′ layers layers′ G C h here (A .notes) (W .2) o)
+    inside false q =
+        let o = eqb-false (k % 2) 1 q in
+        within-even m st cell prev last cs k (v + k) s low high marks′ from′ layers layers′ G C h here (A .notes) (W .2) o low′ high′ (A .even o)
+
+-- ---- what is found and moved to `from`
+
+pub list-room : (n l : ℕ) (found : List ℕ) → length (take n found) ≡ n → l ≡ length found → (n ≤ length found) × (n ≤ l)
+list-room n l found c e = let h : n ≤ length found = omega (arith, c, length-take n found) in (h, omega (arith, h))
+
+pub notes-moved : (k n l : ℕ) (found from′ : List ℕ) → k ≤ 8 → length (take n found) ≡ n → All (λ y. y < l) (take n found) → take n from′ ≡ take n found
+    → (k < 65535) × (length (take n from′) ≡ n) × All (λ y. y < l) (take n from′)
+notes-moved k n l found from′ h c a e = (omega arith, ap length e ∙ c, rw e a)
+
+module _ (k : ℕ) (found : List ℕ) (n : ℕ) (from from′ layers layers′ : List ℕ) (low high : ℕ) (M : (take n from′ ≡ take n found) × (length from′ ≡ length from))
+    (N : Noted k layers layers′ (among from′ n)) where
+  pub arrived-odd : k % 2 ≡ 1 → Arrived k found n from from′ layers layers′ low high n low high
+  arrived-odd o = record { count = refl; size = M .1; moved = M .0; notes = N; odd = λ _. (refl, refl); even = λ x. absurd (x o) }
+
+  pub arrived-even : (k % 2 ≡ 1 → ⊥) → (n′ low′ high′ : ℕ) → (n′ ≡ n) × Widened low high low′ high′ (take n from′) → Arrived k found n from from′ layers layers′ low high n′ low′ high′
+  arrived-even o n′ low′ high′ U = record { count = U .0; size = M .1; moved = M .0; notes = N; odd = λ x. absurd (o x); even = λ _. U .1 }

@@ -1,3 +1,1 @@
-pub mod Links
-pub mod Visits
 pub mod Walking

@@ -11,8 +11,8 @@ use Rattle.vocabulary.specs.Lists.{isIn, All}
 use Rattle.mesh.specs.Mesh.{top, below, firstCell, cellCount, chain}
 use Rattle.mesh.specs.Walks.{bad10, stepTo}
 use Rattle.mesh.specs.Accepted.{Accepted, Cell}
-use Rattle.walks.specs.Links.{trail}
-use Rattle.walks.specs.Visits.{Fresh}
+use Rattle.links.specs.Links.{trail}
+use Rattle.visits.specs.Visits.{Fresh}
 
 -- y is a cell
 unfoldable pub isCell : Bytes → ℕ → Bool
@@ -88,6 +88,21 @@ pub record Widened (low high low′ high′ : ℕ) (ys : List ℕ) : Type 0 wher
   pub up : high ≤ high′
   pub each : All (λ y. (low′ ≤ y) × (y < high′)) ys
   pub least : (a b : ℕ) → a ≤ low → high ≤ b → All (λ y. (a ≤ y) × (y < b)) ys → (a ≤ low′) × (high′ ≤ b)
+
+-- what stands before the first step: the first s cells of `from`, with the layer 0, and their bounds
+pub record Departed (e : ℕ) (from : List ℕ) (s : ℕ) (layers layers′ : List ℕ) (n low high : ℕ) : Type 0 where
+  pub count : n ≡ s
+  pub notes : Noted 0 layers layers′ (among from s)
+  pub bounds : Widened (e + 1) 0 low high (take s from)
+
+-- what step k leaves of the n elements found: they stand in `from`, with the layer k unless they had one; cells widen the bounds
+pub record Arrived (k : ℕ) (found : List ℕ) (n : ℕ) (from from′ layers layers′ : List ℕ) (low high n′ low′ high′ : ℕ) : Type 0 where
+  pub count : n′ ≡ n
+  pub size : length from′ ≡ length from
+  pub moved : take n from′ ≡ take n found
+  pub notes : Noted k layers layers′ (among from′ n)
+  pub odd : k % 2 ≡ 1 → (low′ ≡ low) × (high′ ≡ high)
+  pub even : (k % 2 ≡ 1 → ⊥) → Widened low high low′ high′ (take n from′)
 
 -- before step k: cells where it goes down, lower elements where it goes up
 pub record Sided (m : Bytes) (k : ℕ) (from : List ℕ) (n : ℕ) : Type 0 where

@@ -1,8 +1,3 @@
-// Walks over an accepted mesh. What supposes an accepted mesh and stencil is in `inner`.
+// Walks over an accepted mesh: all that stands here, in `inner`, supposes an accepted mesh and stencil.
 pub mod inner;
-mod inverse;
-mod stencil;
 mod steps;
-mod visits;
-
-pub use stencil::bad_stencil;

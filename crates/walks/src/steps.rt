@@ -1,11 +1,11 @@
 // One step of a walk, down to lower elements or up to cells, and the layers of what is reached.
-use crate::visits::entry;
-use crate::visits::step_down;
-use crate::visits::step_up;
 use layout::byte_at;
 use layout::number_at;
 use layout::put_number_at;
 use mesh::inner::below_of;
+use visits::inner::entry;
+use visits::inner::step_down;
+use visits::inner::step_up;
 ghost use mathlib.Core.Path.{_≡_};
 ghost use mathlib.Core.List.{[], _∷_};
 ghost use Prim.Native.Nat.{ℕ, _+_, _<_, _≤_};
@@ -15,8 +15,8 @@ ghost use Rattle.vocabulary.specs.Bytes.{byteAt};
 ghost use Rattle.vocabulary.specs.Lists.{All};
 ghost use Rattle.mesh.specs.Mesh.{top, elements, recordCount};
 ghost use Rattle.mesh.specs.Accepted.{Accepted};
-ghost use Rattle.walks.specs.Visits.{Fresh, Gathered, Toward};
-ghost use Rattle.walks.specs.Walking.{Ground, Cells, Lowers, Sided, Clear, stepped, Noted, among, Walk, Within, Widened};
+ghost use Rattle.visits.specs.Visits.{Fresh, Gathered, Toward};
+ghost use Rattle.walks.specs.Walking.{Ground, Cells, Lowers, Sided, Clear, stepped, Noted, among, Walk, Within, Widened, Departed, Arrived};
 
 // Down from the first n cells of `from` to the elements of dimension a.
 pub fn walk_down(
@@ -157,6 +157,41 @@ fn widen(list: &[u16], n: usize, w: Ends) -> Ends
     r
 }
 
+// Before the first step the cells stand in `from`, bear the layer 0, and are all that was met.
+fn depart(e: usize, from: &[u16], s: usize, layers: &mut [u16]) -> Ends
+    requires { ⌜ (e < 65536) × (length (take s (now from)) ≡ s) × All (λ y. y < length (now layers)) (take s (now from)) ⌝ }
+    ensures { λ w. ⌜ Departed e (now (from .entry)) s (now (layers .entry)) (now (layers .exit)) (w .count) (w .low) (w .high) ⌝ }
+{
+    note_all(0, from, s, layers);
+    widen(
+        from,
+        s,
+        Ends {
+            count: s,
+            low: e + 1,
+            high: 0,
+        },
+    )
+}
+
+// After step k the n elements that it found stand in `from`, bear the layer k unless they have one, and widen the bounds where they are cells.
+fn arrive(k: usize, found: &[u16], n: usize, w: Ends, from: &mut [u16], layers: &mut [u16]) -> Ends
+    requires { ⌜ (k ≤ 8) × (length (take n (now found)) ≡ n) × (length (now from) ≡ length (now found)) × All (λ y. y < length (now layers)) (take n (now found)) ⌝ }
+    ensures { λ r. ⌜ Arrived k (now (found .entry)) n (now (from .entry)) (now (from .exit)) (now (layers .entry)) (now (layers .exit)) (w .low) (w .high) (r .count) (r .low) (r .high) ⌝ }
+{
+    copy_list(found, n, from);
+    note_all(k as u16, from, n, layers);
+    let met = Ends {
+        count: n,
+        low: w.low,
+        high: w.high,
+    };
+    if k % 2 == 1 {
+        return met;
+    }
+    widen(from, n, met)
+}
+
 // Where the walks of k steps from the first s cells of `from` end: a walk of k - 1 steps, and one step more. Each element met bears its layer.
 pub fn walk(
     m: &[u8],
@@ -178,16 +213,7 @@ pub fn walk(
     ensures { λ w. ⌜ Walk (now (m .entry)) (now (st .entry)) (take s (now (from .entry))) k (v + k) (now (marks .exit)) (now (from .exit)) (now (layers .exit)) (w .count) × (length (now (found .exit)) ≡ 2001) × Within (now (m .entry)) (now (layers .exit)) (w .low) (w .high) ⌝ }
 {
     if k == 0 {
-        note_all(0, from, s, layers);
-        return widen(
-            from,
-            s,
-            Ends {
-                count: s,
-                low: e + 1,
-                high: 0,
-            },
-        );
+        return depart(e, from, s, layers);
     }
     let w = walk(
         m,
@@ -220,15 +246,5 @@ pub fn walk(
         marks,
         found,
     );
-    copy_list(found, n, from);
-    note_all(k as u16, from, n, layers);
-    let met = Ends {
-        count: n,
-        low: w.low,
-        high: w.high,
-    };
-    if k % 2 == 1 {
-        return met;
-    }
-    widen(from, n, met)
+    arrive(k, found, n, w, from, layers)
 }

@@ -17,8 +17,8 @@ use Rattle.mesh.specs.Meet.{meet, stamp, unlike, leavesBy}
 use Rattle.mesh.specs.Mesh.{below, dimension, elementIn, nextOf, follow, records, chain, allRecords, bad1, wrongCount, bad2, meshLength, bad3, headed, bad4, wrongIn, wrongAt, bad5, leaves, unclosed, bad6, bare, bad7, meshTests, meshNumber, checkAnswer}
 use Rattle.mesh.specs.Walks.{Near, incident, steps, rightAt, bad10, stepTo, walked, stepsTo, layer, reach, bad13}
 use Rattle.round.specs.Rounds.{bad14, schemeOf, depthIn, oldsIn, newIn, round, undivided, roundTests, roundNumber, roundAnswer, roundOut}
-use Rattle.round.specs.Rules.{weightCount, tooHeavy, bad11, weight, depthSum, weightSum, quotient, least, newDepth}
-use Rattle.round.specs.Update.{entries, oldsAt}
+use Rattle.rules.specs.Rules.{weightCount, tooHeavy, bad11, weight, depthSum, weightSum, quotient, least, newDepth}
+use Rattle.rules.specs.Update.{entries, oldsAt}
 use Rattle.messages.specs.Heads.{headOf, meant}
 use Rattle.messages.specs.Messages.{encode, bad15, reading}
 use Rattle.split.specs.Lists.{imports-from, interior-cells, Wanted, bad8, bad9, bad12, splitTests, sizeTests, others, listOf, listWords, listTests, listNumber, listAnswer, listOut}
@@ -27,7 +27,7 @@ use Rattle.parts.specs.Calls.{importsFrom, exportsTo, messageTo, writeTestsIn, 
 use Rattle.states.specs.State.{weights, localReach, localExports, listsIn, listsOf, rises, listsTests, dynamicTests, isState, bad20}
 use Rattle.starts.specs.Start.{importEnds, exportEnds, reachEnds, reachWords, exportWords, listsLong, listsWords, stateSize, sizeNumber, sizeAnswer, firstState, startTests, startNumber, startAnswer, startState}
 use Rattle.runs.specs.Run.{ownerIn, Gathered, schemeIn, collectsOf, Run, Inputs, World, Collected, collect, advance, take-in, write, Call, put, more, step, run, Fair, Honest, startNumberIn, startStateIn, begin, StateBound}
-use Rattle.listing.specs.Listing.{ascii, digits, decimal, spaced, line, lineUnlessEmpty, dimensionText, partText, splitText, meshPiece, mapPiece, partsPiece, ownersPiece, lastPiece, stencilPiece, listingNumber, listText}
+use Rattle.part_text.specs.Listing.{ascii, digits, decimal, spaced, line, lineUnlessEmpty, dimensionText, partText, splitText, meshPiece, mapPiece, partsPiece, ownersPiece, lastPiece, stencilPiece, listingNumber, listText}
 
 -- ---- the inputs
 

@@ -1,5 +1,5 @@
 -- `round::bad_field` meets its contract. Assumes nothing.
-use Rattle.round.proofs.Refusals.{ragged-field, other-length, ranged-field}
+use Rattle.round.proofs.FieldLaws.{ragged-field, other-length, ranged-field}
 use borrow.Author.Needs.{needs}
 use Rattle.round.proofs.bad_field.Statement.{statement}
 use Rattle.round.proofs.bad_field.Tie as tie

@@ -1,6 +1,6 @@
 -- `listing::pieces::list_passed` meets its contract. Assumes nothing.
 use mathlib.Core.Path.{refl}
-use Rattle.part_lists.proofs.CallLaws.{blank, passed-facts}
+use Rattle.split.proofs.PassedLaws.{blank, passed-facts}
 use Rattle.listing.proofs.PieceLaws.{refused-sizes, passed-all}
 use borrow.Author.Needs.{needs}
 use Rattle.listing.proofs.pieces.list_passed.Statement.{statement}

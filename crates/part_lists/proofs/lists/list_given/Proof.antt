@@ -1,7 +1,8 @@
 -- `part_lists::lists::list_given` meets its contract. Assumes nothing.
 use mathlib.Core.Path.{refl}
 use native.Mathlib.Omega.{arith}
-use Rattle.part_lists.proofs.GivingLaws.{added-fits, given-answer, given-out}
+use Rattle.cell_lists.proofs.SortLaws.{added-fits}
+use Rattle.part_lists.proofs.GivingLaws.{given-answer, given-out}
 use borrow.Author.Needs.{needs}
 use Rattle.part_lists.proofs.lists.list_given.Statement.{statement}
 use Rattle.part_lists.proofs.lists.list_given.Tie as tie

@@ -1,6 +1,7 @@
 -- `part_lists::lists::list_passed` meets its contract. Assumes nothing.
 use mathlib.Core.Path.{refl, sym, _∙_}
-use Rattle.part_lists.proofs.CallLaws.{blank, passed-facts, refused-sizes, chosen-few, given-named}
+use Rattle.split.proofs.PassedLaws.{blank, passed-facts}
+use Rattle.part_lists.proofs.CallLaws.{refused-sizes, chosen-few, given-named}
 use borrow.Author.Needs.{needs}
 use Rattle.part_lists.proofs.lists.list_passed.Statement.{statement}
 use Rattle.part_lists.proofs.lists.list_passed.Tie as tie

@@ -1,9 +1,9 @@
 -- `part_lists::lists::list_words` meets its contract. Assumes nothing.
-use Rattle.reaches.proofs.ReachLaws.{cells-few}
-use Rattle.part_lists.proofs.ListedLaws.{cells-fit, chose-interior, chose-halo, chose-locals, chose-imports, chose-exports, chose-private, chose-exposed, chose-shared, chose-copied}
+use Rattle.part_lists.proofs.ListedLaws.{chose-interior, chose-halo, chose-locals, chose-imports, chose-exports, chose-private, chose-exposed, chose-shared, chose-copied}
 use borrow.Author.Needs.{needs}
 use Rattle.part_lists.proofs.lists.list_words.Statement.{statement}
 use Rattle.part_lists.proofs.lists.list_words.Tie as tie
+use Rattle.mesh.proofs.AcceptedLaws.{cells-few, cells-fit}
 
 pub list-words-spec : {M : Type 1} → statement M
 list-words-spec =

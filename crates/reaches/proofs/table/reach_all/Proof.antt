@@ -3,12 +3,14 @@ use mathlib.Core.Path.{_≡_, refl}
 use Prim.Native.Nat.{_+_, _-_, _*_, _≤_}
 use native.Mathlib.Omega.{arith}
 use lib.ListN.{length}
-use Rattle.walks.specs.Visits.{Fresh}
+use Rattle.visits.specs.Visits.{Fresh}
 use Rattle.reaches.specs.Tables.{tableWords, Emitted, Ends}
-use Rattle.reaches.proofs.ReachLaws.{fresh, first-small, cells-few, cell-is, table-start, ends-start, table-turn, ends-turn, table-over, table-end}
+use Rattle.reaches.proofs.ReachLaws.{first-small, cell-is, table-start, ends-start, table-turn, ends-turn, table-over, table-end}
 use borrow.Author.Needs.{needs}
 use Rattle.reaches.proofs.table.reach_all.Statement.{statement}
 use Rattle.reaches.proofs.table.reach_all.Tie as tie
+use Rattle.mesh.proofs.AcceptedLaws.{cells-few}
+use Rattle.walks.proofs.GroundLaws.{fresh}
 
 abbrev Inv-loop : tie.InvT-loop
 Inv-loop m e r st n cell prev last first cells table₀ ends₀ marks₀ from₀ found₀ t₀ v₀ x₀ x-end table ends marks from found t v x = (first ≤ x) × (x ≤ first + cells) × (x-end ≡ first + cells) × (t ≤ 8000) × (v ≤ 1 + 8 * (x - first)) × Fresh v marks × (length from ≡ 2001) × (length found ≡ 2001) × (length table ≡ 32000) × (length ends ≡ 2001) × Emitted table₀ table 0 t (tableWords m st (x - first)) × Ends m st ends (x - first)

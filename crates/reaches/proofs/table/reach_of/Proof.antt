@@ -1,10 +1,10 @@
 -- `reaches::table::reach_of` meets its contract. Assumes nothing.
-use mathlib.Core.Path.{_∙_}
 use native.Mathlib.Omega.{arith}
-use Rattle.reaches.proofs.ReachLaws.{emitted-cell, one-cell, front, clear, steps-is, high-small}
+use Rattle.reaches.proofs.ReachLaws.{emitted-cell, one-cell, front, high-small}
 use borrow.Author.Needs.{needs}
 use Rattle.reaches.proofs.table.reach_of.Statement.{statement}
 use Rattle.reaches.proofs.table.reach_of.Tie as tie
+use Rattle.walks.proofs.GroundLaws.{clear, steps-is}
 
 pub reach-of-spec : {M : Type 1} → statement M
 reach-of-spec =

@@ -1,6 +1,6 @@
 -- `round::undivided_round` meets its contract. Assumes nothing.
 use native.Mathlib.Omega.{arith}
-use Rattle.walks.proofs.StencilLaws.{accepted-stencil, stencil-some}
+use Rattle.stencils.proofs.StencilLaws.{accepted-stencil, stencil-some}
 use Rattle.round.proofs.UndividedLaws.{rule-good, told-mesh, told-10, told-11}
 use borrow.Author.Needs.{needs}
 use Rattle.round.proofs.undivided.undivided_round.Statement.{statement}

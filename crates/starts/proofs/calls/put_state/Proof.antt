@@ -1,6 +1,6 @@
 -- `starts::calls::put_state` meets its contract. Assumes nothing.
 use Rattle.starts.proofs.PlanLaws.{state-put}
-use Rattle.starts.proofs.StartLists.{words-long}
+use Rattle.start_lists.proofs.StartLists.{words-long}
 use borrow.Author.Needs.{needs}
 use Rattle.starts.proofs.calls.put_state.Statement.{statement}
 use Rattle.starts.proofs.calls.put_state.Tie as tie

@@ -1,5 +1,4 @@
 -- `starts::calls::size_from` meets its contract. Assumes nothing.
-use native.Mathlib.Omega.{arith}
 use Rattle.starts.proofs.PlanLaws.{size-done}
 use borrow.Author.Needs.{needs}
 use Rattle.starts.proofs.calls.size_from.Statement.{statement}

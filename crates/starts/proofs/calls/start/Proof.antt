@@ -1,6 +1,6 @@
 -- `starts::start` meets its contract. Assumes nothing.
 use native.Mathlib.Omega.{arith}
-use Rattle.part_lists.proofs.CallLaws.{passed-facts}
+use Rattle.split.proofs.PassedLaws.{passed-facts}
 use mathlib.Core.Path.{sym, _∙_}
 use Rattle.mesh.specs.WalkLaws.{stencil-parts}
 use Rattle.round.proofs.UndividedLaws.{rule-good}

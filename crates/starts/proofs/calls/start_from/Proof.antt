@@ -1,9 +1,7 @@
 -- `starts::calls::start_from` meets its contract. Assumes nothing.
 use native.Mathlib.Omega.{arith}
-use Rattle.part_lists.proofs.CallLaws.{passed-facts}
-use Rattle.walks.proofs.StencilLaws.{stencil-some}
-use mathlib.Core.Path.{refl}
-use Rattle.round.specs.RuleLaws.{rule-known}
+use Rattle.split.proofs.PassedLaws.{passed-facts}
+use Rattle.rules.specs.RuleLaws.{rule-known}
 use Rattle.mesh.specs.WalkLaws.{stencil-parts}
 use Rattle.starts.proofs.PlanLaws.{start-14, start-16, start-fit, start-long, start-cells, start-done}
 use borrow.Author.Needs.{needs}

@@ -1,6 +1,6 @@
 -- `starts::calls::start_passed` meets its contract. Assumes nothing.
 use mathlib.Core.Path.{refl, sym, _∙_}
-use Rattle.part_lists.proofs.CallLaws.{passed-facts, blank}
+use Rattle.split.proofs.PassedLaws.{passed-facts, blank}
 use Rattle.starts.proofs.PlanLaws.{start-sizes}
 use borrow.Author.Needs.{needs}
 use Rattle.starts.proofs.calls.start_passed.Statement.{statement}

@@ -1,6 +1,5 @@
 -- `states::lists::up_to` meets its contract. Assumes nothing.
 use Rattle.states.proofs.ListChecks.{up-low, up-rest}
-use borrow.Author.Needs.{needs}
 use Rattle.states.proofs.lists.up_to.Statement.{statement}
 use Rattle.states.proofs.lists.up_to.Tie as tie
 

@@ -1,0 +1,182 @@
+-- Advance, by the tests and the loops of the code. Assumes nothing.
+use mathlib.Core.Path.{_≡_, refl, sym, ap, ap₂, _∙_}
+use mathlib.Core.Bool.{Bool, true, false, not, _&&_, _||_}
+use mathlib.Core.List.{_++_}
+use Prim.Native.Nat.{ℕ, _+_, _-_, _*_, _≤_, _<_}
+use native.Mathlib.Omega.{arith}
+use lib.Dec.{eqb, ltb}
+use lib.ListN.{length, take, drop, replicate}
+use lib.Seq.{length-take-le, take-at}
+use borrow.Author.Tests.{ne-eqb, lt-ltb, le-ltb, le-leb, lt-leb, not-true, not-false}
+use Rattle.vocabulary.specs.Bytes.{Bytes, byteAt, over}
+use Rattle.vocabulary.specs.ByteLaws.{over-length, over-more, over-front}
+use Rattle.vocabulary.specs.Ranges.{every, listed, blocks}
+use Rattle.vocabulary.specs.RangeLaws.{every-cong, upTo-intro, listed-length}
+use Rattle.layout.specs.Words.{word, wordAt, wordBytes}
+use Rattle.layout.specs.WordLaws.{length-wordBytes}
+use Rattle.layout.specs.DepthLaws.{fours-length}
+use Rattle.layout.specs.Answers.{answer}
+use Rattle.layout.specs.AnswerLaws.{answer-done, answer-refused}
+use Rattle.layout.specs.declared.Answer.{Answer}
+use Rattle.layout.specs.declared.Answer.the-variants.{Done, Refused}
+use Rattle.states.specs.State.{Lists, listsIn, listsOf, dynamic, ownedCount, isState, bad20, takenPlace, writtenPlace, exportEnd, exportAt, localExports}
+use Rattle.parts.specs.Calls.{importsFrom, exportsTo, allTaken, allWritten, newAt, advancedIn, advanceTestsIn, advanceNumber, advanceAnswer, advanceState}
+use Rattle.parts.specs.Opened.{Opened, settledAt, advanceRest}
+use Rattle.parts.proofs.OpenedLaws.{whole, own-few, long, good-state, not-state, cut, lists-is}
+use Rattle.advancing.proofs.RenewLaws.{new-four}
+
+-- ---- imports taken and exports written
+
+module _ (st b : Bytes) (ends flags j n : ℕ) (ne : n ≡ wordAt st (ends + j + 1) - wordAt st (ends + j)) where
+  pub settled-none : n < 1 → true ≡ settledAt st b ends flags j
+  unfolding settledAt
+  settled-none h = let z : n ≤ 0 = omega arith in simp (sym ne, le-ltb 0 n z)
+
+  pub settled-some : (x : ℕ) → 1 ≤ n → x ≡ byteAt b (flags + j) → eqb x 1 ≡ settledAt st b ends flags j
+  unfolding settledAt
+  settled-some x h e = simp (sym ne, lt-ltb 0 n h, sym e)
+
+taken-each : (st b : Bytes) (d j : ℕ) → 1 ≤ j → j ≤ 16 → settledAt st b 10 (d + 1) j ≡ not (importsFrom (listsIn st) j) || eqb (byteAt b (takenPlace d j)) 1
+unfolding settledAt importsFrom listsIn
+taken-each st b d j h k =
+    let p : 10 + j + 1 ≡ 11 + j = omega arith in
+    let q : 10 + j ≡ 11 + (j - 1) = omega arith in
+    ap₂ (λ x y. not (ltb 0 (wordAt st x - wordAt st y)) || eqb (byteAt b (d + 1 + j)) 1) p q
+    ∙ ap (λ t. not (t && ltb 0 (wordAt st (11 + j) - wordAt st (11 + (j - 1)))) || eqb (byteAt b (d + 1 + j)) 1) (sym (upTo-intro 16 j h k))
+
+written-each : (st b : Bytes) (d j : ℕ) → 1 ≤ j → j ≤ 16 → settledAt st b 27 (d + 17) j ≡ not (exportsTo (listsIn st) j) || eqb (byteAt b (writtenPlace d j)) 1
+unfolding settledAt exportsTo listsIn localExports
+written-each st b d j h k =
+    let p : 27 + j + 1 ≡ 28 + j = omega arith in
+    let q : 27 + j ≡ 28 + (j - 1) = omega arith in
+    let l : length (listed (exportEnd st (j - 1)) (exportEnd st j - exportEnd st (j - 1)) (exportAt st)) ≡ exportEnd st j - exportEnd st (j - 1) =
+    listed-length (exportEnd st (j - 1)) (exportAt st) (exportEnd st j - exportEnd st (j - 1)) in
+    ap₂ (λ x y. not (ltb 0 (wordAt st x - wordAt st y)) || eqb (byteAt b (d + 17 + j)) 1) p q
+    ∙ ap₂ (λ t n. not (t && ltb 0 n) || eqb (byteAt b (d + 17 + j)) 1) (sym (upTo-intro 16 j h k)) (sym l)
+
+module _ (st b : Bytes) (d : ℕ) where
+  taken-is : every 1 16 (settledAt st b 10 (d + 1)) ≡ allTaken (listsIn st) d b
+  unfolding allTaken
+  taken-is = every-cong 1 (settledAt st b 10 (d + 1)) (λ j. not (importsFrom (listsIn st) j) || eqb (byteAt b (takenPlace d j)) 1) 16 each
+    where
+      each : (i : ℕ) → i < 16 → settledAt st b 10 (d + 1) (1 + i) ≡ not (importsFrom (listsIn st) (1 + i)) || eqb (byteAt b (takenPlace d (1 + i))) 1
+      each i h = taken-each st b d (1 + i) (omega arith) (omega arith)
+
+  written-is : every 1 16 (settledAt st b 27 (d + 17)) ≡ allWritten (listsIn st) d b
+  unfolding allWritten
+  written-is = every-cong 1 (settledAt st b 27 (d + 17)) (λ j. not (exportsTo (listsIn st) j) || eqb (byteAt b (writtenPlace d j)) 1) 16 each
+    where
+      each : (i : ℕ) → i < 16 → settledAt st b 27 (d + 17) (1 + i) ≡ not (exportsTo (listsIn st) (1 + i)) || eqb (byteAt b (writtenPlace d (1 + i))) 1
+      each i h = written-each st b d (1 + i) (omega arith) (omega arith)
+
+  module _ (u : Bool) (ue : u ≡ every 1 16 (settledAt st b 10 (d + 1))) where
+    pub rest-24 : not u ≡ true → 24 ≡ advanceRest (listsIn st) d b
+    unfolding advanceRest
+    rest-24 z = simp (sym (ue ∙ taken-is), not-true u z)
+
+    module _ (ut : not u ≡ false) (w : Bool) (we : w ≡ every 1 16 (settledAt st b 27 (d + 17))) where
+      pub rest-25 : not w ≡ true → 25 ≡ advanceRest (listsIn st) d b
+      unfolding advanceRest
+      rest-25 z = simp (sym (ue ∙ taken-is), not-false u ut, sym (we ∙ written-is), not-true w z)
+
+      module _ (wt : not w ≡ false) (r : ℕ) (re : r ≡ word b d) where
+        pub rest-26 : 60000 ≤ r → 26 ≡ advanceRest (listsIn st) d b
+        unfolding advanceRest
+        rest-26 h = simp (sym (ue ∙ taken-is), not-false u ut, sym (we ∙ written-is), not-false w wt, sym re, le-leb _ _ h)
+
+        pub rest-none : r < 60000 → 0 ≡ advanceRest (listsIn st) d b
+        unfolding advanceRest
+        rest-none h = simp (sym (ue ∙ taken-is), not-false u ut, sym (we ∙ written-is), not-false w wt, sym re, lt-leb _ _ h)
+
+-- ---- what is stored
+
+pub round-put : (b x y z new : Bytes) (d round owned : ℕ) → d + 34 + 4 * owned ≤ length b → 4 * owned ≤ length new → x ≡ over b d (wordBytes round) → y ≡ over x (d + 2) (replicate 32 0)
+    → z ≡ over y (d + 34) (take (4 * owned) (drop 0 new)) → z ≡ over b d (wordBytes round ++ (replicate 32 0 ++ take (4 * owned) new))
+round-put b x y z new d round owned room there xe ye ze =
+    let l : length (wordBytes round) ≡ 2 = length-wordBytes round in
+    let m : length (replicate {A = ℕ} 32 0) ≡ 32 = refl in
+    let k : length (take (4 * owned) new) ≡ 4 * owned = length-take-le (4 * owned) new there in
+    let s : length x ≡ length b = ap length xe ∙ over-length b d (wordBytes round) (omega arith) in
+    let p : d + 2 ≡ d + length (wordBytes round) = omega arith in
+    let q : d + 34 ≡ d + 2 + length (replicate {A = ℕ} 32 0) = omega arith in
+    ze
+    ∙ ap₂ (λ (u : Bytes) i. over u i (take (4 * owned) new)) ye q
+    ∙ over-more x (d + 2) (replicate 32 0) (omega arith) (take (4 * owned) new)
+    ∙ ap₂ (λ (u : Bytes) i. over u i (replicate 32 0 ++ take (4 * owned) new)) xe p
+    ∙ over-more b d (wordBytes round) (omega arith) (replicate 32 0 ++ take (4 * owned) new)
+
+-- ---- the answer
+
+module _ (b : Bytes) where
+  abbrev pub Answered : Answer → Bytes → Type 0
+  Answered r x = (r ≡ advanceAnswer b) × (x ≡ advanceState b)
+
+  refused : (n : ℕ) → advanceNumber b ≡ n → (n ≡ 0 → ⊥) → Answered (Refused n) b
+  unfolding advanceAnswer advanceState
+  refused n e z = (answer-refused n 0 z ∙ ap (λ m. answer m 0) (sym e), simp (e, ne-eqb n 0 z))
+
+  done : advanceNumber b ≡ 0 → Answered (Done 0) (advancedIn (listsOf b) (dynamic b) b)
+  unfolding advanceAnswer advanceState
+  done e = (answer-done (advanceNumber b) 0 e, simp e)
+
+  number-20 : bad20 b ≡ true → advanceNumber b ≡ 20
+  unfolding advanceNumber advanceTestsIn
+  number-20 e = simp e
+
+  pub told-20 : (u : Bool) → u ≡ isState b → not u ≡ true → Answered (Refused 20) b
+  told-20 u ue ut = refused 20 (number-20 (not-state b u ue ut)) (λ z. omega (arith, z))
+
+  here : (st : Bytes) (d round : ℕ) → round ≡ word b d + 1 → over b d (wordBytes round ++ (replicate 32 0 ++ blocks 1 (ownedCount st) (newAt (listsIn st) d b))) ≡ advancedIn (listsIn st) d b
+  unfolding advancedIn listsIn
+  here st d round e = ap (λ r. over b d (wordBytes r ++ (replicate 32 0 ++ blocks 1 (ownedCount st) (newAt (listsIn st) d b)))) e
+
+  module _ (d : ℕ) (o : Opened (take d b) d b) where
+    number-here : advanceNumber b ≡ advanceRest (listsOf b) (dynamic b) b
+    unfolding advanceNumber advanceTestsIn advanceRest
+    number-here = simp (good-state (take d b) d b o)
+
+    number-is : advanceNumber b ≡ advanceRest (listsIn (take d b)) d b
+    number-is = number-here ∙ ap₂ (λ (L : Lists) p. advanceRest L p b) (lists-is (take d b) d b o) (sym (o .place-is))
+
+    module _ (n : ℕ) (ne : n ≡ advanceRest (listsIn (take d b)) d b) where
+      pub told-rest : (n ≡ 0 → ⊥) → Answered (Refused n) b
+      told-rest z = refused n (number-is ∙ sym ne) z
+
+      pub told-done : n ≡ 0 → (owned : ℕ) → owned ≡ ownedCount (take d b) → (round : ℕ) → round ≡ word b d + 1 → (new x y : Bytes)
+          → 4 * owned ≤ length new → x ≡ over new 0 (blocks 1 owned (newAt (listsIn (take d b)) d b)) → y ≡ over b d (wordBytes round ++ (replicate 32 0 ++ take (4 * owned) x)) → Answered (Done 0) y
+      told-done z owned oe round re new x y room xe ye =
+          let a = done (number-is ∙ sym ne ∙ z) in
+          let g = newAt (listsIn (take d b)) d b in
+          let l : length (blocks 1 owned (newAt (listsIn (take d b)) d b)) ≡ 4 * owned = fours-length 1 owned (newAt (listsIn (take d b)) d b) (λ t c. new-four (take d b) d b (1 + t)) in
+          let t : take (4 * owned) x ≡ blocks 1 owned (newAt (listsIn (take d b)) d b) =
+          ap (take (4 * owned)) (xe ∙ over-front new (blocks 1 owned (newAt (listsIn (take d b)) d b)))
+          ∙ take-at (blocks 1 owned (newAt (listsIn (take d b)) d b)) (drop (length (blocks 1 owned (newAt (listsIn (take d b)) d b))) new) (4 * owned) l in (
+            a .0,
+            ye
+                ∙ ap (λ (u : Bytes). over b d (wordBytes round ++ (replicate 32 0 ++ u))) (t ∙ ap (λ n. blocks 1 n (newAt (listsIn (take d b)) d b)) oe)
+                ∙ here (take d b) d round re
+                ∙ ap₂ (λ (L : Lists) p. advancedIn L p b) (sym (lists-is (take d b) d b o)) (o .place-is)
+                ∙ a .1,
+          )
+
+    pub owned-room : (owned : ℕ) → owned ≡ wordAt (take (d - 0) (drop 0 b)) 11 → (owned ≡ ownedCount (take d b)) × (owned ≤ 2000) × (d + 34 + 4 * owned ≤ length b)
+    owned-room owned oe =
+        let e : owned ≡ ownedCount (take d b) = oe ∙ ap (λ (x : Bytes). wordAt x 11) (cut b d) in (
+          e,
+          omega (arith, own-few (take d b) d b o, whole (take d b) d b o .few),
+          omega (arith, own-few (take d b) d b o, long (take d b) d b o),
+        )
+
+    pub round-small : word b d ≤ 60000
+    round-small = whole (take d b) d b o .early
+
+-- ---- the lists as they are cut
+
+pub rest-cut : (b : Bytes) (d r : ℕ) → r ≡ advanceRest (listsIn (take (d - 0) (drop 0 b))) d b → r ≡ advanceRest (listsIn (take d b)) d b
+rest-cut b d r e = e ∙ ap (λ (x : Bytes). advanceRest (listsIn x) d b) (cut b d)
+
+pub owned-cut : (b : Bytes) (d owned : ℕ) → owned ≡ ownedCount (take d b) → owned ≡ ownedCount (take (d - 0) (drop 0 b))
+owned-cut b d owned e = e ∙ ap (λ (x : Bytes). ownedCount x) (sym (cut b d))
+
+pub renewed-cut : (b new x : Bytes) (d owned : ℕ) → x ≡ over new 0 (blocks 1 owned (newAt (listsIn (take (d - 0) (drop 0 b))) d b)) → x ≡ over new 0 (blocks 1 owned (newAt (listsIn (take d b)) d b))
+renewed-cut b new x d owned e = e ∙ ap (λ (y : Bytes). over new 0 (blocks 1 owned (newAt (listsIn y) d b))) (cut b d)

@@ -1,0 +1,2 @@
+pub mod RenewLaws
+pub mod AdvanceLaws

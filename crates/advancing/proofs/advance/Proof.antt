@@ -1,0 +1,20 @@
+-- `advancing::advance` meets its contract. Assumes nothing.
+use Rattle.parts.proofs.OpenedLaws.{opened-here}
+use Rattle.advancing.proofs.AdvanceLaws.{told-20}
+use borrow.Author.Needs.{needs}
+use Rattle.advancing.proofs.advance.Statement.{statement}
+use Rattle.advancing.proofs.advance.Tie as tie
+
+pub advance-spec : {M : Type 1} → statement M
+advance-spec =
+    tie.close
+    (tie.spec
+    (λ c κs. search needs)
+    (λ c. search needs)
+    (λ c. told-20 _ _ (c .before .is-state .ensures) (c .if1 .taken))
+    (λ c κs. search needs)
+    (λ c. search needs)
+    (λ c. search needs)
+    (λ c κs. (opened-here _ _ _ (c .before .before .before .before .before .is-state .ensures) (c .before .before .before .before .if1 .left) (c .before .before .word-at .ensures .0) (c .before .before .word-at .ensures .1), search needs))
+    (λ c. search needs)
+    (λ c. search needs))

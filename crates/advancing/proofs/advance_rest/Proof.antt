@@ -1,0 +1,21 @@
+-- `advancing::advance_rest` meets its contract. Assumes nothing.
+use native.Mathlib.Omega.{arith}
+use Rattle.parts.proofs.OpenedLaws.{long}
+use Rattle.advancing.proofs.AdvanceLaws.{rest-24, rest-25, rest-26, rest-none}
+use borrow.Author.Needs.{needs}
+use Rattle.advancing.proofs.advance_rest.Statement.{statement}
+use Rattle.advancing.proofs.advance_rest.Tie as tie
+
+pub advance-rest-spec : {M : Type 1} → statement M
+advance-rest-spec =
+    tie.close
+    (tie.spec
+    (λ c. search needs)
+    (λ c κs. search needs)
+    (λ c. search rest-24)
+    (λ c. search needs)
+    (λ c κs. search needs)
+    (λ c. search rest-25)
+    (λ c κs. omega (arith, long _ _ _ (c .before .before .before .before .before .before .pre)))
+    (λ c. search rest-26)
+    (λ c. search rest-none))

@@ -1,0 +1,18 @@
+-- `advancing::put_round` meets its contract. Assumes nothing.
+use Rattle.advancing.proofs.AdvanceLaws.{round-put}
+use borrow.Author.Needs.{needs}
+use Rattle.advancing.proofs.put_round.Statement.{statement}
+use Rattle.advancing.proofs.put_round.Tie as tie
+
+pub put-round-spec : {M : Type 1} → statement M
+put-round-spec =
+    tie.close
+    (tie.spec
+    (λ c κs. search needs)
+    (λ c. search needs)
+    (λ c κs. search needs)
+    (λ c. search needs)
+    (λ c. search needs)
+    (λ c κs. search needs)
+    (λ c. search needs)
+    (λ c. search round-put))

@@ -1,0 +1,16 @@
+-- `advancing::settled` meets its contract. Assumes nothing.
+use Rattle.advancing.proofs.AdvanceLaws.{settled-none, settled-some}
+use borrow.Author.Needs.{needs}
+use Rattle.advancing.proofs.settled.Statement.{statement}
+use Rattle.advancing.proofs.settled.Tie as tie
+
+pub settled-spec : {M : Type 1} → statement M
+settled-spec =
+    tie.close
+    (tie.spec
+    (λ c. search needs)
+    (λ c κs. search needs)
+    (λ c. search settled-none)
+    (λ c. search needs)
+    (λ c κs. search needs)
+    (λ c. search settled-some))

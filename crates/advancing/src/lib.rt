@@ -1,0 +1,166 @@
+// Advance: one round of the owned cells.
+use layout::Answer;
+use layout::byte_at;
+use layout::inner::copy;
+use layout::inner::put_depth;
+use layout::inner::put_word;
+use layout::inner::word_in;
+use layout::word_at;
+use parts::inner::clear;
+use rules::inner::new_depth;
+use states::inner::between;
+use states::inner::weight_count;
+use states::is_state;
+ghost use mathlib.Core.Path.{_≡_};
+ghost use mathlib.Core.List.{_++_};
+ghost use Prim.Native.Nat.{_+_, _*_, _<_, _≤_};
+ghost use lib.ListN.{length, take, replicate};
+ghost use Rattle.vocabulary.specs.Bytes.{over};
+ghost use Rattle.vocabulary.specs.Ranges.{every, blocks};
+ghost use Rattle.layout.specs.Words.{wordBytes};
+ghost use Rattle.layout.specs.Depths.{depthBytes};
+ghost use Rattle.states.specs.State.{listsIn, ruleKind, weights, heldCount, ownedCount};
+ghost use Rattle.parts.specs.Opened.{Opened, settledAt, advanceRest};
+ghost use Rattle.parts.specs.Calls.{newAt, advanceAnswer, advanceState};
+
+// Whether nothing is to be taken from (written to) part j, or its flag is set.
+fn settled(lists: &[u8], b: &[u8], ends: usize, flags: usize, j: usize) -> bool
+    requires { ⌜ (ends < 65536) × (flags < 1000000) × (j < 65536) ⌝ }
+    ensures { λ r. ⌜ r ≡ settledAt (now (lists .entry)) (now (b .entry)) ends flags j ⌝ }
+{
+    if between(lists, ends + j) < 1 {
+        return true;
+    }
+    byte_at(b, flags + j) == 1
+}
+
+fn all_settled(lists: &[u8], b: &[u8], ends: usize, flags: usize) -> bool
+    requires { ⌜ (ends < 65536) × (flags < 1000000) ⌝ }
+    ensures { λ r. ⌜ r ≡ every 1 16 (settledAt (now (lists .entry)) (now (b .entry)) ends flags) ⌝ }
+{
+    for j in 1..17 {
+        if !settled(lists, b, ends, flags, j) {
+            return false;
+        }
+    }
+    true
+}
+
+// The number of the first of advance's tests after 20 that holds, and 0 where none does.
+fn advance_rest(lists: &[u8], b: &[u8], d: usize) -> u32
+    requires { ⌜ Opened (now lists) d (now b) ⌝ }
+    ensures { λ r. ⌜ r ≡ advanceRest (listsIn (now (lists .entry))) d (now (b .entry)) ⌝ }
+{
+    if !all_settled(lists, b, 10, d + 1) {
+        return 24;
+    }
+    if !all_settled(lists, b, 27, d + 17) {
+        return 25;
+    }
+    if 60000 <= word_in(b, d) {
+        return 26;
+    }
+    0
+}
+
+// The new depth of local cell l.
+fn renew_one(
+    lists: &[u8],
+    v: &[u8],
+    b: &[u8],
+    d: usize,
+    kind: usize,
+    held: usize,
+    owned: usize,
+    l: usize,
+) -> i32
+    requires { ⌜ Opened (now lists) d (now b) × (kind ≡ ruleKind (now lists)) × (now v ≡ weights (now lists)) × (held ≡ heldCount (now lists)) × (owned ≡ ownedCount (now lists)) × (held < 65536) × (owned < 65536) × (1 ≤ l) × (l ≤ owned) ⌝ }
+    ensures { λ r. ⌜ depthBytes r ≡ newAt (listsIn (now (lists .entry))) d (now (b .entry)) l ⌝ }
+{
+    let k = 45 + held + (l - 1);
+    let at = 2 * (46 + held + owned) + 4 * word_at(lists, k);
+    new_depth(kind, v, lists, at, between(lists, k), b, d + 30, l)
+}
+
+// The new depths of the owned cells. The state is only read here, so every one comes from old ones.
+fn renew(
+    lists: &[u8],
+    v: &[u8],
+    b: &[u8],
+    d: usize,
+    kind: usize,
+    held: usize,
+    owned: usize,
+    new: &mut [u8],
+)
+    requires { ⌜ Opened (now lists) d (now b) × (kind ≡ ruleKind (now lists)) × (now v ≡ weights (now lists)) × (held ≡ heldCount (now lists)) × (owned ≡ ownedCount (now lists)) × (held < 65536) × (owned < 65536) × (4 * owned ≤ length (now new)) ⌝ }
+    ensures { λ _. ⌜ now (new .exit) ≡ over (now (new .entry)) 0 (blocks 1 owned (newAt (listsIn (now (lists .entry))) d (now (b .entry)))) ⌝ }
+{
+    for l in 1..owned + 1 {
+        let z = renew_one(lists, v, b, d, kind, held, owned, l);
+        put_depth(new, 4 * (l - 1), z);
+    }
+}
+
+// The new depths, by the rule in the lists.
+fn renew_by(lists: &[u8], b: &[u8], d: usize, owned: usize, new: &mut [u8])
+    requires { ⌜ Opened (now lists) d (now b) × (owned ≡ ownedCount (now lists)) × (owned < 65536) × (4 * owned ≤ length (now new)) ⌝ }
+    ensures { λ _. ⌜ now (new .exit) ≡ over (now (new .entry)) 0 (blocks 1 owned (newAt (listsIn (now (lists .entry))) d (now (b .entry)))) ⌝ }
+{
+    let kind = word_at(lists, 3);
+    let end = 8 + 2 * weight_count(kind, word_at(lists, 2));
+    let held = word_at(lists, 27);
+    renew(lists, &lists[8..end], b, d, kind, held, owned, new);
+}
+
+// Stores the round, no flag, and the first `owned` depths of `new`.
+fn put_round(b: &mut [u8], d: usize, round: usize, owned: usize, new: &[u8])
+    requires { ⌜ (d < 131072) × (round < 65536) × (owned < 65536) × (d + 34 + 4 * owned ≤ length (now b)) × (4 * owned ≤ length (now new)) ⌝ }
+    ensures { λ _. ⌜ now (b .exit) ≡ over (now (b .entry)) d (wordBytes round ++ (replicate 32 0 ++ take (4 * owned) (now (new .entry)))) ⌝ }
+{
+    put_word(b, d, round);
+    clear(b, d + 2, 32);
+    copy(b, d + 34, new, 0, 4 * owned);
+}
+
+fn advance_number(b: &[u8], d: usize) -> u32
+    requires { ⌜ Opened (take d (now b)) d (now b) ⌝ }
+    ensures { λ r. ⌜ r ≡ advanceRest (listsIn (take d (now (b .entry)))) d (now (b .entry)) ⌝ }
+{
+    advance_rest(&b[0..d], b, d)
+}
+
+fn renew_state(b: &[u8], d: usize, owned: usize, new: &mut [u8])
+    requires { ⌜ Opened (take d (now b)) d (now b) × (owned ≡ ownedCount (take d (now b))) × (owned < 65536) × (4 * owned ≤ length (now new)) ⌝ }
+    ensures { λ _. ⌜ now (new .exit) ≡ over (now (new .entry)) 0 (blocks 1 owned (newAt (listsIn (take d (now (b .entry)))) d (now (b .entry)))) ⌝ }
+{
+    renew_by(&b[0..d], b, d, owned, new);
+}
+
+// Advance on a state whose lists end at d, with room for the new depths.
+fn advance_in(b: &mut [u8], d: usize, new: &mut [u8]) -> Answer
+    requires { ⌜ Opened (take d (now b)) d (now b) × (length (now new) ≡ 8000) ⌝ }
+    ensures { λ r. ⌜ (r ≡ advanceAnswer (now (b .entry))) × (now (b .exit) ≡ advanceState (now (b .entry))) ⌝ }
+{
+    let number = advance_number(b, d);
+    if number != 0 {
+        return Answer::Refused(number);
+    }
+    let owned = word_at(&b[0..d], 11);
+    let round = word_in(b, d) + 1;
+    renew_state(b, d, owned, new);
+    put_round(b, d, round, owned, new);
+    Answer::Done(0)
+}
+
+// Makes one round of the owned cells.
+pub fn advance(b: &mut [u8]) -> Answer
+    ensures { λ r. ⌜ (r ≡ advanceAnswer (now (b .entry))) × (now (b .exit) ≡ advanceState (now (b .entry))) ⌝ }
+{
+    if !is_state(b) {
+        return Answer::Refused(20);
+    }
+    let d = 2 * word_at(b, 0);
+    let mut new = [0u8; 8000];
+    advance_in(b, d, &mut new)
+}

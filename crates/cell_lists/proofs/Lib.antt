@@ -1,0 +1,2 @@
+pub mod SortLaws
+pub mod CellLaws

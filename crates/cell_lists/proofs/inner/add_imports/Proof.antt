@@ -1,0 +1,31 @@
+-- `cell_lists::inner::add_imports` meets its contract. The invariant: the imports from the first j parts are added. Assumes nothing.
+use mathlib.Core.Path.{_≡_, refl}
+use Prim.Native.Nat.{_+_, _-_, _*_, _≤_}
+use lib.ListN.{length}
+use Rattle.vocabulary.specs.Ranges.{blocks}
+use Rattle.split.specs.Sorting.{cellsOf, Added}
+use Rattle.cell_lists.proofs.SortLaws.{imports-start, imports-turn, imports-end}
+use borrow.Author.Needs.{needs}
+use Rattle.cell_lists.proofs.inner.add_imports.Statement.{statement}
+use Rattle.cell_lists.proofs.inner.add_imports.Tie as tie
+
+abbrev Inv-loop : tie.InvT-loop
+Inv-loop owners table ends held i first cells parts list₀ s t₀ j₀ list t j = (j ≤ parts) × (t ≤ s + 2000 * j) × (length list ≡ length list₀) × Added list₀ list s t (blocks 1 j (cellsOf owners table ends held i first cells))
+
+abbrev μ-loop : tie.MeasureT-loop
+μ-loop owners table ends held i first cells parts list₀ s t₀ j₀ list t j = parts - j
+
+pub add-imports-spec : {M : Type 1} → statement M
+add-imports-spec =
+    tie.close
+    (tie.spec
+    Inv-loop
+    μ-loop
+    (λ c. (search needs, search needs, refl, search imports-start))
+    (λ c. search needs)
+    (λ c κs. search needs)
+    (λ c. search needs)
+    (λ c. search needs)
+    (λ c. (search needs, search needs, search needs, search imports-turn))
+    (λ c. search needs)
+    (λ c. search imports-end))

@@ -1,0 +1,122 @@
+-- Collect, by the tests and the loop of the code. Assumes nothing.
+use mathlib.Core.Path.{_≡_, refl, sym, ap, ap₂, _∙_}
+use mathlib.Core.Bool.{Bool, true, not}
+use Prim.Native.Nat.{ℕ, suc, _+_, _-_, _*_, _≤_, _<_}
+use native.Mathlib.Omega.{arith}
+use lib.ListN.{length, take, drop}
+use borrow.Author.Tests.{eq-eqb, ne-eqb, lt-ltb, le-ltb}
+use Rattle.vocabulary.specs.Bytes.{Bytes, over}
+use Rattle.layout.specs.Words.{word, wordAt}
+use Rattle.layout.specs.Depths.{four}
+use Rattle.layout.specs.Answers.{answer}
+use Rattle.layout.specs.AnswerLaws.{answer-done, answer-refused}
+use Rattle.layout.specs.declared.Answer.{Answer}
+use Rattle.layout.specs.declared.Answer.the-variants.{Done, Refused}
+use Rattle.states.specs.State.{Lists, listsIn, listsOf, dynamic, roundAt, firstOfMesh, cellsOfMesh, globalAt, ownedCount, isState, bad20}
+use Rattle.parts.specs.Calls.{collectedIn, collectTestsIn, collectNumber, collectAnswer, collectOut}
+use Rattle.parts.specs.Opened.{Opened}
+use Rattle.parts.proofs.OpenedLaws.{lists-is, whole, own-few, long, good-state, not-state, four-cut}
+
+-- ---- the loop
+
+collect-more : (st : Bytes) (d : ℕ) (b : Bytes) (n : ℕ) (f : Bytes)
+    → over (collectedIn (listsIn st) d b n f) (4 * (globalAt st (suc n) - firstOfMesh st)) (four b (d + 30 + 4 * suc n)) ≡ collectedIn (listsIn st) d b (suc n) f
+unfolding collectedIn listsIn
+collect-more st d b n f = refl
+
+pub gather-start : (st : Bytes) (d : ℕ) (b : Bytes) (f : Bytes) → f ≡ collectedIn (listsIn st) d b (1 - 1) f
+unfolding collectedIn
+gather-start st d b f = refl
+
+pub gather-end : (st : Bytes) (d : ℕ) (b : Bytes) (f x : Bytes) (l owned : ℕ) → l ≤ owned + 1 → owned + 1 ≤ l → x ≡ collectedIn (listsIn st) d b (l - 1) f → x ≡ collectedIn (listsIn st) d b owned f
+gather-end st d b f x l owned g h e = let p : l - 1 ≡ owned = omega arith in e ∙ ap (λ n. collectedIn (listsIn st) d b n f) p
+
+module _ (st : Bytes) (d : ℕ) (b : Bytes) (o : Opened st d b) (first owned : ℕ) (fe : first ≡ firstOfMesh st) (oe : owned ≡ ownedCount st) where
+  module _ (l g : ℕ) (h : 1 ≤ l) (k : l < owned + 1) (ge : g ≡ wordAt st (44 + l)) where
+    pub cell-low : first ≤ g
+    cell-low = omega (arith, whole st d b o .globals l h (omega (arith, own-few st d b o)) .0)
+
+    pub cell-room : (f₀ : Bytes) (f : Bytes) → 4 * cellsOfMesh st ≤ length f₀ → length f ≡ length f₀ → 4 * (g - first) + 4 ≤ length f
+    cell-room f₀ f r e = let w = whole st d b o .globals l h (omega (arith, own-few st d b o)) in omega (arith, w .0, w .1)
+
+    pub depth-room : d + 30 + 4 * l + 4 ≤ length b
+    depth-room = omega (arith, own-few st d b o, long st d b o)
+
+    pub gather-turn : (f₀ x y : Bytes) → x ≡ collectedIn (listsIn st) d b (l - 1) f₀ → y ≡ over x (4 * (g - first)) (take 4 (drop (d + 30 + 4 * l) b))
+        → y ≡ collectedIn (listsIn st) d b (l + 1 - 1) f₀
+    gather-turn f₀ x y e q =
+        let p : suc (l - 1) ≡ l + 1 - 1 = omega arith in
+        let s : l ≡ suc (l - 1) = omega arith in
+        q
+        ∙ ap₂ (λ (z : Bytes) (w : Bytes). over z (4 * (g - first)) w) e (four-cut b (d + 30 + 4 * l) depth-room)
+        ∙ ap (λ c. over (collectedIn (listsIn st) d b (l - 1) f₀) (4 * (g - c)) (four b (d + 30 + 4 * l))) fe
+        ∙ ap₂ (λ c i. over (collectedIn (listsIn st) d b (l - 1) f₀) (4 * (c - firstOfMesh st)) (four b (d + 30 + 4 * i))) (ge ∙ ap (globalAt st) s) s
+        ∙ collect-more st d b (l - 1) f₀
+        ∙ ap (λ n. collectedIn (listsIn st) d b n f₀) p
+
+-- ---- the answer, test by test
+
+module _ (b : Bytes) (k : ℕ) (f : Bytes) where
+  abbrev pub Answered : Answer → Bytes → Type 0
+  Answered r x = (r ≡ collectAnswer b k f) × (x ≡ collectOut b k f)
+
+  refused : (n : ℕ) → collectNumber b k f ≡ n → (n ≡ 0 → ⊥) → Answered (Refused n) f
+  unfolding collectAnswer collectOut
+  refused n e z = (answer-refused n (listsOf b .owned) z ∙ ap (λ m. answer m (listsOf b .owned)) (sym e), simp (e, ne-eqb n 0 z))
+
+  done-answer : collectNumber b k f ≡ 0 → Done (listsOf b .owned) ≡ collectAnswer b k f
+  unfolding collectAnswer
+  done-answer e = answer-done (collectNumber b k f) (listsOf b .owned) e
+
+  done-out : collectNumber b k f ≡ 0 → collectedIn (listsOf b) (dynamic b) b (listsOf b .owned) f ≡ collectOut b k f
+  unfolding collectOut
+  done-out e = simp e
+
+  number-20 : bad20 b ≡ true → collectNumber b k f ≡ 20
+  unfolding collectNumber collectTestsIn
+  number-20 e = simp e
+
+  pub told-20 : (u : Bool) → u ≡ isState b → not u ≡ true → Answered (Refused 20) f
+  told-20 u ue ut = refused 20 (number-20 (not-state b u ue ut)) (λ z. omega (arith, z))
+
+  module _ (st : Bytes) (d : ℕ) (o : Opened st d b) (r : ℕ) (re : r ≡ word b d) where
+    round-is : roundAt b (dynamic b) ≡ r
+    round-is = ap (word b) (sym (o .place-is)) ∙ sym re
+
+    number-28 : (r ≡ k → ⊥) → collectNumber b k f ≡ 28
+    unfolding collectNumber collectTestsIn
+    number-28 z = simp (good-state st d b o, round-is, ne-eqb k r (λ e. z (sym e)))
+
+    pub told-28 : (r ≡ k → ⊥) → Answered (Refused 28) f
+    told-28 z = refused 28 (number-28 z) (λ z. omega (arith, z))
+
+    module _ (rk : r ≡ k) (cells : ℕ) (ce : cells ≡ wordAt st 10) where
+      cells-is : listsOf b .cells ≡ cells
+      unfolding listsIn
+      cells-is = ap (λ (L : Lists). L .cells) (lists-is st d b o) ∙ sym ce
+
+      number-16 : length f < 4 * cells → collectNumber b k f ≡ 16
+      unfolding collectNumber collectTestsIn
+      number-16 h = simp (good-state st d b o, round-is, eq-eqb k r (sym rk), cells-is, lt-ltb _ _ h)
+
+      number-none : 4 * cells ≤ length f → collectNumber b k f ≡ 0
+      unfolding collectNumber collectTestsIn
+      number-none h = simp (good-state st d b o, round-is, eq-eqb k r (sym rk), cells-is, le-ltb _ _ h)
+
+      pub told-16 : length f < 4 * cells → Answered (Refused 16) f
+      told-16 h = refused 16 (number-16 h) (λ z. omega (arith, z))
+
+      own-is : (owned : ℕ) → owned ≡ wordAt st 11 → listsOf b .owned ≡ owned
+      unfolding listsIn
+      own-is owned oe = ap (λ (L : Lists). L .owned) (lists-is st d b o) ∙ sym oe
+
+      pub told-done : 4 * cells ≤ length f → (owned : ℕ) → owned ≡ wordAt st 11 → (x : Bytes) → x ≡ collectedIn (listsIn st) d b owned f → Answered (Done owned) x
+      told-done h owned oe x e =
+          let z : collectNumber b k f ≡ 0 = number-none h in
+          let q : listsOf b .owned ≡ owned = own-is owned oe in (
+            ap Done (sym q) ∙ done-answer z,
+            e
+                ∙ ap₂ (λ (L : Lists) n. collectedIn L d b n f) (sym (lists-is st d b o)) (sym q)
+                ∙ ap (λ p. collectedIn (listsOf b) p b (listsOf b .owned) f) (o .place-is)
+                ∙ done-out z,
+          )

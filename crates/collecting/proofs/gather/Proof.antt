@@ -1,0 +1,39 @@
+-- `collecting::gather` meets its contract. The invariant: the depths of the cells before l are put. Assumes nothing.
+use native.Mathlib.Omega.{arith}
+use mathlib.Core.Path.{_≡_, refl}
+use Prim.Native.Nat.{_+_, _-_, _≤_}
+use lib.ListN.{length}
+use Rattle.states.specs.State.{listsIn}
+use Rattle.parts.specs.Calls.{collectedIn}
+use Rattle.collecting.proofs.CollectLaws.{gather-start, cell-low, cell-room, depth-room, gather-turn, gather-end}
+use borrow.Author.Needs.{needs}
+use Rattle.collecting.proofs.gather.Statement.{statement}
+use Rattle.collecting.proofs.gather.Tie as tie
+
+abbrev Inv-loop : tie.InvT-loop
+Inv-loop lists b d first owned f₀ l₀ l-end f l = (l-end ≡ owned + 1) × (1 ≤ l) × (l ≤ owned + 1) × (length f ≡ length f₀) × (f ≡ collectedIn (listsIn lists) d b (l - 1) f₀)
+
+abbrev μ-loop : tie.MeasureT-loop
+μ-loop lists b d first owned f₀ l₀ l-end f l = l-end - l
+
+pub gather-spec : {M : Type 1} → statement M
+gather-spec =
+    tie.close
+    (tie.spec
+    Inv-loop
+    μ-loop
+    (λ c. search needs)
+    (λ c. (refl, search needs, search needs, search needs, search gather-start))
+    (λ c. search needs)
+    (λ c κs. search needs)
+    (λ c. search cell-low)
+    (λ c. search needs)
+    (λ c. search needs)
+    (λ c. search needs)
+    (λ c. search needs)
+    (λ c κs. (search cell-room, search depth-room))
+    (λ c. search needs)
+    (λ c. search needs)
+    (λ c. (search needs, search needs, search needs, search needs, gather-turn _ _ _ (c .before .before .before .before .before .before .before .before .before .before .pre .0) _ _ (c .before .before .before .before .before .before .before .before .before .before .pre .1) (c .before .before .before .before .before .before .before .before .before .before .pre .2) _ _ (c .before .before .before .before .before .before .loop .inv .1) (omega (arith, c .before .before .before .before .before .before .loop .inv .0, c .before .before .before .before .before .loop-test .taken)) (c .before .before .before .before .word-at .ensures .0) _ _ _ (c .before .before .before .before .before .before .loop .inv .4) (c .before .before .copy .ensures)))
+    (λ c. search needs)
+    (λ c. search gather-end))

@@ -1,0 +1,50 @@
+// Collect: the owned depths put into a field.
+use layout::Answer;
+use layout::inner::copy;
+use layout::inner::word_in;
+use layout::word_at;
+use states::is_state;
+ghost use mathlib.Core.Path.{_≡_};
+ghost use Prim.Native.Nat.{_*_, _<_, _≤_};
+ghost use lib.ListN.{length};
+ghost use Rattle.states.specs.State.{listsIn, firstOfMesh, cellsOfMesh, ownedCount};
+ghost use Rattle.parts.specs.Opened.{Opened};
+ghost use Rattle.parts.specs.Calls.{collectedIn, collectAnswer, collectOut};
+
+// Puts the depths of the owned cells at their places in the field.
+fn gather(lists: &[u8], b: &[u8], d: usize, first: usize, owned: usize, f: &mut [u8])
+    requires { ⌜ Opened (now lists) d (now b) × (first ≡ firstOfMesh (now lists)) × (owned ≡ ownedCount (now lists)) × (owned < 65536) × (4 * cellsOfMesh (now lists) ≤ length (now f)) ⌝ }
+    ensures { λ _. ⌜ now (f .exit) ≡ collectedIn (listsIn (now (lists .entry))) d (now (b .entry)) owned (now (f .entry)) ⌝ }
+{
+    for l in 1..owned + 1 {
+        let g = word_at(lists, 44 + l);
+        copy(f, 4 * (g - first), b, d + 30 + 4 * l, 4);
+    }
+}
+
+// Collect on a state whose lists end at d.
+fn collect_from(lists: &[u8], b: &[u8], d: usize, k: u32, f: &mut [u8]) -> Answer
+    requires { ⌜ Opened (now lists) d (now b) ⌝ }
+    ensures { λ r. ⌜ (r ≡ collectAnswer (now (b .entry)) k (now (f .entry))) × (now (f .exit) ≡ collectOut (now (b .entry)) k (now (f .entry))) ⌝ }
+{
+    if word_in(b, d) != k as usize {
+        return Answer::Refused(28);
+    }
+    if f.len() < 4 * word_at(lists, 10) {
+        return Answer::Refused(16);
+    }
+    let owned = word_at(lists, 11);
+    gather(lists, b, d, word_at(lists, 9), owned, f);
+    Answer::Done(owned as u32)
+}
+
+// Puts the owned depths of a state at round k into a field, and changes no other byte of it.
+pub fn collect(b: &[u8], k: u32, f: &mut [u8]) -> Answer
+    ensures { λ r. ⌜ (r ≡ collectAnswer (now (b .entry)) k (now (f .entry))) × (now (f .exit) ≡ collectOut (now (b .entry)) k (now (f .entry))) ⌝ }
+{
+    if !is_state(b) {
+        return Answer::Refused(20);
+    }
+    let d = 2 * word_at(b, 0);
+    collect_from(&b[0..d], b, d, k, f)
+}

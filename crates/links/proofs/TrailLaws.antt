@@ -1,0 +1,203 @@
+-- From an element the trail of its entries leads to exactly the cells whose chains have it. Assumes nothing.
+use mathlib.Core.Path.{_≡_, refl, sym, ap, ap₂, _∙_}
+use mathlib.Core.Bool.{Bool, true, false, _||_, _&&_}
+use mathlib.Core.List.{List, [], _∷_}
+use Prim.Native.Nat.{ℕ, zero, suc, _+_, _≤_, _<_}
+use native.Mathlib.Omega.{arith}
+use lib.Dec.{eqb}
+use lib.ListN.{length, getD, set, length-set, length-append, replicate, length-replicate}
+use lib.Seq.{getD-set-same, getD-set-other}
+use borrow.Author.Tests.{eqb-true, eqb-false, ne-eqb}
+use Rattle.vocabulary.specs.Bytes.{Bytes}
+use Rattle.vocabulary.specs.Ranges.{some, blocks}
+use Rattle.vocabulary.specs.Lists.{isIn, All}
+use Rattle.vocabulary.specs.ListLaws.{or-swap, zeros-at}
+use Rattle.mesh.specs.Mesh.{chain}
+use Rattle.links.specs.Links.{Links, links, link, linkAll, linkCells, trail}
+use Rattle.links.proofs.LinkLaws.{entries, linkAll-count}
+
+-- ---- trails
+
+pub trail-end : (cell prev : List ℕ) (n : ℕ) → trail cell prev n 0 ≡ []
+unfolding trail
+trail-end cell prev zero = refl
+trail-end cell prev (suc n) = refl
+
+pub trail-more : (cell prev : List ℕ) (n s : ℕ) → (s ≡ 0 → ⊥) → trail cell prev (suc n) s ≡ getD cell s 0 ∷ trail cell prev n (getD prev s 0)
+unfolding trail
+trail-more cell prev n s z = simp (ne-eqb s 0 z, trail)
+
+-- two tables that agree up to entry t, in which each entry leads to an earlier one: the trails are the same, whatever the bound from s on
+pub trail-same : (cell prev cell′ prev′ : List ℕ) (t : ℕ) → ((s : ℕ) → 1 ≤ s → s ≤ t → getD prev s 0 < s)
+    → ((s : ℕ) → 1 ≤ s → s ≤ t → (getD cell′ s 0 ≡ getD cell s 0) × (getD prev′ s 0 ≡ getD prev s 0))
+    → (n n′ s : ℕ) → s ≤ n → s ≤ n′ → s ≤ t → trail cell′ prev′ n′ s ≡ trail cell prev n s
+trail-same cell prev cell′ prev′ t low same zero n′ s a b c =
+    let z : s ≡ 0 = omega arith in
+    rw z (trail-end cell′ prev′ n′ ∙ sym (trail-end cell prev 0))
+trail-same cell prev cell′ prev′ t low same (suc n) zero s a b c =
+    let z : s ≡ 0 = omega arith in
+    rw z (trail-end cell′ prev′ 0 ∙ sym (trail-end cell prev (suc n)))
+trail-same cell prev cell′ prev′ t low same (suc n) (suc n′) s a b c = go (eqb s 0) refl (λ l. trail-same cell prev cell′ prev′ t low same n n′ (getD prev s 0) (omega (arith, low s l c)) (omega (arith, low s l c)) (omega (arith, low s l c)))
+  where
+    go : (x : Bool) → eqb s 0 ≡ x → (1 ≤ s → trail cell′ prev′ n′ (getD prev s 0) ≡ trail cell prev n (getD prev s 0)) → trail cell′ prev′ (suc n′) s ≡ trail cell prev (suc n) s
+    go true e ih = let z : s ≡ 0 = eqb-true s 0 e in rw z (trail-end cell′ prev′ (suc n′) ∙ sym (trail-end cell prev (suc n)))
+    go false e ih =
+        let z : s ≡ 0 → ⊥ = eqb-false s 0 e in
+        let l : 1 ≤ s = omega arith in
+        trail-more cell′ prev′ n′ s z ∙ ap₂ (λ x y. x ∷ trail cell′ prev′ n′ y) (same s l c .0) (same s l c .1) ∙ ap (λ r. getD cell s 0 ∷ r) (ih l) ∙ sym (trail-more cell prev n s z)
+
+-- ---- what the links tell: P x y where element x stands in the chain of cell y
+
+pub record Linked (t : ℕ) (cell prev last : List ℕ) (P : ℕ → ℕ → Bool) : Type 0 where
+  pub cells-long : length cell ≡ 12001
+  pub prev-long : length prev ≡ 12001
+  pub last-long : length last ≡ 2001
+  pub falls : (s : ℕ) → 1 ≤ s → s ≤ t → getD prev s 0 < s
+  pub within : (x : ℕ) → getD last x 0 ≤ t
+  pub told : (x y : ℕ) → x ≤ 2000 → isIn y (trail cell prev t (getD last x 0)) ≡ P x y
+
+module _ (t : ℕ) (cell prev last : List ℕ) (P : ℕ → ℕ → Bool) (K : Linked t cell prev last P) (room : t < 12000) (c g : ℕ) (small : g ≤ 2000) where
+  abbrev cell′ : List ℕ
+  cell′ = set cell (t + 1) c
+
+  abbrev prev′ : List ℕ
+  prev′ = set prev (t + 1) (getD last g 0)
+
+  abbrev last′ : List ℕ
+  last′ = set last g (t + 1)
+
+  last-here : getD last′ g 0 ≡ t + 1
+  last-here = getD-set-same last g (t + 1) 0 (omega (arith, K .last-long))
+
+  last-there : (x : ℕ) → (x ≡ g → ⊥) → getD last′ x 0 ≡ getD last x 0
+  last-there x n = getD-set-other last g x (t + 1) 0 n
+
+  old : (s : ℕ) → 1 ≤ s → s ≤ t → (getD cell′ s 0 ≡ getD cell s 0) × (getD prev′ s 0 ≡ getD prev s 0)
+  old s l h = (getD-set-other cell (t + 1) s c 0 (omega arith), getD-set-other prev (t + 1) s (getD last g 0) 0 (omega arith))
+
+  new-cell : getD cell′ (t + 1) 0 ≡ c
+  new-cell = getD-set-same cell (t + 1) c 0 (omega (arith, K .cells-long))
+
+  new-prev : getD prev′ (t + 1) 0 ≡ getD last g 0
+  new-prev = getD-set-same prev (t + 1) (getD last g 0) 0 (omega (arith, K .prev-long))
+
+  -- a trail that begins before the new entry is as it was
+  old-trail : (n s : ℕ) → s ≤ n → s ≤ t → trail cell′ prev′ n s ≡ trail cell prev t s
+  old-trail n s a b = trail-same cell prev cell′ prev′ t (K .falls) old t n s b a b
+
+  new-trail : trail cell′ prev′ (t + 1) (t + 1) ≡ c ∷ trail cell prev t (getD last g 0)
+  new-trail =
+      let q : t + 1 ≡ suc t = omega arith in
+      ap (λ n. trail cell′ prev′ n (t + 1)) q
+      ∙ trail-more cell′ prev′ t (t + 1) (omega arith)
+      ∙ ap₂ (λ x y. x ∷ trail cell′ prev′ t y) new-cell new-prev
+      ∙ ap (λ r. c ∷ r) (old-trail t (getD last g 0) (K .within g) (K .within g))
+
+  linked-one : Linked (t + 1) cell′ prev′ last′ (λ x y. (eqb x g && eqb y c) || P x y)
+  unfolding isIn
+  linked-one = record {
+    cells-long = length-set cell (t + 1) c ∙ K .cells-long;
+    prev-long = length-set prev (t + 1) (getD last g 0) ∙ K .prev-long;
+    last-long = length-set last g (t + 1) ∙ K .last-long;
+    falls = λ s l h. fall s l h (eqb s (t + 1)) refl;
+    within = λ x. bound x (eqb x g) refl;
+    told = λ x y h. tell x y h (eqb x g) refl;
+  }
+    where
+      fall : (s : ℕ) → 1 ≤ s → s ≤ t + 1 → (b : Bool) → eqb s (t + 1) ≡ b → getD prev′ s 0 < s
+      fall s l h true e =
+          let z : s ≡ t + 1 = eqb-true s (t + 1) e in
+          let q : getD prev′ s 0 ≡ getD last g 0 = ap (λ x. getD prev′ x 0) z ∙ new-prev in
+          omega (arith, K .within g)
+      fall s l h false e =
+          let n : s ≡ t + 1 → ⊥ = eqb-false s (t + 1) e in
+          let k : s ≤ t = omega arith in
+          omega (arith, old s l k .1, K .falls s l k)
+
+      bound : (x : ℕ) (b : Bool) → eqb x g ≡ b → getD last′ x 0 ≤ t + 1
+      bound x true e = omega (arith, ap (λ y. getD last′ y 0) (eqb-true x g e), last-here)
+      bound x false e = omega (arith, last-there x (eqb-false x g e), K .within x)
+
+      tell : (x y : ℕ) → x ≤ 2000 → (b : Bool) → eqb x g ≡ b → isIn y (trail cell′ prev′ (t + 1) (getD last′ x 0)) ≡ (b && eqb y c) || P x y
+      tell x y h true e =
+          let z : x ≡ g = eqb-true x g e in
+          ap (λ s. isIn y (trail cell′ prev′ (t + 1) s)) (ap (λ w. getD last′ w 0) z ∙ last-here)
+          ∙ ap (isIn y) new-trail
+          ∙ ap (λ r. eqb y c || r) (K .told g y small ∙ ap (λ w. P w y) (sym z))
+      tell x y h false e =
+          let k : getD last′ x 0 ≡ getD last x 0 = last-there x (eqb-false x g e) in
+          ap (λ s. isIn y (trail cell′ prev′ (t + 1) s)) k
+          ∙ ap (isIn y) (old-trail (t + 1) (getD last x 0) (omega (arith, K .within x)) (K .within x))
+          ∙ K .told x y h
+
+abbrev pub LinkedAs : Links → (ℕ → ℕ → Bool) → Type 0
+LinkedAs (links t cell prev last) P = Linked t cell prev last P
+
+-- where P and Q agree
+linked-as : (L : Links) (P Q : ℕ → ℕ → Bool) → ((x y : ℕ) → P x y ≡ Q x y) → LinkedAs L P → LinkedAs L Q
+linked-as (links t cell prev last) P Q f K = record {
+  cells-long = K .cells-long;
+  prev-long = K .prev-long;
+  last-long = K .last-long;
+  falls = K .falls;
+  within = K .within;
+  told = λ x y h. K .told x y h ∙ f x y;
+}
+
+-- ---- a chain, and the chains of all cells
+
+spread : (a b c p : Bool) → (a && c) || ((b && c) || p) ≡ ((b || a) && c) || p
+spread true true true p = refl
+spread true true false p = refl
+spread true false true p = refl
+spread true false false p = refl
+spread false true true p = refl
+spread false true false p = refl
+spread false false c p = refl
+
+linked-all : (c : ℕ) (L : Links) (P : ℕ → ℕ → Bool) (gs : List ℕ) → LinkedAs L P → entries L + length gs ≤ 12000 → All (λ g. g ≤ 2000) gs
+    → LinkedAs (linkAll c L gs) (λ x y. (isIn x gs && eqb y c) || P x y)
+unfolding linkAll link isIn
+linked-all c (links t cell prev last) P [] K room a = K
+linked-all c (links t cell prev last) P (g ∷ gs) K room a =
+    linked-as (linkAll c (link c g (links t cell prev last)) gs) _ _ (λ x y. spread (isIn x gs) (eqb x g) (eqb y c) (P x y))
+    (linked-all c (link c g (links t cell prev last)) _ gs (linked-one t cell prev last P K (omega arith) c g (a .0)) (omega arith) (a .1))
+
+-- element x stands in the chain of cell y, of the n cells from `first` on
+unfoldable pub pairs : Bytes → ℕ → ℕ → ℕ → ℕ → Bool
+pairs m first n x y = some first n (λ c. isIn x (chain m c) && eqb y c)
+
+abbrev pub empty : Links
+empty = links 0 (replicate 12001 0) (replicate 12001 0) (replicate 2001 0)
+
+linked-none : (P : ℕ → ℕ → Bool) → ((x y : ℕ) → P x y ≡ false) → LinkedAs empty P
+unfolding trail isIn
+linked-none P f = record {
+  cells-long = length-replicate {A = ℕ} 12001 0;
+  prev-long = length-replicate {A = ℕ} 12001 0;
+  last-long = length-replicate {A = ℕ} 2001 0;
+  falls = λ s l h. let z : ⊥ = omega arith in absurd z;
+  within = λ x. omega (arith, zeros-at 2001 x);
+  told = λ x y h. sym (f x y);
+}
+
+pub count-cells : (m : Bytes) (first n : ℕ) → entries (linkCells m first n empty) ≡ length (blocks first n (chain m))
+unfolding linkCells blocks
+count-cells m first zero = refl
+count-cells m first (suc n) =
+    linkAll-count (first + n) (linkCells m first n empty) (chain m (first + n))
+    ∙ ap (λ x. x + length (chain m (first + n))) (count-cells m first n)
+    ∙ sym (length-append (blocks first n (chain m)) (chain m (first + n)))
+
+pub linked-cells : (m : Bytes) (first n : ℕ) → length (blocks first n (chain m)) ≤ 12000 → ((j : ℕ) → j < n → All (λ g. g ≤ 2000) (chain m (first + j)))
+    → LinkedAs (linkCells m first n empty) (pairs m first n)
+unfolding linkCells pairs some
+linked-cells m first zero room a = linked-none _ (λ x y. refl)
+linked-cells m first (suc n) room a =
+    linked-as (linkAll (first + n) (linkCells m first n empty) (chain m (first + n))) _ _ (λ x y. or-swap (isIn x (chain m (first + n)) && eqb y (first + n)) (pairs m first n x y))
+    (linked-all (first + n) (linkCells m first n empty) (pairs m first n) (chain m (first + n))
+    (linked-cells m first n (omega (arith, split)) (λ j h. a j (omega arith)))
+    (omega (arith, count-cells m first n, split)) (a n (omega arith)))
+  where
+    split : length (blocks first (suc n) (chain m)) ≡ length (blocks first n (chain m)) + length (chain m (first + n))
+    split = unfold blocks in length-append (blocks first n (chain m)) (chain m (first + n))

@@ -1,0 +1,3 @@
+pub mod HeadLaws
+pub mod ElementLaws
+pub mod ClosureLaws

@@ -1,0 +1,34 @@
+-- `part_text::lists::put_imports` meets its contract. The invariant: the lines before part j + 1 are put. Assumes nothing.
+use mathlib.Core.Path.{_≡_, refl}
+use Prim.Native.Nat.{_-_, _≤_}
+use lib.ListN.{length}
+use Rattle.vocabulary.specs.Ranges.{blocks}
+use Rattle.part_lists.specs.declared.lists.Wanted.the-variants.{Imports}
+use Rattle.part_text.specs.Listing.{ascii}
+use Rattle.part_text.specs.Printing.{Printed, passing}
+use Rattle.part_text.proofs.PartLaws.{texts-start, imports-turn, texts-end}
+use borrow.Author.Needs.{needs}
+use Rattle.part_text.proofs.lists.put_imports.Statement.{statement}
+use Rattle.part_text.proofs.lists.put_imports.Tie as tie
+
+abbrev Inv-loop : tie.InvT-loop
+Inv-loop m parts owners st table ends held i out₀ at t₀ j₀ t13 out t j = (j ≤ parts) × (length out ≡ length out₀) × Printed out₀ out at t (blocks 1 j (passing m parts owners st Imports (ascii "import") i))
+
+abbrev μ-loop : tie.MeasureT-loop
+μ-loop m parts owners st table ends held i out₀ at t₀ j₀ t13 out t j = parts - j
+
+pub put-imports-spec : {M : Type 1} → statement M
+put-imports-spec =
+    tie.close
+    (tie.spec
+    Inv-loop
+    μ-loop
+    (λ c. (search needs, refl, search texts-start))
+    (λ c. search needs)
+    (λ c. search needs)
+    (λ c κs. search needs)
+    (λ c. search needs)
+    (λ c. search needs)
+    (λ c. (search needs, search needs, search imports-turn))
+    (λ c. search needs)
+    (λ c. search texts-end))

@@ -1,0 +1,31 @@
+-- `part_text::lists::put_parts` meets its contract. The invariant: the parts up to i are put. Assumes nothing.
+use mathlib.Core.Path.{_≡_, refl}
+use Prim.Native.Nat.{_-_, _≤_}
+use lib.ListN.{length}
+use Rattle.vocabulary.specs.Ranges.{blocks}
+use Rattle.part_text.specs.Printing.{Printed, partOf}
+use Rattle.part_text.proofs.PartLaws.{ready, texts-start, parts-turn, texts-end}
+use borrow.Author.Needs.{needs}
+use Rattle.part_text.proofs.lists.put_parts.Statement.{statement}
+use Rattle.part_text.proofs.lists.put_parts.Tie as tie
+
+abbrev Inv-loop : tie.InvT-loop
+Inv-loop m parts owners st table ends held out₀ at t₀ i₀ out t i = (i ≤ parts) × (length out ≡ length out₀) × Printed out₀ out at t (blocks 1 i (partOf m parts owners st))
+
+abbrev μ-loop : tie.MeasureT-loop
+μ-loop m parts owners st table ends held out₀ at t₀ i₀ out t i = parts - i
+
+pub put-parts-spec : {M : Type 1} → statement M
+put-parts-spec =
+    tie.close
+    (tie.spec
+    Inv-loop
+    μ-loop
+    (λ c. (search needs, refl, search texts-start))
+    (λ c. search needs)
+    (λ c κs. search ready)
+    (λ c. search needs)
+    (λ c. search needs)
+    (λ c. (search needs, search needs, search parts-turn))
+    (λ c. search needs)
+    (λ c. search texts-end))

@@ -1,0 +1,18 @@
+-- `part_text::lists::put_passing` meets its contract. Assumes nothing.
+use mathlib.Core.Path.{refl}
+use Rattle.part_text.proofs.PartLaws.{list-room, passing-none, passing-some}
+use borrow.Author.Needs.{needs}
+use Rattle.part_text.proofs.lists.put_passing.Statement.{statement}
+use Rattle.part_text.proofs.lists.put_passing.Tie as tie
+
+pub put-passing-spec : {M : Type 1} → statement M
+put-passing-spec =
+    tie.close
+    (tie.spec
+    (λ c. search needs)
+    (λ c κs. search needs)
+    (λ c. passing-none _ _ _ _ _ _ _ _ (c .before .before .before .before .before .before .before .before .before .before .before .before .pre .0) _ _ (c .before .before .before .before .before .before .before .before .before .before .before .before .pre .1) (c .before .before .before .before .before .before .before .before .before .before .before .before .pre .2) _ _ _ (c .before .before .list-words .ensures) refl _ (c .if1 .taken) _ _)
+    (λ c. search needs)
+    (λ c κs. (list-room _ _ _ _ _ _ _ _ (c .before .before .before .before .before .before .before .before .before .before .before .before .before .before .pre .0) _ _ _ (c .before .before .before .before .before .before .before .before .before .before .before .before .before .before .pre .1) (c .before .before .before .before .before .before .before .before .before .before .before .before .before .before .pre .2) _ _ _ (c .before .before .before .before .list-words .ensures) refl, search needs))
+    (λ c. search needs)
+    (λ c. passing-some _ _ _ _ _ _ _ _ (c .before .before .before .before .before .before .before .before .before .before .before .before .before .before .before .before .before .pre .0) _ _ (c .before .before .before .before .before .before .before .before .before .before .before .before .before .before .before .before .before .pre .1) (c .before .before .before .before .before .before .before .before .before .before .before .before .before .before .before .before .before .pre .2) _ _ _ (c .before .before .before .before .before .before .before .list-words .ensures) refl _ _ _ _ _ (c .before .before .put-full .ensures)))

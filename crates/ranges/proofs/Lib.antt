@@ -1,0 +1,2 @@
+pub mod RangeSorts
+pub mod LowerLaws

@@ -1,0 +1,53 @@
+-- What each kind of rule answers, by the match on the kind. Assumes nothing.
+use mathlib.Core.Path.{_≡_, refl, sym, ap, _∙_}
+use mathlib.Core.List.{List}
+use Prim.Native.Nat.{ℕ, zero, suc, _+_, _≤_, _<_}
+use native.Mathlib.Omega.{arith}
+use lib.IntN.{ℤ, natAbs}
+use lib.Signed.{mag}
+use mir.Syntax.{w8, w32}
+use mir.Val.{Fits, toZ, ofZ}
+use Rattle.vocabulary.specs.Bytes.{Bytes, byteAt}
+use Rattle.layout.specs.Depths.{four, depthFrom, depthBytes}
+use Rattle.layout.specs.DepthLaws.{depth-bytes, depth-four}
+use Rattle.rules.specs.Rules.{Old, depthSum, weightSum, quotient, least, newDepth}
+use Rattle.rules.specs.RuleLaws.{mean-small, least-small}
+use Rattle.rules.specs.Update.{entries, oldsAt, Reached, Weighed, Ready}
+use Rattle.rules.specs.UpdateLaws.{olds-small}
+use Rattle.rules.proofs.Registers.{depth-held}
+
+pub mean-weighed : (kind : ℕ) (v b : Bytes) (at n : ℕ) (f : Bytes) (base own : ℕ) → Ready kind v b at n f base own → kind ≡ 1 → Weighed v b at n f base
+mean-weighed kind v b at n f base own R e = R .weighed e
+
+-- ---- the bytes: z is what a call gave, in its register
+
+module _ (kind : ℕ) (v f : Bytes) (o : ℕ) (os : List Old) (z : ℤ) (h : mag z < 2147483648) where
+  pub holds : ((k : ℕ) → Fits w8 (byteAt f k)) → kind ≡ 0 → z ≡ depthFrom f o → depthBytes (toZ w32 (ofZ w32 z)) ≡ newDepth kind v (four f o) os
+  unfolding newDepth
+  holds w e q = rw e (ap depthBytes (depth-held z _ h q) ∙ depth-bytes f o (λ k l. omega (arith, w (o + k) .fits)))
+
+  pub means : kind ≡ 1 → z ≡ quotient (depthSum v os) (weightSum v os) → depthBytes (toZ w32 (ofZ w32 z)) ≡ newDepth kind v (four f o) os
+  unfolding newDepth
+  means e q = rw e (ap depthBytes (depth-held z _ h q))
+
+  pub shoals : (kind ≡ 0 → ⊥) → (kind ≡ 1 → ⊥) → z ≡ least (depthFrom f o) os → depthBytes (toZ w32 (ofZ w32 z)) ≡ newDepth kind v (four f o) os
+  unfolding newDepth
+  shoals a b q = go kind a b
+    where
+      go : (k : ℕ) → (k ≡ 0 → ⊥) → (k ≡ 1 → ⊥) → depthBytes (toZ w32 (ofZ w32 z)) ≡ newDepth k v (four f o) os
+      go zero a b = absurd (a refl)
+      go (suc zero) a b = absurd (b refl)
+      go (suc (suc k)) a b = ap depthBytes (depth-held z _ h q ∙ ap (λ y. least y os) (sym (depth-four f o)))
+
+-- ---- the range
+
+pub held-ranged : (z e : ℤ) → mag z < 2147483648 → z ≡ e → natAbs e ≤ 1200000 → natAbs (toZ w32 (ofZ w32 z)) ≤ 1200000
+held-ranged z e h q k = rw (depth-held z e h q) k
+
+module _ (b : Bytes) (at n : ℕ) (f : Bytes) (base : ℕ) (R : Reached b at n f base) (z : ℤ) (h : mag z < 2147483648) where
+  pub mean-ranged : (v : Bytes) → z ≡ quotient (depthSum v (oldsAt f base (entries b at n))) (weightSum v (oldsAt f base (entries b at n)))
+      → natAbs (toZ w32 (ofZ w32 z)) ≤ 1200000
+  mean-ranged v q = held-ranged z _ h q (mean-small v 1200000 (oldsAt f base (entries b at n)) (olds-small b at f base 1200000 n (R .ranged)))
+
+  pub least-ranged : (y : ℤ) → natAbs y ≤ 1200000 → z ≡ least y (oldsAt f base (entries b at n)) → natAbs (toZ w32 (ofZ w32 z)) ≤ 1200000
+  least-ranged y k q = held-ranged z _ h q (least-small f 1200000 y (oldsAt f base (entries b at n)) k (olds-small b at f base 1200000 n (R .ranged)))

@@ -1,0 +1,4 @@
+pub mod Refusals
+pub mod Registers
+pub mod Reaches
+pub mod Chosen

@@ -1,0 +1,14 @@
+-- `rules::bad_rule` meets its contract. Assumes nothing.
+use Rattle.rules.proofs.Refusals.{bare-rule, mean-rule, unknown-rule}
+use borrow.Author.Needs.{needs}
+use Rattle.rules.proofs.bad_rule.Statement.{statement}
+use Rattle.rules.proofs.bad_rule.Tie as tie
+
+pub bad-rule-spec : {M : Type 1} → statement M
+bad-rule-spec =
+    tie.close
+    (tie.spec
+    (λ c κs. search needs)
+    (λ c. search bare-rule)
+    (λ c. search mean-rule)
+    (λ c. search unknown-rule))

@@ -1,0 +1,16 @@
+-- `rules::inner::new_depth` meets its contract. Assumes nothing.
+use Rattle.rules.proofs.Chosen.{mean-weighed, holds, means, shoals, held-ranged, mean-ranged, least-ranged}
+use borrow.Author.Needs.{needs}
+use Rattle.rules.proofs.inner.new_depth.Statement.{statement}
+use Rattle.rules.proofs.inner.new_depth.Tie as tie
+
+pub new-depth-spec : {M : Type 1} → statement M
+new-depth-spec =
+    tie.close
+    (tie.spec
+    (λ c κs. search needs)
+    (λ c κs. (search needs, search mean-weighed))
+    (λ c κs. search needs)
+    (λ c. (search (holds, c .before .before .shared-slice-known3 .given), search held-ranged))
+    (λ c. (search means, search mean-ranged))
+    (λ c. (search shoals, search least-ranged)))

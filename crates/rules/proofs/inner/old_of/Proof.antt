@@ -1,0 +1,15 @@
+-- `rules::inner::old_of` meets its contract. Assumes nothing.
+use Rattle.rules.proofs.Reaches.{old-read}
+use borrow.Author.Needs.{needs}
+use Rattle.rules.proofs.inner.old_of.Statement.{statement}
+use Rattle.rules.proofs.inner.old_of.Tie as tie
+
+pub old-of-spec : {M : Type 1} → statement M
+old-of-spec =
+    tie.close
+    (tie.spec
+    (λ c. search needs)
+    (λ c. search needs)
+    (λ c κs. search needs)
+    (λ c κs. search needs)
+    (λ c. search old-read))

@@ -1,0 +1,4 @@
+pub mod Rules
+pub mod RuleLaws
+pub mod Update
+pub mod UpdateLaws

@@ -1,0 +1,130 @@
+-- Words written one after another. Assumes nothing.
+use mathlib.Core.Path.{_≡_, refl, sym, ap, ap₂, _∙_, subst}
+use mathlib.Core.List.{List, [], _∷_, _++_}
+use Prim.Native.Nat.{ℕ, _+_, _-_, _*_, _≤_, _<_}
+use native.Mathlib.Nat.{zero-add}
+use native.Mathlib.Numerals.{add-one}
+use native.Mathlib.Omega.{arith}
+use lib.ListN.{length, getD, take, length-append}
+use lib.Seq.{take-suc, length-take-le}
+use Rattle.vocabulary.specs.Bytes.{Bytes, over}
+use Rattle.vocabulary.specs.ByteLaws.{over-none, over-length, over-more}
+use Rattle.vocabulary.specs.Ranges.{listed, blocks}
+use Rattle.vocabulary.specs.RangeLaws.{listed-turn, listed-length, blocks-start, blocks-turn, blocks-fit}
+use Rattle.layout.specs.Words.{wordAt, wordBytes, bytesOf}
+use Rattle.layout.specs.WordLaws.{length-bytesOf, bytesOf-append}
+use Rattle.start_lists.specs.Starting.{Put}
+
+pub put-none : (b : Bytes) (s : ℕ) → Put b b s s []
+unfolding bytesOf
+put-none b s = record { count = let e : s ≡ s + 0 = omega arith in e; text = sym (over-none b (2 * s)) }
+
+pub put-word : (b c : Bytes) (s w : ℕ) → c ≡ over b (2 * s) (wordBytes w) → Put b c s (s + 1) (w ∷ [])
+unfolding bytesOf wordBytes
+put-word b c s w e = record { count = refl; text = e }
+
+pub put-length : (a b : Bytes) (s t : ℕ) (ws : List ℕ) → Put a b s t ws → 2 * t ≤ length a → length b ≡ length a
+put-length a b s t ws P h = ap length (P .text) ∙ over-length a (2 * s) (bytesOf ws) (omega (arith, P .count, length-bytesOf ws))
+
+pub put-both : (a b c : Bytes) (s t u : ℕ) (xs ys : List ℕ) → Put a b s t xs → Put b c t u ys → 2 * t ≤ length a → Put a c s u (xs ++ ys)
+put-both a b c s t u xs ys P Q h = record {
+  count = omega (arith, P .count, Q .count, length-append xs ys);
+  text =
+      let l : length (bytesOf xs) ≡ 2 * length xs = length-bytesOf xs in
+      let p : 2 * t ≡ 2 * s + length (bytesOf xs) = omega (arith, P .count) in
+      Q .text
+      ∙ ap₂ (λ (x : Bytes) o. over x o (bytesOf ys)) (P .text) p
+      ∙ over-more a (2 * s) (bytesOf xs) (omega (arith, P .count)) (bytesOf ys)
+      ∙ ap (over a (2 * s)) (sym (bytesOf-append xs ys));
+}
+
+pub put-as : (a b : Bytes) (s t : ℕ) (xs ys : List ℕ) → xs ≡ ys → Put a b s t xs → Put a b s t ys
+put-as a b s t xs ys e P = subst (Put a b s t) e P
+
+-- ---- the numbers of a list, and words that are read
+
+module _ (a b c : Bytes) (s t u k n : ℕ) (room : 2 * (s + n) ≤ length a) (h : k < n) where
+  pub list-turn : (list : List ℕ) (x : ℕ) → n ≤ length list → x ≡ getD list k 0 → Put a b s t (take k list) → Put b c t u (x ∷ []) → Put a c s u (take (k + 1) list)
+  list-turn list x long e P Q =
+      put-as a c s u (take k list ++ (x ∷ [])) (take (k + 1) list)
+      (ap (λ y. take k list ++ (y ∷ [])) e ∙ sym (take-suc list k 0 (omega arith)) ∙ ap (λ j. take j list) (sym (add-one k)))
+      (put-both a b c s t u (take k list) (x ∷ []) P Q (omega (arith, P .count, length-take-le k list (omega arith))))
+
+  pub words-turn : (g : ℕ → ℕ) (x : ℕ) → x ≡ g k → Put a b s t (listed 0 k g) → Put b c t u (x ∷ []) → Put a c s u (listed 0 (k + 1) g)
+  words-turn g x e P Q =
+      put-as a c s u (listed 0 k g ++ (x ∷ [])) (listed 0 (k + 1) g)
+      (ap (λ y. listed 0 k g ++ (y ∷ [])) (e ∙ ap g (sym (zero-add k))) ∙ sym (listed-turn 0 g k))
+      (put-both a b c s t u (listed 0 k g) (x ∷ []) P Q (omega (arith, P .count, listed-length 0 g k)))
+
+pub list-end : (a b : Bytes) (s t k n : ℕ) (list : List ℕ) → k ≤ n → n ≤ k → Put a b s t (take k list) → Put a b s t (take n list)
+list-end a b s t k n list g h P = let q : k ≡ n = omega arith in put-as a b s t (take k list) (take n list) (ap (λ j. take j list) q) P
+
+pub words-end : (a b : Bytes) (s t k n : ℕ) (g : ℕ → ℕ) → k ≤ n → n ≤ k → Put a b s t (listed 0 k g) → Put a b s t (listed 0 n g)
+words-end a b s t k n g h q P = let e : k ≡ n = omega arith in put-as a b s t (listed 0 k g) (listed 0 n g) (ap (λ j. listed 0 j g) e) P
+
+pub list-start : (b : Bytes) (s : ℕ) (list : List ℕ) → Put b b s s (take 0 list)
+list-start b s list = put-none b s
+
+pub words-start : (b : Bytes) (s : ℕ) (g : ℕ → ℕ) → Put b b s s (listed 0 0 g)
+unfolding listed
+words-start b s g = put-none b s
+
+pub blocks-begin : (b : Bytes) (s a : ℕ) (g : ℕ → List ℕ) → Put b b s s (blocks a (a - a) g)
+blocks-begin b s a g =
+    let e : a - a ≡ 0 = omega arith in
+    put-as b b s s [] (blocks a (a - a) g) (sym (ap (λ k. blocks a k g) e ∙ blocks-start a g)) (put-none b s)
+
+-- ---- lists written one after another, for the numbers from 1 to n
+
+module _ (g : ℕ → List ℕ) (n : ℕ) where
+  pub many-start : (b : Bytes) (s : ℕ) → Put b b s s (blocks 1 (1 - 1) g)
+  many-start b s = blocks-begin b s 1 g
+
+  pub many-fit : (l : ℕ) → 1 ≤ l → l < n + 1 → length (blocks 1 (l - 1) g) + length (g l) ≤ length (blocks 1 n g)
+  many-fit l h k = let e : 1 + (l - 1) ≡ l = omega arith in omega (arith, blocks-fit 1 g n (l - 1) (omega arith), ap (λ x. length (g x)) e)
+
+  pub many-room : (a b : Bytes) (s u l : ℕ) → 1 ≤ l → l < n + 1 → 2 * (s + length (blocks 1 n g)) ≤ length a → s + length (blocks 1 n g) < 65536 → length b ≡ length a
+      → Put a b s u (blocks 1 (l - 1) g) → (2 * (u + length (g l)) ≤ length b) × (u < 65536)
+  many-room a b s u l h k r q e P = (omega (arith, P .count, many-fit l h k), omega (arith, P .count, many-fit l h k))
+
+  pub many-turn : (a b c : Bytes) (s u w l : ℕ) → 1 ≤ l → l < n + 1 → 2 * (s + length (blocks 1 n g)) ≤ length a → Put a b s u (blocks 1 (l - 1) g) → Put b c u w (g l) → Put a c s w (blocks 1 (l + 1 - 1) g)
+  many-turn a b c s u w l h k r P Q =
+      let i₁ : l ≡ 1 + (l - 1) = omega arith in
+      let i₂ : l - 1 + 1 ≡ l + 1 - 1 = omega arith in
+      put-as a c s w (blocks 1 (l - 1) g ++ g l) (blocks 1 (l + 1 - 1) g) (ap (λ x. blocks 1 (l - 1) g ++ g x) i₁ ∙ sym (blocks-turn 1 g (l - 1)) ∙ ap (λ k. blocks 1 k g) i₂)
+      (put-both a b c s u w (blocks 1 (l - 1) g) (g l) P Q (omega (arith, P .count, many-fit l h k)))
+
+  pub many-end : (a b : Bytes) (s u l : ℕ) → l ≤ n + 1 → n + 1 ≤ l → Put a b s u (blocks 1 (l - 1) g) → Put a b s u (blocks 1 n g)
+  many-end a b s u l p h P = let q : l - 1 ≡ n = omega arith in put-as a b s u (blocks 1 (l - 1) g) (blocks 1 n g) (ap (λ k. blocks 1 k g) q) P
+
+-- ---- several, one after another
+
+pub list-count : (a b : Bytes) (s t n : ℕ) (list : List ℕ) → Put a b s t (take n list) → n ≤ length list → t ≡ s + n
+list-count a b s t n list P h = omega (arith, P .count, length-take-le n list h)
+
+pub words-count : (a b : Bytes) (s t n : ℕ) (g : ℕ → ℕ) → Put a b s t (listed 0 n g) → t ≡ s + n
+words-count a b s t n g P = omega (arith, P .count, listed-length 0 g n)
+
+pub put-four : (a b c d e : Bytes) (s t u w x : ℕ) (ks ls ms ns : List ℕ) → 2 * x ≤ length a → Put a b s t ks → Put b c t u ls → Put c d u w ms → Put d e w x ns → Put a e s x (ks ++ (ls ++ (ms ++ ns)))
+put-four a b c d e s t u w x ks ls ms ns room P Q R T =
+    let lb : length b ≡ length a = put-length a b s t ks P (omega (arith, Q .count, R .count, T .count)) in
+    let lc : length c ≡ length b = put-length b c t u ls Q (omega (arith, R .count, T .count)) in
+    put-both a b e s t x ks (ls ++ (ms ++ ns)) P
+    (put-both b c e t u x ls (ms ++ ns) Q (put-both c d e u w x ms ns R T (omega (arith, T .count))) (omega (arith, R .count, T .count)))
+    (omega (arith, Q .count, R .count, T .count))
+
+put-at : (a b : Bytes) (s t u : ℕ) (ws : List ℕ) → Put a b s t ws → t ≡ u → Put a b s u ws
+put-at a b s t u ws P e = subst (λ k. Put a b s k ws) e P
+
+-- the words before the tables
+pub head-put : (b₀ b₁ b₂ b₃ b₄ b₅ b₆ b₇ : Bytes) (t₁ t₂ t₃ t₄ t₅ t₆ t₇ long i steps kind first cells : ℕ) (v : Bytes) → 22 ≤ length b₀
+    → Put b₀ b₁ 0 t₁ (long ∷ []) → Put b₁ b₂ 1 t₂ (i ∷ []) → Put b₂ b₃ 2 t₃ (steps ∷ []) → Put b₃ b₄ 3 t₄ (kind ∷ []) → Put b₄ b₅ 4 t₅ (listed 0 5 (wordAt v))
+    → Put b₅ b₆ 9 t₆ (first ∷ []) → Put b₆ b₇ 10 t₇ (cells ∷ []) → Put b₀ b₇ 0 t₇ ((long ∷ i ∷ steps ∷ kind ∷ []) ++ (listed 0 5 (wordAt v) ++ (first ∷ cells ∷ [])))
+head-put b₀ b₁ b₂ b₃ b₄ b₅ b₆ b₇ t₁ t₂ t₃ t₄ t₅ t₆ t₇ long i steps kind first cells v room P₁ P₂ P₃ P₄ P₅ P₆ P₇ =
+    let Q₁ : Put b₀ b₁ 0 1 (long ∷ []) = put-at b₀ b₁ 0 t₁ 1 (long ∷ []) P₁ (omega (arith, P₁ .count)) in
+    let Q₂ : Put b₀ b₂ 0 2 (long ∷ i ∷ []) = put-at b₀ b₂ 0 t₂ 2 (long ∷ i ∷ []) (put-both b₀ b₁ b₂ 0 1 t₂ (long ∷ []) (i ∷ []) Q₁ P₂ (omega arith)) (omega (arith, P₂ .count)) in
+    let Q₃ : Put b₀ b₃ 0 3 (long ∷ i ∷ steps ∷ []) = put-at b₀ b₃ 0 t₃ 3 (long ∷ i ∷ steps ∷ []) (put-both b₀ b₂ b₃ 0 2 t₃ (long ∷ i ∷ []) (steps ∷ []) Q₂ P₃ (omega arith)) (omega (arith, P₃ .count)) in
+    let Q₄ : Put b₀ b₄ 0 4 (long ∷ i ∷ steps ∷ kind ∷ []) = put-at b₀ b₄ 0 t₄ 4 (long ∷ i ∷ steps ∷ kind ∷ []) (put-both b₀ b₃ b₄ 0 3 t₄ (long ∷ i ∷ steps ∷ []) (kind ∷ []) Q₃ P₄ (omega arith)) (omega (arith, P₄ .count)) in
+    let Q₅ : Put b₄ b₅ 4 9 (listed 0 5 (wordAt v)) = put-at b₄ b₅ 4 t₅ 9 (listed 0 5 (wordAt v)) P₅ (omega (arith, P₅ .count, listed-length 0 (wordAt v) 5)) in
+    let Q₆ : Put b₅ b₆ 9 10 (first ∷ []) = put-at b₅ b₆ 9 t₆ 10 (first ∷ []) P₆ (omega (arith, P₆ .count)) in
+    put-four b₀ b₄ b₅ b₆ b₇ 0 4 9 10 t₇ (long ∷ i ∷ steps ∷ kind ∷ []) (listed 0 5 (wordAt v)) (first ∷ []) (cells ∷ []) (omega (arith, P₇ .count)) Q₄ Q₅ Q₆ P₇

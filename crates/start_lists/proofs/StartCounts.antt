@@ -1,0 +1,225 @@
+-- What start counts, and the tables of ends. Assumes nothing.
+use mathlib.Core.Path.{_≡_, refl, sym, ap, ap₂, _∙_}
+use mathlib.Core.List.{List, [], _∷_, _++_, map}
+use Prim.Native.Nat.{ℕ, zero, suc, _+_, _-_, _*_, _≤_, _<_}
+use native.Mathlib.Numerals.{add-one}
+use native.Mathlib.Omega.{arith}
+use lib.ListN.{length, getD, take, length-map}
+use lib.Seq.{take-suc}
+use Rattle.vocabulary.specs.ListLaws.{map-append}
+use Rattle.vocabulary.specs.Bytes.{Bytes}
+use Rattle.vocabulary.specs.Ranges.{blocks, total}
+use Rattle.vocabulary.specs.RangeLaws.{total-grows, total-cong, blocks-turn, blocks-length, rows-length}
+use Rattle.vocabulary.specs.CountLaws.{total-double}
+use Rattle.layout.specs.Words.{wordAt}
+use Rattle.split.specs.Split.{localOf}
+use Rattle.split.specs.Sorting.{cellsOf, Added}
+use Rattle.cell_lists.proofs.SortLaws.{added-take}
+use Rattle.start_lists.proofs.PutLaws.{put-as, put-none, put-both, many-room, many-turn}
+use Rattle.start_lists.specs.Starting.{Put, placeAt, rowSize, partCount, endsOf, Counted, Before, entryWords, rowEnds, rowWords, Row, Rows, sentEnds, sentWords}
+
+module _ (table : Bytes) (ends : List ℕ) (first : ℕ) (order : List ℕ) (l g from to : ℕ) (ge : g ≡ getD order (l - 1) 0) (fe : from ≡ getD ends (g - first) 0) (te : to ≡ getD ends (g - first + 1) 0) where
+  size-is : rowSize table ends first order l ≡ to - from
+  unfolding rowSize placeAt
+  size-is = ap₂ (λ x y. x - y) (ap (λ x. getD ends (x - first + 1) 0) (sym ge) ∙ sym te) (ap (λ x. getD ends (x - first) 0) (sym ge) ∙ sym fe)
+
+  pub size-none : to < from → 0 ≡ rowSize table ends first order l
+  size-none h = (let z : 0 ≡ to - from = omega arith in z) ∙ sym size-is
+
+  pub size-some : to - from ≡ rowSize table ends first order l
+  size-some = sym size-is
+
+module _ (which : ℕ) (owners table : Bytes) (ends : List ℕ) (held : Bytes) (i first cells : ℕ) (order : List ℕ) (k n : ℕ) where
+  pub count-got : which ≡ 0 → n ≡ length (cellsOf owners table ends held i first cells k) → n ≡ partCount which owners table ends held i first cells order k
+  unfolding partCount
+  count-got e q = rw e q
+
+  pub count-sent : which ≡ 1 → n ≡ length (cellsOf owners table ends held k first cells i) → n ≡ partCount which owners table ends held i first cells order k
+  unfolding partCount
+  count-sent e q = rw e q
+
+pub count-row : (which : ℕ) (owners table : Bytes) (ends : List ℕ) (held : Bytes) (i first cells : ℕ) (order : List ℕ) (k n : ℕ) → (which ≡ 0 → ⊥) → (which ≡ 1 → ⊥)
+    → n ≡ rowSize table ends first order k → n ≡ partCount which owners table ends held i first cells order k
+unfolding partCount
+count-row zero owners table ends held i first cells order k n a b q = absurd (a refl)
+count-row (suc zero) owners table ends held i first cells order k n a b q = absurd (b refl)
+count-row (suc (suc which)) owners table ends held i first cells order k n a b q = q
+
+-- ---- ends
+
+module _ (which : ℕ) (owners table : Bytes) (ends : List ℕ) (held : Bytes) (i first cells : ℕ) (order : List ℕ) (base : ℕ) where
+  end-zero : endsOf which owners table ends held i first cells order base 0 ≡ base
+  unfolding endsOf total
+  end-zero = let e : base + 0 ≡ base = omega arith in e
+
+  -- one number more
+  end-more : (k : ℕ) → endsOf which owners table ends held i first cells order base (suc k) ≡ endsOf which owners table ends held i first cells order base k + partCount which owners table ends held i first cells order (1 + k)
+  unfolding endsOf total
+  end-more k = omega arith
+
+  -- the first ends of a table, and a cell of it
+  pub counted-less : (k n : ℕ) → k ≤ n → Counted which owners table ends held i first cells order base n → Counted which owners table ends held i first cells order base k
+  unfolding endsOf
+  counted-less k n h C = record { last = omega (arith, C .last, total-grows 1 (partCount which owners table ends held i first cells order) k n h); cell = λ j a b w. C .cell j a (omega arith) w }
+
+  pub counted-cell : (k : ℕ) → Counted which owners table ends held i first cells order base k → (k ≡ 0 → ⊥) → 2 ≤ which → first ≤ getD order (k - 1) 0
+  counted-cell k C z w = C .cell k (omega arith) (omega arith) w
+
+  pub next-first : (k : ℕ) → k ≡ 0 → Counted which owners table ends held i first cells order base k → (base ≡ endsOf which owners table ends held i first cells order base k) × (base < 65536)
+  next-first k e C =
+      let p : base ≡ endsOf which owners table ends held i first cells order base k = sym (ap (endsOf which owners table ends held i first cells order base) e ∙ end-zero) in (p, omega (arith, p, C .last))
+
+  pub next-more : (k e x : ℕ) → (k ≡ 0 → ⊥) → Counted which owners table ends held i first cells order base k → Before which owners table ends held i first cells order base k e
+      → x ≡ partCount which owners table ends held i first cells order k → (e + x ≡ endsOf which owners table ends held i first cells order base k) × (e + x < 65536)
+  next-more k e x z C B q =
+      let j : 1 + (k - 1) ≡ k = omega arith in
+      let j₂ : suc (k - 1) ≡ k = omega arith in
+      let p : e + x ≡ endsOf which owners table ends held i first cells order base k =
+      ap₂ _+_ (B .is (omega arith)) (q ∙ ap (partCount which owners table ends held i first cells order) (sym j))
+      ∙ sym (end-more (k - 1))
+      ∙ ap (endsOf which owners table ends held i first cells order base) j₂ in (p, omega (arith, p, C .last))
+
+  pub before-none : (e : ℕ) → Before which owners table ends held i first cells order base 0 e
+  before-none e = record { is = λ h. let no : ⊥ = omega arith in absurd no }
+
+  pub before-next : (k e : ℕ) → e ≡ endsOf which owners table ends held i first cells order base k → Before which owners table ends held i first cells order base (k + 1) e
+  before-next k e p = record { is = λ h. let q : k ≡ k + 1 - 1 = omega arith in p ∙ ap (endsOf which owners table ends held i first cells order base) q }
+
+  pub end-last : (k n e : ℕ) → k ≤ n + 1 → n + 1 ≤ k → Before which owners table ends held i first cells order base k e → e ≡ endsOf which owners table ends held i first cells order base n
+  end-last k n e g h B = let q : k - 1 ≡ n = omega arith in B .is (omega arith) ∙ ap (endsOf which owners table ends held i first cells order base) q
+
+pub two-up : (which : ℕ) → (which ≡ 0 → ⊥) → (which ≡ 1 → ⊥) → 2 ≤ which
+two-up zero a b = absurd (a refl)
+two-up (suc zero) a b = absurd (b refl)
+two-up (suc (suc k)) a b = omega arith
+
+-- ---- an entry in local numbers
+
+pub entry-put : (a b c : Bytes) (s t u first n x l w : ℕ) (table : Bytes) (order : List ℕ) (e : ℕ) → 2 * (s + 2) ≤ length a → x ≡ wordAt table (2 * e) → l ≡ localOf (take n order) (first + x)
+    → w ≡ wordAt table (2 * e + 1) → Put a b s t (l ∷ []) → Put b c t u (w ∷ []) → Put a c s u (entryWords table first order n e)
+unfolding entryWords
+entry-put a b c s t u first n x l w table order e room xe le we P Q =
+    put-as a c s u (l ∷ w ∷ []) _ (ap₂ (λ y z. y ∷ z ∷ []) (le ∙ ap (λ y. localOf (take n order) (first + y)) xe) we)
+    (put-both a b c s t u (l ∷ []) (w ∷ []) P Q (omega (arith, P .count)))
+
+-- ---- the rows, one entry and one cell after the other
+
+module _ (table : Bytes) (ends : List ℕ) (first : ℕ) (order : List ℕ) (l g from to : ℕ) (ge : g ≡ getD order (l - 1) 0) (fe : from ≡ getD ends (g - first) 0) (te : to ≡ getD ends (g - first + 1) 0) where
+  from-is : from ≡ getD ends (placeAt table ends first order l) 0
+  unfolding placeAt
+  from-is = fe ∙ ap (λ x. getD ends (x - first) 0) ge
+
+  to-is : to ≡ getD ends (placeAt table ends first order l + 1) 0
+  unfolding placeAt
+  to-is = te ∙ ap (λ x. getD ends (x - first + 1) 0) ge
+
+  pub row-near : (t : ℕ) → Row table ends first order l → from ≤ t → t < to → first + wordAt table (2 * t) < 65536
+  row-near t R h k = R .near t (omega (arith, from-is)) (omega (arith, to-is))
+
+  row-size : rowSize table ends first order l ≡ to - from
+  row-size = size-is table ends first order l g from to ge fe te
+
+  pub row-room : (t s u x y : ℕ) → 2 * (s + 2 * rowSize table ends first order l) ≤ x → y ≡ x → u ≡ s + 2 * (t - from) → from ≤ t → t < to → 2 * (u + 2) ≤ y
+  row-room t s u x y r q e h k = omega (arith, row-size)
+
+  pub row-turn : (n : ℕ) (a b c : Bytes) (s u w t : ℕ) → 2 * (s + 2 * rowSize table ends first order l) ≤ length a → from ≤ t → t < to → u ≡ s + 2 * (t - from)
+      → Put a b s u (blocks from (t - from) (entryWords table first order n)) → Put b c u w (entryWords table first order n t) → Put a c s w (blocks from (t + 1 - from) (entryWords table first order n))
+  row-turn n a b c s u w t r h k e P Q =
+      let i₁ : from + (t - from) ≡ t = omega arith in
+      let i₂ : t - from + 1 ≡ t + 1 - from = omega arith in
+      put-as a c s w (blocks from (t - from) (entryWords table first order n) ++ entryWords table first order n t) _
+      (ap (λ x. blocks from (t - from) (entryWords table first order n) ++ entryWords table first order n x) (sym i₁) ∙ sym (blocks-turn from (entryWords table first order n) (t - from)) ∙ ap (λ k. blocks from k (entryWords table first order n)) i₂)
+      (put-both a b c s u w _ _ P Q (omega (arith, row-size)))
+
+  pub row-end : (n : ℕ) (a b : Bytes) (s u t : ℕ) → from ≤ t → t ≤ from + (to - from) → to ≤ t → Put a b s u (blocks from (t - from) (entryWords table first order n)) → Put a b s u (rowWords table ends first order n l)
+  unfolding rowWords
+  row-end n a b s u t h k q P =
+      let e : t - from ≡ to - from = omega arith in
+      put-as a b s u _ _ (ap (λ k. blocks from k (entryWords table first order n)) (e ∙ sym row-size) ∙ ap (λ x. blocks x (rowSize table ends first order l) (entryWords table first order n)) from-is) P
+
+pub row-cell : (table : Bytes) (ends : List ℕ) (first : ℕ) (order : List ℕ) (l g : ℕ) → g ≡ getD order (l - 1) 0 → Row table ends first order l → first ≤ g
+row-cell table ends first order l g e R = omega (arith, R .cell)
+
+-- words of a row
+entry-two : (table : Bytes) (first : ℕ) (order : List ℕ) (n t : ℕ) → length (entryWords table first order n t) ≡ 2
+unfolding entryWords
+entry-two table first order n t = refl
+
+row-length : (table : Bytes) (ends : List ℕ) (first : ℕ) (order : List ℕ) (n l : ℕ) → length (rowWords table ends first order n l) ≡ 2 * rowSize table ends first order l
+unfolding rowWords
+row-length table ends first order n l = rows-length (getD ends (placeAt table ends first order l) 0) (entryWords table first order n) 2 (rowSize table ends first order l) (λ j h. entry-two table first order n _)
+
+pub row-count : (a b : Bytes) (u w from t s : ℕ) (table : Bytes) (first : ℕ) (order : List ℕ) (n : ℕ) → Put a b u w (entryWords table first order n t) → u ≡ s + 2 * (t - from) → from ≤ t → w ≡ s + 2 * (t + 1 - from)
+row-count a b u w from t s table first order n P e h = omega (arith, P .count, entry-two table first order n t)
+
+module _ (table : Bytes) (ends : List ℕ) (first : ℕ) (order : List ℕ) (n owned : ℕ) where
+  pub rows-long : length (blocks 1 owned (rowWords table ends first order n)) ≡ 2 * rowEnds table ends first order owned
+  unfolding rowEnds
+  rows-long = blocks-length 1 (rowWords table ends first order n) owned ∙ total-double 1 owned (λ l. length (rowWords table ends first order n l)) (rowSize table ends first order) (row-length table ends first order n)
+
+  pub rows-count : (a b : Bytes) (s t : ℕ) → Put a b s t (blocks 1 owned (rowWords table ends first order n)) → t ≡ s + 2 * rowEnds table ends first order owned
+  rows-count a b s t P = omega (arith, P .count, rows-long)
+
+  pub rows-room : (a b : Bytes) (s u l : ℕ) → 1 ≤ l → l < owned + 1 → 2 * (s + 2 * rowEnds table ends first order owned) ≤ length a → s + 2 * rowEnds table ends first order owned < 65536 → length b ≡ length a
+      → Put a b s u (blocks 1 (l - 1) (rowWords table ends first order n)) → (2 * (u + 2 * rowSize table ends first order l) ≤ length b) × (u < 65536)
+  rows-room a b s u l h k r q e P =
+      let w = many-room (rowWords table ends first order n) owned a b s u l h k (omega (arith, rows-long)) (omega (arith, rows-long)) e P in
+      (omega (arith, w .0, row-length table ends first order n l), w .1)
+
+  pub rows-turn : (a b c : Bytes) (s u w l : ℕ) → 1 ≤ l → l < owned + 1 → 2 * (s + 2 * rowEnds table ends first order owned) ≤ length a
+      → Put a b s u (blocks 1 (l - 1) (rowWords table ends first order n)) → Put b c u w (rowWords table ends first order n l) → Put a c s w (blocks 1 (l + 1 - 1) (rowWords table ends first order n))
+  rows-turn a b c s u w l h k r P Q = many-turn (rowWords table ends first order n) owned a b c s u w l h k (omega (arith, rows-long)) P Q
+
+  pub rows-each : (l : ℕ) → Rows table ends first order owned → 1 ≤ l → l < owned + 1 → Row table ends first order l
+  rows-each l R h k = R .each l h (omega arith)
+
+-- ---- local numbers of a list
+
+module _ (order : List ℕ) (n : ℕ) where
+  map-take : (k : ℕ) (list : List ℕ) → k < length list → map (localOf (take n order)) (take (k + 1) list) ≡ map (localOf (take n order)) (take k list) ++ (localOf (take n order) (getD list k 0) ∷ [])
+  map-take k list h =
+      ap (λ j. map (localOf (take n order)) (take j list)) (add-one k)
+      ∙ ap (map (localOf (take n order))) (take-suc list k 0 h)
+      ∙ map-append (localOf (take n order)) (take k list) (getD list k 0 ∷ [])
+
+  pub locals-start : (b : Bytes) (s : ℕ) (list : List ℕ) → Put b b s s (map (localOf (take n order)) (take 0 list))
+  locals-start b s list = put-none b s
+
+  pub locals-turn : (a b c : Bytes) (s u w k x l y : ℕ) (list : List ℕ) → 2 * (s + k) ≤ length a → x < k → k ≤ length list → u ≡ s + x → y ≡ getD list x 0 → l ≡ localOf (take n order) y
+      → Put a b s u (map (localOf (take n order)) (take x list)) → Put b c u w (l ∷ []) → Put a c s w (map (localOf (take n order)) (take (x + 1) list))
+  locals-turn a b c s u w k x l y list r h q e ye le P Q =
+      put-as a c s w (map (localOf (take n order)) (take x list) ++ (l ∷ [])) _ (ap (λ z. map (localOf (take n order)) (take x list) ++ (z ∷ [])) (le ∙ ap (localOf (take n order)) ye) ∙ sym (map-take x list (omega arith)))
+      (put-both a b c s u w _ _ P Q (omega arith))
+
+  pub locals-end : (a b : Bytes) (s u k x : ℕ) (list : List ℕ) → x ≤ k → k ≤ x → Put a b s u (map (localOf (take n order)) (take x list)) → Put a b s u (map (localOf (take n order)) (take k list))
+  locals-end a b s u k x list g h P = let q : x ≡ k = omega arith in put-as a b s u _ _ (ap (λ j. map (localOf (take n order)) (take j list)) q) P
+
+-- ---- exports in local numbers
+
+module _ (owners table : Bytes) (ends : List ℕ) (held : Bytes) (i first cells : ℕ) (order : List ℕ) (n : ℕ) where
+  pub sent-put : (a b : Bytes) (s t j k : ℕ) (x y : List ℕ) → Added x y 0 k (cellsOf owners table ends held j first cells i) → length x ≡ 2000 → k ≤ 2000
+      → Put a b s t (map (localOf (take n order)) (take k y)) → Put a b s t (sentWords owners table ends held i first cells order n j)
+  unfolding sentWords
+  sent-put a b s t j k x y A l h P =
+      put-as a b s t _ _ (ap (map (localOf (take n order))) (added-take x y k (cellsOf owners table ends held j first cells i) A l (omega (arith, A .count)))) P
+
+  sent-long : (j : ℕ) → length (sentWords owners table ends held i first cells order n j) ≡ length (cellsOf owners table ends held j first cells i)
+  unfolding sentWords
+  sent-long j = length-map (cellsOf owners table ends held j first cells i) (localOf (take n order))
+
+  pub all-long : length (blocks 1 16 (sentWords owners table ends held i first cells order n)) ≡ sentEnds owners table ends held i first cells 16
+  unfolding sentEnds
+  all-long = blocks-length 1 (sentWords owners table ends held i first cells order n) 16 ∙ total-cong 1 _ _ 16 (λ k h. sent-long (1 + k))
+
+  pub sents-count : (a b : Bytes) (s t : ℕ) → Put a b s t (blocks 1 16 (sentWords owners table ends held i first cells order n)) → t ≡ s + sentEnds owners table ends held i first cells 16
+  sents-count a b s t P = omega (arith, P .count, all-long)
+
+  pub sents-room : (a b : Bytes) (s u j : ℕ) → 1 ≤ j → j < 17 → 2 * (s + sentEnds owners table ends held i first cells 16) ≤ length a → s + sentEnds owners table ends held i first cells 16 < 65536 → length b ≡ length a
+      → Put a b s u (blocks 1 (j - 1) (sentWords owners table ends held i first cells order n)) → (2 * (u + length (cellsOf owners table ends held j first cells i)) ≤ length b) × (u < 65536)
+  sents-room a b s u j h k r q e P =
+      let w = many-room (sentWords owners table ends held i first cells order n) 16 a b s u j h (omega arith) (omega (arith, all-long)) (omega (arith, all-long)) e P in
+      (omega (arith, w .0, sent-long j), w .1)
+
+  pub sents-turn : (a b c : Bytes) (s u w j : ℕ) → 1 ≤ j → j < 17 → 2 * (s + sentEnds owners table ends held i first cells 16) ≤ length a
+      → Put a b s u (blocks 1 (j - 1) (sentWords owners table ends held i first cells order n)) → Put b c u w (sentWords owners table ends held i first cells order n j) → Put a c s w (blocks 1 (j + 1 - 1) (sentWords owners table ends held i first cells order n))
+  sents-turn a b c s u w j h k r P Q = many-turn (sentWords owners table ends held i first cells order n) 16 a b c s u w j h (omega arith) (omega (arith, all-long)) P Q

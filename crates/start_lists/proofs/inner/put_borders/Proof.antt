@@ -1,0 +1,15 @@
+-- `start_lists::inner::put_borders` meets its contract. Assumes nothing.
+use native.Mathlib.Omega.{arith}
+use Rattle.start_lists.proofs.PutLaws.{put-both, words-count}
+use borrow.Author.Needs.{needs}
+use Rattle.start_lists.proofs.inner.put_borders.Statement.{statement}
+use Rattle.start_lists.proofs.inner.put_borders.Tie as tie
+
+pub put-borders-spec : {M : Type 1} → statement M
+put-borders-spec =
+    tie.close
+    (tie.spec
+    (λ c κs. search needs)
+    (λ c κs. (omega (arith, c .before .before .before .before .before .before .before .before .before .before .before .pre .0, words-count _ _ _ _ _ _ (c .before .before .before .put-ends .ensures), c .before .before .b .given), omega (arith, c .before .before .before .before .before .before .before .before .before .before .before .pre .1, words-count _ _ _ _ _ _ (c .before .before .before .put-ends .ensures)), search needs, c .before .before .before .before .before .before .before .before .before .before .before .pre .2, c .before .before .before .before .before .before .before .before .before .before .before .pre .3, c .before .before .before .before .before .before .before .before .before .before .before .pre .4, c .before .before .before .before .before .before .before .before .before .before .before .pre .6))
+    (λ c. search needs)
+    (λ c. put-both _ _ _ _ _ _ _ _ (c .before .before .before .before .before .before .put-ends .ensures) (c .before .before .put-ends2 .ensures) (omega (arith, c .before .before .before .before .before .before .before .before .before .before .before .before .before .before .pre .0, words-count _ _ _ _ _ _ (c .before .before .before .before .before .before .put-ends .ensures)))))

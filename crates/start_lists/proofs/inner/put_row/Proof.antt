@@ -1,0 +1,40 @@
+-- `start_lists::inner::put_row` meets its contract. The invariant: the entries before t are written. Assumes nothing.
+use Rattle.start_lists.proofs.PutLaws.{blocks-begin}
+use mathlib.Core.Path.{_≡_}
+use Prim.Native.Nat.{_+_, _-_, _*_, _≤_, _<_}
+use lib.ListN.{length}
+use Rattle.vocabulary.specs.Ranges.{blocks}
+use Rattle.start_lists.specs.Starting.{Put, entryWords}
+use Rattle.start_lists.proofs.StartCounts.{row-cell, row-near, row-room, row-turn, row-count, row-end}
+use borrow.Author.Needs.{needs}
+use Rattle.start_lists.proofs.inner.put_row.Statement.{statement}
+use Rattle.start_lists.proofs.inner.put_row.Tie as tie
+
+abbrev Inv-loop : tie.InvT-loop
+Inv-loop b₀ s table ends first order n l q from to u₀ t₀ b u t = (from ≤ t) × (t ≤ from + (to - from)) × (from < 65536) × (to < 65536) × (u ≡ s + 2 * (t - from)) × (length b ≡ length b₀) × Put b₀ b s u (blocks from (t - from) (entryWords table first order n))
+
+abbrev μ-loop : tie.MeasureT-loop
+μ-loop b₀ s table ends first order n l q from to u₀ t₀ b u t = to - t
+
+pub put-row-spec : {M : Type 1} → statement M
+put-row-spec =
+    tie.close
+    (tie.spec
+    Inv-loop
+    μ-loop
+    (λ c. search needs)
+    (λ c κs. search needs)
+    (λ c. search needs)
+    (λ c. search row-cell)
+    (λ c κs. search needs)
+    (λ c. search needs)
+    (λ c. search needs)
+    (λ c κs. search needs)
+    (λ c. search needs)
+    (λ c. (search needs, search needs, search needs, search needs, search needs, search needs, search blocks-begin))
+    (λ c κs. (row-room _ _ _ _ _ _ _ _ (c .before .before .before .before .before .number-at .ensures) (c .before .before .before .before .number-at2 .ensures) (c .before .before .before .number-at3 .ensures) _ _ _ _ _ (c .before .before .before .before .before .before .before .before .before .before .pre .0) (c .before .before .loop .inv .5) (c .before .before .loop .inv .4) (c .before .before .loop .inv .0) (c .before .loop-test .taken), search needs, search needs, search needs, search needs, row-near _ _ _ _ _ _ _ _ (c .before .before .before .before .before .number-at .ensures) (c .before .before .before .before .number-at2 .ensures) (c .before .before .before .number-at3 .ensures) _ (c .before .before .before .before .before .before .before .before .before .before .pre .5) (c .before .before .loop .inv .0) (c .before .loop-test .taken)))
+    (λ c. search needs)
+    (λ c. search needs)
+    (λ c. (search needs, search needs, search needs, search needs, row-count _ _ _ _ _ _ _ _ _ _ _ (c .before .before .put-entry .ensures) (c .before .before .before .before .before .loop .inv .4) (c .before .before .before .before .before .loop .inv .0), search needs, row-turn _ _ _ _ _ _ _ _ (c .before .before .before .before .before .before .before .before .number-at .ensures) (c .before .before .before .before .before .before .before .number-at2 .ensures) (c .before .before .before .before .before .before .number-at3 .ensures) _ _ _ _ _ _ _ _ (c .before .before .before .before .before .before .before .before .before .before .before .before .before .pre .0) (c .before .before .before .before .before .loop .inv .0) (c .before .before .before .before .loop-test .taken) (c .before .before .before .before .before .loop .inv .4) (c .before .before .before .before .before .loop .inv .6) (c .before .before .put-entry .ensures)))
+    (λ c. search needs)
+    (λ c. row-end _ _ _ _ _ _ _ _ (c .before .before .before .before .number-at .ensures) (c .before .before .before .number-at2 .ensures) (c .before .before .number-at3 .ensures) _ _ _ _ _ _ (c .before .loop .inv .0) (c .before .loop .inv .1) (c .loop-test .left) (c .before .loop .inv .6)))

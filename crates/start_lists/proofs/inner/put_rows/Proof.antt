@@ -1,0 +1,33 @@
+-- `start_lists::inner::put_rows` meets its contract. The invariant: the reaches of the cells before l are written. Assumes nothing.
+use native.Mathlib.Omega.{arith}
+use mathlib.Core.Path.{_≡_, refl}
+use Prim.Native.Nat.{_+_, _-_, _≤_}
+use lib.ListN.{length}
+use Rattle.vocabulary.specs.Ranges.{blocks}
+use Rattle.start_lists.specs.Starting.{Put, rowWords}
+use Rattle.start_lists.proofs.PutLaws.{many-start, many-end}
+use Rattle.start_lists.proofs.StartCounts.{rows-room, rows-turn, rows-each}
+use borrow.Author.Needs.{needs}
+use Rattle.start_lists.proofs.inner.put_rows.Statement.{statement}
+use Rattle.start_lists.proofs.inner.put_rows.Tie as tie
+
+abbrev Inv-loop : tie.InvT-loop
+Inv-loop b₀ s table ends first order n owned u₀ l₀ l-end b u l = (l-end ≡ owned + 1) × (1 ≤ l) × (l ≤ owned + 1) × (length b ≡ length b₀) × Put b₀ b s u (blocks 1 (l - 1) (rowWords table ends first order n))
+
+abbrev μ-loop : tie.MeasureT-loop
+μ-loop b₀ s table ends first order n owned u₀ l₀ l-end b u l = l-end - l
+
+pub put-rows-spec : {M : Type 1} → statement M
+put-rows-spec =
+    tie.close
+    (tie.spec
+    Inv-loop
+    μ-loop
+    (λ c. search needs)
+    (λ c. (refl, search needs, search needs, search needs, search many-start))
+    (λ c κs. (rows-room _ _ _ _ _ _ _ _ _ _ _ (c .before .before .loop .inv .1) (omega (arith, c .before .before .loop .inv .0, c .before .loop-test .taken)) (c .before .before .before .before .before .before .before .pre .0) (c .before .before .before .before .before .before .before .pre .1) (c .before .before .loop .inv .3) (c .before .before .loop .inv .4) .0, rows-room _ _ _ _ _ _ _ _ _ _ _ (c .before .before .loop .inv .1) (omega (arith, c .before .before .loop .inv .0, c .before .loop-test .taken)) (c .before .before .before .before .before .before .before .pre .0) (c .before .before .before .before .before .before .before .pre .1) (c .before .before .loop .inv .3) (c .before .before .loop .inv .4) .1, c .before .before .loop .inv .1, c .before .before .before .before .before .before .before .pre .3, c .before .before .before .before .before .before .before .pre .4, search rows-each))
+    (λ c. search needs)
+    (λ c. search needs)
+    (λ c. (search needs, search needs, search needs, search needs, search rows-turn))
+    (λ c. search needs)
+    (λ c. search many-end))

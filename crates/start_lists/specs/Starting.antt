@@ -1,0 +1,118 @@
+-- How start finds the lists of a part: from the owners, the table of the reaches with its ends, the matrix of the held cells, and the part's
+-- local order. No public contract rests on this page; the laws in proofs/ tie it to the definitions of Start. Assumes nothing.
+use mathlib.Core.Path.{_≡_}
+use mathlib.Core.List.{List, [], _∷_, _++_, map}
+use Prim.Native.Nat.{ℕ, zero, suc, _+_, _-_, _*_, _≤_, _<_}
+use lib.ListN.{length, getD, take}
+use Rattle.vocabulary.specs.Bytes.{Bytes, over}
+use Rattle.vocabulary.specs.Ranges.{listed, blocks, total}
+use Rattle.layout.specs.Words.{wordAt, bytesOf}
+use Rattle.layout.specs.Depths.{four}
+use Rattle.split.specs.Split.{localOf}
+use Rattle.split.specs.Sorting.{cellsOf}
+
+module _ (owners table : Bytes) (ends : List ℕ) (held : Bytes) (i first cells : ℕ) where
+  -- what part i imports from j, and exports to j
+  abbrev pub gotFrom : ℕ → List ℕ
+  gotFrom j = cellsOf owners table ends held i first cells j
+
+  abbrev pub sentFrom : ℕ → List ℕ
+  sentFrom j = cellsOf owners table ends held j first cells i
+
+  -- ends of the imports after `owned` cells, and of the exports
+  unfoldable pub gotEnds : ℕ → ℕ → ℕ
+  gotEnds owned j = owned + total 1 j (λ k. length (gotFrom k))
+
+  unfoldable pub sentEnds : ℕ → ℕ
+  sentEnds j = total 1 j (λ k. length (sentFrom k))
+
+  -- exports to j as local numbers, by the first n numbers of the order
+  unfoldable pub sentWords : List ℕ → ℕ → ℕ → List ℕ
+  sentWords order n j = map (localOf (take n order)) (sentFrom j)
+
+-- entry t of the table in local numbers, by the first n numbers of the order
+unfoldable pub entryWords : Bytes → ℕ → List ℕ → ℕ → ℕ → List ℕ
+entryWords table first order n t = localOf (take n order) (first + wordAt table (2 * t)) ∷ wordAt table (2 * t + 1) ∷ []
+
+module _ (table : Bytes) (ends : List ℕ) (first : ℕ) (order : List ℕ) where
+  -- the place of local cell l, and how many entries its reach has
+  unfoldable pub placeAt : ℕ → ℕ
+  placeAt l = getD order (l - 1) 0 - first
+
+  unfoldable pub rowSize : ℕ → ℕ
+  rowSize l = getD ends (placeAt l + 1) 0 - getD ends (placeAt l) 0
+
+  unfoldable pub rowEnds : ℕ → ℕ
+  rowEnds l = total 1 l rowSize
+
+  -- all entries of local cell l, by the first n numbers of the order
+  unfoldable pub rowWords : ℕ → ℕ → List ℕ
+  rowWords n l = blocks (getD ends (placeAt l) 0) (rowSize l) (entryWords table first order n)
+
+-- all words of the lists of part i, of which n cells are held and `owned` owned, for a stencil of `steps` steps and a rule
+unfoldable pub startWords : Bytes → Bytes → List ℕ → Bytes → ℕ → ℕ → ℕ → List ℕ → ℕ → ℕ → ℕ → ℕ → Bytes → List ℕ
+startWords owners table ends held i first cells order n owned steps kind v =
+    ((46 + n + owned + 2 * rowEnds table ends first order owned + sentEnds owners table ends held i first cells 16) ∷ i ∷ steps ∷ kind ∷ [])
+    ++ (listed 0 5 (wordAt v)
+    ++ ((first ∷ cells ∷ [])
+    ++ (listed 0 17 (gotEnds owners table ends held i first cells owned)
+    ++ (listed 0 17 (sentEnds owners table ends held i first cells)
+    ++ (take n order
+    ++ (listed 0 (owned + 1) (rowEnds table ends first order)
+    ++ (blocks 1 owned (rowWords table ends first order n)
+    ++ blocks 1 16 (sentWords owners table ends held i first cells order n))))))))
+
+-- the words ws stand in b from word s on, which makes t of them, and nothing else has changed
+pub record Put (before after : Bytes) (s t : ℕ) (ws : List ℕ) : Type 0 where
+  pub count : t ≡ s + length ws
+  pub text : after ≡ over before (2 * s) (bytesOf ws)
+
+-- what is counted of a number k: 0 what is imported from part k, 1 what is exported to it, and otherwise the reach of local cell k
+unfoldable pub partCount : ℕ → Bytes → Bytes → List ℕ → Bytes → ℕ → ℕ → ℕ → List ℕ → ℕ → ℕ
+partCount zero owners table ends held i first cells order k = length (gotFrom owners table ends held i first cells k)
+partCount (suc zero) owners table ends held i first cells order k = length (sentFrom owners table ends held i first cells k)
+partCount (suc (suc which)) owners table ends held i first cells order k = rowSize table ends first order k
+
+-- a table of ends, by what is counted
+unfoldable pub endsOf : ℕ → Bytes → Bytes → List ℕ → Bytes → ℕ → ℕ → ℕ → List ℕ → ℕ → ℕ → ℕ
+endsOf which owners table ends held i first cells order base j = base + total 1 j (partCount which owners table ends held i first cells order)
+
+-- the last of n + 1 ends is a word, and the reaches that are counted are those of cells
+pub record Counted (which : ℕ) (owners table : Bytes) (ends : List ℕ) (held : Bytes) (i first cells : ℕ) (order : List ℕ) (base n : ℕ) : Type 0 where
+  pub last : endsOf which owners table ends held i first cells order base n < 65536
+  pub cell : (k : ℕ) → 1 ≤ k → k ≤ n → 2 ≤ which → first ≤ getD order (k - 1) 0
+
+-- e is the end before the one at k, if there is one
+pub record Before (which : ℕ) (owners table : Bytes) (ends : List ℕ) (held : Bytes) (i first cells : ℕ) (order : List ℕ) (base k e : ℕ) : Type 0 where
+  pub is : 1 ≤ k → e ≡ endsOf which owners table ends held i first cells order base (k - 1)
+
+-- local cell l is a cell, and the numbers of the cells in its reach are words
+pub record Row (table : Bytes) (ends : List ℕ) (first : ℕ) (order : List ℕ) (l : ℕ) : Type 0 where
+  pub cell : first ≤ getD order (l - 1) 0
+  pub near : (t : ℕ) → getD ends (placeAt table ends first order l) 0 ≤ t → t < getD ends (placeAt table ends first order l + 1) 0 → first + wordAt table (2 * t) < 65536
+
+pub record Rows (table : Bytes) (ends : List ℕ) (first : ℕ) (order : List ℕ) (owned : ℕ) : Type 0 where
+  pub each : (l : ℕ) → 1 ≤ l → l ≤ owned → Row table ends first order l
+
+-- what the lists of a part keep to, so that every one of their words is a word
+pub record Fit (owners table : Bytes) (ends : List ℕ) (held : Bytes) (i first cells : ℕ) (order : List ℕ) (n owned : ℕ) : Type 0 where
+  pub part : i < 65536
+  pub first-small : first < 65536
+  pub cells-fit : first + cells ≤ 65536
+  pub cells-few : cells ≤ 2000
+  pub order-few : n ≤ 2000
+  pub order-there : n ≤ length order
+  pub owned-few : owned ≤ n
+  pub got : Counted 0 owners table ends held i first cells order owned 16
+  pub sent : Counted 1 owners table ends held i first cells order 0 16
+  pub reached : Counted 2 owners table ends held i first cells order 0 owned
+  pub near : Rows table ends first order owned
+  pub long : 46 + n + owned + 2 * rowEnds table ends first order owned + sentEnds owners table ends held i first cells 16 < 65536
+
+-- the depth of local cell l in a field
+unfoldable pub startDepth : Bytes → ℕ → List ℕ → ℕ → Bytes
+startDepth f first order l = four f (4 * (getD order (l - 1) 0 - first))
+
+-- the held cells are cells of the field
+pub record Cells (f : Bytes) (first : ℕ) (order : List ℕ) (n : ℕ) : Type 0 where
+  pub each : (l : ℕ) → 1 ≤ l → l ≤ n → (first ≤ getD order (l - 1) 0) × (4 * (getD order (l - 1) 0 - first) + 4 ≤ length f)

@@ -1,0 +1,2 @@
+// The words of a part's lists in its state: all that stands here, in `inner`, supposes prepared tables and room for the words.
+pub mod inner;

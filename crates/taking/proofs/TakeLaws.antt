@@ -1,0 +1,218 @@
+-- Take, by the tests that the code makes one after the other. Assumes nothing.
+use mathlib.Core.Path.{_≡_, refl, sym, ap, ap₂, _∙_}
+use mathlib.Core.List.{[], _∷_}
+use mathlib.Core.Bool.{Bool, true, false, not, _&&_, _||_}
+use Prim.Native.Nat.{ℕ, _+_, _-_, _*_, _≤_, _<_}
+use native.Mathlib.Omega.{arith}
+use lib.Dec.{eqb, ltb}
+use lib.ListN.{length, set, take, drop, length-drop}
+use lib.Seq.{take-all}
+use borrow.Author.Tests.{eq-eqb, ne-eqb, lt-ltb, le-ltb, not-true, not-false}
+use Rattle.vocabulary.specs.Bytes.{Bytes, byteAt, over}
+use Rattle.vocabulary.specs.ListLaws.{and-true, or-false}
+use Rattle.vocabulary.specs.Tests.{firstOf}
+use Rattle.vocabulary.specs.Ranges.{isUpTo}
+use Rattle.vocabulary.specs.RangeLaws.{upTo-true}
+use Rattle.layout.specs.Words.{word, wordAt}
+use Rattle.layout.specs.Answers.{answer}
+use Rattle.layout.specs.AnswerLaws.{answer-done, answer-refused}
+use Rattle.layout.specs.declared.Answer.{Answer}
+use Rattle.layout.specs.declared.Answer.the-variants.{Done, Refused}
+use types.Run.{OneOf}
+use denote.Enum.Declared.{tagOf}
+use Rattle.messages.specs.Messages.{bad15, fromIn, toIn, roundIn, countIn}
+use Rattle.messages.specs.Heads.{headOf, numberOf}
+use Rattle.messages.specs.HeadLaws.{headIn, head-good, head-is}
+use Rattle.messages.specs.declared.Head.{Head}
+use Rattle.messages.specs.declared.Reading.{Reading}
+use Rattle.messages.specs.declared.Reading.the-variants.{Message}
+use Rattle.messages.specs.declared.Reading.the-variants as reading
+use Rattle.messages.proofs.Else.{else-bad, else-number}
+use Rattle.messages.proofs.Reading as K
+use Rattle.states.specs.State.{Lists, listsIn, listsOf, dynamic, heldCount, isState, bad20}
+use Rattle.parts.specs.Calls.{importsFrom, takeTestsIn, takenIn, takeNumber, takeAnswer, takeState}
+use Rattle.parts.specs.CallLaws.{Room, room-of, Taken, taken-facts}
+use Rattle.parts.specs.Opened.{Opened, wrongSender, takeRest}
+use Rattle.parts.proofs.OpenedLaws.{whole, long, good-state, not-state, cut, lists-is, part-few}
+
+-- ---- the sender (21)
+
+module _ (st : Bytes) (from to count part : ℕ) (pe : part ≡ wordAt st 1) where
+  pub sender-1 : (to ≡ part → ⊥) → true ≡ wrongSender (listsIn st) from to count
+  unfolding wrongSender listsIn
+  sender-1 z = simp (sym pe, ne-eqb _ _ z)
+
+  module _ (te : to ≡ part) (u : Bool) (ue : u ≡ isUpTo 16 from) where
+    pub sender-2 : not u ≡ true → true ≡ wrongSender (listsIn st) from to count
+    unfolding wrongSender listsIn importsFrom
+    sender-2 z = simp (sym pe, eq-eqb _ _ te, sym ue, not-true u z)
+
+    module _ (uf : not u ≡ false) where
+      up : (1 ≤ from) × (from ≤ 16)
+      up = part-few from u ue uf
+
+      module _ (n : ℕ) (ne : n ≡ wordAt st (10 + from + 1) - wordAt st (10 + from)) where
+        import-is : wordAt st (11 + from) - wordAt st (11 + (from - 1)) ≡ n
+        import-is =
+            let p : 11 + from ≡ 10 + from + 1 = omega arith in
+            let q : 11 + (from - 1) ≡ 10 + from = omega (arith, up .0) in
+            ap₂ (λ x y. wordAt st x - wordAt st y) p q ∙ sym ne
+
+        pub sender-3 : n < 1 → true ≡ wrongSender (listsIn st) from to count
+        unfolding wrongSender listsIn importsFrom
+        sender-3 h = let z : n ≤ 0 = omega arith in simp (sym pe, eq-eqb _ _ te, sym ue, not-false u uf, import-is, le-ltb 0 n z)
+
+        pub sender-4 : 1 ≤ n → not (eqb count n) ≡ wrongSender (listsIn st) from to count
+        unfolding wrongSender listsIn importsFrom
+        sender-4 h = simp (sym pe, eq-eqb _ _ te, sym ue, not-false u uf, import-is, lt-ltb 0 n h)
+
+-- a message that is not refused comes from one of the parts
+pub sender-few : (st : Bytes) (from to count : ℕ) (w : Bool) → w ≡ wrongSender (listsIn st) from to count → w ≡ false → from ≤ 16
+unfolding wrongSender importsFrom
+sender-few st from to count w we wf =
+    let a = not (eqb to (listsIn st .part)) in
+    let c = not (isUpTo 16 from && ltb 0 (listsIn st .imported from)) in
+    let e = not (eqb count (listsIn st .imported from)) in
+    let p = or-false (a || c) e (sym we ∙ wf) in
+    upTo-true 16 from (and-true (isUpTo 16 from) (ltb 0 (listsIn st .imported from)) (not-false _ (or-false a c (p .0) .1)) .0) .1
+
+-- ---- the words of a message (21, 22, 23)
+
+module _ (b : Bytes) (d from to count : ℕ) (w : Bool) (we : w ≡ wrongSender (listsIn (take (d - 0) (drop 0 b))) from to count) where
+  sender-is : wrongSender (listsIn (take d b)) from to count ≡ w
+  sender-is = sym (we ∙ ap (λ (x : Bytes). wrongSender (listsIn x) from to count) (cut b d))
+
+  pub rest-1 : (round : ℕ) → w ≡ true → 21 ≡ takeRest (listsIn (take d b)) d b from to round count
+  unfolding takeRest
+  rest-1 round t = simp (sender-is, t)
+
+  module _ (round : ℕ) (wf : w ≡ false) where
+    module _ (r : ℕ) (re : r ≡ word b d) where
+      pub rest-2 : (round ≡ r → ⊥) → 22 ≡ takeRest (listsIn (take d b)) d b from to round count
+      unfolding takeRest
+      rest-2 z = simp (sender-is, wf, sym re, ne-eqb _ _ z)
+
+      module _ (rr : round ≡ r) (y : ℕ) (ye : y ≡ byteAt b (d + 1 + from)) where
+        pub rest-3 : y ≡ 1 → 23 ≡ takeRest (listsIn (take d b)) d b from to round count
+        unfolding takeRest
+        rest-3 e = simp (sender-is, wf, sym re, eq-eqb _ _ rr, sym ye, eq-eqb _ _ e)
+
+        pub rest-4 : (y ≡ 1 → ⊥) → 0 ≡ takeRest (listsIn (take d b)) d b from to round count
+        unfolding takeRest
+        rest-4 z = simp (sender-is, wf, sym re, eq-eqb _ _ rr, sym ye, ne-eqb _ _ z)
+
+-- ---- what is stored
+
+pub store-told : (b x y z : Bytes) (i at count : ℕ) → length x ≡ 8 + 4 * count → z ≡ set b i 1 → y ≡ over z at (take (4 * count) (drop 8 x)) → y ≡ over (set b i 1) at (drop 8 x)
+store-told b x y z i at count l f e =
+    e ∙ ap₂ (λ (u : Bytes) (w : Bytes). over u at w) f (take-all (4 * count) (drop 8 x) (omega (arith, length-drop 8 x)))
+
+-- ---- the reader's answer is a message
+
+pub message-good : (x : Bytes) (r : Reading) → r ≡ headOf x → OneOf (0 ∷ []) (tagOf K.the-type r) → bad15 x ≡ false
+message-good x (Message h) e o = head-good x (Message h) e h refl
+message-good x (reading.Refused n) e o = absurd (omega arith)
+
+pub message-head : (x : Bytes) (r : Reading) (h : Head) → r ≡ headOf x → r ≡ Message h → (h .from ≡ fromIn x) × (h .to ≡ toIn x) × (h .round ≡ roundIn x) × (h .count ≡ countIn x)
+message-head x r h e m =
+    let p : h ≡ headIn x = head-is x r e h m in
+    (ap (λ (h : Head). h .from) p, ap (λ (h : Head). h .to) p, ap (λ (h : Head). h .round) p, ap (λ (h : Head). h .count) p)
+
+-- ---- the answer
+
+module _ (b x : Bytes) where
+  abbrev pub Answered : Answer → Bytes → Type 0
+  Answered r y = (r ≡ takeAnswer b x) × (y ≡ takeState b x)
+
+  refused : (n : ℕ) → takeNumber b x ≡ n → (n ≡ 0 → ⊥) → Answered (Refused n) b
+  unfolding takeAnswer takeState
+  refused n e z = (answer-refused n 0 z ∙ ap (λ m. answer m 0) (sym e), simp (e, ne-eqb n 0 z))
+
+  done-answer : takeNumber b x ≡ 0 → Done 0 ≡ takeAnswer b x
+  unfolding takeAnswer
+  done-answer e = answer-done (takeNumber b x) 0 e
+
+  done-state : takeNumber b x ≡ 0 → takenIn (listsOf b) (dynamic b) b x ≡ takeState b x
+  unfolding takeState
+  done-state e = simp e
+
+  here : (L : Lists) (d : ℕ) → over (set b (d + 1 + fromIn x) 1) (d + 30 + 4 * (L .before (fromIn x) + 1)) (drop 8 x) ≡ takenIn L d b x
+  unfolding takenIn
+  here L d = refl
+
+  number-15 : bad15 x ≡ true → takeNumber b x ≡ 15
+  unfolding takeNumber takeTestsIn
+  number-15 e = simp e
+
+  number-20 : bad15 x ≡ false → bad20 b ≡ true → takeNumber b x ≡ 20
+  unfolding takeNumber takeTestsIn
+  number-20 e f = simp (e, f)
+
+  -- the reader refused
+  pub told-15 : (r : Reading) (n : ℕ) → r ≡ headOf x → OneOf (1 ∷ []) (tagOf K.the-type r) → n ≡ numberOf r → Answered (Refused n) b
+  told-15 r n e o q =
+      let z : n ≡ 15 = else-number x r n e o q in refused n (number-15 (else-bad x r e o) ∙ sym z) (λ k. omega (arith, k))
+
+  pub told-20 : (r : Reading) (u : Bool) → r ≡ headOf x → OneOf (0 ∷ []) (tagOf K.the-type r) → u ≡ isState b → not u ≡ true → Answered (Refused 20) b
+  told-20 r u e o ue ut = refused 20 (number-20 (message-good x r e o) (not-state b u ue ut)) (λ k. omega (arith, k))
+
+  module _ (d : ℕ) (o : Opened (take d b) d b) (fifteen : bad15 x ≡ false) (from to round count : ℕ) (fe : from ≡ fromIn x) (te : to ≡ toIn x) (re : round ≡ roundIn x) (ce : count ≡ countIn x) where
+    number-here : takeNumber b x ≡ takeRest (listsOf b) (dynamic b) b (fromIn x) (toIn x) (roundIn x) (countIn x)
+    unfolding takeNumber takeTestsIn takeRest wrongSender
+    number-here = simp (fifteen, good-state (take d b) d b o)
+
+    number-is : takeNumber b x ≡ takeRest (listsIn (take d b)) d b from to round count
+    number-is =
+        number-here
+        ∙ ap₂ (λ (L : Lists) p. takeRest L p b (fromIn x) (toIn x) (roundIn x) (countIn x)) (lists-is (take d b) d b o) (sym (o .place-is))
+        ∙ ap₂ (λ f t. takeRest (listsIn (take d b)) d b f t (roundIn x) (countIn x)) (sym fe) (sym te)
+        ∙ ap₂ (λ r c. takeRest (listsIn (take d b)) d b from to r c) (sym re) (sym ce)
+
+    module _ (n : ℕ) (ne : n ≡ takeRest (listsIn (take d b)) d b from to round count) where
+      pub told-rest : (n ≡ 0 → ⊥) → Answered (Refused n) b
+      told-rest z = refused n (number-is ∙ sym ne) z
+
+      module _ (nz : n ≡ 0) where
+        accepted : takeNumber b x ≡ 0
+        accepted = number-is ∙ sym ne ∙ nz
+
+        facts : Taken (listsIn (take d b)) d b x
+        unfolding takeNumber
+        facts =
+            taken-facts (listsIn (take d b)) d b x
+            (ap₂ (λ (L : Lists) p. firstOf (takeTestsIn L p b x)) (sym (lists-is (take d b) d b o)) (o .place-is) ∙ accepted)
+
+        pub from-few : from ≤ 16
+        from-few = omega (arith, facts .from-most)
+
+        module _ (before : ℕ) (be : before ≡ wordAt (take (d - 0) (drop 0 b)) (10 + from)) where
+          before-is : listsIn (take d b) .before (fromIn x) ≡ before
+          unfolding listsIn
+          before-is =
+              let p : 11 + (fromIn x - 1) ≡ 10 + from = omega (arith, facts .from-least) in
+              ap (wordAt (take d b)) p ∙ sym (be ∙ ap (λ (y : Bytes). wordAt y (10 + from)) (cut b d))
+
+          held-room : before + count ≤ heldCount (take d b)
+          unfolding listsIn
+          held-room =
+              let w : Room (listsIn (take d b)) d b = room-of (take d b) d b (whole (take d b) d b o) in
+              omega (arith, w .fits (fromIn x) (facts .from-least) (facts .from-most), before-is, facts .count-is)
+
+          pub store-fits : (d < 131072) × (from ≤ 16) × (before < 65536) × (count < 65536) × (d + 34 + 4 * (before + count) ≤ length b) × (length x ≡ 8 + 4 * count)
+          store-fits = (
+            o .place-small,
+            from-few,
+            omega (arith, held-room, whole (take d b) d b o .few),
+            omega (arith, held-room, whole (take d b) d b o .few),
+            omega (arith, held-room, long (take d b) d b o),
+            facts .size ∙ ap (λ k. 8 + 4 * k) (sym ce),
+          )
+
+          pub told-done : (y : Bytes) → y ≡ over (set b (d + 1 + from) 1) (d + 30 + 4 * (before + 1)) (drop 8 x) → Answered (Done 0) y
+          told-done y e = (done-answer accepted, e ∙ taken-is ∙ done-state accepted)
+            where
+              taken-is : over (set b (d + 1 + from) 1) (d + 30 + 4 * (before + 1)) (drop 8 x) ≡ takenIn (listsOf b) (dynamic b) b x
+              taken-is =
+                  ap₂ (λ f k. over (set b (d + 1 + f) 1) (d + 30 + 4 * (k + 1)) (drop 8 x)) fe (sym before-is)
+                  ∙ here (listsIn (take d b)) d
+                  ∙ ap₂ (λ (L : Lists) p. takenIn L p b x) (sym (lists-is (take d b) d b o)) (o .place-is)

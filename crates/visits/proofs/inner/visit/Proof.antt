@@ -1,0 +1,20 @@
+-- `visits::inner::visit` meets its contract. Assumes nothing.
+use Rattle.visits.proofs.VisitLaws.{visit-old, visit-new, visit-adds, visit-few}
+use borrow.Author.Needs.{needs}
+use Rattle.visits.proofs.inner.visit.Statement.{statement}
+use Rattle.visits.proofs.inner.visit.Tie as tie
+
+pub visit-spec : {M : Type 1} → statement M
+visit-spec =
+    tie.close
+    (tie.spec
+    (λ c κs. search needs)
+    (λ c. search needs)
+    (λ c. (search needs, search visit-old, search needs))
+    (λ c κs. search needs)
+    (λ c. search needs)
+    (λ c κs. search needs)
+    (λ c. search needs)
+    (λ c. search needs)
+    (λ c. search needs)
+    (λ c. (search visit-new, search visit-adds, search visit-few)))

@@ -1,0 +1,244 @@
+-- Write, by the tests and the loop of the code. Assumes nothing.
+use mathlib.Core.Path.{_≡_, refl, sym, ap, ap₂, _∙_}
+use mathlib.Core.Bool.{Bool, true, false, not, _&&_, cond}
+use mathlib.Core.List.{[], _∷_, _++_, map}
+use Prim.Native.Nat.{ℕ, _+_, _-_, _*_, _≤_, _<_}
+use native.Mathlib.Omega.{arith}
+use lib.Dec.{ltb}
+use lib.ListN.{length, set, take, drop, length-append, length-map}
+use borrow.Author.Tests.{ne-eqb, lt-ltb, le-ltb, not-true, not-false}
+use Rattle.vocabulary.specs.Bytes.{Bytes, over}
+use Rattle.vocabulary.specs.ByteLaws.{over-none, over-more}
+use Rattle.vocabulary.specs.Lists.{joined}
+use Rattle.vocabulary.specs.Ranges.{isUpTo, blocks}
+use Rattle.vocabulary.specs.RangeLaws.{upTo-true, listed-length, joined-mapped, blocks-start}
+use Rattle.layout.specs.Words.{word, wordAt, bytesOf}
+use Rattle.layout.specs.WordLaws.{length-bytesOf}
+use Rattle.layout.specs.Depths.{four}
+use Rattle.layout.specs.DepthLaws.{length-four, fours-store, joined-length}
+use Rattle.layout.specs.Answers.{answer}
+use Rattle.layout.specs.AnswerLaws.{answer-done, answer-refused}
+use Rattle.layout.specs.declared.Answer.{Answer}
+use Rattle.layout.specs.declared.Answer.the-variants.{Done, Refused}
+use Rattle.messages.specs.Messages.{encode}
+use Rattle.states.specs.State.{Lists, listsIn, listsOf, dynamic, roundAt, exportEnd, exportCount, exportAt, localExports, heldCount, ownedCount, reachCount, isState, bad20, depthPlace}
+use Rattle.parts.specs.Calls.{exportsTo, depthAt, messageTo, writeTestsIn, writtenIn, writeNumber, message, writeAnswer, writeState, writeOut}
+use Rattle.parts.specs.CallLaws.{fours-long}
+use Rattle.states.specs.Checks.{Counts}
+use Rattle.parts.specs.Opened.{Opened, sentTo, sentAt}
+use Rattle.parts.proofs.OpenedLaws.{whole, own-few, long, good-state, not-state, four-cut, cut, lists-is, part-few}
+
+sent-at : (st : Bytes) (d : ℕ) (b : Bytes) (x : ℕ) → four b (d + 30 + 4 * exportAt st x) ≡ sentAt st d b x
+unfolding sentAt
+sent-at st d b x = refl
+
+depths-are : (st : Bytes) (j d : ℕ) (b : Bytes) (from count : ℕ) → from ≡ exportEnd st (j - 1) → count ≡ length (listsIn st .exports j)
+    → blocks from count (sentAt st d b) ≡ joined (map (depthAt d b) (listsIn st .exports j))
+unfolding sentAt listsIn localExports
+depths-are st j d b from count fe ce =
+    ap₂ (λ x n. blocks x n (λ y. four b (depthPlace d (exportAt st y)))) fe (ce ∙ listed-length (exportEnd st (j - 1)) (exportAt st) (exportEnd st j - exportEnd st (j - 1)))
+    ∙ sym (joined-mapped (depthAt d b) (exportEnd st (j - 1)) (exportAt st) (exportEnd st j - exportEnd st (j - 1)))
+
+encoded-is : (st : Bytes) (j d : ℕ) (b : Bytes)
+    → bytesOf (wordAt st 1 ∷ j ∷ word b d ∷ length (map (depthAt d b) (listsIn st .exports j)) ∷ []) ++ joined (map (depthAt d b) (listsIn st .exports j)) ≡ messageTo (listsIn st) d b j
+unfolding messageTo encode listsIn
+encoded-is st j d b = refl
+
+-- ---- how many depths
+
+pub sent-none : (st : Bytes) (j : ℕ) (u : Bool) → u ≡ isUpTo 16 j → not u ≡ true → 0 ≡ sentTo (listsIn st) j
+unfolding sentTo
+sent-none st j u ue ut = simp (sym ue, not-true u ut)
+
+sent-length : (st : Bytes) (j : ℕ) → length (listsIn st .exports j) ≡ exportEnd st j - exportEnd st (j - 1)
+unfolding listsIn localExports
+sent-length st j = listed-length (exportEnd st (j - 1)) (exportAt st) (exportEnd st j - exportEnd st (j - 1))
+
+pub sent-some : (st : Bytes) (j n : ℕ) (u : Bool) → u ≡ isUpTo 16 j → not u ≡ false → n ≡ wordAt st (27 + j + 1) - wordAt st (27 + j) → n ≡ sentTo (listsIn st) j
+unfolding sentTo
+sent-some st j n u ue uf e =
+    let p : 27 + j + 1 ≡ 28 + j = omega arith in
+    let q : 27 + j ≡ 28 + (j - 1) = omega (arith, part-few j u ue uf .0) in
+    e ∙ ap₂ (λ x y. wordAt st x - wordAt st y) p q ∙ sym (sent-length st j) ∙ simp (sym ue, not-false u uf)
+
+-- there is an export, so j is a part
+module _ (st : Bytes) (j count : ℕ) (ce : count ≡ sentTo (listsIn st) j) (some : 1 ≤ count) where
+  part-up : isUpTo 16 j ≡ true
+  unfolding sentTo
+  part-up = go (isUpTo 16 j) refl
+    where
+      go : (t : Bool) → isUpTo 16 j ≡ t → isUpTo 16 j ≡ true
+      go true e = e
+      go false e =
+          let z : cond (isUpTo 16 j) (length (listsIn st .exports j)) 0 ≡ 0 = ap (λ t. cond t (length (listsIn st .exports j)) 0) e in
+          let no : ⊥ = omega (arith, ce ∙ z) in absurd no
+
+  pub part-there : (1 ≤ j) × (j ≤ 16)
+  part-there = upTo-true 16 j part-up
+
+  count-is : count ≡ length (listsIn st .exports j)
+  unfolding sentTo
+  count-is = ce ∙ ap (λ t. cond t (length (listsIn st .exports j)) 0) part-up
+
+  pub sent-fits : (d : ℕ) (b : Bytes) → Opened st d b → (from : ℕ) → from ≡ wordAt st (27 + j) → from + count ≤ exportCount st
+  sent-fits d b o from fe =
+      let p : 28 + (j - 1) ≡ 27 + j = omega (arith, part-there .0) in
+      let q : exportEnd st (j - 1) ≡ from = ap (wordAt st) p ∙ sym fe in
+      omega (arith, count-is, sent-length st j, whole st d b o .export-ends (j - 1) j (omega arith) (part-there .1), whole st d b o .export-ends j 16 (part-there .1) (omega arith))
+
+  -- the words and the depths are the message
+  pub message-is : (d : ℕ) (b : Bytes) (from part round : ℕ) → from ≡ wordAt st (27 + j) → part ≡ wordAt st 1 → round ≡ word b d
+      → bytesOf (part ∷ j ∷ round ∷ count ∷ []) ++ blocks from count (sentAt st d b) ≡ messageTo (listsIn st) d b j
+  message-is d b from part round fe pe re =
+      ap₂ (λ p r. bytesOf (p ∷ j ∷ r ∷ count ∷ []) ++ blocks from count (sentAt st d b)) pe re
+      ∙ ap₂ _++_ (ap (λ n. bytesOf (wordAt st 1 ∷ j ∷ word b d ∷ n ∷ [])) (count-is ∙ sym (length-map (listsIn st .exports j) (depthAt d b)))) depths
+      ∙ encoded
+    where
+      first : wordAt st (27 + j) ≡ exportEnd st (j - 1)
+      first = let p : 27 + j ≡ 28 + (j - 1) = omega (arith, part-there .0) in ap (wordAt st) p
+
+      depths : blocks from count (sentAt st d b) ≡ joined (map (depthAt d b) (listsIn st .exports j))
+      depths = depths-are st j d b from count (fe ∙ first) count-is
+
+      encoded : bytesOf (wordAt st 1 ∷ j ∷ word b d ∷ length (map (depthAt d b) (listsIn st .exports j)) ∷ []) ++ joined (map (depthAt d b) (listsIn st .exports j)) ≡ messageTo (listsIn st) d b j
+      encoded = encoded-is st j d b
+
+-- ---- the loop over the entries
+
+module _ (st : Bytes) (d : ℕ) (b : Bytes) (o : Opened st d b) (held owned reached : ℕ) (C : Counts st held owned reached) (from count : ℕ) (fit : from + count ≤ exportCount st) where
+  sent-four : (x : ℕ) → length (sentAt st d b x) ≡ 4
+  unfolding sentAt
+  sent-four x = length-four b (depthPlace d (exportAt st x))
+
+  pub put-start : (out : Bytes) → out ≡ over out 8 (blocks from 0 (sentAt st d b))
+  put-start out = sym (ap (over out 8) (blocks-start from (sentAt st d b)) ∙ over-none out 8)
+
+  module _ (t l : ℕ) (h : t < count) (le : l ≡ wordAt st (46 + held + owned + 2 * reached + (from + t))) where
+    local-is : exportAt st (from + t) ≡ l
+    local-is =
+        let p : 46 + heldCount st + ownedCount st + 2 * reachCount st + (from + t) ≡ 46 + held + owned + 2 * reached + (from + t) = omega (arith, C .held-is, C .owned-is, C .reached-is) in
+        ap (wordAt st) p ∙ sym le
+
+    pub put-room : d + 30 + 4 * l + 4 ≤ length b
+    put-room =
+        let w = whole st d b o .exported (from + t) (omega arith) in
+        omega (arith, w .1, local-is, own-few st d b o, long st d b o)
+
+    pub put-turn : (out x y : Bytes) → 8 + 4 * count ≤ length out → x ≡ over out 8 (blocks from t (sentAt st d b)) → y ≡ over x (8 + 4 * t) (take 4 (drop (d + 30 + 4 * l) b))
+        → y ≡ over out 8 (blocks from (t + 1) (sentAt st d b))
+    put-turn out x y r e q =
+        q
+        ∙ ap₂ (λ (z : Bytes) (w : Bytes). over z (8 + 4 * t) w) e (four-cut b (d + 30 + 4 * l) put-room ∙ sent-is)
+        ∙ fours-store from t (sentAt st d b) (λ k z. sent-four (from + k)) out 8 (omega arith)
+      where
+        sent-is : four b (d + 30 + 4 * l) ≡ sentAt st d b (from + t)
+        sent-is = ap (λ k. four b (d + 30 + 4 * k)) (sym local-is) ∙ sent-at st d b (from + t)
+
+  pub put-end : (out x : Bytes) (t : ℕ) → t ≤ count → count ≤ t → x ≡ over out 8 (blocks from t (sentAt st d b)) → x ≡ over out 8 (blocks from count (sentAt st d b))
+  put-end out x t g h e = let q : t ≡ count = omega arith in rw q at e
+
+-- the words first, and the depths behind them
+pub message-put : (b out x y : Bytes) (st : Bytes) (d j count from part round : ℕ) → Opened st d b → count ≡ sentTo (listsIn st) j → 1 ≤ count → 8 + 4 * count ≤ length out
+    → from ≡ wordAt st (27 + j) → part ≡ wordAt st 1 → round ≡ word b d → x ≡ over out 0 (bytesOf (part ∷ j ∷ round ∷ count ∷ []))
+    → y ≡ over x 8 (blocks from count (sentAt st d b)) → y ≡ over out 0 (messageTo (listsIn st) d b j)
+message-put b out x y st d j count from part round o ce some room fe pe re xe ye =
+    let l : length (bytesOf (part ∷ j ∷ round ∷ count ∷ [])) ≡ 8 = length-bytesOf (part ∷ j ∷ round ∷ count ∷ []) in
+    let k : 8 ≡ 0 + length (bytesOf (part ∷ j ∷ round ∷ count ∷ [])) = omega (arith, l) in
+    ye
+    ∙ ap₂ (λ (z : Bytes) n. over z n (blocks from count (sentAt st d b))) xe k
+    ∙ over-more out 0 (bytesOf (part ∷ j ∷ round ∷ count ∷ [])) (omega arith) (blocks from count (sentAt st d b))
+    ∙ ap (over out 0) (message-is st j count ce some d b from part round fe pe re)
+
+-- ---- the lists as they are cut
+
+module _ (b : Bytes) (j d count : ℕ) where
+  pub sent-cut : count ≡ sentTo (listsIn (take (d - 0) (drop 0 b))) j → count ≡ sentTo (listsIn (take d b)) j
+  sent-cut e = e ∙ ap (λ (x : Bytes). sentTo (listsIn x) j) (cut b d)
+
+  pub sent-whole : count ≡ sentTo (listsIn (take d b)) j → count ≡ sentTo (listsIn (take (d - 0) (drop 0 b))) j
+  sent-whole e = e ∙ ap (λ (x : Bytes). sentTo (listsIn x) j) (sym (cut b d))
+
+  pub message-cut : (out y : Bytes) → y ≡ over out 0 (messageTo (listsIn (take (d - 0) (drop 0 b))) d b j) → y ≡ over out 0 (messageTo (listsIn (take d b)) d b j)
+  message-cut out y e = e ∙ ap (λ (x : Bytes). over out 0 (messageTo (listsIn x) d b j)) (cut b d)
+
+  pub flag-room : Opened (take d b) d b → count ≡ sentTo (listsIn (take (d - 0) (drop 0 b))) j → 1 ≤ count → (j ≤ 16) × (d + 17 + j < length b)
+  flag-room o ce some =
+      let w = part-there (take d b) j count (sent-cut ce) some in (w .1, omega (arith, w .1, long (take d b) d b o))
+
+-- ---- the answer, test by test
+
+message-length : (L : Lists) (d : ℕ) (b : Bytes) (j : ℕ) → length (messageTo L d b j) ≡ 8 + 4 * length (L .exports j)
+unfolding messageTo encode
+message-length L d b j =
+    let ds = map (depthAt d b) (L .exports j) in
+    length-append (bytesOf (L .part ∷ j ∷ roundAt b d ∷ length (map (depthAt d b) (L .exports j)) ∷ [])) (joined (map (depthAt d b) (L .exports j)))
+    ∙ ap₂ _+_ (length-bytesOf (L .part ∷ j ∷ roundAt b d ∷ length (map (depthAt d b) (L .exports j)) ∷ [])) (joined-length _ (fours-long d b (L .exports j)) ∙ ap (λ n. 4 * n) (length-map (L .exports j) (depthAt d b)))
+
+module _ (b : Bytes) (j : ℕ) (out : Bytes) where
+  abbrev pub Answered : Answer → Bytes → Bytes → Type 0
+  Answered r x y = (r ≡ writeAnswer b j out) × (x ≡ writeState b j out) × (y ≡ writeOut b j out)
+
+  refused : (n : ℕ) → writeNumber b j out ≡ n → (n ≡ 0 → ⊥) → Answered (Refused n) b out
+  unfolding writeAnswer writeState writeOut
+  refused n e z = (answer-refused n (length (message b j)) z ∙ ap (λ m. answer m (length (message b j))) (sym e), simp (e, ne-eqb n 0 z), simp (e, ne-eqb n 0 z))
+
+  done : writeNumber b j out ≡ 0 → Answered (Done (length (message b j))) (writtenIn (listsOf b) (dynamic b) b j) (over out 0 (message b j))
+  unfolding writeAnswer writeState writeOut
+  done e = (answer-done (writeNumber b j out) (length (message b j)) e, simp e, simp e)
+
+  written-is : set b (dynamic b + 17 + j) 1 ≡ writtenIn (listsOf b) (dynamic b) b j
+  unfolding writtenIn
+  written-is = refl
+
+  number-20 : bad20 b ≡ true → writeNumber b j out ≡ 20
+  unfolding writeNumber writeTestsIn
+  number-20 e = simp e
+
+  pub told-20 : (u : Bool) → u ≡ isState b → not u ≡ true → Answered (Refused 20) b out
+  told-20 u ue ut = refused 20 (number-20 (not-state b u ue ut)) (λ z. omega (arith, z))
+
+  module _ (d : ℕ) (o : Opened (take d b) d b) (count : ℕ) (ce : count ≡ sentTo (listsIn (take (d - 0) (drop 0 b))) j) where
+    count-here : count ≡ sentTo (listsIn (take d b)) j
+    count-here = sent-cut b j d count ce
+
+    sends : exportsTo (listsOf b) j ≡ ltb 0 count
+    unfolding exportsTo sentTo
+    sends = ap (λ (L : Lists). isUpTo 16 j && ltb 0 (length (L .exports j))) (lists-is (take d b) d b o) ∙ go (isUpTo 16 j) refl
+      where
+        go : (t : Bool) → isUpTo 16 j ≡ t → t && ltb 0 (length (listsIn (take d b) .exports j)) ≡ ltb 0 count
+        go true e = ap (ltb 0) (sym (count-here ∙ ap (λ t. cond t (length (listsIn (take d b) .exports j)) 0) e))
+        go false e = ap (ltb 0) (sym (count-here ∙ ap (λ t. cond t (length (listsIn (take d b) .exports j)) 0) e))
+
+    number-27 : count < 1 → writeNumber b j out ≡ 27
+    unfolding writeNumber writeTestsIn
+    number-27 h = let z : count ≤ 0 = omega arith in simp (good-state (take d b) d b o, sends, le-ltb 0 count z)
+
+    pub told-27 : count < 1 → Answered (Refused 27) b out
+    told-27 h = refused 27 (number-27 h) (λ z. omega (arith, z))
+
+    module _ (some : 1 ≤ count) where
+      message-here : messageTo (listsIn (take d b)) d b j ≡ message b j
+      unfolding message
+      message-here = ap₂ (λ (L : Lists) p. messageTo L p b j) (sym (lists-is (take d b) d b o)) (o .place-is)
+
+      size-is : length (message b j) ≡ 8 + 4 * count
+      size-is = ap length (sym message-here) ∙ message-length (listsIn (take d b)) d b j ∙ ap (λ n. 8 + 4 * n) (sym (count-is (take d b) j count count-here some))
+
+      number-16 : length out < 8 + 4 * count → writeNumber b j out ≡ 16
+      unfolding writeNumber writeTestsIn message
+      number-16 h = simp (good-state (take d b) d b o, sends, lt-ltb 0 count some, size-is, lt-ltb _ _ h)
+
+      number-none : 8 + 4 * count ≤ length out → writeNumber b j out ≡ 0
+      unfolding writeNumber writeTestsIn message
+      number-none h = simp (good-state (take d b) d b o, sends, lt-ltb 0 count some, size-is, le-ltb _ _ h)
+
+      pub told-16 : length out < 8 + 4 * count → Answered (Refused 16) b out
+      told-16 h = refused 16 (number-16 h) (λ z. omega (arith, z))
+
+      pub told-done : 8 + 4 * count ≤ length out → (x y : Bytes) → y ≡ over out 0 (messageTo (listsIn (take d b)) d b j) → x ≡ set b (d + 17 + j) 1 → Answered (Done (8 + 4 * count)) x y
+      told-done h x y ye xe =
+          let a = done (number-none h) in (
+            ap Done (sym size-is) ∙ a .0,
+            xe ∙ ap (λ p. set b (p + 17 + j) 1) (o .place-is) ∙ written-is ∙ a .1,
+            ye ∙ ap (over out 0) message-here ∙ a .2,
+          )

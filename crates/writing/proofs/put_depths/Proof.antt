@@ -1,0 +1,43 @@
+-- `writing::put_depths` meets its contract. The invariant: the first t depths are copied. Assumes nothing.
+use mathlib.Core.Path.{_≡_, refl}
+use Prim.Native.Nat.{_+_, _-_, _*_, _≤_}
+use lib.ListN.{length}
+use Rattle.vocabulary.specs.Bytes.{over}
+use Rattle.vocabulary.specs.Ranges.{blocks}
+use Rattle.parts.specs.Opened.{sentAt}
+use Rattle.writing.proofs.WriteLaws.{put-start, put-room, put-turn, put-end}
+use borrow.Author.Needs.{needs}
+use Rattle.writing.proofs.put_depths.Statement.{statement}
+use Rattle.writing.proofs.put_depths.Tie as tie
+
+abbrev Inv-loop : tie.InvT-loop
+Inv-loop lists b d held owned reached from count out₀ base t₀ out t = (base ≡ 46 + held + owned + 2 * reached) × (t ≤ count) × (length out ≡ length out₀) × (out ≡ over out₀ 8 (blocks from t (sentAt lists d b)))
+
+abbrev μ-loop : tie.MeasureT-loop
+μ-loop lists b d held owned reached from count out₀ base t₀ out t = count - t
+
+pub put-depths-spec : {M : Type 1} → statement M
+put-depths-spec =
+    tie.close
+    (tie.spec
+    Inv-loop
+    μ-loop
+    (λ c. search needs)
+    (λ c. search needs)
+    (λ c. search needs)
+    (λ c. search needs)
+    (λ c. (refl, search needs, search needs, search put-start))
+    (λ c. search needs)
+    (λ c. search needs)
+    (λ c κs. search needs)
+    (λ c. search needs)
+    (λ c. search needs)
+    (λ c. search needs)
+    (λ c. search needs)
+    (λ c. search needs)
+    (λ c κs. (search needs, search put-room))
+    (λ c. search needs)
+    (λ c. search needs)
+    (λ c. (search needs, search needs, search needs, put-turn _ _ _ (c .before .before .before .before .before .before .before .before .before .before .pre .0) _ _ _ (c .before .before .before .before .before .before .before .before .before .before .pre .1) _ _ (c .before .before .before .before .before .before .before .before .before .before .pre .2) _ _ (c .before .before .before .before .before .loop-test .taken) (c .before .before .before .before .word-at .ensures .0) _ _ _ (c .before .before .before .before .before .before .before .before .before .before .pre .5) (c .before .before .before .before .before .before .loop .inv .3) (c .before .before .copy .ensures)))
+    (λ c. search needs)
+    (λ c. search put-end))

@@ -1,0 +1,20 @@
+-- `writing::write` meets its contract. Assumes nothing.
+use Rattle.parts.proofs.OpenedLaws.{opened-here}
+use Rattle.writing.proofs.WriteLaws.{told-20}
+use borrow.Author.Needs.{needs}
+use Rattle.writing.proofs.write.Statement.{statement}
+use Rattle.writing.proofs.write.Tie as tie
+
+pub write-spec : {M : Type 1} → statement M
+write-spec =
+    tie.close
+    (tie.spec
+    (λ c κs. search needs)
+    (λ c. search needs)
+    (λ c. told-20 _ _ _ _ (c .before .is-state .ensures) (c .if1 .taken))
+    (λ c κs. search needs)
+    (λ c. search needs)
+    (λ c κs. opened-here _ _ _ (c .before .before .before .before .before .is-state .ensures) (c .before .before .before .before .if1 .left) (c .before .before .word-at .ensures .0) (c .before .before .word-at .ensures .1))
+    (λ c. search needs)
+    (λ c. search needs)
+    (λ c. search needs))

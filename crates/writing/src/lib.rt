@@ -1,0 +1,99 @@
+// Write: the message to one importer.
+use layout::Answer;
+use layout::inner::copy;
+use layout::inner::word_in;
+use layout::word_at;
+use messages::inner::write_head;
+use parts::inner::set_flag;
+use states::inner::between;
+use states::is_state;
+use states::up_to;
+ghost use mathlib.Core.Path.{_≡_};
+ghost use Prim.Native.Nat.{_+_, _*_, _<_, _≤_};
+ghost use lib.ListN.{length, take};
+ghost use Rattle.vocabulary.specs.Bytes.{over};
+ghost use Rattle.vocabulary.specs.Ranges.{blocks};
+ghost use Rattle.states.specs.State.{listsIn, exportCount};
+ghost use Rattle.states.specs.Checks.{Counts};
+ghost use Rattle.parts.specs.Opened.{Opened, sentTo, sentAt};
+ghost use Rattle.parts.specs.Calls.{messageTo, writeAnswer, writeState, writeOut};
+
+// How many depths go to part j: none where j is no part.
+fn sent_to(lists: &[u8], j: usize) -> usize
+    ensures { λ r. ⌜ (r ≡ sentTo (listsIn (now (lists .entry))) j) × (r < 65536) ⌝ }
+{
+    if !up_to(16, j) {
+        return 0;
+    }
+    between(lists, 27 + j)
+}
+
+// Copies the depths of `count` export entries, after the first `from` of them, behind the words of a message.
+fn put_depths(
+    lists: &[u8],
+    b: &[u8],
+    d: usize,
+    held: usize,
+    owned: usize,
+    reached: usize,
+    from: usize,
+    count: usize,
+    out: &mut [u8],
+)
+    requires { ⌜ Opened (now lists) d (now b) × Counts (now lists) held owned reached × (from + count ≤ exportCount (now lists)) × (from < 65536) × (count < 65536) × (8 + 4 * count ≤ length (now out)) ⌝ }
+    ensures { λ _. ⌜ now (out .exit) ≡ over (now (out .entry)) 8 (blocks from count (sentAt (now (lists .entry)) d (now (b .entry)))) ⌝ }
+{
+    let base = 46 + held + owned + 2 * reached;
+    for t in 0..count {
+        let l = word_at(lists, base + (from + t));
+        copy(out, 8 + 4 * t, b, d + 30 + 4 * l, 4);
+    }
+}
+
+// The message to part j, on a state whose lists end at d.
+fn put_message(lists: &[u8], b: &[u8], d: usize, j: usize, count: usize, out: &mut [u8])
+    requires { ⌜ Opened (now lists) d (now b) × (count ≡ sentTo (listsIn (now lists)) j) × (1 ≤ count) × (count < 65536) × (8 + 4 * count ≤ length (now out)) ⌝ }
+    ensures { λ _. ⌜ now (out .exit) ≡ over (now (out .entry)) 0 (messageTo (listsIn (now (lists .entry))) d (now (b .entry)) j) ⌝ }
+{
+    let owned = word_at(lists, 11);
+    let held = word_at(lists, 27);
+    let reached = word_at(lists, 45 + held + owned);
+    let from = word_at(lists, 27 + j);
+    write_head(out, word_at(lists, 1), j, word_in(b, d), count);
+    put_depths(lists, b, d, held, owned, reached, from, count, out);
+}
+
+fn write_message(b: &[u8], d: usize, j: usize, count: usize, out: &mut [u8])
+    requires { ⌜ Opened (take d (now b)) d (now b) × (count ≡ sentTo (listsIn (take d (now b))) j) × (1 ≤ count) × (count < 65536) × (8 + 4 * count ≤ length (now out)) ⌝ }
+    ensures { λ _. ⌜ now (out .exit) ≡ over (now (out .entry)) 0 (messageTo (listsIn (take d (now (b .entry)))) d (now (b .entry)) j) ⌝ }
+{
+    put_message(&b[0..d], b, d, j, count, out);
+}
+
+// Write on a state whose lists end at d.
+fn write_in(b: &mut [u8], d: usize, j: usize, out: &mut [u8]) -> Answer
+    requires { ⌜ Opened (take d (now b)) d (now b) ⌝ }
+    ensures { λ r. ⌜ (r ≡ writeAnswer (now (b .entry)) j (now (out .entry))) × (now (b .exit) ≡ writeState (now (b .entry)) j (now (out .entry))) × (now (out .exit) ≡ writeOut (now (b .entry)) j (now (out .entry))) ⌝ }
+{
+    let count = sent_to(&b[0..d], j);
+    if count < 1 {
+        return Answer::Refused(27);
+    }
+    if out.len() < 8 + 4 * count {
+        return Answer::Refused(16);
+    }
+    write_message(b, d, j, count, out);
+    set_flag(b, d + 17 + j);
+    Answer::Done((8 + 4 * count) as u32)
+}
+
+// Gives the message to part j.
+pub fn write(b: &mut [u8], j: u32, out: &mut [u8]) -> Answer
+    ensures { λ r. ⌜ (r ≡ writeAnswer (now (b .entry)) j (now (out .entry))) × (now (b .exit) ≡ writeState (now (b .entry)) j (now (out .entry))) × (now (out .exit) ≡ writeOut (now (b .entry)) j (now (out .entry))) ⌝ }
+{
+    if !is_state(b) {
+        return Answer::Refused(20);
+    }
+    let d = 2 * word_at(b, 0);
+    write_in(b, d, j as usize, out)
+}
