@@ -14,7 +14,7 @@ use Rattle.vocabulary.specs.Ranges.{every, listed, blocks}
 use Rattle.vocabulary.specs.RangeLaws.{every-cong, upTo-intro, listed-length}
 use Rattle.layout.specs.Words.{word, wordAt, wordBytes}
 use Rattle.layout.specs.WordLaws.{length-wordBytes}
-use Rattle.layout.specs.DepthLaws.{fours-length}
+use Rattle.depths.specs.DepthLaws.{fours-length}
 use Rattle.layout.specs.Answers.{answer}
 use Rattle.layout.specs.AnswerLaws.{answer-done, answer-refused}
 use Rattle.layout.specs.declared.Answer.{Answer}
@@ -23,7 +23,7 @@ use Rattle.states.specs.State.{Lists, listsIn, listsOf, dynamic, ownedCount, is
 use Rattle.parts.specs.Calls.{importsFrom, exportsTo, allTaken, allWritten, newAt, advancedIn, advanceTestsIn, advanceNumber, advanceAnswer, advanceState}
 use Rattle.parts.specs.Opened.{Opened, settledAt, advanceRest}
 use Rattle.parts.proofs.OpenedLaws.{whole, own-few, long, good-state, not-state, cut, lists-is}
-use Rattle.advancing.proofs.RenewLaws.{new-four}
+use Rattle.renewing.proofs.RenewLaws.{new-four}
 
 -- ---- imports taken and exports written
 

@@ -1,2 +1,1 @@
-pub mod RenewLaws
 pub mod AdvanceLaws

@@ -2,14 +2,12 @@
 use layout::Answer;
 use layout::byte_at;
 use layout::inner::copy;
-use layout::inner::put_depth;
 use layout::inner::put_word;
 use layout::inner::word_in;
 use layout::word_at;
 use parts::inner::clear;
-use rules::inner::new_depth;
+use renewing::inner::renew_by;
 use states::inner::between;
-use states::inner::weight_count;
 use states::is_state;
 ghost use mathlib.Core.Path.{_≡_};
 ghost use mathlib.Core.List.{_++_};
@@ -18,8 +16,7 @@ ghost use lib.ListN.{length, take, replicate};
 ghost use Rattle.vocabulary.specs.Bytes.{over};
 ghost use Rattle.vocabulary.specs.Ranges.{every, blocks};
 ghost use Rattle.layout.specs.Words.{wordBytes};
-ghost use Rattle.layout.specs.Depths.{depthBytes};
-ghost use Rattle.states.specs.State.{listsIn, ruleKind, weights, heldCount, ownedCount};
+ghost use Rattle.states.specs.State.{listsIn, ownedCount};
 ghost use Rattle.parts.specs.Opened.{Opened, settledAt, advanceRest};
 ghost use Rattle.parts.specs.Calls.{newAt, advanceAnswer, advanceState};
 
@@ -61,56 +58,6 @@ fn advance_rest(lists: &[u8], b: &[u8], d: usize) -> u32
         return 26;
     }
     0
-}
-
-// The new depth of local cell l.
-fn renew_one(
-    lists: &[u8],
-    v: &[u8],
-    b: &[u8],
-    d: usize,
-    kind: usize,
-    held: usize,
-    owned: usize,
-    l: usize,
-) -> i32
-    requires { ⌜ Opened (now lists) d (now b) × (kind ≡ ruleKind (now lists)) × (now v ≡ weights (now lists)) × (held ≡ heldCount (now lists)) × (owned ≡ ownedCount (now lists)) × (held < 65536) × (owned < 65536) × (1 ≤ l) × (l ≤ owned) ⌝ }
-    ensures { λ r. ⌜ depthBytes r ≡ newAt (listsIn (now (lists .entry))) d (now (b .entry)) l ⌝ }
-{
-    let k = 45 + held + (l - 1);
-    let at = 2 * (46 + held + owned) + 4 * word_at(lists, k);
-    new_depth(kind, v, lists, at, between(lists, k), b, d + 30, l)
-}
-
-// The new depths of the owned cells. The state is only read here, so every one comes from old ones.
-fn renew(
-    lists: &[u8],
-    v: &[u8],
-    b: &[u8],
-    d: usize,
-    kind: usize,
-    held: usize,
-    owned: usize,
-    new: &mut [u8],
-)
-    requires { ⌜ Opened (now lists) d (now b) × (kind ≡ ruleKind (now lists)) × (now v ≡ weights (now lists)) × (held ≡ heldCount (now lists)) × (owned ≡ ownedCount (now lists)) × (held < 65536) × (owned < 65536) × (4 * owned ≤ length (now new)) ⌝ }
-    ensures { λ _. ⌜ now (new .exit) ≡ over (now (new .entry)) 0 (blocks 1 owned (newAt (listsIn (now (lists .entry))) d (now (b .entry)))) ⌝ }
-{
-    for l in 1..owned + 1 {
-        let z = renew_one(lists, v, b, d, kind, held, owned, l);
-        put_depth(new, 4 * (l - 1), z);
-    }
-}
-
-// The new depths, by the rule in the lists.
-fn renew_by(lists: &[u8], b: &[u8], d: usize, owned: usize, new: &mut [u8])
-    requires { ⌜ Opened (now lists) d (now b) × (owned ≡ ownedCount (now lists)) × (owned < 65536) × (4 * owned ≤ length (now new)) ⌝ }
-    ensures { λ _. ⌜ now (new .exit) ≡ over (now (new .entry)) 0 (blocks 1 owned (newAt (listsIn (now (lists .entry))) d (now (b .entry)))) ⌝ }
-{
-    let kind = word_at(lists, 3);
-    let end = 8 + 2 * weight_count(kind, word_at(lists, 2));
-    let held = word_at(lists, 27);
-    renew(lists, &lists[8..end], b, d, kind, held, owned, new);
 }
 
 // Stores the round, no flag, and the first `owned` depths of `new`.

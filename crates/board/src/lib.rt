@@ -1,23 +1,13 @@
 // The calls under the names that C and Rust link: a slice is a pointer and a length, and each answers its refusal's number times 2^32 plus its
 // count.
-use layout::Answer;
+use packed::pack;
 ghost use mathlib.Core.Path.{_≡_};
-ghost use Rattle.board.specs.Packed.{packed};
+ghost use Rattle.packed.specs.Packed.{packed};
 ghost use Rattle.mesh.specs.Mesh.{checkAnswer};
 ghost use Rattle.round.specs.Rounds.{roundAnswer, roundOut};
 ghost use Rattle.split.specs.Lists.{interior-cells, halo-cells, local-order, imports-from, exports-to, private-range, exposed-range, shared-range, copied-range, listAnswer, listOut};
 ghost use Rattle.parts.specs.Calls.{writeAnswer, writeState, writeOut, takeAnswer, takeState, advanceAnswer, advanceState, collectAnswer, collectOut};
 ghost use Rattle.starts.specs.Start.{sizeAnswer, startAnswer, startState};
-
-// An answer as one number.
-fn pack(a: Answer) -> u64
-    ensures { λ r. ⌜ r ≡ packed a ⌝ }
-{
-    match a {
-        Answer::Done(count) => count as u64,
-        Answer::Refused(number) => (number as u64) * 4294967296,
-    }
-}
 
 // How many cells the mesh has.
 #[no_mangle]

@@ -12,7 +12,7 @@ use borrow.Author.Tests.{eq-eqb, ne-eqb, not-true, not-false}
 use Rattle.vocabulary.specs.Bytes.{Bytes, byteAt, over}
 use Rattle.vocabulary.specs.ByteLaws.{over-none, over-more, over-one, over-front}
 use Rattle.vocabulary.specs.Ranges.{every, blocks, some}
-use Rattle.vocabulary.specs.RangeLaws.{every-none, every-more, every-fails, blocks-turn, blocks-start, some-has, some-more}
+use Rattle.vocabulary.specs.RangeLaws.{every-none, every-more, every-fails, blocks-turn, blocks-start, some-has, some-more, at-last}
 use Rattle.layout.specs.Words.{wordAt}
 use Rattle.split.specs.Sorting.{ownsAt, heldAt, entryOwned, insideAt, sortAt, sorted, cellsOf, localsOf, Added, elsewhereAt}
 use lib.Seq.{take-append-seam}
@@ -110,7 +110,7 @@ module _ (g : ℕ → List ℕ) where
       subst (Added a c s u) (ap (λ x. blocks 0 q g ++ g x) (sym (zero-add q)) ∙ sym (blocks-turn 0 g q)) (add-both a b c s t u (blocks 0 q g) (g q) X Y)
 
   pub add-end : (a b : List ℕ) (s t q n : ℕ) → q ≤ n → n ≤ q → Added a b s t (blocks 0 q g) → Added a b s t (blocks 0 n g)
-  add-end a b s t q n h k X = let e : q ≡ n = omega arith in subst (λ j. Added a b s t (blocks 0 j g)) e X
+  add-end a b s t q n h k X = at-last (λ j. Added a b s t (blocks 0 j g)) q n h k X
 
 module _ (owners table : Bytes) (ends : List ℕ) (held : Bytes) (i first k q x : ℕ) (xe : x ≡ sortAt owners table ends held i q) (b : List ℕ) (s : ℕ) where
   pub add-skip : (x ≡ k → ⊥) → Added b b s s (sorted owners table ends held i first k q)
@@ -145,7 +145,7 @@ module _ (owners table : Bytes) (ends : List ℕ) (held : Bytes) (i first cells 
 
   pub imports-end : (a b : List ℕ) (s t j parts : ℕ) → j ≤ parts → parts ≤ j → Added a b s t (blocks 1 j (cellsOf owners table ends held i first cells))
       → Added a b s t (blocks 1 parts (cellsOf owners table ends held i first cells))
-  imports-end a b s t j parts h k X = let e : j ≡ parts = omega arith in subst (λ n. Added a b s t (blocks 1 n (cellsOf owners table ends held i first cells))) e X
+  imports-end a b s t j parts h k X = at-last (λ n. Added a b s t (blocks 1 n (cellsOf owners table ends held i first cells))) j parts h k X
 
   pub locals-added : (a b c d : List ℕ) (s t u parts : ℕ) → Added a b 0 s (cellsOf owners table ends held i first cells 17) → Added b c s t (cellsOf owners table ends held i first cells 18)
       → Added c d t u (blocks 1 parts (cellsOf owners table ends held i first cells)) → Added a d 0 u (localsOf owners table ends held i first cells parts)
@@ -185,4 +185,4 @@ module _ (held : Bytes) (i q k : ℕ) (b : Bool) (e : b ≡ elsewhereAt held i q
   elsewhere-turn s t = some-more 1 (elsewhereAt held i q) k s (sym at-one ∙ t)
 
 pub elsewhere-end : (held : Bytes) (i q k parts : ℕ) → k ≤ parts → parts ≤ k → some 1 k (elsewhereAt held i q) ≡ false → false ≡ some 1 parts (elsewhereAt held i q)
-elsewhere-end held i q k parts g h s = let e : k ≡ parts = omega arith in sym (rw e at s)
+elsewhere-end held i q k parts g h s = sym (at-last (λ n. some 1 n (elsewhereAt held i q) ≡ false) k parts g h s)

@@ -7,7 +7,7 @@ use lib.ListN.{length, take, drop}
 use borrow.Author.Tests.{eq-eqb, ne-eqb, lt-ltb, le-ltb}
 use Rattle.vocabulary.specs.Bytes.{Bytes, over}
 use Rattle.layout.specs.Words.{word, wordAt}
-use Rattle.layout.specs.Depths.{four}
+use Rattle.depths.specs.Depths.{four}
 use Rattle.layout.specs.Answers.{answer}
 use Rattle.layout.specs.AnswerLaws.{answer-done, answer-refused}
 use Rattle.layout.specs.declared.Answer.{Answer}
@@ -16,6 +16,7 @@ use Rattle.states.specs.State.{Lists, listsIn, listsOf, dynamic, roundAt, first
 use Rattle.parts.specs.Calls.{collectedIn, collectTestsIn, collectNumber, collectAnswer, collectOut}
 use Rattle.parts.specs.Opened.{Opened}
 use Rattle.parts.proofs.OpenedLaws.{lists-is, whole, own-few, long, good-state, not-state, four-cut}
+use Rattle.vocabulary.specs.RangeLaws.{at-last}
 
 -- ---- the loop
 
@@ -29,7 +30,7 @@ unfolding collectedIn
 gather-start st d b f = refl
 
 pub gather-end : (st : Bytes) (d : ℕ) (b : Bytes) (f x : Bytes) (l owned : ℕ) → l ≤ owned + 1 → owned + 1 ≤ l → x ≡ collectedIn (listsIn st) d b (l - 1) f → x ≡ collectedIn (listsIn st) d b owned f
-gather-end st d b f x l owned g h e = let p : l - 1 ≡ owned = omega arith in e ∙ ap (λ n. collectedIn (listsIn st) d b n f) p
+gather-end st d b f x l owned g h e = at-last (λ n. x ≡ collectedIn (listsIn st) d b n f) (l - 1) owned (omega arith) (omega arith) e
 
 module _ (st : Bytes) (d : ℕ) (b : Bytes) (o : Opened st d b) (first owned : ℕ) (fe : first ≡ firstOfMesh st) (oe : owned ≡ ownedCount st) where
   module _ (l g : ℕ) (h : 1 ≤ l) (k : l < owned + 1) (ge : g ≡ wordAt st (44 + l)) where

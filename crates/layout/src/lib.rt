@@ -1,4 +1,4 @@
-// The layout of words, depths and answers. Here stand the functions that take any bytes; those that
+// The layout of words and answers. Here stand the functions that take any bytes; those that
 // suppose their bytes to be there are in `inner`.
 pub mod inner;
 
@@ -8,7 +8,6 @@ ghost use Prim.Native.Nat.{ℕ, _<_};
 ghost use lib.ListN.{getD, set};
 ghost use Rattle.vocabulary.specs.Bytes.{byteAt};
 ghost use Rattle.layout.specs.Words.{wordAt};
-ghost use Rattle.layout.specs.Depths.{inRange};
 
 // What every call answers: how many words, bytes or cells it gave, or the number of its refusal.
 pub enum Answer {
@@ -58,11 +57,4 @@ pub fn put_number_at(list: &mut [u16], i: usize, v: u16)
     if i < list.len() {
         list[i] = v;
     }
-}
-
-// Whether a depth is one that a field may hold.
-pub fn in_range(z: i32) -> bool
-    ensures { λ r. ⌜ r ≡ inRange z ⌝ }
-{
-    -1200000 <= z && z <= 1200000
 }

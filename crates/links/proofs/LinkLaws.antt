@@ -6,7 +6,7 @@ use native.Mathlib.Omega.{arith}
 use lib.ListN.{length, getD, set, length-append, length-map}
 use Rattle.vocabulary.specs.Bytes.{Bytes}
 use Rattle.vocabulary.specs.Ranges.{blocks}
-use Rattle.vocabulary.specs.RangeLaws.{blocks-turn, blocks-length, blocks-inner, total-cong}
+use Rattle.vocabulary.specs.RangeLaws.{blocks-turn, blocks-length, blocks-inner, total-cong, at-last}
 use Rattle.mesh.specs.Mesh.{elements, recordCount, firstCell, cellCount, headOf, elementIn, nextOf, follow, records, chain, allRecords}
 use Rattle.mesh.specs.Accepted.{Accepted}
 use Rattle.mesh.proofs.FollowLaws.{chain-ended, chain-spent, chain-more}
@@ -99,4 +99,4 @@ module _ (m : Bytes) (r : ℕ) (re : r ≡ recordCount m) (first e h : ℕ) (he 
       omega (arith, A .records-few, A .sizes .r-high)
 
 pub cells-end : (m : Bytes) (first cells e : ℕ) (L X : Links) → L ≡ linkCells m first (e - first) X → e ≤ first + cells → first + cells ≤ e → L ≡ linkCells m first cells X
-cells-end m first cells e L X i g h = let q : e - first ≡ cells = omega arith in rw q at i
+cells-end m first cells e L X i g h = at-last (λ k. L ≡ linkCells m first k X) (e - first) cells (omega arith) (omega arith) i

@@ -3,7 +3,7 @@
 use listing::list_text;
 ghost use Prim.Native.Nat.{_≤_};
 ghost use lib.ListN.{length};
-ghost use Rattle.part_text.specs.Printing.{textRoom};
+ghost use Rattle.listing.specs.Pieces.{textRoom};
 
 // Prints the text of an input, by way of a buffer with room for any.
 fn print_list(input: &[u8], out: &mut [u8])

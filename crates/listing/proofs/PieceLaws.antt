@@ -18,10 +18,12 @@ use Rattle.mesh.specs.Walks.{bad10}
 use Rattle.split.specs.Split.{splitOf}
 use Rattle.split.specs.Lists.{bad8, bad9, splitTests, sizeTests, splitNumber, sizesNumber}
 use Rattle.split.proofs.PassedLaws.{tests-numbered}
-use Rattle.part_text.specs.Listing.{ascii, line, splitText, meshPiece, mapPiece, partsPiece, ownersPiece, lastPiece, stencilPiece, listingNumber, listText}
-use Rattle.part_text.specs.Printing.{Printed, partOf, piecesNumber, piecesText, stencilText, lastText, ownersText, mapText}
-use Rattle.part_text.proofs.PrintLaws.{print-both}
-use Rattle.part_text.proofs.PartLaws.{b-parts, b-refused}
+use Rattle.text.specs.Listing.{ascii, line, splitText, meshPiece, mapPiece, partsPiece, ownersPiece, lastPiece, stencilPiece, listingNumber, listText}
+use Rattle.text.specs.Printing.{Printed}
+use Rattle.range_text.specs.Lines.{partOf}
+use Rattle.listing.specs.Pieces.{piecesNumber, piecesText, stencilText, lastText, ownersText, mapText}
+use Rattle.text.proofs.PrintLaws.{print-both}
+use Rattle.range_text.proofs.PartLaws.{b-parts, b-refused}
 
 -- ---- cuts
 

@@ -24,9 +24,10 @@ use Rattle.split.specs.SplitLaws.{own-count, order-length, local-held, split-re
 use Rattle.split.specs.Lists.{bad8, bad12, splitTests, sizeTests, splitNumber}
 use Rattle.split.proofs.PreparedLaws.{map-right}
 use Rattle.split.proofs.PassedLaws.{tests-numbered, passed-facts}
-use Rattle.part_text.specs.Listing.{ascii, digits, decimal, spaced, line, lineUnlessEmpty, dimensionText, partText, splitText, meshPiece, partsPiece, ownersPiece, stencilPiece, listingNumber, listText}
-use Rattle.part_text.specs.Printing.{fitting, Printed, Listed, piecesNumber, piecesText}
-use Rattle.part_text.proofs.PrintLaws.{room}
+use Rattle.text.specs.Listing.{ascii, digits, decimal, spaced, line, lineUnlessEmpty, dimensionText, partText, splitText, meshPiece, partsPiece, ownersPiece, stencilPiece, listingNumber, listText}
+use Rattle.text.specs.Printing.{fitting, Printed}
+use Rattle.listing.specs.Pieces.{Listed, piecesNumber, piecesText}
+use Rattle.text.proofs.PrintLaws.{room}
 use Rattle.listing.proofs.PieceLaws.{tests-are}
 
 -- ---- numbers of at most four digits

@@ -3,11 +3,11 @@ use layout::byte_at;
 use mesh::inner::cell_count;
 use mesh::inner::elements_of;
 use mesh::inner::record_count;
-use part_text::inner::put_line;
 use part_text::inner::put_parts;
-use part_text::inner::put_text;
 use split::inner::sizes_number;
 use split::split_number;
+use text::inner::put_line;
+use text::inner::put_text;
 ghost use mathlib.Core.Path.{_≡_};
 ghost use mathlib.Core.List.{[], _∷_};
 ghost use Prim.Native.Nat.{_≤_};
@@ -16,8 +16,9 @@ ghost use Rattle.mesh.specs.Mesh.{meshLength};
 ghost use Rattle.split.specs.Split.{splitOf};
 ghost use Rattle.split.specs.Lists.{splitNumber};
 ghost use Rattle.split.specs.Sorting.{Prepared};
-ghost use Rattle.part_text.specs.Listing.{splitText, listText};
-ghost use Rattle.part_text.specs.Printing.{Printed, Listed, piecesText, stencilText, lastText, ownersText, mapText};
+ghost use Rattle.text.specs.Listing.{splitText, listText};
+ghost use Rattle.text.specs.Printing.{Printed};
+ghost use Rattle.listing.specs.Pieces.{Listed, piecesText, stencilText, lastText, ownersText, mapText};
 
 // The number of parts, and the parts.
 fn put_split(

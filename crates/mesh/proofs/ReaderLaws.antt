@@ -5,7 +5,7 @@ use native.Mathlib.Numerals.{add-one}
 use native.Mathlib.Omega.{arith}
 use Rattle.vocabulary.specs.Bytes.{Bytes}
 use Rattle.layout.specs.Words.{wordAt}
-use Rattle.mesh.specs.Mesh.{top, counted, below, elements, firstCell, cellCount, elementIn, nextOf}
+use Rattle.mesh.specs.Mesh.{top, counted, below, elements, firstCell, cellCount}
 
 pub below-start : (m : Bytes) → 0 ≡ below m 0
 unfolding below
@@ -15,13 +15,9 @@ pub below-turn : (m : Bytes) (sum k c : ℕ) → sum ≡ below m k → c ≡ cou
 unfolding below
 below-turn m sum k c e f = rw (add-one k) (simp (e, f))
 
-pub reads-element : (m : Bytes) (n i w : ℕ) → n ≡ elements m → w ≡ wordAt m (4 + n + 2 * i) → w ≡ elementIn m i
-unfolding elementIn
-reads-element m n i w e f = f ∙ ap (λ x. wordAt m (4 + x + 2 * i)) e
-
-pub reads-next : (m : Bytes) (n i w : ℕ) → n ≡ elements m → w ≡ wordAt m (5 + n + 2 * i) → w ≡ nextOf m i
-unfolding nextOf
-reads-next m n i w e f = f ∙ ap (λ x. wordAt m (5 + x + 2 * i)) e
+-- a word of record i, which stands behind the N heads
+pub reads-record : (m : Bytes) (a n i w : ℕ) → n ≡ elements m → w ≡ wordAt m (a + n + 2 * i) → w ≡ wordAt m (a + elements m + 2 * i)
+reads-record m a n i w e f = f ∙ ap (λ x. wordAt m (a + x + 2 * i)) e
 
 pub below-end : (m : Bytes) (sum j k : ℕ) → sum ≡ below m j → j ≤ k → k ≤ j → sum ≡ below m k
 below-end m sum j k e f g = e ∙ ap (below m) (omega arith)

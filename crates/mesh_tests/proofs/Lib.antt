@@ -1,3 +1,1 @@
 pub mod HeadLaws
-pub mod ElementLaws
-pub mod ClosureLaws

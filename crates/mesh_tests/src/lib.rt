@@ -1,12 +1,6 @@
 // Whether bytes are a mesh: the tests 1 to 7.
-mod chains;
-mod closure;
 mod head;
 
-use chains::bad4;
-use chains::bad5;
-use closure::bad6;
-use closure::bad7;
 use head::bad1;
 use head::bad2;
 use head::bad3;
@@ -15,8 +9,11 @@ use mesh::inner::cell_count;
 use mesh::inner::elements_of;
 use mesh::inner::record_count;
 use mesh::inner::top_of;
+use mesh_chains::inner::bad4;
+use mesh_chains::inner::bad5;
+use mesh_closure::inner::bad6;
+use mesh_closure::inner::bad7;
 ghost use mathlib.Core.Path.{_≡_};
-ghost use Prim.Native.Nat.{ℕ, _≤_};
 ghost use Rattle.mesh.specs.Mesh.{meshNumber, checkAnswer};
 
 // The number of the first test that refuses the mesh, and 0 where none does.

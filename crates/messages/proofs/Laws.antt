@@ -10,7 +10,7 @@ use Rattle.vocabulary.specs.Bytes.{Bytes, over}
 use Rattle.vocabulary.specs.Ranges.{every}
 use Rattle.vocabulary.specs.ByteLaws.{over-more}
 use Rattle.layout.specs.Words.{wordAt, wordBytes, bytesOf}
-use Rattle.layout.specs.Depths.{rangedAt}
+use Rattle.depths.specs.Depths.{rangedAt}
 use Rattle.messages.specs.Messages.{bad15}
 use Rattle.messages.specs.Heads.{headOf}
 use Rattle.messages.specs.declared.Reading.the-variants.{Message, Refused}

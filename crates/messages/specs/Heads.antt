@@ -3,7 +3,7 @@ use mathlib.Core.Bool.{cond}
 use Prim.Native.Nat.{ℕ, _+_, _*_}
 use Rattle.vocabulary.specs.Bytes.{Bytes}
 use Rattle.vocabulary.specs.Ranges.{listed}
-use Rattle.layout.specs.Depths.{four}
+use Rattle.depths.specs.Depths.{four}
 use Rattle.messages.specs.Messages.{read, refused, fromIn, toIn, roundIn, countIn, bad15}
 use Rattle.messages.specs.Messages as paper
 use Rattle.messages.specs.declared.Reading.{Reading}

@@ -17,8 +17,8 @@ use Rattle.vocabulary.specs.ListLaws.{All-getD, All-map, All-append, All-split,
 use Rattle.vocabulary.specs.RangeLaws.{every-intro, listed-length, listed-back}
 use Rattle.layout.specs.Words.{wordAt, words, bytesOf}
 use Rattle.layout.specs.WordLaws.{word-same, wordAt-first, length-bytesOf, bytesOf-bytes, bytesOf-words, words-same}
-use Rattle.layout.specs.Depths.{four, depthOf, inRange, rangedAt}
-use Rattle.layout.specs.DepthLaws.{four-past, joined-at, joined-length, joined-fours, depth-four}
+use Rattle.depths.specs.Depths.{four, depthOf, inRange, rangedAt}
+use Rattle.depths.specs.DepthLaws.{four-past, joined-at, joined-length, joined-fours, depth-four}
 use Rattle.messages.specs.Messages.{Message, encode, fromIn, toIn, roundIn, countIn, bad15, Reading, read, refused, reading}
 
 -- a depth that may stand in a message: four bytes, in range

@@ -10,7 +10,7 @@ use Rattle.vocabulary.specs.Ranges.{every, listed}
 use Rattle.vocabulary.specs.Lists.{joined}
 use Rattle.vocabulary.specs.Bytes.{Bytes}
 use Rattle.layout.specs.Words.{wordAt, bytesOf}
-use Rattle.layout.specs.Depths.{four, rangedAt}
+use Rattle.depths.specs.Depths.{four, rangedAt}
 
 -- a message, each depth as its four bytes; its count is the number of its depths
 pub record Message : Type 0 where

@@ -1,7 +1,7 @@
 // Messages. Here stands the reader, which takes any bytes; what supposes room for a message is in `inner`.
 pub mod inner;
 
-use layout::inner::depths_in_range;
+use depths::inner::depths_in_range;
 use layout::word_at;
 ghost use mathlib.Core.Path.{_≡_};
 ghost use Rattle.messages.specs.Messages.{bad15};

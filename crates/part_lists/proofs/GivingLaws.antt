@@ -19,6 +19,7 @@ use Rattle.layout.specs.declared.Answer.the-variants.{Done, Refused}
 use Rattle.split.specs.Sorting.{Added}
 use Rattle.cell_lists.proofs.SortLaws.{added-take}
 use Rattle.part_lists.specs.Giving.{givenNumber, givenAnswer, givenOut}
+use Rattle.vocabulary.specs.RangeLaws.{at-last}
 
 -- ---- the words, one after another
 
@@ -37,7 +38,7 @@ words-turn list out b c k n x h g l xe e f =
     ∙ ap (λ ws. over out 0 (bytesOf ws)) (ap (λ y. take k list ++ (y ∷ [])) xe ∙ sym (rw add-one (take-suc list k 0 (omega arith))))
 
 pub words-end : (list out b : List ℕ) (k n : ℕ) → k ≤ n → n ≤ k → b ≡ over out 0 (bytesOf (take k list)) → b ≡ over out 0 (bytesOf (take n list))
-words-end list out b k n g h e = let q : k ≡ n = omega arith in rw q at e
+words-end list out b k n g h e = at-last (λ j. b ≡ over out 0 (bytesOf (take j list))) k n g h e
 
 -- ---- the last test
 

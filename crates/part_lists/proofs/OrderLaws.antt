@@ -11,12 +11,12 @@ use lib.ListN.{length, getD}
 use borrow.Author.Tests.{eqb-true, eqb-false, eq-eqb, not-true}
 use Rattle.vocabulary.specs.Bytes.{Bytes}
 use Rattle.vocabulary.specs.Lists.{repeats}
-use Rattle.vocabulary.specs.ListLaws.{At, and-true, repeats-none, repeats-once, cond-has, someOf-has}
+use Rattle.vocabulary.specs.ListLaws.{At, and-true, repeats-none, repeats-once, cond-has}
 use Rattle.vocabulary.specs.Ranges.{picked, total}
-use Rattle.vocabulary.specs.RangeLaws.{Rises, picked-rises, picked-passes, picked-in, rises-once}
+use Rattle.vocabulary.specs.RangeLaws.{Rises, picked-rises, picked-passes, rises-once}
 use Rattle.mesh.specs.Mesh.{top, counted, below}
 use Rattle.split.specs.Split.{Split, owns, owned, reaches, holds, held, imports, exports, interior, halo, locals, localOf, globalOf, range}
-use Rattle.split.specs.SplitLaws.{Cell, own-is, own-number, local-back, local-cases, import-at}
+use Rattle.split.specs.SplitLaws.{Cell, own-is, own-number, local-back, local-cases, import-at, own-held}
 
 -- ---- rising lists
 
@@ -57,14 +57,6 @@ range-rises m k p =
     (λ e. picked-rises 0 p 0)
 
 -- ---- the local order has each cell once
-
--- an owned cell is in its own reach, and so held
-own-holds : (S : Split) (i c : ℕ) → ((c : ℕ) → Cell S c → reaches S c c ≡ true) → Cell S c → owns S i c ≡ true → holds S i c ≡ true
-unfolding holds owned
-own-holds S i c own-reach h e =
-    let a = picked-in (S .first) (owns S i) (S .cells) c (h .0) (h .1) e in
-    someOf-has (λ o. reaches S o c) (picked (S .first) (S .cells) (owns S i)) 0 (a .place) (a .place-lt)
-    (subst (λ o. reaches S o c ≡ true) (sym (a .place-is)) (own-reach c h))
 
 module _ (S : Split) (i : ℕ) where
   -- a cell that is imported from j belongs to j, which is another part, and is held
@@ -143,7 +135,7 @@ module _ (S : Split) (i : ℕ) where
             held-own (o .0) (unfold owns in eq-eqb _ i (o .1))
           where
             held-own : Cell S (globalOf (locals S i) l) → owns S i (globalOf (locals S i) l) ≡ true → holds S i (globalOf (locals S i) l) ≡ true
-            held-own c e = own-holds S i (globalOf (locals S i) l) own-reach c e
+            held-own c e = own-held S own-reach i (globalOf (locals S i) l) c e
 
         theirs : Imported l → holds S i (globalOf (locals S i) l) ≡ true
         theirs v = subst (λ x. holds S i x ≡ true) (sym (imported-is l v)) (import-facts (v .0) (v .3 .0) (v .3 .1) .2)

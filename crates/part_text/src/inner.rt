@@ -1,4 +1,2 @@
-// Text and the lines of all parts, put at a place of a buffer.
+// The lines of all parts.
 pub use crate::lists::put_parts;
-pub use crate::text::put_line;
-pub use crate::text::put_text;

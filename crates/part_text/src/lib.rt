@@ -1,4 +1,3 @@
-// The lines of the parts, put into a lent buffer. What supposes prepared tables is in `inner`.
+// The lines of the parts, put into a lent buffer: all that stands here, in `inner`, supposes prepared tables.
 pub mod inner;
 mod lists;
-mod text;

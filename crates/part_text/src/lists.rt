@@ -1,55 +1,21 @@
 // The lines of a part, from prepared tables. The stencil stands beside the tables for the contracts, which speak of the split that it makes.
-use crate::text::put_line;
-use crate::text::put_numbers;
-use crate::text::put_spaced;
-use crate::text::put_text;
-use mesh::inner::top_of;
 use part_lists::inner::Wanted;
 use part_lists::inner::list_words;
+use range_text::inner::put_dimensions;
+use range_text::inner::put_list;
+use text::inner::put_line;
+use text::inner::put_numbers;
+use text::inner::put_spaced;
+use text::inner::put_text;
 ghost use Prim.Native.Nat.{_≤_};
 ghost use mathlib.Core.List.{_++_};
 ghost use lib.ListN.{length, take};
 ghost use Rattle.vocabulary.specs.Ranges.{blocks};
-ghost use Rattle.mesh.specs.Mesh.{top};
 ghost use Rattle.split.specs.Sorting.{Prepared};
 ghost use Rattle.part_lists.specs.declared.lists.Wanted.the-variants.{Imports, Exports};
-ghost use Rattle.part_text.specs.Listing.{ascii, spaced, lineUnlessEmpty};
-ghost use Rattle.part_text.specs.Printing.{Printed, Ready, numbers, wantedOf, cellsLine, passing, rangeLine, dimensionOf, partOf};
-
-// The numbers of a list, and the end of its line.
-fn put_list(
-    wanted: Wanted,
-    m: &[u8],
-    parts: usize,
-    owners: &[u8],
-    st: &[u8],
-    table: &[u8],
-    ends: &[u16],
-    held: &[u8],
-    i: usize,
-    k: usize,
-    out: &mut [u8],
-    at: usize,
-) -> usize
-    requires { ⌜ Ready (now m) parts (now owners) (now st) (now table) (now ends) (now held) i ⌝ }
-    ensures { λ t. ⌜ Printed (now (out .entry)) (now (out .exit)) at t (numbers (wantedOf (now (m .entry)) parts (now (owners .entry)) (now (st .entry)) wanted i i k)) ⌝ }
-{
-    let mut list = [0u16; 2000];
-    let n = list_words(
-        wanted,
-        m,
-        parts,
-        owners,
-        table,
-        ends,
-        held,
-        i,
-        i,
-        k,
-        &mut list,
-    );
-    put_numbers(&list, n, out, at)
-}
+ghost use Rattle.text.specs.Listing.{ascii, spaced, lineUnlessEmpty};
+ghost use Rattle.text.specs.Printing.{Printed};
+ghost use Rattle.range_text.specs.Lines.{Ready, cellsLine, passing, partOf};
 
 // The line of the cells of a sort.
 fn put_cells(
@@ -204,146 +170,6 @@ fn put_exports(
             out,
             t,
         );
-    }
-    t
-}
-
-// The line of a range of dimension k.
-fn put_range(
-    wanted: Wanted,
-    name: &[u8],
-    m: &[u8],
-    parts: usize,
-    owners: &[u8],
-    st: &[u8],
-    table: &[u8],
-    ends: &[u16],
-    held: &[u8],
-    i: usize,
-    k: usize,
-    out: &mut [u8],
-    at: usize,
-) -> usize
-    requires { ⌜ Ready (now m) parts (now owners) (now st) (now table) (now ends) (now held) i ⌝ }
-    ensures { λ t. ⌜ Printed (now (out .entry)) (now (out .exit)) at t (rangeLine (now (m .entry)) parts (now (owners .entry)) (now (st .entry)) wanted (now (name .entry)) i k) ⌝ }
-{
-    let t = put_text(b"dim", out, at);
-    let u = put_spaced(k, out, t);
-    let v = put_text(name, out, u);
-    put_list(
-        wanted,
-        m,
-        parts,
-        owners,
-        st,
-        table,
-        ends,
-        held,
-        i,
-        k,
-        out,
-        v,
-    )
-}
-
-// The ranges of dimension k.
-fn put_dimension(
-    m: &[u8],
-    parts: usize,
-    owners: &[u8],
-    st: &[u8],
-    table: &[u8],
-    ends: &[u16],
-    held: &[u8],
-    i: usize,
-    k: usize,
-    out: &mut [u8],
-    at: usize,
-) -> usize
-    requires { ⌜ Ready (now m) parts (now owners) (now st) (now table) (now ends) (now held) i ⌝ }
-    ensures { λ t. ⌜ Printed (now (out .entry)) (now (out .exit)) at t (dimensionOf (now (m .entry)) parts (now (owners .entry)) (now (st .entry)) i k) ⌝ }
-{
-    let t = put_range(
-        Wanted::Private,
-        b" private",
-        m,
-        parts,
-        owners,
-        st,
-        table,
-        ends,
-        held,
-        i,
-        k,
-        out,
-        at,
-    );
-    let u = put_range(
-        Wanted::Exposed,
-        b" exposed",
-        m,
-        parts,
-        owners,
-        st,
-        table,
-        ends,
-        held,
-        i,
-        k,
-        out,
-        t,
-    );
-    let v = put_range(
-        Wanted::Shared,
-        b" shared",
-        m,
-        parts,
-        owners,
-        st,
-        table,
-        ends,
-        held,
-        i,
-        k,
-        out,
-        u,
-    );
-    put_range(
-        Wanted::Copied,
-        b" copied",
-        m,
-        parts,
-        owners,
-        st,
-        table,
-        ends,
-        held,
-        i,
-        k,
-        out,
-        v,
-    )
-}
-
-// The dimensions, rising.
-fn put_dimensions(
-    m: &[u8],
-    parts: usize,
-    owners: &[u8],
-    st: &[u8],
-    table: &[u8],
-    ends: &[u16],
-    held: &[u8],
-    i: usize,
-    out: &mut [u8],
-    at: usize,
-) -> usize
-    requires { ⌜ Ready (now m) parts (now owners) (now st) (now table) (now ends) (now held) i ⌝ }
-    ensures { λ t. ⌜ Printed (now (out .entry)) (now (out .exit)) at t (blocks 0 (top (now (m .entry))) (dimensionOf (now (m .entry)) parts (now (owners .entry)) (now (st .entry)) i)) ⌝ }
-{
-    let mut t = at;
-    for k in 0..top_of(m) {
-        t = put_dimension(m, parts, owners, st, table, ends, held, i, k, out, t);
     }
     t
 }

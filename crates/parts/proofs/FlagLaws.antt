@@ -5,6 +5,7 @@ use native.Mathlib.Omega.{arith}
 use lib.ListN.{length, set, replicate, length-replicate, replicate-append-replicate}
 use Rattle.vocabulary.specs.Bytes.{Bytes, over}
 use Rattle.vocabulary.specs.ByteLaws.{over-none, over-byte}
+use Rattle.vocabulary.specs.RangeLaws.{at-last}
 
 module _ (b : Bytes) (at n : ℕ) where
   pub clear-start : b ≡ over b at (replicate 0 0)
@@ -18,4 +19,4 @@ module _ (b : Bytes) (at n : ℕ) where
       ∙ ap (over b at) (replicate-append-replicate {A = ℕ} k 1 0)
 
   pub clear-end : (c : Bytes) (k : ℕ) → k ≤ n → n ≤ k → c ≡ over b at (replicate k 0) → c ≡ over b at (replicate n 0)
-  clear-end c k g h e = let q : k ≡ n = omega arith in e ∙ ap (λ m. over b at (replicate m 0)) q
+  clear-end c k g h e = at-last (λ m. c ≡ over b at (replicate m 0)) k n g h e

@@ -9,8 +9,8 @@ use Rattle.vocabulary.specs.Bytes.{Bytes}
 use Rattle.vocabulary.specs.Ranges.{isUpTo, blocks}
 use Rattle.vocabulary.specs.RangeLaws.{upTo-true}
 use Rattle.layout.specs.Words.{wordAt}
-use Rattle.layout.specs.Depths.{four}
-use Rattle.layout.specs.DepthLaws.{fours-of}
+use Rattle.depths.specs.Depths.{four}
+use Rattle.depths.specs.DepthLaws.{fours-of}
 use Rattle.states.specs.State.{listsIn, listsOf, heldCount, ownedCount, isState, bad20}
 use Rattle.states.specs.StateLaws.{Whole, isStateAt, state-at, whole-is}
 use Rattle.parts.specs.Opened.{Opened}

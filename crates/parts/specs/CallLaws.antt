@@ -13,8 +13,8 @@ use Rattle.vocabulary.specs.ListLaws.{and-true, or-false}
 use Rattle.vocabulary.specs.Ranges.{isUpTo, every}
 use Rattle.vocabulary.specs.RangeLaws.{upTo-true}
 use Rattle.vocabulary.specs.Tests.{passed, firstOf}
-use Rattle.layout.specs.Depths.{rangedAt}
-use Rattle.layout.specs.DepthLaws.{length-four}
+use Rattle.depths.specs.Depths.{rangedAt}
+use Rattle.depths.specs.DepthLaws.{length-four}
 use Rattle.messages.specs.Messages.{fromIn, toIn, roundIn, countIn, bad15}
 use Rattle.states.specs.State.{Lists, listsIn, roundAt, stateLength, depthPlace}
 use Rattle.states.specs.StateLaws.{Whole}

@@ -14,7 +14,7 @@ use Rattle.vocabulary.specs.Bytes.{Bytes, byteAt, over}
 use Rattle.layout.specs.Words.{wordBytes}
 use Rattle.layout.specs.Answers.{answer}
 use Rattle.layout.specs.declared.Answer.{Answer}
-use Rattle.layout.specs.Depths.{four}
+use Rattle.depths.specs.Depths.{four}
 use Rattle.messages.specs.Messages.{encode, fromIn, toIn, roundIn, countIn, bad15}
 use Rattle.states.specs.State.{Lists, listsOf, dynamic, bad20, roundAt, takenPlace, writtenPlace, depthPlace}
 

@@ -10,7 +10,7 @@ use Rattle.vocabulary.specs.Bytes.{Bytes, byteAt}
 use Rattle.vocabulary.specs.Ranges.{isUpTo}
 use Rattle.vocabulary.specs.Tests.{refuse, firstOf}
 use Rattle.layout.specs.Words.{wordAt}
-use Rattle.layout.specs.Depths.{four}
+use Rattle.depths.specs.Depths.{four}
 use Rattle.states.specs.State.{Lists, roundAt, takenPlace, depthPlace, exportAt, dynamic, isState}
 use Rattle.parts.specs.Calls.{importsFrom, allTaken, allWritten}
 

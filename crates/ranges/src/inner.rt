@@ -15,10 +15,10 @@ use split::inner::holds_at;
 ghost use mathlib.Core.Path.{_≡_};
 ghost use mathlib.Core.Bool.{not};
 ghost use Prim.Native.Nat.{_+_, _-_, _≤_, _<_};
-ghost use Rattle.vocabulary.specs.Ranges.{some, blocks};
+ghost use Rattle.vocabulary.specs.Ranges.{blocks};
 ghost use Rattle.mesh.specs.Accepted.{Accepted};
 ghost use Rattle.links.specs.Links.{trail};
-ghost use Rattle.split.specs.Sorting.{elsewhereAt, sideAt, someSide, trailSort, trailSorted, rangeOf, Added};
+ghost use Rattle.split.specs.Sorting.{sideAt, someSide, trailSort, trailSorted, rangeOf, Added};
 
 // The sorts of a lower element.
 pub const PRIVATE: usize = 1;

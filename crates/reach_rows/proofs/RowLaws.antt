@@ -12,7 +12,7 @@ use lib.Seq.{getD-set-same, getD-set-other, take-suc-set}
 use borrow.Author.Tests.{eqb-true, eqb-false, eq-eqb, ne-eqb, lt-ltb}
 use Rattle.vocabulary.specs.Bytes.{Bytes, byteAt}
 use Rattle.vocabulary.specs.Ranges.{isUpTo, every, some, picked}
-use Rattle.vocabulary.specs.RangeLaws.{upTo-true, every-at, some-cong, some-has, some-in, some-witness, picked-all, picked-in, picked-passes, picked-yes, picked-no, some-next, picked-some, some-swap}
+use Rattle.vocabulary.specs.RangeLaws.{upTo-true, every-at, some-cong, some-has, some-in, some-witness, picked-all, picked-in, picked-passes, picked-yes, picked-no, some-next, picked-some, some-swap, at-last}
 use Rattle.vocabulary.specs.Lists.{isIn, someOf}
 use Rattle.vocabulary.specs.ListLaws.{same-test, and-true, and-intro, or-nothing, or-assoc, or-always, and-right, All-intro, isIn-at, at-isIn, someOf-has, someOf-witness, someOf-cong, isIn-some}
 use Rattle.mesh.specs.Mesh.{counted, below, firstCell, cellCount}
@@ -72,7 +72,7 @@ module _ (layers : List ℕ) (first base : ℕ) where
   row-turn q a b c P Q = marks-both a b c (layersAt layers first base q) (layerOf layers first base q) (layersAt layers first base (q + 1)) (λ z. unfold layersAt layerOf in some-next 0 q (layerAt layers first base z) ∙ ap (λ x. some 0 q (layerAt layers first base z) || layerAt layers first base z x) (zero-add q)) P Q
 
   pub row-end : (q cells : ℕ) (a b : Bytes) → q ≤ cells → cells ≤ q → Marks a b (layersAt layers first base q) → Marks a b (layersAt layers first base cells)
-  row-end q cells a b g h P = let e : q ≡ cells = omega arith in subst (λ k. Marks a b (layersAt layers first base k)) e P
+  row-end q cells a b g h P = at-last (λ k. Marks a b (layersAt layers first base k)) q cells g h P
 
 -- ---- the cells of a row
 
@@ -104,7 +104,7 @@ module _ (first : ℕ) (rows : Bytes) (i : ℕ) where
     }
 
   pub rowed-end : (q cells n : ℕ) (list : List ℕ) → q ≤ cells → cells ≤ q → Rowed first rows i q n list → Rowed first rows i cells n list
-  rowed-end q cells n list g h R = let e : q ≡ cells = omega arith in subst (λ k. Rowed first rows i k n list) e R
+  rowed-end q cells n list g h R = at-last (λ k. Rowed first rows i k n list) q cells g h R
 
 -- ---- what walks from several cells reach: what the walks from one of them do
 

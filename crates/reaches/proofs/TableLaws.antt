@@ -10,7 +10,7 @@ use borrow.Author.Tests.{eq-eqb, ne-eqb, le-leb, lt-leb, leb-true, leb-false}
 use Rattle.vocabulary.specs.Bytes.{Bytes, over}
 use Rattle.vocabulary.specs.ByteLaws.{over-none, over-more, over-length}
 use Rattle.vocabulary.specs.Ranges.{blocks}
-use Rattle.vocabulary.specs.RangeLaws.{blocks-turn}
+use Rattle.vocabulary.specs.RangeLaws.{blocks-turn, at-last}
 use Rattle.layout.specs.Words.{wordBytes, bytesOf}
 use Rattle.layout.specs.WordLaws.{length-bytesOf, bytesOf-append}
 use Rattle.reaches.specs.Tables.{capped, row, Emitted}
@@ -129,4 +129,4 @@ module _ (first low : ℕ) (layers : List ℕ) where
 
   pub emit-end : (a b : Bytes) (s t x high : ℕ) → x - low ≤ high - low → high ≤ x → Emitted a b s t (blocks (low - first) (x - low) (row layers first))
       → Emitted a b s t (blocks (low - first) (high - low) (row layers first))
-  emit-end a b s t x high g h X = let z : x - low ≡ high - low = omega arith in subst (λ k. Emitted a b s t (blocks (low - first) k (row layers first))) z X
+  emit-end a b s t x high g h X = at-last (λ k. Emitted a b s t (blocks (low - first) k (row layers first))) (x - low) (high - low) g (omega arith) X

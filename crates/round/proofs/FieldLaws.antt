@@ -7,7 +7,7 @@ use lib.ListN.{length}
 use borrow.Author.Tests.{eq-eqb, ne-eqb}
 use Rattle.vocabulary.specs.Bytes.{Bytes}
 use Rattle.vocabulary.specs.Ranges.{every}
-use Rattle.layout.specs.Depths.{rangedAt}
+use Rattle.depths.specs.Depths.{rangedAt}
 use Rattle.round.specs.Rounds.{bad14}
 
 module _ (f : Bytes) (n : ℕ) where

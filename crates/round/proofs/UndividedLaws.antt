@@ -18,10 +18,10 @@ use Rattle.vocabulary.specs.ByteLaws.{over-none}
 use Rattle.vocabulary.specs.Lists.{All}
 use Rattle.vocabulary.specs.ListLaws.{All-getD, getD-map-any}
 use Rattle.vocabulary.specs.Ranges.{listed, blocks}
-use Rattle.vocabulary.specs.RangeLaws.{listed-back, blocks-moved}
+use Rattle.vocabulary.specs.RangeLaws.{listed-back, blocks-moved, at-last}
 use Rattle.vocabulary.specs.Tests.{passed, firstOf-left, firstOf-right}
-use Rattle.layout.specs.Depths.{four, depthBytes}
-use Rattle.layout.specs.DepthLaws.{length-four, fours-store}
+use Rattle.depths.specs.Depths.{four, depthBytes}
+use Rattle.depths.specs.DepthLaws.{length-four, fours-store}
 use Rattle.layout.specs.Answers.{answer}
 use Rattle.layout.specs.AnswerLaws.{answer-done, answer-refused}
 use Rattle.layout.specs.declared.Answer.{Answer}
@@ -77,7 +77,7 @@ module _ (kind : ℕ) (v table : Bytes) (ends : List ℕ) (f : Bytes) (b : Bytes
       ∙ fours-store 0 j (rowNew kind v table ends f) (λ k l. row-four (0 + k)) b 0 (omega arith)
 
   pub renew-end : (x : Bytes) (j : ℕ) → j ≤ cells → cells ≤ j → x ≡ over b 0 (blocks 0 j (rowNew kind v table ends f)) → x ≡ over b 0 (blocks 0 cells (rowNew kind v table ends f))
-  renew-end x j g h e = let q : j ≡ cells = omega arith in rw q at e
+  renew-end x j g h e = at-last (λ n. x ≡ over b 0 (blocks 0 n (rowNew kind v table ends f))) j cells g h e
 
 -- ---- the rows of the table that the walks made
 

@@ -17,8 +17,8 @@ use Rattle.vocabulary.specs.ListLaws.{or-false}
 use Rattle.vocabulary.specs.Ranges.{every, blocks}
 use Rattle.vocabulary.specs.RangeLaws.{every-intro}
 use Rattle.layout.specs.Words.{word}
-use Rattle.layout.specs.Depths.{four, numberFrom, signed, depthFrom, depthOf, rangedAt}
-use Rattle.layout.specs.DepthLaws.{length-four, four-same, depth-same, depth-four, fours-length, fours-at, range-intro, ranged-size}
+use Rattle.depths.specs.Depths.{four, numberFrom, signed, depthFrom, depthOf, rangedAt}
+use Rattle.depths.specs.DepthLaws.{length-four, four-same, depth-same, depth-four, fours-length, fours-at, range-intro, ranged-size}
 use Rattle.mesh.specs.Walks.{Near}
 use Rattle.rules.specs.RuleLaws.{Small, new-small, new-length}
 use Rattle.round.specs.Rounds.{bad14, Scheme, schemeOf, depthIn, oldsIn, newIn, round, undivided}

@@ -7,7 +7,7 @@ use lib.ListN.{length}
 use Rattle.vocabulary.specs.Ranges.{every, blocks}
 use Rattle.vocabulary.specs.Tests.{Test, refuse, firstOf}
 use Rattle.vocabulary.specs.Bytes.{Bytes, over}
-use Rattle.layout.specs.Depths.{four, rangedAt}
+use Rattle.depths.specs.Depths.{four, rangedAt}
 use Rattle.layout.specs.Answers.{answer}
 use Rattle.layout.specs.declared.Answer.{Answer}
 use Rattle.mesh.specs.Mesh.{top, firstCell, cellCount, meshTests}

@@ -3,7 +3,7 @@ use Prim.Native.Nat.{ℕ, _+_, _-_, _*_, _<_, _≤_}
 use mathlib.Core.List.{List}
 use lib.ListN.{getD}
 use Rattle.vocabulary.specs.Bytes.{Bytes}
-use Rattle.layout.specs.Depths.{four}
+use Rattle.depths.specs.Depths.{four}
 use Rattle.rules.specs.Rules.{newDepth}
 use Rattle.rules.specs.Update.{entries, oldsAt, Ready}
 

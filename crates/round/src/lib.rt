@@ -1,7 +1,7 @@
 // Fields and the undivided round.
 mod undivided;
 
-use layout::inner::depths_in_range;
+use depths::inner::depths_in_range;
 pub use undivided::undivided_round;
 ghost use mathlib.Core.Path.{_≡_};
 ghost use Rattle.round.specs.Rounds.{bad14};

@@ -1,7 +1,7 @@
 // The undivided round.
 use crate::bad_field;
+use depths::inner::put_depth;
 use layout::Answer;
-use layout::inner::put_depth;
 use layout::number_at;
 use mesh::inner::cell_count;
 use mesh::inner::top_of;
@@ -16,7 +16,7 @@ ghost use Prim.Native.Nat.{_*_, _≤_};
 ghost use lib.ListN.{length};
 ghost use Rattle.vocabulary.specs.Bytes.{over};
 ghost use Rattle.vocabulary.specs.Ranges.{blocks};
-ghost use Rattle.layout.specs.Depths.{depthBytes};
+ghost use Rattle.depths.specs.Depths.{depthBytes};
 ghost use Rattle.mesh.specs.Mesh.{top, meshNumber};
 ghost use Rattle.mesh.specs.Walks.{steps, bad10};
 ghost use Rattle.rules.specs.Rules.{bad11};

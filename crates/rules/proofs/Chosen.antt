@@ -8,8 +8,8 @@ use lib.Signed.{mag}
 use mir.Syntax.{w8, w32}
 use mir.Val.{Fits, toZ, ofZ}
 use Rattle.vocabulary.specs.Bytes.{Bytes, byteAt}
-use Rattle.layout.specs.Depths.{four, depthFrom, depthBytes}
-use Rattle.layout.specs.DepthLaws.{depth-bytes, depth-four}
+use Rattle.depths.specs.Depths.{four, depthFrom, depthBytes}
+use Rattle.depths.specs.DepthLaws.{depth-bytes, depth-four}
 use Rattle.rules.specs.Rules.{Old, depthSum, weightSum, quotient, least, newDepth}
 use Rattle.rules.specs.RuleLaws.{mean-small, least-small}
 use Rattle.rules.specs.Update.{entries, oldsAt, Reached, Weighed, Ready}

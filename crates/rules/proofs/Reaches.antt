@@ -10,12 +10,13 @@ use mir.Val.{toZ, ofZ}
 use mir.ValLaws.{toZ-ofZ}
 use Rattle.vocabulary.specs.Bytes.{Bytes}
 use Rattle.layout.specs.Words.{word, wordAt}
-use Rattle.layout.specs.Depths.{depthFrom}
+use Rattle.depths.specs.Depths.{depthFrom}
 use Rattle.rules.specs.Rules.{depthSum, weightSum, quotient, lesser, least}
 use Rattle.rules.specs.RuleLaws.{size-more}
 use Rattle.rules.specs.Update.{entries, oldsAt, Reached, Weighed}
 use Rattle.rules.specs.UpdateLaws.{olds-start, depthSum-turn, weightSum-turn, least-turn}
 use Rattle.rules.proofs.Registers.{fits-long, depth-held}
+use Rattle.vocabulary.specs.RangeLaws.{at-last}
 
 -- ---- what stands in an entry
 
@@ -40,7 +41,7 @@ module _ (b : Bytes) (at : ℕ) (f : Bytes) (base : ℕ) where
   least-more z e d r t i h p k q = depth-held r _ k (q ∙ ap₂ lesser (depth-held d _ h p) i) ∙ sym (least-turn b at f base e t)
 
   pub least-end : (z : ℕ) (e : ℤ) (n t : ℕ) → toZ w32 z ≡ least e (oldsAt f base (entries b at t)) → t ≤ n → n ≤ t → toZ w32 z ≡ least e (oldsAt f base (entries b at n))
-  least-end z e n t i g h = let q : t ≡ n = omega arith in rw q at i
+  least-end z e n t i g h = at-last (λ j. toZ w32 z ≡ least e (oldsAt f base (entries b at j))) t n g h i
 
 -- ---- the sums so far: sum is the number that the register holds
 

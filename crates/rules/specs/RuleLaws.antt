@@ -18,8 +18,8 @@ use Rattle.vocabulary.specs.ListLaws.{cond-has, or-false}
 use Rattle.vocabulary.specs.Ranges.{some}
 use Rattle.vocabulary.specs.RangeLaws.{some-at}
 use Rattle.layout.specs.Words.{wordAt}
-use Rattle.layout.specs.Depths.{depthOf, depthBytes}
-use Rattle.layout.specs.DepthLaws.{length-depthBytes, depth-back, depth-small}
+use Rattle.depths.specs.Depths.{depthOf, depthBytes}
+use Rattle.depths.specs.DepthLaws.{length-depthBytes, depth-back, depth-small}
 use Rattle.rules.specs.Rules.{Old, weightCount, tooHeavy, bad11, weight, depthSum, weightSum, quotient, lesser, least, newDepth}
 
 -- ---- one more at the end

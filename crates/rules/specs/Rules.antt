@@ -11,7 +11,7 @@ use lib.Signed.{ltZ, quotZ}
 use Rattle.vocabulary.specs.Ranges.{some}
 use Rattle.vocabulary.specs.Bytes.{Bytes}
 use Rattle.layout.specs.Words.{wordAt}
-use Rattle.layout.specs.Depths.{depthOf, depthBytes}
+use Rattle.depths.specs.Depths.{depthOf, depthBytes}
 
 -- how many weights a rule of this kind has under a stencil of n steps: "Mean has weights v0, .., v(n/2)"; "Weights are empty for kinds 0
 -- and 2."

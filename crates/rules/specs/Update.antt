@@ -8,7 +8,7 @@ use lib.ListN.{length}
 use Rattle.vocabulary.specs.Bytes.{Bytes}
 use Rattle.vocabulary.specs.Ranges.{listed}
 use Rattle.layout.specs.Words.{word, wordAt}
-use Rattle.layout.specs.Depths.{four, depthFrom}
+use Rattle.depths.specs.Depths.{four, depthFrom}
 use Rattle.mesh.specs.Walks.{Near}
 use Rattle.rules.specs.Rules.{Old, weightSum}
 

@@ -15,8 +15,8 @@ use Rattle.vocabulary.specs.ListLaws.{All-append, map-append}
 use Rattle.vocabulary.specs.Ranges.{listed, every}
 use Rattle.vocabulary.specs.RangeLaws.{listed-turn, last-or}
 use Rattle.layout.specs.Words.{word, wordAt}
-use Rattle.layout.specs.Depths.{depthFrom, rangedAt}
-use Rattle.layout.specs.DepthLaws.{depth-four, ranged-size}
+use Rattle.depths.specs.Depths.{depthFrom, rangedAt}
+use Rattle.depths.specs.DepthLaws.{depth-four, ranged-size}
 use Rattle.rules.specs.Rules.{bad11, weight, depthSum, weightSum, lesser, least}
 use Rattle.rules.specs.RuleLaws.{Small, rule-light, rule-first, depthSum-snoc, weightSum-snoc, least-snoc}
 use Rattle.rules.specs.Update.{entryAt, entries, oldAt, oldsAt, Ready}

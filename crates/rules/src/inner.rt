@@ -1,5 +1,5 @@
 // The new depth of one cell, from a table of its reach and the bytes of a field, where the caller knows both to be there.
-use layout::inner::depth_in;
+use depths::inner::depth_in;
 use layout::inner::word_in;
 use layout::word_at;
 ghost use mathlib.Core.Path.{_≡_};
@@ -7,7 +7,7 @@ ghost use Prim.Native.Nat.{_+_, _*_, _/_, _<_, _≤_};
 ghost use lib.IntN.{pos, natAbs, _+ℤ_, _*ℤ_};
 ghost use lib.ListN.{length};
 ghost use Rattle.layout.specs.Words.{word, wordAt};
-ghost use Rattle.layout.specs.Depths.{four, depthFrom, depthBytes};
+ghost use Rattle.depths.specs.Depths.{four, depthFrom, depthBytes};
 ghost use Rattle.rules.specs.Rules.{depthSum, weightSum, quotient, lesser, least, newDepth};
 ghost use Rattle.rules.specs.Update.{entries, oldsAt, Reached, Weighed, Ready};
 

@@ -14,8 +14,8 @@ use Rattle.vocabulary.specs.ListLaws.{and-intro, or-false, All-map, All-getD, g
 use Rattle.vocabulary.specs.Ranges.{isUpTo, every, some, blocks, total}
 use Rattle.vocabulary.specs.RangeLaws.{every-intro, picked-length-le, blocks-cases, blocks-all, blocks-length, total-start, total-turn, upTo-intro}
 use Rattle.vocabulary.specs.Tests.{allOf, allOf-intro}
-use Rattle.layout.specs.Depths.{four}
-use Rattle.layout.specs.DepthLaws.{depth-four}
+use Rattle.depths.specs.Depths.{four}
+use Rattle.depths.specs.DepthLaws.{depth-four}
 use Rattle.mesh.specs.Mesh.{top, below, elements, recordCount, firstCell, cellCount, bad1, bad2, wrongCount, meshTests}
 use Rattle.mesh.specs.Walks.{Near, steps}
 use Rattle.mesh.specs.WalkLaws.{reach-own, below-grows, steps-even, reach-layers}
@@ -47,6 +47,10 @@ cells-few m e f =
 -- the entry of the cell itself
 abbrev ownEntry : ℕ → LocalNear → Bool
 ownEntry l e = eqb (e .local) l && eqb (e .layer) 0
+
+-- ends that grow by counts rise
+ends-rise : (n own : ℕ) (e c : ℕ → ℕ) → ((j : ℕ) → j ≤ n → e j ≡ own + total 1 j c) → rises n e ≡ true
+ends-rise n own e c f = rises-intro n e (λ j h. omega (arith, f j (omega arith), f (j + 1) (omega arith), total-turn 1 c j))
 
 module _ (I : Inputs) (R : Ready I) (i : ℕ) (part : Part (I .parts) i) where
   abbrev S : Split
@@ -85,15 +89,11 @@ module _ (I : Inputs) (R : Ready I) (i : ℕ) (part : Part (I .parts) i) where
 
   import-rises : rises 16 (importEnd st) ≡ true
   unfolding importEnds
-  import-rises =
-      rises-intro 16 (importEnd st)
-      (λ j h. omega (arith, import-back S i order n k v j (omega arith), import-back S i order n k v (j + 1) (omega arith), total-turn 1 (λ k. length (imports S i k)) j))
+  import-rises = ends-rise 16 (ownedIn S i) (importEnd st) (λ k. length (imports S i k)) (import-back S i order n k v)
 
   export-rises : rises 16 (exportEnd st) ≡ true
   unfolding exportEnds
-  export-rises =
-      rises-intro 16 (exportEnd st)
-      (λ j h. omega (arith, export-back S i order n k v j (omega arith), export-back S i order n k v (j + 1) (omega arith), total-turn 1 (λ k. length (exports S i k)) j))
+  export-rises = ends-rise 16 0 (exportEnd st) (λ k. length (exports S i k)) (λ j h. export-back S i order n k v j h ∙ sym (zero-add _))
 
   export-zero : exportEnd st 0 ≡ 0
   unfolding exportEnds
@@ -102,15 +102,8 @@ module _ (I : Inputs) (R : Ready I) (i : ℕ) (part : Part (I .parts) i) where
   reach-rises : rises (ownedCount st) (reachEnd st) ≡ true
   unfolding reachEnds
   reach-rises =
-      rises-intro (ownedCount st) (reachEnd st)
-      (λ l h.
-      let q : l < ownedIn S i = omega (arith, owned-is) in
-      omega (
-        arith,
-        ends-back S i order n k v (order-full I R i) l (omega arith),
-        ends-back S i order n k v (order-full I R i) (l + 1) (omega arith),
-        total-turn 1 (λ k. length (reachOf S i order k)) l,
-      ))
+      ends-rise (ownedCount st) 0 (reachEnd st) (λ k. length (reachOf S i order k))
+      (λ l h. ends-back S i order n k v (order-full I R i) l (omega (arith, owned-is)) ∙ sym (zero-add _))
 
   reach-zero : reachEnd st 0 ≡ 0
   unfolding reachEnds

@@ -11,8 +11,8 @@ use Rattle.vocabulary.specs.Ranges.{isUpTo}
 use Rattle.vocabulary.specs.RangeLaws.{upTo-true}
 use Rattle.vocabulary.specs.ListLaws.{mem-all}
 use Rattle.layout.specs.Words.{word, wordAt}
-use Rattle.layout.specs.Depths.{four}
-use Rattle.layout.specs.DepthLaws.{fours-same}
+use Rattle.depths.specs.Depths.{four}
+use Rattle.depths.specs.DepthLaws.{fours-same}
 use Rattle.mesh.specs.Mesh.{cellCount}
 use Rattle.round.specs.Rounds.{schemeOf, undivided}
 use Rattle.round.specs.RoundLaws.{field-length, undivided-good}

@@ -110,15 +110,22 @@ module _ (S : Split) (i : ℕ) (order : List ℕ) (n kind : ℕ) (v : Bytes) whe
       let e : 11 + k ≡ 9 + (2 + k) = omega arith in
       ap (wordAt front) e ∙ s2 (2 + k) ∙ getD-append-add (S .first ∷ S .cells ∷ []) r3 k 0
 
+  -- a table of ends from word a on, and what stands behind it
+  module _ (a : ℕ) (g : ℕ → ℕ) (rest : List ℕ) (f : (k : ℕ) → wordAt front (a + k) ≡ getD (listed 0 17 g ++ rest) k 0) where
+    behind : (k : ℕ) → wordAt front (a + 17 + k) ≡ getD rest k 0
+    behind k =
+        let e : a + 17 + k ≡ a + (length (listed 0 17 g) + k) = omega (arith, listed-length 0 g 17) in
+        ap (wordAt front) e ∙ f (length (listed 0 17 g) + k) ∙ getD-append-add (listed 0 17 g) rest k 0
+
+    ends-at : (j : ℕ) → j ≤ 16 → wordAt front (a + j) ≡ g j
+    ends-at j h =
+        f j ∙ List·getD-append (listed 0 17 g) rest 0 j (omega (arith, listed-length 0 g 17)) ∙ listed-at 0 g 17 j 0 (omega arith) ∙ ap g (zero-add j)
+
   s4 : (k : ℕ) → wordAt front (28 + k) ≡ getD r4 k 0
-  s4 k =
-      let e : 28 + k ≡ 11 + (length (listed 0 17 (importEnds S i order)) + k) = omega (arith, listed-length 0 (importEnds S i order) 17) in
-      ap (wordAt front) e ∙ s3 (length (listed 0 17 (importEnds S i order)) + k) ∙ getD-append-add (listed 0 17 (importEnds S i order)) r4 k 0
+  s4 = behind 11 (importEnds S i order) r4 s3
 
   s5 : (k : ℕ) → wordAt front (45 + k) ≡ getD r5 k 0
-  s5 k =
-      let e : 45 + k ≡ 28 + (length (listed 0 17 (exportEnds S i order)) + k) = omega (arith, listed-length 0 (exportEnds S i order) 17) in
-      ap (wordAt front) e ∙ s4 (length (listed 0 17 (exportEnds S i order)) + k) ∙ getD-append-add (listed 0 17 (exportEnds S i order)) r5 k 0
+  s5 = behind 28 (exportEnds S i order) r5 s4
 
   s6 : (k : ℕ) → wordAt front (45 + length order + k) ≡ getD r6 k 0
   s6 k =
@@ -166,18 +173,10 @@ module _ (S : Split) (i : ℕ) (order : List ℕ) (n kind : ℕ) (v : Bytes) whe
   cells-back = s2 1
 
   pub import-back : (j : ℕ) → j ≤ 16 → importEnd front j ≡ importEnds S i order j
-  import-back j h =
-      s3 j
-      ∙ List·getD-append (listed 0 17 (importEnds S i order)) r4 0 j (omega (arith, listed-length 0 (importEnds S i order) 17))
-      ∙ listed-at 0 (importEnds S i order) 17 j 0 (omega arith)
-      ∙ ap (importEnds S i order) (zero-add j)
+  import-back = ends-at 11 (importEnds S i order) r4 s3
 
   pub export-back : (j : ℕ) → j ≤ 16 → exportEnd front j ≡ exportEnds S i order j
-  export-back j h =
-      s4 j
-      ∙ List·getD-append (listed 0 17 (exportEnds S i order)) r5 0 j (omega (arith, listed-length 0 (exportEnds S i order) 17))
-      ∙ listed-at 0 (exportEnds S i order) 17 j 0 (omega arith)
-      ∙ ap (exportEnds S i order) (zero-add j)
+  export-back = ends-at 28 (exportEnds S i order) r5 s4
 
   pub owned-back : ownedCount front ≡ ownedIn S i
   unfolding importEnds

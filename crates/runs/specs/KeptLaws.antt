@@ -17,8 +17,8 @@ use Rattle.vocabulary.specs.Ranges.{every}
 use Rattle.vocabulary.specs.RangeLaws.{every-intro}
 use Rattle.vocabulary.specs.Tests.{passed}
 use Rattle.layout.specs.WordLaws.{word-set}
-use Rattle.layout.specs.Depths.{four, depthFrom, depthOf, rangedAt}
-use Rattle.layout.specs.DepthLaws.{length-four, four-set, depth-four, range-intro, ranged-size}
+use Rattle.depths.specs.Depths.{four, depthFrom, depthOf, rangedAt}
+use Rattle.depths.specs.DepthLaws.{length-four, four-set, depth-four, range-intro, ranged-size}
 use Rattle.rules.specs.Rules.{Old}
 use Rattle.rules.specs.RuleLaws.{Small, new-small, new-length}
 use Rattle.messages.specs.Messages.{fromIn, countIn}

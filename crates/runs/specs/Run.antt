@@ -9,7 +9,7 @@ use lib.ListN.{length, take}
 use Rattle.vocabulary.specs.Ranges.{isUpTo, total}
 use Rattle.vocabulary.specs.Lists.{All}
 use Rattle.vocabulary.specs.Bytes.{Bytes, byteAt}
-use Rattle.layout.specs.Depths.{four}
+use Rattle.depths.specs.Depths.{four}
 use Rattle.mesh.specs.Mesh.{cellCount}
 use Rattle.round.specs.Rounds.{Scheme, schemeOf, undivided}
 use Rattle.split.specs.Split.{Split, splitOf, ownerAt, owned, held, exports, locals, globalOf}

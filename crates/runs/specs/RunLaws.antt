@@ -21,8 +21,8 @@ use Rattle.vocabulary.specs.RangeLaws.{every-in, upTo-intro}
 use Rattle.vocabulary.specs.Tests.{passed, firstOf}
 use Rattle.layout.specs.Words.{word, wordBytes, bytesOf}
 use Rattle.layout.specs.WordLaws.{word-same, word-set, word-in, word-left, word-back, length-wordBytes, length-bytesOf, wordAt-first}
-use Rattle.layout.specs.Depths.{four}
-use Rattle.layout.specs.DepthLaws.{length-four, four-set, four-in, four-before, four-after, four-past, four-drop, four-stored, fours-length, fours-at, joined-at}
+use Rattle.depths.specs.Depths.{four}
+use Rattle.depths.specs.DepthLaws.{length-four, four-set, four-in, four-before, four-after, four-past, four-drop, four-stored, fours-length, fours-at, joined-at}
 use Rattle.mesh.specs.Walks.{Near}
 use Rattle.rules.specs.Rules.{Old}
 use Rattle.round.specs.Rounds.{Scheme, depthIn, oldsIn, newIn, round, undivided}

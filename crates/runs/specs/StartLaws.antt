@@ -19,8 +19,8 @@ use Rattle.vocabulary.specs.RangeLaws.{total-turn, total-fit}
 use Rattle.vocabulary.specs.Tests.{passed}
 use Rattle.layout.specs.Words.{word}
 use Rattle.layout.specs.WordLaws.{wordAt-first}
-use Rattle.layout.specs.Depths.{four}
-use Rattle.layout.specs.DepthLaws.{length-four, four-left, four-past, fours-length, fours-at}
+use Rattle.depths.specs.Depths.{four}
+use Rattle.depths.specs.DepthLaws.{length-four, four-left, four-past, fours-length, fours-at}
 use Rattle.mesh.specs.Mesh.{top, cellCount, meshTests}
 use Rattle.mesh.specs.Walks.{Near, reach, steps, bad10}
 use Rattle.mesh.specs.WalkLaws.{steps-few}

@@ -17,7 +17,7 @@ use Rattle.vocabulary.specs.ListLaws.{and-true, cond-has, mem-all}
 use Rattle.vocabulary.specs.Ranges.{isUpTo}
 use Rattle.vocabulary.specs.Tests.{passed, firstOf}
 use Rattle.vocabulary.specs.RangeLaws.{upTo-true}
-use Rattle.layout.specs.Depths.{four}
+use Rattle.depths.specs.Depths.{four}
 use Rattle.mesh.specs.Mesh.{cellCount}
 use Rattle.rules.specs.Rules.{Old}
 use Rattle.rules.specs.RuleLaws.{new-length}

@@ -10,7 +10,7 @@ use lib.ListN.{length, getD, length-append, length-map}
 use borrow.Author.Tests.{eqb-true, eq-eqb}
 use Rattle.vocabulary.specs.Bytes.{Bytes, byteAt}
 use Rattle.vocabulary.specs.Ranges.{picked, some, total}
-use Rattle.vocabulary.specs.RangeLaws.{some-in, some-witness, total-start, total-turn, total-cong, picked-all, picked-in, picked-passes}
+use Rattle.vocabulary.specs.RangeLaws.{some-in, some-witness, total-start, total-turn, total-cong, picked-all, picked-in, picked-passes, at-last}
 use Rattle.vocabulary.specs.Lists.{All}
 use Rattle.vocabulary.specs.ListLaws.{and-true, and-intro, same-test, All-getD, All-of-map, someOf-has, someOf-witness, getD-map-any}
 use Rattle.mesh.specs.Mesh.{firstCell, cellCount}
@@ -44,7 +44,7 @@ unfolding rowCount
 row-turn held i q s x e f = ap₂ _+_ e (f ∙ ap (markAt held i) (sym (zero-add q))) ∙ sym (total-turn 0 (markAt held i) q)
 
 pub row-end : (held : Bytes) (i q n s : ℕ) → q ≤ n → n ≤ q → s ≡ rowCount held q i → s ≡ rowCount held n i
-row-end held i q n s g h e = let z : q ≡ n = omega arith in rw z at e
+row-end held i q n s g h e = at-last (λ k. s ≡ rowCount held k i) q n g h e
 
 pub rows-start : (held : Bytes) (n : ℕ) → 0 ≡ total 1 0 (rowCount held n)
 rows-start held n = sym (total-start 1 (rowCount held n))
@@ -55,7 +55,7 @@ rows-turn held n k s x e f =
     ap₂ _+_ e (f ∙ ap (rowCount held n) z) ∙ sym (total-turn 1 (rowCount held n) k)
 
 pub rows-end : (held : Bytes) (n k parts s : ℕ) → k ≤ parts → parts ≤ k → s ≡ total 1 k (rowCount held n) → s ≡ total 1 parts (rowCount held n)
-rows-end held n k parts s g h e = let z : k ≡ parts = omega arith in rw z at e
+rows-end held n k parts s g h e = at-last (λ j. s ≡ total 1 j (rowCount held n)) k parts g h e
 
 -- how many pass, as a sum
 picked-count : (a n : ℕ) (p : ℕ → Bool) → length (picked a n p) ≡ total 0 n (λ k. cond (p (a + k)) 1 0)

@@ -10,7 +10,7 @@ use lib.ListN.{length}
 use borrow.Author.Tests.{le-leb, lt-leb, eq-eqb, ne-eqb, not-true, not-false}
 use Rattle.vocabulary.specs.Bytes.{Bytes, byteAt}
 use Rattle.vocabulary.specs.Ranges.{isUpTo, every, some, picked}
-use Rattle.vocabulary.specs.RangeLaws.{every-at, every-intro, some-has, some-witness, some-at, some-more, picked-none, picked-at, every-stop, every-turn, some-stop, some-turn}
+use Rattle.vocabulary.specs.RangeLaws.{every-at, every-intro, some-has, some-witness, some-at, some-more, picked-none, picked-at, every-stop, every-turn, some-stop, some-turn, at-last}
 use Rattle.vocabulary.specs.Lists.{everyOf}
 use Rattle.vocabulary.specs.ListLaws.{everyOf-at, everyOf-intro, All-intro, same-test}
 use Rattle.vocabulary.specs.Tests.{Test, refuse, firstOf, passed, firstOf-left, firstOf-right}
@@ -109,7 +109,7 @@ module _ (m : Bytes) (parts : ℕ) (owners : Bytes) where
 
   pub share-end : (k : ℕ) → k ≤ parts → parts ≤ k → some 1 k (ownsNone m parts owners) ≡ false → false ≡ bad9 (splitOf m parts owners [])
   unfolding bad9 ownsNone splitOf
-  share-end k g h s = let q : k ≡ parts = omega arith in sym (rw q at s)
+  share-end k g h s = sym (at-last (λ n. some 1 n (ownsNone m parts owners) ≡ false) k parts g h s)
 
 shares-any : (m : Bytes) (parts : ℕ) (owners st : Bytes) → bad9 (splitOf m parts owners []) ≡ bad9 (splitOf m parts owners st)
 unfolding bad9 owned owns splitOf

@@ -205,6 +205,14 @@ module _ (S : Split) where
           )
       go false e = inl (ltb-false _ _ e)
 
+  -- an owned cell that is in its own reach is held
+  pub own-held : ((c : ℕ) → Cell S c → reaches S c c ≡ true) → (i c : ℕ) → Cell S c → owns S i c ≡ true → holds S i c ≡ true
+  unfolding holds owned
+  own-held own-reach i c h e =
+      let a = picked-in (S .first) (owns S i) (S .cells) c (h .0) (h .1) e in
+      someOf-has (λ o. reaches S o c) (picked (S .first) (S .cells) (owns S i)) 0 (a .place) (a .place-lt)
+      (subst (λ o. reaches S o c ≡ true) (sym (a .place-is)) (own-reach c h))
+
   module _ (reach-in : (c : ℕ) → Cell S c → All (λ e. Cell S (e .cell)) (S .reach c)) (owner-in : (c : ℕ) → Cell S c → (1 ≤ S .owner c) × (S .owner c ≤ S .parts)) where
     -- what is held stands in the local order
     pub held-has : (i x : ℕ) → Cell S x → holds S i x ≡ true → At x (locals S i)
@@ -264,28 +272,20 @@ module _ (S : Split) where
         (ap (λ xs. someOf xs (λ o. reaches S o (S .first + k))) (owned-none j h)))
 
     -- so sixteen numbers say no more than the parts
-    pub import-total : (i : ℕ) → S .parts ≤ 16 → total 1 16 (λ j. length (imports S i j)) ≡ total 1 (S .parts) (λ j. length (imports S i j))
-    import-total i h =
+    sixteen : (f : ℕ → List ℕ) → ((j : ℕ) → S .parts < j → f j ≡ []) → S .parts ≤ 16 → total 1 16 (λ j. length (f j)) ≡ total 1 (S .parts) (λ j. length (f j))
+    sixteen f none h =
         let e : S .parts + (16 - S .parts) ≡ 16 = omega arith in
-        ap (λ n. total 1 n (λ j. length (imports S i j))) (sym e)
-        ∙ total-short 1 (S .parts) (16 - S .parts) (λ j. length (imports S i j)) (λ k l q. ap length (imports-none i (1 + k) (omega arith)))
+        ap (λ n. total 1 n (λ j. length (f j))) (sym e) ∙ total-short 1 (S .parts) (16 - S .parts) (λ j. length (f j)) (λ k l q. ap length (none (1 + k) (omega arith)))
+
+    pub import-total : (i : ℕ) → S .parts ≤ 16 → total 1 16 (λ j. length (imports S i j)) ≡ total 1 (S .parts) (λ j. length (imports S i j))
+    import-total i = sixteen (imports S i) (imports-none i)
 
     pub export-total : (i : ℕ) → S .parts ≤ 16 → total 1 16 (λ j. length (exports S i j)) ≡ total 1 (S .parts) (λ j. length (exports S i j))
-    export-total i h =
-        let e : S .parts + (16 - S .parts) ≡ 16 = omega arith in
-        ap (λ n. total 1 n (λ j. length (exports S i j))) (sym e)
-        ∙ total-short 1 (S .parts) (16 - S .parts) (λ j. length (exports S i j)) (λ k l q. ap length (exports-none i (1 + k) (omega arith)))
+    export-total i = sixteen (exports S i) (exports-none i)
 
     -- ---- what is held, where a cell is in its own reach: the owned cells and the imports
 
     module _ (own-reach : (c : ℕ) → Cell S c → reaches S c c ≡ true) where
-      own-held : (i c : ℕ) → Cell S c → owns S i c ≡ true → holds S i c ≡ true
-      unfolding holds owned
-      own-held i c h e =
-          let a = picked-in (S .first) (owns S i) (S .cells) c (h .0) (h .1) e in
-          someOf-has (λ o. reaches S o c) (picked (S .first) (S .cells) (owns S i)) 0 (a .place) (a .place-lt)
-          (subst (λ o. reaches S o c ≡ true) (sym (a .place-is)) (own-reach c h))
-
       pub held-length : (i : ℕ) → length (held S i) ≡ length (owned S i) + total 1 (S .parts) (λ j. length (imports S i j))
       unfolding held owned imports owns
       held-length i =
@@ -295,7 +295,7 @@ module _ (S : Split) where
           (λ k h.
           same-test (holds S i (S .first + k) && eqb (S .owner (S .first + k)) i) (eqb (S .owner (S .first + k)) i)
           (λ e. and-true (holds S i (S .first + k)) (eqb (S .owner (S .first + k)) i) e .1)
-          (λ e. and-intro (holds S i (S .first + k)) (eqb (S .owner (S .first + k)) i) (own-held i (S .first + k) (omega arith, omega arith) e) e))))
+          (λ e. and-intro (holds S i (S .first + k)) (eqb (S .owner (S .first + k)) i) (own-held own-reach i (S .first + k) (omega arith, omega arith) e) e))))
           (picked-shared (S .first) (S .cells) (S .parts) (λ c. holds S i c && not (eqb (S .owner c) i))
           (λ j c. not (eqb i j) && eqb (S .owner c) j && holds S i c) (S .owner)
           (λ k h e.

@@ -10,7 +10,7 @@ use lib.Seq.{take-suc, length-take-le}
 use Rattle.vocabulary.specs.Bytes.{Bytes, over}
 use Rattle.vocabulary.specs.ByteLaws.{over-none, over-length, over-more}
 use Rattle.vocabulary.specs.Ranges.{listed, blocks}
-use Rattle.vocabulary.specs.RangeLaws.{listed-turn, listed-length, blocks-start, blocks-turn, blocks-fit}
+use Rattle.vocabulary.specs.RangeLaws.{listed-turn, listed-length, blocks-start, blocks-turn, blocks-fit, at-last}
 use Rattle.layout.specs.Words.{wordAt, wordBytes, bytesOf}
 use Rattle.layout.specs.WordLaws.{length-bytesOf, bytesOf-append}
 use Rattle.start_lists.specs.Starting.{Put}
@@ -57,10 +57,10 @@ module _ (a b c : Bytes) (s t u k n : ℕ) (room : 2 * (s + n) ≤ length a) (h 
       (put-both a b c s t u (listed 0 k g) (x ∷ []) P Q (omega (arith, P .count, listed-length 0 g k)))
 
 pub list-end : (a b : Bytes) (s t k n : ℕ) (list : List ℕ) → k ≤ n → n ≤ k → Put a b s t (take k list) → Put a b s t (take n list)
-list-end a b s t k n list g h P = let q : k ≡ n = omega arith in put-as a b s t (take k list) (take n list) (ap (λ j. take j list) q) P
+list-end a b s t k n list g h P = at-last (λ j. Put a b s t (take j list)) k n g h P
 
 pub words-end : (a b : Bytes) (s t k n : ℕ) (g : ℕ → ℕ) → k ≤ n → n ≤ k → Put a b s t (listed 0 k g) → Put a b s t (listed 0 n g)
-words-end a b s t k n g h q P = let e : k ≡ n = omega arith in put-as a b s t (listed 0 k g) (listed 0 n g) (ap (λ j. listed 0 j g) e) P
+words-end a b s t k n g h q P = at-last (λ j. Put a b s t (listed 0 j g)) k n h q P
 
 pub list-start : (b : Bytes) (s : ℕ) (list : List ℕ) → Put b b s s (take 0 list)
 list-start b s list = put-none b s
@@ -95,7 +95,7 @@ module _ (g : ℕ → List ℕ) (n : ℕ) where
       (put-both a b c s u w (blocks 1 (l - 1) g) (g l) P Q (omega (arith, P .count, many-fit l h k)))
 
   pub many-end : (a b : Bytes) (s u l : ℕ) → l ≤ n + 1 → n + 1 ≤ l → Put a b s u (blocks 1 (l - 1) g) → Put a b s u (blocks 1 n g)
-  many-end a b s u l p h P = let q : l - 1 ≡ n = omega arith in put-as a b s u (blocks 1 (l - 1) g) (blocks 1 n g) (ap (λ k. blocks 1 k g) q) P
+  many-end a b s u l p h P = at-last (λ k. Put a b s u (blocks 1 k g)) (l - 1) n (omega arith) (omega arith) P
 
 -- ---- several, one after another
 

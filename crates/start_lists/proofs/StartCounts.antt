@@ -9,7 +9,7 @@ use lib.Seq.{take-suc}
 use Rattle.vocabulary.specs.ListLaws.{map-append}
 use Rattle.vocabulary.specs.Bytes.{Bytes}
 use Rattle.vocabulary.specs.Ranges.{blocks, total}
-use Rattle.vocabulary.specs.RangeLaws.{total-grows, total-cong, blocks-turn, blocks-length, rows-length}
+use Rattle.vocabulary.specs.RangeLaws.{total-grows, total-cong, blocks-turn, blocks-length, rows-length, at-last}
 use Rattle.vocabulary.specs.CountLaws.{total-double}
 use Rattle.layout.specs.Words.{wordAt}
 use Rattle.split.specs.Split.{localOf}
@@ -192,7 +192,7 @@ module _ (order : List ℕ) (n : ℕ) where
       (put-both a b c s u w _ _ P Q (omega arith))
 
   pub locals-end : (a b : Bytes) (s u k x : ℕ) (list : List ℕ) → x ≤ k → k ≤ x → Put a b s u (map (localOf (take n order)) (take x list)) → Put a b s u (map (localOf (take n order)) (take k list))
-  locals-end a b s u k x list g h P = let q : x ≡ k = omega arith in put-as a b s u _ _ (ap (λ j. map (localOf (take n order)) (take j list)) q) P
+  locals-end a b s u k x list g h P = at-last (λ j. Put a b s u (map (localOf (take n order)) (take j list))) x k g h P
 
 -- ---- exports in local numbers
 

@@ -9,10 +9,10 @@ use lib.Seq.{length-take-le}
 use Rattle.vocabulary.specs.Bytes.{Bytes, over}
 use Rattle.vocabulary.specs.ByteLaws.{over-none}
 use Rattle.vocabulary.specs.Ranges.{listed, blocks}
-use Rattle.vocabulary.specs.RangeLaws.{listed-cong, listed-length, blocks-start}
+use Rattle.vocabulary.specs.RangeLaws.{listed-cong, listed-length, blocks-start, at-last}
 use Rattle.layout.specs.Words.{wordAt}
-use Rattle.layout.specs.Depths.{four}
-use Rattle.layout.specs.DepthLaws.{length-four, fours-store}
+use Rattle.depths.specs.Depths.{four}
+use Rattle.depths.specs.DepthLaws.{length-four, fours-store}
 use Rattle.start_lists.specs.Starting.{Put, gotEnds, sentEnds, sentWords, rowEnds, rowWords, startWords, partCount, endsOf, Fit, startDepth, Cells}
 use Rattle.parts.proofs.OpenedLaws.{four-cut}
 use Rattle.start_lists.proofs.PutLaws.{put-as, put-both, put-length}
@@ -111,7 +111,7 @@ pub held-start : (f : Bytes) (first : ℕ) (order : List ℕ) (b : Bytes) (at : 
 held-start f first order b at = sym (ap (over b at) (blocks-start 1 (startDepth f first order)) ∙ over-none b at)
 
 pub held-end : (f : Bytes) (first : ℕ) (order : List ℕ) (b x : Bytes) (at l n : ℕ) → l ≤ n + 1 → n + 1 ≤ l → x ≡ over b at (blocks 1 (l - 1) (startDepth f first order)) → x ≡ over b at (blocks 1 n (startDepth f first order))
-held-end f first order b x at l n g h e = let q : l - 1 ≡ n = omega arith in e ∙ ap (λ m. over b at (blocks 1 m (startDepth f first order))) q
+held-end f first order b x at l n g h e = at-last (λ m. x ≡ over b at (blocks 1 m (startDepth f first order))) (l - 1) n (omega arith) (omega arith) e
 
 module _ (f : Bytes) (first : ℕ) (order : List ℕ) (n : ℕ) (C : Cells f first order n) (l g : ℕ) (h : 1 ≤ l) (k : l < n + 1) (ge : g ≡ getD order (l - 1) 0) where
   pub held-low : first ≤ g

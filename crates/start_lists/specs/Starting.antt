@@ -7,7 +7,7 @@ use lib.ListN.{length, getD, take}
 use Rattle.vocabulary.specs.Bytes.{Bytes, over}
 use Rattle.vocabulary.specs.Ranges.{listed, blocks, total}
 use Rattle.layout.specs.Words.{wordAt, bytesOf}
-use Rattle.layout.specs.Depths.{four}
+use Rattle.depths.specs.Depths.{four}
 use Rattle.split.specs.Split.{localOf}
 use Rattle.split.specs.Sorting.{cellsOf}
 

@@ -15,7 +15,7 @@ use Rattle.vocabulary.specs.RangeLaws.{blocks-cong}
 use Rattle.vocabulary.specs.Tests.{Test, refuse, firstOf, passed, none-holds, firstOf-left, firstOf-right}
 use Rattle.layout.specs.Words.{bytesOf}
 use Rattle.layout.specs.WordLaws.{length-bytesOf}
-use Rattle.layout.specs.Depths.{four}
+use Rattle.depths.specs.Depths.{four}
 use Rattle.layout.specs.Answers.{answer}
 use Rattle.layout.specs.AnswerLaws.{answer-done, answer-refused}
 use Rattle.layout.specs.declared.Answer.{Answer}

@@ -11,7 +11,7 @@ use Rattle.vocabulary.specs.ListLaws.{and-right, and-all}
 use Rattle.vocabulary.specs.Ranges.{every}
 use Rattle.vocabulary.specs.Tests.{allOf}
 use Rattle.layout.specs.Words.{word, wordAt}
-use Rattle.layout.specs.Depths.{rangedAt}
+use Rattle.depths.specs.Depths.{rangedAt}
 use Rattle.states.specs.State.{heldCount, listsLength, listsTests, dynamicTests, flagsFine, isState}
 use Rattle.states.specs.StateLaws.{isStateAt, state-at}
 use Rattle.states.specs.Checks.{Counts}

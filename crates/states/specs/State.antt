@@ -13,7 +13,7 @@ use Rattle.vocabulary.specs.Lists.{someOf}
 use Rattle.vocabulary.specs.Tests.{allOf}
 use Rattle.vocabulary.specs.Bytes.{Bytes, byteAt}
 use Rattle.layout.specs.Words.{word, wordAt}
-use Rattle.layout.specs.Depths.{rangedAt}
+use Rattle.depths.specs.Depths.{rangedAt}
 use Rattle.rules.specs.Rules.{Old, newDepth, weightCount, bad11}
 
 -- a cell of a reach by its local number, with its layer

@@ -18,7 +18,7 @@ use Rattle.vocabulary.specs.ListLaws.{and-true, and-intro}
 use Rattle.vocabulary.specs.Tests.{allOf, allOf-true, allOf-intro}
 use Rattle.layout.specs.Words.{wordAt}
 use Rattle.layout.specs.WordLaws.{word-same}
-use Rattle.layout.specs.Depths.{rangedAt}
+use Rattle.depths.specs.Depths.{rangedAt}
 use Rattle.rules.specs.Rules.{bad11}
 use Rattle.states.specs.State.{stepCount, ruleKind, weights, firstOfMesh, cellsOfMesh, globalAt, exportEnd, exportCount, exportAt, globalFine, entryFine, ownFound, exportFine, reachEnd, reachCount, entryAt, localReach, dynamic, importEnd, ownedCount, heldCount, rises, listsLength, listsTests, dynamicTests, isState, roundAt, takenPlace, writtenPlace, stateLength}
 

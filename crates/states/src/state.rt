@@ -1,7 +1,7 @@
 // Whether bytes begin with a part's state (20).
 use crate::lists::lists_fine;
+use depths::inner::depths_in_range;
 use layout::byte_at;
-use layout::inner::depths_in_range;
 use layout::inner::word_in;
 use layout::word_at;
 ghost use mathlib.Core.Path.{_≡_};

@@ -171,6 +171,9 @@ fn heads() {
     edited(b"d 4", 0, 4);
     edited(b"a count above d", 3, 1);
     edited(b"no points", 1, 0);
+}
+
+fn sizes() {
     edited(b"N 2,001", 1, 1996);
     edited(b"N 2,000, of another length", 1, 1995);
     edited(b"R 12,001", 5, 12001);
@@ -182,6 +185,9 @@ fn chains() {
     edited(b"a next above R", 18, 11);
     edited(b"a point with a head", 6, 1);
     edited(b"a record met twice", 20, 1);
+}
+
+fn elements() {
     edited(b"element 0", 17, 0);
     edited(b"an element above N", 17, 12);
     edited(b"a cell in a cell's chain", 17, 7);
@@ -363,6 +369,9 @@ fn reaches() {
     reached(b"15 reaches 16", 1, 2);
     reached(b"15 reaches 17", 1, 3);
     reached(b"16 reaches 15", 2, 1);
+}
+
+fn other_reaches() {
     reached(b"16 reaches 17", 2, 3);
     reached(b"17 reaches 15", 3, 1);
     reached(b"17 does not reach 16", 3, 2);
@@ -370,17 +379,9 @@ fn reaches() {
 
 // ---- rounds: 11, 14
 
-// Makes a round of the five cells. A depth is two words of the text, the high one first.
-fn put_round(
-    name: &[u8],
-    kind: u32,
-    weights: &[u8],
-    text: &[u8],
-    field: &mut [u8],
-    out: &mut [u8],
-) {
+// Makes a round of the five cells.
+fn round_of(name: &[u8], kind: u32, weights: &[u8], field: &[u8], out: &mut [u8]) {
     let m = five_cells();
-    put_words(field, text);
     io::write_all(1, name);
     io::write_all(1, b" of");
     print_values(Form::Depths, field, 5);
@@ -388,10 +389,12 @@ fn put_round(
     say_all(Form::Depths, b"", a, out);
 }
 
+// A depth is two words of the text, the high one first.
 fn one_round(name: &[u8], kind: u32, weights: &[u8], text: &[u8]) {
     let mut field = [0u8; 20];
     let mut out = [0u8; 20];
-    put_round(name, kind, weights, text, &mut field, &mut out);
+    put_words(&mut field, text);
+    round_of(name, kind, weights, &field, &mut out);
 }
 
 // Weights 2 and 1.
@@ -448,12 +451,15 @@ fn depths() {
 }
 
 fn fields() {
-    let mut field = [0u8; 19];
+    let field = [0u8; 19];
     let mut out = [0u8; 20];
-    put_round(b"19 bytes", 0, b"", b"", &mut field, &mut out);
-    let mut whole = [0u8; 20];
-    let mut short = [0u8; 19];
-    put_round(b"into 19 bytes", 0, b"", b"", &mut whole, &mut short);
+    round_of(b"19 bytes", 0, b"", &field, &mut out);
+}
+
+fn room() {
+    let field = [0u8; 20];
+    let mut out = [0u8; 19];
+    round_of(b"into 19 bytes", 0, b"", &field, &mut out);
 }
 
 // Layers 0, 2 and 4 weigh 4, 2 and 1: 15 and 16 take 700 / 7, and 17, which does not reach 16, takes 4 * 700 / 5.
@@ -530,6 +536,9 @@ fn ahead(one: &mut State, two: &mut State, next: &mut Message) {
     write(b"part 1 to part 2", one, 2, next);
     take(b"part 2 takes it", two, next);
     take(b"part 2 takes it again", two, next);
+}
+
+fn first(two: &mut State, next: &mut Message) {
     advance(b"part 2 advances", two);
     write(b"part 2 to part 1, round 1", two, 1, next);
 }
@@ -538,6 +547,9 @@ fn behind(one: &mut State, old: &Message, next: &Message) {
     take(b"part 1 takes the message for round 1", one, next);
     take(b"part 1 takes the one for round 0", one, old);
     advance(b"part 1 advances", one);
+}
+
+fn again(one: &mut State, next: &Message) {
     take(b"part 1 takes the message for round 1", one, next);
     advance(b"part 1 advances, nothing written", one);
 }
@@ -548,6 +560,9 @@ fn second(one: &mut State, two: &mut State) {
     take(b"part 2 takes it", two, &message);
     advance(b"part 1 advances", one);
     advance(b"part 2 advances", two);
+}
+
+fn collected(one: &State, two: &State) {
     collect(b"part 1 at round 2", one, 2);
     collect(b"part 2 at round 2", two, 2);
 }
@@ -560,8 +575,11 @@ fn runs() {
     started(&mut one, &mut two);
     before(&mut two, &mut old);
     ahead(&mut one, &mut two, &mut next);
+    first(&mut two, &mut next);
     behind(&mut one, &old, &next);
+    again(&mut one, &next);
     second(&mut one, &mut two);
+    collected(&one, &two);
 }
 
 // The round stands after the lists, whose length in words is word 0.
@@ -601,6 +619,9 @@ fn wrong_messages(b: &mut State) {
     take_bytes(b"take 7 bytes", b, b"\x00\x02\x00\x01\x00\x00\x00");
     take_words(b"take count 2 in 12 bytes", b, b"2 1 0 2 0 400");
     take_words(b"take depth 1,200,001", b, b"2 1 0 1 18 20353");
+}
+
+fn wrong_senders(b: &mut State) {
     take_words(b"take from part 3", b, b"3 1 0 1 0 400");
     take_bytes(b"take count 0", b, b"\x00\x02\x00\x01\x00\x00\x00\x00");
 }
@@ -609,12 +630,15 @@ fn wrong_calls() {
     let mut b = [0u8; 190];
     wrong_parts(&mut b);
     wrong_messages(&mut b);
+    wrong_senders(&mut b);
 }
 
 fn main() {
     lengths();
     heads();
+    sizes();
     chains();
+    elements();
     closures();
     ignored();
     lists(1, 2);
@@ -625,12 +649,14 @@ fn main() {
     stencils();
     no_imports();
     reaches();
+    other_reaches();
     rounds();
     below_zero();
     counts_of_weights();
     weights();
     depths();
     fields();
+    room();
     layers();
     runs();
     last_rounds();

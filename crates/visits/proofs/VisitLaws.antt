@@ -14,7 +14,7 @@ use Rattle.vocabulary.specs.Lists.{isIn, All}
 use Rattle.vocabulary.specs.ListLaws.{or-nothing, or-always, or-assoc, and-right, once-few, All-append, isIn-append, repeats-snoc}
 use Rattle.vocabulary.specs.Bytes.{Bytes}
 use Rattle.vocabulary.specs.Ranges.{blocks}
-use Rattle.vocabulary.specs.RangeLaws.{blocks-turn}
+use Rattle.vocabulary.specs.RangeLaws.{blocks-turn, at-last}
 use Rattle.mesh.specs.Mesh.{recordCount, headOf, elementIn, nextOf, follow, records, chain}
 use Rattle.mesh.proofs.FollowLaws.{chain-ended, chain-spent, chain-more}
 use Rattle.visits.specs.Visits.{Gathered, Toward, with, between, down, up, Upward}
@@ -199,7 +199,7 @@ step-turn found₀ found found′ n n′ j g xs t e u = record {
 }
 
 pub step-end : (found₀ found : List ℕ) (n j s : ℕ) (g : ℕ → List ℕ) → j ≤ n → n ≤ j → Toward found s [] (with found₀ 0 (blocks 0 j g)) → Toward found s [] (with found₀ 0 (blocks 0 n g))
-step-end found₀ found n j s g a b t = let q : j ≡ n = omega arith in subst (λ x. Toward found s [] (with found₀ 0 (blocks 0 x g))) q t
+step-end found₀ found n j s g a b t = at-last (λ x. Toward found s [] (with found₀ 0 (blocks 0 x g))) j n a b t
 
 pub down-is : (m : Bytes) (r lo hi h x j : ℕ) (from : List ℕ) → r ≡ recordCount m → x ≡ getD from j 0 → h ≡ headOf m x
     → between lo hi (map (elementIn m) (follow m (r + 1) h)) ≡ down m lo hi from j

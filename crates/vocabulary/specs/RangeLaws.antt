@@ -15,6 +15,10 @@ use Rattle.vocabulary.specs.Lists.{isIn, someOf, repeats, joined, All}
 use Rattle.vocabulary.specs.ListLaws.{isIn-append, someOf-append, someOf-witness, someOf-has, or-nothing, same-test, and-true, and-intro, and-false, or-left, or-right, or-true, or-none, not-both, All-append, All-getD, At, at-left, at-right, repeats-none, map-append}
 use Rattle.vocabulary.specs.Ranges.{isUpTo, picked, every, some, listed, blocks, total}
 
+-- a loop that has come to its end: what holds so far holds in all
+pub at-last : (P : ℕ → Type 0) (k n : ℕ) → k ≤ n → n ≤ k → P k → P n
+at-last P k n g h p = let q : k ≡ n = omega arith in subst P q p
+
 -- a number below suc n is the last or comes before it
 pub last-or : (i n : ℕ) → i < suc n → (i < n) ⊎ (i ≡ n)
 last-or i n h = go (eqb i n) refl
@@ -485,7 +489,7 @@ module _ (p : ℕ → Bool) (n k : ℕ) where
   every-turn t i e f = every-more 0 p k i (at-zero t true e (not-false t f))
 
   pub every-end : k ≤ n → n ≤ k → every 0 k p ≡ true → true ≡ every 0 n p
-  every-end g h i = let q : k ≡ n = omega arith in sym (rw q at i)
+  every-end g h i = sym (at-last (λ j. every 0 j p ≡ true) k n g h i)
 
   pub some-stop : (t : Bool) → k < n → t ≡ p k → t ≡ true → true ≡ some 0 n p
   some-stop t h e f = sym (some-has 0 p n k h (at-zero t true e f))
@@ -494,7 +498,7 @@ module _ (p : ℕ → Bool) (n k : ℕ) where
   some-turn t i e f = some-more 0 p k i (at-zero t false e f)
 
   pub some-end : k ≤ n → n ≤ k → some 0 k p ≡ false → false ≡ some 0 n p
-  some-end g h i = let q : k ≡ n = omega arith in sym (rw q at i)
+  some-end g h i = sym (at-last (λ j. some 0 j p ≡ false) k n g h i)
 
 pub isIn-blocks : (g a n : ℕ) (f : ℕ → List ℕ) → isIn g (blocks a n f) ≡ some a n (λ c. isIn g (f c))
 unfolding blocks some isIn

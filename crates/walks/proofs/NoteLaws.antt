@@ -1,5 +1,5 @@
 -- Steps and layers as the code makes them. Assumes nothing.
-use mathlib.Core.Path.{_≡_, refl, sym, ap, _∙_, subst}
+use mathlib.Core.Path.{_≡_, refl, sym, ap, _∙_}
 use mathlib.Core.Bool.{Bool, true, false, _||_, _&&_, cond}
 use mathlib.Core.List.{List, [], _∷_, _++_}
 use Prim.Native.Nat.{ℕ, _+_, _≤_, _<_}
@@ -19,6 +19,7 @@ use Rattle.visits.specs.Visits.{Fresh, Gathered, Toward, with, down, up, Upward
 use Rattle.walks.specs.Walking.{Ground, Cells, Lowers, stepped, noted, Noted, among}
 use Rattle.walks.proofs.StepLaws.{down-told, up-told, upward}
 use Rattle.mesh.specs.WalkLaws.{below-grows}
+use Rattle.vocabulary.specs.RangeLaws.{at-last}
 
 -- nothing gathered yet
 pub begin : (v : ℕ) (marks found : List ℕ) → Fresh v marks → length found ≡ 2001 → Gathered v marks found 0
@@ -104,7 +105,7 @@ notes-turn k y j n from l₀ l₁ l₂ c h e A B = record {
     longer = rw (add-one j, e) (take-suc from j 0 fits)
 
 pub notes-end : (k j n : ℕ) (from l₀ l₁ : List ℕ) → j ≤ n → n ≤ j → Noted k l₀ l₁ (among from j) → Noted k l₀ l₁ (among from n)
-notes-end k j n from l₀ l₁ a b N = let q : j ≡ n = omega arith in subst (λ i. Noted k l₀ l₁ (among from i)) q N
+notes-end k j n from l₀ l₁ a b N = at-last (λ i. Noted k l₀ l₁ (among from i)) j n a b N
 
 pub note-fits : (k y j n : ℕ) (from l₀ l₁ : List ℕ) (p : ℕ → Bool) → length (take n from) ≡ n → All (λ y. y < length l₀) (take n from) → j < n → y ≡ getD from j 0
     → Noted k l₀ l₁ p → y < length l₁

@@ -11,7 +11,7 @@ use lib.Seq.{take-suc, take-suc-set}
 use borrow.Author.Tests.{eqb-true, eqb-false, ne-eqb}
 use Rattle.vocabulary.specs.Bytes.{Bytes, byteAt}
 use Rattle.vocabulary.specs.Ranges.{picked}
-use Rattle.vocabulary.specs.RangeLaws.{picked-passes, picked-cong}
+use Rattle.vocabulary.specs.RangeLaws.{picked-passes, picked-cong, at-last}
 use Rattle.vocabulary.specs.Lists.{isIn, All}
 use Rattle.vocabulary.specs.ListLaws.{or-nothing, All-map, All-append, All-split, isIn-at, at-isIn, at-all, All-intro}
 use Rattle.mesh.specs.Mesh.{top, elements, counted, below, firstCell, cellCount}
@@ -30,7 +30,7 @@ pub copy-turn : (src dst : List ℕ) (j n : ℕ) → j < n → n ≤ length src 
 copy-turn src dst j n h a b e = rw (add-one j) (take-suc-set dst j (getD src j 0) b ∙ ap (λ l. l ++ (getD src j 0 ∷ [])) e ∙ sym (take-suc src j 0 (omega arith)))
 
 pub copy-end : (src dst : List ℕ) (j n : ℕ) → j ≤ n → n ≤ j → take j dst ≡ take j src → take n dst ≡ take n src
-copy-end src dst j n g h e = let q : j ≡ n = omega arith in subst (λ i. take i dst ≡ take i src) q e
+copy-end src dst j n g h e = at-last (λ i. take i dst ≡ take i src) j n g h e
 
 -- ---- the stencil
 
@@ -211,7 +211,7 @@ widen-turn low high low′ high′ low″ high″ y j n list c h e X Y = record 
     longer = rw (add-one j, e) (take-suc list j 0 (omega (arith, c, length-take n list)))
 
 pub widen-end : (low high low′ high′ j n : ℕ) (list : List ℕ) → j ≤ n → n ≤ j → Widened low high low′ high′ (take j list) → Widened low high low′ high′ (take n list)
-widen-end low high low′ high′ j n list g h U = let q : j ≡ n = omega arith in subst (λ i. Widened low high low′ high′ (take i list)) q U
+widen-end low high low′ high′ j n list g h U = at-last (λ i. Widened low high low′ high′ (take i list)) j n g h U
 
 -- an element that is not noted keeps its layer
 kept : (k n z : ℕ) (from layers layers′ : List ℕ) → Noted k layers layers′ (among from n) → (isIn z (take n from) ≡ true → ⊥) → getD layers′ z 0 ≡ getD layers z 0

@@ -10,7 +10,7 @@ ghost use mathlib.Core.Path.{_≡_};
 ghost use mathlib.Core.List.{[], _∷_};
 ghost use Prim.Native.Nat.{ℕ, _+_, _<_, _≤_};
 ghost use lib.Dec.{eqb};
-ghost use lib.ListN.{length, getD, take};
+ghost use lib.ListN.{length, take};
 ghost use Rattle.vocabulary.specs.Bytes.{byteAt};
 ghost use Rattle.vocabulary.specs.Lists.{All};
 ghost use Rattle.mesh.specs.Mesh.{top, elements, recordCount};

@@ -11,7 +11,7 @@ use Rattle.vocabulary.specs.Bytes.{Bytes, over}
 use Rattle.vocabulary.specs.Lists.{isIn, placeOf, joined, repeats, someOf, everyOf}
 use Rattle.vocabulary.specs.Ranges.{isUpTo, picked, every, some, listed, blocks, total}
 use Rattle.layout.specs.Answers.{answer}
-use Rattle.layout.specs.Depths.{four, numberFrom, signed, unsigned, depthFrom, numberBytes, depthBytes, inRange, rangedAt}
+use Rattle.depths.specs.Depths.{four, numberFrom, signed, unsigned, depthFrom, numberBytes, depthBytes, inRange, rangedAt}
 use Rattle.layout.specs.Words.{word, wordAt, words, wordBytes, bytesOf}
 use Rattle.mesh.specs.Meet.{meet, stamp, unlike, leavesBy}
 use Rattle.mesh.specs.Mesh.{below, dimension, elementIn, nextOf, follow, records, chain, allRecords, bad1, wrongCount, bad2, meshLength, bad3, headed, bad4, wrongIn, wrongAt, bad5, leaves, unclosed, bad6, bare, bad7, meshTests, meshNumber, checkAnswer}
@@ -27,7 +27,7 @@ use Rattle.parts.specs.Calls.{importsFrom, exportsTo, messageTo, writeTestsIn, 
 use Rattle.states.specs.State.{weights, localReach, localExports, listsIn, listsOf, rises, listsTests, dynamicTests, isState, bad20}
 use Rattle.starts.specs.Start.{importEnds, exportEnds, reachEnds, reachWords, exportWords, listsLong, listsWords, stateSize, sizeNumber, sizeAnswer, firstState, startTests, startNumber, startAnswer, startState}
 use Rattle.runs.specs.Run.{ownerIn, Gathered, schemeIn, collectsOf, Run, Inputs, World, Collected, collect, advance, take-in, write, Call, put, more, step, run, Fair, Honest, startNumberIn, startStateIn, begin, StateBound}
-use Rattle.part_text.specs.Listing.{ascii, digits, decimal, spaced, line, lineUnlessEmpty, dimensionText, partText, splitText, meshPiece, mapPiece, partsPiece, ownersPiece, lastPiece, stencilPiece, listingNumber, listText}
+use Rattle.text.specs.Listing.{ascii, digits, decimal, spaced, line, lineUnlessEmpty, dimensionText, partText, splitText, meshPiece, mapPiece, partsPiece, ownersPiece, lastPiece, stencilPiece, listingNumber, listText}
 
 -- ---- the inputs
 

@@ -11,11 +11,11 @@ use Rattle.vocabulary.specs.Bytes.{Bytes, over}
 use Rattle.vocabulary.specs.ByteLaws.{over-none, over-more}
 use Rattle.vocabulary.specs.Lists.{joined}
 use Rattle.vocabulary.specs.Ranges.{isUpTo, blocks}
-use Rattle.vocabulary.specs.RangeLaws.{upTo-true, listed-length, joined-mapped, blocks-start}
+use Rattle.vocabulary.specs.RangeLaws.{upTo-true, listed-length, joined-mapped, blocks-start, at-last}
 use Rattle.layout.specs.Words.{word, wordAt, bytesOf}
 use Rattle.layout.specs.WordLaws.{length-bytesOf}
-use Rattle.layout.specs.Depths.{four}
-use Rattle.layout.specs.DepthLaws.{length-four, fours-store, joined-length}
+use Rattle.depths.specs.Depths.{four}
+use Rattle.depths.specs.DepthLaws.{length-four, fours-store, joined-length}
 use Rattle.layout.specs.Answers.{answer}
 use Rattle.layout.specs.AnswerLaws.{answer-done, answer-refused}
 use Rattle.layout.specs.declared.Answer.{Answer}
@@ -135,7 +135,7 @@ module _ (st : Bytes) (d : ℕ) (b : Bytes) (o : Opened st d b) (held owned reac
         sent-is = ap (λ k. four b (d + 30 + 4 * k)) (sym local-is) ∙ sent-at st d b (from + t)
 
   pub put-end : (out x : Bytes) (t : ℕ) → t ≤ count → count ≤ t → x ≡ over out 8 (blocks from t (sentAt st d b)) → x ≡ over out 8 (blocks from count (sentAt st d b))
-  put-end out x t g h e = let q : t ≡ count = omega arith in rw q at e
+  put-end out x t g h e = at-last (λ n. x ≡ over out 8 (blocks from n (sentAt st d b))) t count g h e
 
 -- the words first, and the depths behind them
 pub message-put : (b out x y : Bytes) (st : Bytes) (d j count from part round : ℕ) → Opened st d b → count ≡ sentTo (listsIn st) j → 1 ≤ count → 8 + 4 * count ≤ length out

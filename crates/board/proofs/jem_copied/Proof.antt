@@ -1,5 +1,5 @@
 -- `board::jem_copied` meets its contract. Assumes nothing.
-use Rattle.board.proofs.PackedLaws.{packed-as}
+use Rattle.packed.proofs.PackedLaws.{packed-as}
 use borrow.Author.Needs.{needs}
 use Rattle.board.proofs.jem_copied.Statement.{statement}
 use Rattle.board.proofs.jem_copied.Tie as tie

@@ -1,5 +1,5 @@
 -- `part_text::lists::put_cells` meets its contract. Assumes nothing.
-use Rattle.part_text.proofs.PartLaws.{cells-told}
+use Rattle.range_text.proofs.PartLaws.{cells-told}
 use borrow.Author.Needs.{needs}
 use Rattle.part_text.proofs.lists.put_cells.Statement.{statement}
 use Rattle.part_text.proofs.lists.put_cells.Tie as tie

@@ -4,9 +4,10 @@ use Prim.Native.Nat.{_-_, _≤_}
 use lib.ListN.{length}
 use Rattle.vocabulary.specs.Ranges.{blocks}
 use Rattle.part_lists.specs.declared.lists.Wanted.the-variants.{Exports}
-use Rattle.part_text.specs.Listing.{ascii}
-use Rattle.part_text.specs.Printing.{Printed, passing}
-use Rattle.part_text.proofs.PartLaws.{texts-start, exports-turn, texts-end}
+use Rattle.text.specs.Listing.{ascii}
+use Rattle.text.specs.Printing.{Printed}
+use Rattle.range_text.specs.Lines.{passing}
+use Rattle.range_text.proofs.PartLaws.{texts-start, passing-turn, texts-end}
 use borrow.Author.Needs.{needs}
 use Rattle.part_text.proofs.lists.put_exports.Statement.{statement}
 use Rattle.part_text.proofs.lists.put_exports.Tie as tie
@@ -18,6 +19,7 @@ abbrev μ-loop : tie.MeasureT-loop
 μ-loop m parts owners st table ends held i out₀ at t₀ j₀ t13 out t j = parts - j
 
 pub put-exports-spec : {M : Type 1} → statement M
+unfolding ascii
 put-exports-spec =
     tie.close
     (tie.spec
@@ -29,6 +31,6 @@ put-exports-spec =
     (λ c κs. search needs)
     (λ c. search needs)
     (λ c. search needs)
-    (λ c. (search needs, search needs, search exports-turn))
+    (λ c. (search needs, search needs, search passing-turn))
     (λ c. search needs)
     (λ c. search texts-end))

@@ -1,5 +1,5 @@
 -- `part_text::lists::put_full` meets its contract. Assumes nothing.
-use Rattle.part_text.proofs.PartLaws.{full-told}
+use Rattle.range_text.proofs.PartLaws.{full-told}
 use borrow.Author.Needs.{needs}
 use Rattle.part_text.proofs.lists.put_full.Statement.{statement}
 use Rattle.part_text.proofs.lists.put_full.Tie as tie

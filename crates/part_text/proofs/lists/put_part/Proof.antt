@@ -1,5 +1,5 @@
 -- `part_text::lists::put_part` meets its contract. Assumes nothing.
-use Rattle.part_text.proofs.PartLaws.{part-told}
+use Rattle.range_text.proofs.PartLaws.{part-told}
 use borrow.Author.Needs.{needs}
 use Rattle.part_text.proofs.lists.put_part.Statement.{statement}
 use Rattle.part_text.proofs.lists.put_part.Tie as tie

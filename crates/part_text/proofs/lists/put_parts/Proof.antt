@@ -3,8 +3,9 @@ use mathlib.Core.Path.{_≡_, refl}
 use Prim.Native.Nat.{_-_, _≤_}
 use lib.ListN.{length}
 use Rattle.vocabulary.specs.Ranges.{blocks}
-use Rattle.part_text.specs.Printing.{Printed, partOf}
-use Rattle.part_text.proofs.PartLaws.{ready, texts-start, parts-turn, texts-end}
+use Rattle.text.specs.Printing.{Printed}
+use Rattle.range_text.specs.Lines.{partOf}
+use Rattle.range_text.proofs.PartLaws.{ready, texts-start, parts-turn, texts-end}
 use borrow.Author.Needs.{needs}
 use Rattle.part_text.proofs.lists.put_parts.Statement.{statement}
 use Rattle.part_text.proofs.lists.put_parts.Tie as tie

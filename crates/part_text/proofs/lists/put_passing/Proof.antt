@@ -1,6 +1,6 @@
 -- `part_text::lists::put_passing` meets its contract. Assumes nothing.
 use mathlib.Core.Path.{refl}
-use Rattle.part_text.proofs.PartLaws.{list-room, passing-none, passing-some}
+use Rattle.range_text.proofs.PartLaws.{list-room, passing-none, passing-some}
 use borrow.Author.Needs.{needs}
 use Rattle.part_text.proofs.lists.put_passing.Statement.{statement}
 use Rattle.part_text.proofs.lists.put_passing.Tie as tie

@@ -3,7 +3,7 @@ use mathlib.Core.Path.{_≡_}
 use Prim.Native.Nat.{_+_, _-_, _*_, _≤_}
 use mir.Syntax.{w32}
 use mir.Val.{toZ}
-use Rattle.layout.specs.Depths.{depthFrom}
+use Rattle.depths.specs.Depths.{depthFrom}
 use Rattle.rules.specs.Rules.{least}
 use Rattle.rules.specs.Update.{entries, oldsAt}
 use Rattle.rules.proofs.Reaches.{old-there, least-start, least-more, least-end}

@@ -1,0 +1,39 @@
+-- `mesh_chains::inner::wrong_chain` meets its contract. The invariant: meeting what is left gives what meeting the whole chain gives. Assumes nothing.
+use mathlib.Core.Path.{_≡_, refl}
+use mathlib.Core.List.{map}
+use Prim.Native.Nat.{_+_, _-_, _<_}
+use native.Mathlib.Nat.{sub-zero}
+use Rattle.mesh.specs.Mesh.{elementIn, follow}
+use Rattle.mesh.specs.Meet.{meet}
+use Rattle.mesh.proofs.FollowLaws.{meet-ended, meet-spent, meet-zero, meet-above, meet-again, meet-turn}
+use borrow.Author.Needs.{needs}
+use Rattle.mesh_chains.proofs.inner.wrong_chain.Statement.{statement}
+use Rattle.mesh_chains.proofs.inner.wrong_chain.Tie as tie
+
+abbrev Inv-loop : tie.InvT-loop
+Inv-loop m n r h low mark marks₀ i₀ -k₀ -k-end marks i -k = (-k-end ≡ r + 1) × (i < 65536) × (meet mark low marks (map (elementIn m) (follow m (-k-end - -k) i)) ≡ meet mark low marks₀ (map (elementIn m) (follow m (r + 1) h)))
+
+abbrev μ-loop : tie.MeasureT-loop
+μ-loop m n r h low mark marks₀ i₀ -k₀ -k-end marks i -k = -k-end - -k
+
+pub wrong-chain-spec : {M : Type 1} → statement M
+wrong-chain-spec =
+    tie.close
+    (tie.spec
+    Inv-loop
+    μ-loop
+    (λ c. search needs)
+    (λ c. (refl, search needs, simp sub-zero))
+    (λ c. search meet-ended)
+    (λ c κs. search needs)
+    (λ c. search meet-zero)
+    (λ c. search meet-above)
+    (λ c. search needs)
+    (λ c. search needs)
+    (λ c. search meet-again)
+    (λ c. search needs)
+    (λ c. search needs)
+    (λ c. search needs)
+    (λ c. search needs)
+    (λ c. (search needs, search needs, search meet-turn))
+    (λ c. search meet-spent))

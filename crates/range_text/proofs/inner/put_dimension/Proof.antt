@@ -1,0 +1,20 @@
+-- `range_text::inner::put_dimension` meets its contract. Assumes nothing.
+use Rattle.range_text.proofs.PartLaws.{dimension-told}
+use borrow.Author.Needs.{needs}
+use Rattle.range_text.proofs.inner.put_dimension.Statement.{statement}
+use Rattle.range_text.proofs.inner.put_dimension.Tie as tie
+
+pub put-dimension-spec : {M : Type 1} → statement M
+put-dimension-spec =
+    tie.close
+    (tie.spec
+    (λ c. search needs)
+    (λ c κs. search needs)
+    (λ c. search needs)
+    (λ c κs. search needs)
+    (λ c. search needs)
+    (λ c κs. search needs)
+    (λ c. search needs)
+    (λ c κs. c .before .before .before .before .before .before .before .before .before .before .before .before .before .before .before .before .before .before .before .before .before .before .before .before .pre)
+    (λ c. search needs)
+    (λ c. dimension-told _ _ _ _ _ _ _ _ _ _ _ _ _ _ _ _ (c .before .before .before .before .before .before .before .before .before .before .before .before .before .before .before .before .before .put-range .ensures) (c .before .before .before .before .before .before .before .before .before .before .before .before .put-range2 .ensures) (c .before .before .before .before .before .before .before .put-range3 .ensures) (c .before .before .put-range4 .ensures)))

@@ -1,0 +1,33 @@
+-- `range_text::inner::put_dimensions` meets its contract. The invariant: the dimensions before k are put. Assumes nothing.
+use mathlib.Core.Path.{_≡_, refl}
+use Prim.Native.Nat.{_-_, _≤_}
+use lib.ListN.{length}
+use Rattle.vocabulary.specs.Ranges.{blocks}
+use Rattle.mesh.specs.Mesh.{top}
+use Rattle.text.specs.Printing.{Printed}
+use Rattle.range_text.specs.Lines.{dimensionOf}
+use Rattle.range_text.proofs.PartLaws.{texts-start, dimensions-turn, texts-up-to}
+use borrow.Author.Needs.{needs}
+use Rattle.range_text.proofs.inner.put_dimensions.Statement.{statement}
+use Rattle.range_text.proofs.inner.put_dimensions.Tie as tie
+
+abbrev Inv-loop : tie.InvT-loop
+Inv-loop m parts owners st table ends held i out₀ at t₀ k₀ k-end out t k = (k-end ≡ top m) × (k ≤ top m) × (length out ≡ length out₀) × Printed out₀ out at t (blocks 0 k (dimensionOf m parts owners st i))
+
+abbrev μ-loop : tie.MeasureT-loop
+μ-loop m parts owners st table ends held i out₀ at t₀ k₀ k-end out t k = k-end - k
+
+pub put-dimensions-spec : {M : Type 1} → statement M
+put-dimensions-spec =
+    tie.close
+    (tie.spec
+    Inv-loop
+    μ-loop
+    (λ c κs. search needs)
+    (λ c. (search needs, search needs, refl, search texts-start))
+    (λ c κs. search needs)
+    (λ c. search needs)
+    (λ c. search needs)
+    (λ c. (search needs, search needs, search needs, search dimensions-turn))
+    (λ c. search needs)
+    (λ c. search texts-up-to))

@@ -1,0 +1,65 @@
+// The new depths of the owned cells, by the lists and the rule of a state.
+use depths::inner::put_depth;
+use layout::word_at;
+use rules::inner::new_depth;
+use states::inner::between;
+use states::inner::weight_count;
+ghost use mathlib.Core.Path.{_≡_};
+ghost use Prim.Native.Nat.{_+_, _*_, _<_, _≤_};
+ghost use lib.ListN.{length};
+ghost use Rattle.vocabulary.specs.Bytes.{over};
+ghost use Rattle.vocabulary.specs.Ranges.{blocks};
+ghost use Rattle.depths.specs.Depths.{depthBytes};
+ghost use Rattle.states.specs.State.{listsIn, ruleKind, weights, heldCount, ownedCount};
+ghost use Rattle.parts.specs.Opened.{Opened};
+ghost use Rattle.parts.specs.Calls.{newAt};
+
+// The new depth of local cell l.
+fn renew_one(
+    lists: &[u8],
+    v: &[u8],
+    b: &[u8],
+    d: usize,
+    kind: usize,
+    held: usize,
+    owned: usize,
+    l: usize,
+) -> i32
+    requires { ⌜ Opened (now lists) d (now b) × (kind ≡ ruleKind (now lists)) × (now v ≡ weights (now lists)) × (held ≡ heldCount (now lists)) × (owned ≡ ownedCount (now lists)) × (held < 65536) × (owned < 65536) × (1 ≤ l) × (l ≤ owned) ⌝ }
+    ensures { λ r. ⌜ depthBytes r ≡ newAt (listsIn (now (lists .entry))) d (now (b .entry)) l ⌝ }
+{
+    let k = 45 + held + (l - 1);
+    let at = 2 * (46 + held + owned) + 4 * word_at(lists, k);
+    new_depth(kind, v, lists, at, between(lists, k), b, d + 30, l)
+}
+
+// The new depths of the owned cells. The state is only read here, so every one comes from old ones.
+fn renew(
+    lists: &[u8],
+    v: &[u8],
+    b: &[u8],
+    d: usize,
+    kind: usize,
+    held: usize,
+    owned: usize,
+    new: &mut [u8],
+)
+    requires { ⌜ Opened (now lists) d (now b) × (kind ≡ ruleKind (now lists)) × (now v ≡ weights (now lists)) × (held ≡ heldCount (now lists)) × (owned ≡ ownedCount (now lists)) × (held < 65536) × (owned < 65536) × (4 * owned ≤ length (now new)) ⌝ }
+    ensures { λ _. ⌜ now (new .exit) ≡ over (now (new .entry)) 0 (blocks 1 owned (newAt (listsIn (now (lists .entry))) d (now (b .entry)))) ⌝ }
+{
+    for l in 1..owned + 1 {
+        let z = renew_one(lists, v, b, d, kind, held, owned, l);
+        put_depth(new, 4 * (l - 1), z);
+    }
+}
+
+// The new depths, by the rule in the lists.
+pub fn renew_by(lists: &[u8], b: &[u8], d: usize, owned: usize, new: &mut [u8])
+    requires { ⌜ Opened (now lists) d (now b) × (owned ≡ ownedCount (now lists)) × (owned < 65536) × (4 * owned ≤ length (now new)) ⌝ }
+    ensures { λ _. ⌜ now (new .exit) ≡ over (now (new .entry)) 0 (blocks 1 owned (newAt (listsIn (now (lists .entry))) d (now (b .entry)))) ⌝ }
+{
+    let kind = word_at(lists, 3);
+    let end = 8 + 2 * weight_count(kind, word_at(lists, 2));
+    let held = word_at(lists, 27);
+    renew(lists, &lists[8..end], b, d, kind, held, owned, new);
+}
