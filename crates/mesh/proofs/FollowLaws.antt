@@ -1,12 +1,12 @@
 -- Following a chain one record at a time, and what the code has met on the way. Assumes nothing.
-use mathlib.Core.Path.{_≡_, refl, sym}
-use mathlib.Core.Bool.{Bool, true, false, _||_}
+use mathlib.Core.Path.{_≡_, refl, sym, ap, _∙_}
+use mathlib.Core.Bool.{Bool, true, false, not, _||_}
 use mathlib.Core.List.{List, [], _∷_, map}
 use Prim.Native.Nat.{ℕ, zero, suc, _+_, _-_, _≤_, _<_}
 use native.Mathlib.Omega.{arith}
-use lib.Dec.{eqb, leb}
+use lib.Dec.{eqb, ltb, leb}
 use lib.ListN.{getD, set}
-use borrow.Author.Tests.{le-leb, lt-leb, lt-ltb, le-ltb, eq-eqb, ne-eqb}
+use borrow.Author.Tests.{le-leb, lt-leb, lt-ltb, eq-eqb, ne-eqb}
 use Rattle.vocabulary.specs.Bytes.{Bytes}
 use Rattle.vocabulary.specs.Ranges.{isUpTo, some}
 use Rattle.vocabulary.specs.Lists.{someOf}
@@ -17,14 +17,20 @@ use Rattle.mesh.specs.Meet.{Met, met, meet, stamp}
 
 -- ---- points with heads
 
-module _ (m : Bytes) (e h : ℕ) (q : h ≡ headOf m e) (low : 1 ≤ e) where
-  pub head-found : (points : ℕ) → e < 1 + points → 0 < h → true ≡ some 1 points (headed m)
+module _ (m : Bytes) (e : ℕ) (b : Bool) (q : b ≡ eqb (headOf m e) 0) (low : 1 ≤ e) where
+  told : not b ≡ headed m e
   unfolding headed
-  head-found points g z = some-stop-from 1 (headed m) points e (headed m e) refl (simp (sym q, lt-ltb _ _ z)) low g
+  told = ap not q ∙ go (headOf m e)
+    where
+      go : (h : ℕ) → not (eqb h 0) ≡ ltb 0 h
+      go zero = refl
+      go (suc h) = ap not (ne-eqb (suc h) 0 (λ z. let n : ⊥ = omega arith in n)) ∙ sym (lt-ltb 0 (suc h) (omega arith))
 
-  pub head-turn : some 1 (e - 1) (headed m) ≡ false → h ≤ 0 → some 1 (e + 1 - 1) (headed m) ≡ false
-  unfolding headed
-  head-turn i z = some-turn-from 1 (headed m) e (headed m e) low i refl (simp (sym q, le-ltb _ _ z))
+  pub head-found : (points : ℕ) → e < 1 + points → not b ≡ true → true ≡ some 1 points (headed m)
+  head-found points g z = some-stop-from 1 (headed m) points e (not b) told z low g
+
+  pub head-turn : some 1 (e - 1) (headed m) ≡ false → not b ≡ false → some 1 (e + 1 - 1) (headed m) ≡ false
+  head-turn i z = some-turn-from 1 (headed m) e (not b) low i told z
 
 -- ---- the chain that is left after k of its turns
 

@@ -1,9 +1,11 @@
 // A chain is followed inside the lent mesh bytes, one record at a time. The borrow checker covers no function over a struct that holds a reference:
-// those here are few and thin, and proved by hand. All else calls `read_record`, whose parameters are plain.
+// those here are few and thin, and proved by hand. All else calls `read_record` and `is_empty`, whose parameters are plain.
+use crate::inner::head_of;
 use layout::word_at;
 ghost use mathlib.Core.Path.{_≡_};
 ghost use Prim.Native.Nat.{_<_};
-ghost use Rattle.mesh.specs.Mesh.{elements, elementIn, nextOf};
+ghost use lib.Dec.{eqb};
+ghost use Rattle.mesh.specs.Mesh.{elements, headOf, elementIn, nextOf};
 
 // The element of record i, and its next record, in a mesh of n elements.
 fn element_in(m: &[u8], n: usize, i: usize) -> usize
@@ -31,6 +33,24 @@ fn at_record<'a>(mesh: &'a [u8], index: usize) -> ChainReader<'a>
     ensures { λ c. ⌜ (c .mesh ≡ mesh .entry) × (c .index ≡ index) ⌝ }
 {
     ChainReader { mesh, index }
+}
+
+// A reader at the head of the chain of element e.
+fn at_head<'a>(mesh: &'a [u8], e: usize) -> ChainReader<'a>
+    requires { ⌜ e < 4294967296 ⌝ }
+    ensures { λ c. ⌜ (c .mesh ≡ mesh .entry) × (c .index ≡ headOf (now (mesh .entry)) e) ⌝ }
+{
+    ChainReader {
+        mesh,
+        index: head_of(mesh, e),
+    }
+}
+
+// Whether the chain has ended.
+fn finished<'a>(c: ChainReader<'a>) -> bool
+    ensures { λ b. ⌜ b ≡ eqb (c .entry .index) 0 ⌝ }
+{
+    c.index == 0
 }
 
 // The record at which it stands.
@@ -75,4 +95,12 @@ pub fn read_record(m: &[u8], n: usize, i: usize) -> Record
         element: element_of(c, n),
         next: record_of(moved_on(c, n)),
     }
+}
+
+// Whether the chain of element e is empty.
+pub fn is_empty(m: &[u8], e: usize) -> bool
+    requires { ⌜ e < 4294967296 ⌝ }
+    ensures { λ b. ⌜ b ≡ eqb (headOf (now (m .entry)) e) 0 ⌝ }
+{
+    finished(at_head(m, e))
 }

@@ -3,6 +3,7 @@ use mesh::inner::below_of;
 use mesh::inner::count_of;
 use mesh::inner::dimension_of;
 use mesh::inner::head_of;
+use mesh::inner::is_empty;
 use mesh::inner::read_record;
 ghost use mathlib.Core.Path.{_≡_};
 ghost use mathlib.Core.Bool.{_||_};
@@ -19,7 +20,7 @@ fn point_headed(m: &[u8], points: usize) -> bool
     ensures { λ r. ⌜ r ≡ some 1 points (headed (now (m .entry))) ⌝ }
 {
     for e in 1..1 + points {
-        if 0 < head_of(m, e) {
+        if !is_empty(m, e) {
             return true;
         }
     }

@@ -1,134 +1,19 @@
-// Runs the examples of the specification on the compiled calls. Each line names an example and prints what its call answered: the count and what it
-// gave, or the number of the refusal. The file `stdout` has these lines, to be read beside the specification.
-use layout::Answer;
-use layout::byte_at;
-use layout::word_at;
-ghost use Prim.Native.Nat.{_<_};
-
-const OWNERS: [u8; 5] = [1, 1, 1, 2, 2];
-
-const STENCIL: [u8; 3] = [1, 0, 1];
-
-const WEIGHTS: [u8; 4] = [0, 2, 0, 1];
-
-// ---- printing
-
-// How what a call gave is printed: a message byte by byte in hexadecimal, all else in decimal.
-enum Form {
-    Words,
-    Depths,
-    Bytes,
-}
-
-fn print_depth(high: usize, low: usize)
-    requires { ⌜ (high < 65536) × (low < 65536) ⌝ }
-{
-    let v = high * 65536 + low;
-    if v < 2147483648 {
-        io::print_decimal(1, v as u64);
-    } else {
-        io::write_all(1, b"-");
-        io::print_decimal(1, (4294967296 - v) as u64);
-    }
-}
-
-fn print_value(form: Form, out: &[u8], i: u32) {
-    let k = i as usize;
-    io::write_all(1, b" ");
-    match form {
-        Form::Words => {
-            io::print_decimal(1, word_at(out, k) as u64);
-        }
-        Form::Depths => {
-            print_depth(word_at(out, 2 * k), word_at(out, 2 * k + 1));
-        }
-        Form::Bytes => {
-            io::print_hex(1, byte_at(out, k) as u64, 2);
-        }
-    }
-}
-
-// Prints the name and the answer; gives the count.
-fn print_answer(name: &[u8], a: Answer) -> u32 {
-    io::write_all(1, name);
-    match a {
-        Answer::Done(count) => {
-            io::write_all(1, b": count ");
-            io::print_decimal(1, count as u64);
-            count
-        }
-        Answer::Refused(number) => {
-            io::write_all(1, b": refused ");
-            io::print_decimal(1, number as u64);
-            0
-        }
-    }
-}
-
-fn say(name: &[u8], a: Answer) {
-    print_answer(name, a);
-    io::write_all(1, b"\n");
-}
-
-fn print_values(form: Form, out: &[u8], n: u32) {
-    for i in 0..n {
-        print_value(form, out, i);
-    }
-}
-
-// The answer and the values that it counts.
-fn say_all(form: Form, name: &[u8], a: Answer, out: &[u8]) {
-    let n = print_answer(name, a);
-    if n != 0 {
-        io::write_all(1, b":");
-    }
-    print_values(form, out, n);
-    io::write_all(1, b"\n");
-}
+// Runs the examples of the specification on the compiled calls on meshes: check mesh, the lists and the undivided round. Each line names an example and
+// prints what its call answered: the count and what it gave, or the number of the refusal. The file `stdout` has these lines, to be read beside the
+// specification.
+use vector_lines::Form;
+use vector_lines::OWNERS;
+use vector_lines::STENCIL;
+use vector_lines::WEIGHTS;
+use vector_lines::five_cells;
+use vector_lines::print_values;
+use vector_lines::put_five;
+use vector_lines::put_words;
+use vector_lines::say;
+use vector_lines::say_all;
+use vector_lines::set_word;
 
 // ---- inputs
-
-// Stores word i of m, if there is one.
-fn set_word(m: &mut [u8], i: usize, v: usize) {
-    if i < m.len() {
-        if 2 * i + 1 < m.len() {
-            m[2 * i] = (v / 256 % 256) as u8;
-            m[2 * i + 1] = (v % 256) as u8;
-        }
-    }
-}
-
-// One more digit of word i, or a space; gives the word to go on with.
-fn put_digit(m: &mut [u8], i: usize, c: u8) -> usize {
-    if c < 48 {
-        if i < m.len() { i + 1 } else { i }
-    } else {
-        set_word(m, i, word_at(m, i) * 10 + (c - 48) as usize);
-        i
-    }
-}
-
-// Puts the words of a text, in decimal, into bytes that are all 0, as many as fit.
-fn put_words(m: &mut [u8], text: &[u8]) {
-    let mut i = 0;
-    for k in 0..text.len() {
-        i = put_digit(m, i, text[k]);
-    }
-}
-
-// "d = 1; counts 6, 5, 0, 0; R = 10. Heads: six zeros, then 1, 3, 5, 7, 9. Records: (1,2) (2,0) .."
-fn put_five(m: &mut [u8]) {
-    put_words(
-        m,
-        b"1 6 5 0 0 10 0 0 0 0 0 0 1 3 5 7 9 1 2 2 0 2 4 3 0 3 6 4 0 4 8 5 0 5 10 6 0",
-    );
-}
-
-fn five_cells() -> [u8; 74] {
-    let mut m = [0u8; 74];
-    put_five(&mut m);
-    m
-}
 
 // "Triangles 15 (points 1 2 3), 16 (2 3 4), 17 (1 5 6), edges 7 to 14"
 fn triangles() -> [u8; 182] {
@@ -477,162 +362,6 @@ fn layers() {
     say_all(Form::Depths, b"triangles, mean 4 2 1 of 0 0 700", a, &out);
 }
 
-// ---- parts: 15, 16, 20 to 28
-
-// What part 1 of the five cells needs, and enough for part 2; and what a message of one depth needs.
-type State = [u8; 190];
-
-type Message = [u8; 12];
-
-fn start(name: &[u8], i: u32, b: &mut State) {
-    let m = five_cells();
-    let mut field = [0u8; 20];
-    put_words(&mut field, b"0 100 0 200 0 300 0 400 0 500");
-    let a = starts::start(&m, 2, &OWNERS, i, &STENCIL, 1, &WEIGHTS, &field, b);
-    say(name, a);
-}
-
-fn write(name: &[u8], b: &mut State, to: u32, message: &mut Message) {
-    let a = writing::write(b, to, message);
-    say_all(Form::Bytes, name, a, message);
-}
-
-fn take_bytes(name: &[u8], b: &mut State, bytes: &[u8]) {
-    say(name, taking::take(b, bytes));
-}
-
-fn take(name: &[u8], b: &mut State, message: &Message) {
-    take_bytes(name, b, message);
-}
-
-fn advance(name: &[u8], b: &mut State) {
-    say(name, advancing::advance(b));
-}
-
-fn collect(name: &[u8], b: &State, round: u32) {
-    let mut field = [0u8; 20];
-    let a = collecting::collect(b, round, &mut field);
-    print_answer(name, a);
-    io::write_all(1, b":");
-    print_values(Form::Depths, &field, 5);
-    io::write_all(1, b"\n");
-}
-
-fn started(one: &mut State, two: &mut State) {
-    start(b"start of part 1", 1, one);
-    start(b"start of part 2", 2, two);
-    collect(b"part 1 at round 0", one, 0);
-    collect(b"part 2 for round 1 at round 0", two, 1);
-}
-
-fn before(two: &mut State, old: &mut Message) {
-    write(b"part 2 to part 1", two, 1, old);
-    take(b"part 2 takes its own message", two, old);
-    advance(b"part 2 advances, nothing taken", two);
-}
-
-// Part 2 goes on to round 1, and part 1 is behind.
-fn ahead(one: &mut State, two: &mut State, next: &mut Message) {
-    write(b"part 1 to part 2", one, 2, next);
-    take(b"part 2 takes it", two, next);
-    take(b"part 2 takes it again", two, next);
-}
-
-fn first(two: &mut State, next: &mut Message) {
-    advance(b"part 2 advances", two);
-    write(b"part 2 to part 1, round 1", two, 1, next);
-}
-
-fn behind(one: &mut State, old: &Message, next: &Message) {
-    take(b"part 1 takes the message for round 1", one, next);
-    take(b"part 1 takes the one for round 0", one, old);
-    advance(b"part 1 advances", one);
-}
-
-fn again(one: &mut State, next: &Message) {
-    take(b"part 1 takes the message for round 1", one, next);
-    advance(b"part 1 advances, nothing written", one);
-}
-
-fn second(one: &mut State, two: &mut State) {
-    let mut message = [0u8; 12];
-    write(b"part 1 to part 2, round 1", one, 2, &mut message);
-    take(b"part 2 takes it", two, &message);
-    advance(b"part 1 advances", one);
-    advance(b"part 2 advances", two);
-}
-
-fn collected(one: &State, two: &State) {
-    collect(b"part 1 at round 2", one, 2);
-    collect(b"part 2 at round 2", two, 2);
-}
-
-fn runs() {
-    let mut one = [0u8; 190];
-    let mut two = [0u8; 190];
-    let mut old = [0u8; 12];
-    let mut next = [0u8; 12];
-    started(&mut one, &mut two);
-    before(&mut two, &mut old);
-    ahead(&mut one, &mut two, &mut next);
-    first(&mut two, &mut next);
-    behind(&mut one, &old, &next);
-    again(&mut one, &next);
-    second(&mut one, &mut two);
-    collected(&one, &two);
-}
-
-// The round stands after the lists, whose length in words is word 0.
-fn set_round(b: &mut State, round: usize) {
-    let at = word_at(b, 0);
-    set_word(b, at, round);
-}
-
-// A message of six words.
-fn take_words(name: &[u8], b: &mut State, text: &[u8]) {
-    let mut message = [0u8; 12];
-    put_words(&mut message, text);
-    take(name, b, &message);
-}
-
-fn last_rounds() {
-    let mut b = [0u8; 190];
-    let mut message = [0u8; 12];
-    start(b"start of part 1", 1, &mut b);
-    write(b"part 1 to part 2", &mut b, 2, &mut message);
-    take_words(b"part 1 takes", &mut b, b"2 1 0 1 0 400");
-    set_round(&mut b, 60000);
-    advance(b"part 1 advances at round 60,000", &mut b);
-    set_round(&mut b, 59999);
-    advance(b"part 1 advances at round 59,999", &mut b);
-}
-
-fn wrong_parts(b: &mut State) {
-    let mut message = [0u8; 12];
-    advance(b"advance of zeros", b);
-    start(b"start of part 1", 1, b);
-    write(b"part 1 to part 3", b, 3, &mut message);
-    write(b"part 1 to part 1", b, 1, &mut message);
-}
-
-fn wrong_messages(b: &mut State) {
-    take_bytes(b"take 7 bytes", b, b"\x00\x02\x00\x01\x00\x00\x00");
-    take_words(b"take count 2 in 12 bytes", b, b"2 1 0 2 0 400");
-    take_words(b"take depth 1,200,001", b, b"2 1 0 1 18 20353");
-}
-
-fn wrong_senders(b: &mut State) {
-    take_words(b"take from part 3", b, b"3 1 0 1 0 400");
-    take_bytes(b"take count 0", b, b"\x00\x02\x00\x01\x00\x00\x00\x00");
-}
-
-fn wrong_calls() {
-    let mut b = [0u8; 190];
-    wrong_parts(&mut b);
-    wrong_messages(&mut b);
-    wrong_senders(&mut b);
-}
-
 fn main() {
     lengths();
     heads();
@@ -658,7 +387,4 @@ fn main() {
     fields();
     room();
     layers();
-    runs();
-    last_rounds();
-    wrong_calls();
 }

@@ -1,9 +1,9 @@
--- `vectors::print_values` runs to its end; its loop needs no invariant. Assumes nothing.
+-- `vector_lines::print_values` runs to its end; its loop needs no invariant. Assumes nothing.
 use Prim.Native.Nat.{_-_}
 use mathlib.Core.Path.{_≡_}
 use borrow.Author.Needs.{needs}
-use Rattle.vectors.proofs.print_values.Statement.{statement}
-use Rattle.vectors.proofs.print_values.Tie as tie
+use Rattle.vector_lines.proofs.print_values.Statement.{statement}
+use Rattle.vector_lines.proofs.print_values.Tie as tie
 
 abbrev Inv-loop : tie.InvT-loop
 Inv-loop form out n i₀ i = i ≡ i

@@ -1,10 +1,10 @@
--- `vectors::put_words` runs to its end: the lengths stay. Assumes nothing.
+-- `vector_lines::put_words` runs to its end: the lengths stay. Assumes nothing.
 use Prim.Native.Nat.{_-_}
 use mathlib.Core.Path.{_≡_, refl}
 use lib.ListN.{length}
 use borrow.Author.Needs.{needs}
-use Rattle.vectors.proofs.put_words.Statement.{statement}
-use Rattle.vectors.proofs.put_words.Tie as tie
+use Rattle.vector_lines.proofs.put_words.Statement.{statement}
+use Rattle.vector_lines.proofs.put_words.Tie as tie
 
 abbrev Inv-loop : tie.InvT-loop
 Inv-loop m₀ text i₀ k₀ k-end m i k = (k-end ≡ length text) × (length m ≡ length m₀)
