@@ -17,8 +17,9 @@ use denote.RattleType.{RattleType, owns}
 use denote.Laws.{Is}
 use denote.Plain.{uint-makes}
 use denote.Builtin.{u8, usize}
+use denote.Ref.{RefT}
 use denote.Signature.{namedLft}
-use denote.Slice.{sliceVal, ShrSlice}
+use denote.Slice.{sliceVal, ShrSlice, shr-slice-copy}
 use denote.Steps.{owned, nothing}
 use denote.Struct.Declared.{Declared}
 use denote.Struct.Laws as LL
@@ -69,3 +70,20 @@ module _ {M : Type 1} (𝓤 : URA M) (H : Heap 𝓤) (A : Atoms 𝓤) (W : Given
     where
       fields : Values (D (κ, tt) .parts)
       fields = (c .mesh, (c .index, tt))
+
+-- a slice and a number, as a function over the bytes is lent them
+abbrev pub bytes : RefT (List ℕ) → Val
+bytes m = sliceVal (m .ptr) (length (m .now))
+
+abbrev pub OwnSlice : Lft → RefT (List ℕ) → Fml
+OwnSlice κ m = ShrSlice (named 0) κ u8 .own m (bytes m ∷ [])
+
+abbrev pub OwnBoth : Lft → RefT (List ℕ) → ℕ → Fml
+OwnBoth κ m e = owns (ShrSlice (named 0) κ u8 ∷ usize ∷ []) (m, (e, tt)) (bytes m ∷ [], (vint w64 e ∷ [], tt))
+
+module _ {M : Type 1} (𝓤 : URA M) (H : Heap 𝓤) (A : Atoms 𝓤) (W : Given 𝓤 H A) (κ : Lft) (m : RefT (List ℕ)) (e : ℕ) where
+  -- a `&[u8]` is Copy: it is lent with the number, and kept
+  pub kept : e < 2 ^ 64 → ent 𝓤 (sem 𝓤 H A (OwnBoth κ m e)) (sep 𝓤 (sem 𝓤 H A (OwnBoth κ m e)) (sem 𝓤 H A (OwnSlice κ m)))
+  kept fits =
+      qed W (‵ (OwnBoth κ m e) ∷ []) ∵ fsplit ! $ move ! (1 ∷ []) $ drop ! $ use1 W (‵ (OwnSlice κ m) ⊛ ‵ (OwnSlice κ m)) (shr-slice-copy 𝓤 H A W (named 0) κ u8 .twice m (bytes m ∷ [])) $ split ! $
+      nothing ! $ owned ! usize (Is usize) (uint-makes 𝓤 H A W w64) e _ (refl, fits) $ fjoin ! $ move ! (1 ∷ 0 ∷ []) $ fjoin ! $ frame ! $ done !

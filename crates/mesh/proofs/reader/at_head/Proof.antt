@@ -16,7 +16,7 @@ use prog.Wp.{Heap, Calls, Loops, WpFn, Tables}
 use ghost.Atoms.{Atoms, sem}
 use contract.Monad.{Fun, fact}
 use contract.Running.{givenOf, tables, tablesOf}
-use types.Kit.{Given, ‵, raw, _⊛_, ⋆, some, later, _$_, _∵_, !, qed, by, move, drop, use1, use2, rewrite, split, pick, fsplit, fjoin, suffices, frame, await, done}
+use types.Kit.{Given, ‵, raw, _⊛_, ⋆, some, later, _$_, _∵_, !, qed, by, move, drop, use1, use2, rewrite, split, pick, fjoin, suffices, frame, await, done}
 use types.Part.{agg}
 use types.Run.{look, init, forget, stop, from, load, and-then, no-more, assigns, land, returns, enter, alloc1, alloc0, params1, pass1, pass0, free1, free0}
 use sound.WpLaws.{FmC, fmOf, WpFn-mono}
@@ -39,6 +39,7 @@ use denote.Exit.{yes}
 use denote.Triple.Clauses.{ensured, lasts}
 use Rattle.mesh.specs.Mesh.{headOf}
 use Rattle.mesh.specs.declared.reader.ChainReader.{ChainReader}
+use Rattle.mesh.proofs.ReaderType.{kept}
 use Rattle.mesh.proofs.reader.ChainReader as T
 use Rattle.mesh.proofs.reader.ChainReader.Laws as T′
 use Rattle.mesh.proofs.inner.head_of as head-of
@@ -90,8 +91,7 @@ module _ {M : Type 1} (𝓤 : URA M) (H : Heap 𝓤) (A : Atoms 𝓤) (W : Given
   -- a `&[u8]` is Copy: it goes to `head_of`, and is kept
   goes : ent 𝓤 (⋆ 𝓤 H A (‵ Params ∷ (‵ (flft κ q) ⊛ ‵ ftrue) ∷ [])) (sep 𝓤 (HeadOf 𝓤 H A mem run .pre to) (sem 𝓤 H A Own))
   goes =
-      qed W (‵ Params ∷ (‵ (flft κ q) ⊛ ‵ ftrue) ∷ []) ∵ fsplit ! $ move ! (1 ∷ []) $ drop ! $ use1 W (‵ Own ⊛ ‵ Own) (shr-slice-copy 𝓤 H A W (named 0) κ u8 .twice m (v ∷ [])) $ split ! $
-      nothing ! $ owned ! usize (Is usize) (uint-makes 𝓤 H A W w64) e _ (refl, e-fits) $ fjoin ! $ move ! (1 ∷ 0 ∷ []) $ fjoin ! $ move ! (2 ∷ 0 ∷ []) $
+      qed W (‵ Params ∷ (‵ (flft κ q) ⊛ ‵ ftrue) ∷ []) ∵ use1 W (‵ Params ⊛ ‵ Own) (kept 𝓤 H A W κ m e e-fits) $ split ! $ move ! (2 ∷ 0 ∷ []) $
       use2 W (raw (HeadOf 𝓤 H A mem run .pre to)) (qed W ((‵ (flft κ q) ⊛ ‵ ftrue) ∷ ‵ Params ∷ []) ∵ says ! ok $ frame ! $ done !) $ frame ! $ done !
 
   said : (g : ℕ) → ent 𝓤 (ensured 𝓤 H A head-of.ended (head-of.clauses 𝓤 H A mem run) (κ, tt) (m, (e, tt)) tt g) (fact 𝓤 (Said g))

@@ -17,7 +17,7 @@ use prog.Wp.{Heap, Calls, Loops, WpFn, Tables}
 use ghost.Atoms.{Atoms, sem}
 use contract.Monad.{Fun, fact}
 use contract.Running.{givenOf, tables, tablesOf}
-use types.Kit.{Given, ‵, raw, _⊛_, ⋆, some, later, _$_, _∵_, !, qed, by, move, drop, use1, use2, split, pick, join, fsplit, fjoin, suffices, frame, await, done}
+use types.Kit.{Given, ‵, raw, _⊛_, ⋆, some, later, _$_, _∵_, !, qed, by, move, use1, use2, split, pick, join, fjoin, suffices, frame, await, done}
 use types.Run.{look, init, forget, stop, from, load, and-then, no-more, land, returns, enter, alloc1, alloc0, params1, pass1, pass0, free1, free0}
 use sound.WpLaws.{FmC, fmOf, WpFn-mono}
 use denote.RattleType.{owns}
@@ -26,7 +26,7 @@ use denote.Plain.{uint-vals, uint-tells, uint-makes, bool-lawful}
 use denote.Builtin.{u8, usize, bool}
 use denote.Ref.{RefT, NamedLft, now}
 use denote.Signature.{plain}
-use denote.Slice.{sliceVal, ShrSlice, slice-vals, shr-slice-tells, shr-slice-lawful, shr-slice-copy}
+use denote.Slice.{sliceVal, ShrSlice, slice-vals, shr-slice-tells, shr-slice-lawful}
 use denote.Steps.{owned, peeks, heard, nothing}
 use denote.Struct.Laws as LL
 use denote.Triple.Statement.{Contract, Triple}
@@ -39,7 +39,7 @@ use denote.Exit.{yes}
 use denote.Triple.Clauses.{ensured, lasts}
 use Rattle.mesh.specs.Mesh.{headOf}
 use Rattle.mesh.specs.declared.reader.ChainReader.{ChainReader}
-use Rattle.mesh.proofs.ReaderType.{Reader}
+use Rattle.mesh.proofs.ReaderType.{Reader, kept}
 use Rattle.mesh.proofs.reader.ChainReader as T
 use Rattle.mesh.proofs.reader.ChainReader.Laws as T′
 use Rattle.mesh.proofs.reader.at_head as at-head
@@ -101,8 +101,7 @@ module _ {M : Type 1} (𝓤 : URA M) (H : Heap 𝓤) (A : Atoms 𝓤) (W : Given
   -- a `&[u8]` is Copy: it goes to `at_head`, and is kept
   goes-head : ent 𝓤 (⋆ 𝓤 H A (‵ Params ∷ (‵ (flft κ q) ⊛ ‵ ftrue) ∷ [])) (sep 𝓤 (AtHead 𝓤 H A mem run .pre to-head) (sem 𝓤 H A Own))
   goes-head =
-      qed W (‵ Params ∷ (‵ (flft κ q) ⊛ ‵ ftrue) ∷ []) ∵ fsplit ! $ move ! (1 ∷ []) $ drop ! $ use1 W (‵ Own ⊛ ‵ Own) (shr-slice-copy 𝓤 H A W (named 0) κ u8 .twice m (v ∷ [])) $ split ! $
-      nothing ! $ owned ! usize (Is usize) (uint-makes 𝓤 H A W w64) e _ (refl, e-fits) $ fjoin ! $ move ! (1 ∷ 0 ∷ []) $ fjoin ! $ move ! (2 ∷ 0 ∷ []) $
+      qed W (‵ Params ∷ (‵ (flft κ q) ⊛ ‵ ftrue) ∷ []) ∵ use1 W (‵ Params ⊛ ‵ Own) (kept 𝓤 H A W κ m e e-fits) $ split ! $ move ! (2 ∷ 0 ∷ []) $
       use2 W (raw (AtHead 𝓤 H A mem run .pre to-head)) (qed W ((‵ (flft κ q) ⊛ ‵ ftrue) ∷ ‵ Params ∷ []) ∵ says ! ok $ frame ! $ done !) $ frame ! $ done !
 
   head-said : (c : ChainReader) → ent 𝓤 (ensured 𝓤 H A at-head.ended (at-head.clauses 𝓤 H A mem run) (κ, tt) (m, (e, tt)) tt c) (fact 𝓤 (Made c))
