@@ -15,14 +15,13 @@ use Rattle.vocabulary.specs.RangeLaws.{every-cong, upTo-intro, listed-length}
 use Rattle.layout.specs.Words.{word, wordAt, wordBytes}
 use Rattle.layout.specs.WordLaws.{length-wordBytes}
 use Rattle.depths.specs.DepthLaws.{fours-length}
-use Rattle.layout.specs.Answers.{answer}
-use Rattle.layout.specs.AnswerLaws.{answer-done, answer-refused}
+use Rattle.layout.specs.AnswerLaws.{refuses, accepts}
 use Rattle.layout.specs.declared.Answer.{Answer}
 use Rattle.layout.specs.declared.Answer.the-variants.{Done, Refused}
-use Rattle.states.specs.State.{Lists, listsIn, listsOf, dynamic, ownedCount, isState, bad20, takenPlace, writtenPlace, exportEnd, exportAt, localExports}
+use Rattle.states.specs.State.{Lists, listsIn, listsOf, dynamic, ownedCount, takenPlace, writtenPlace, exportEnd, exportAt, localExports}
 use Rattle.parts.specs.Calls.{importsFrom, exportsTo, allTaken, allWritten, newAt, advancedIn, advanceTestsIn, advanceNumber, advanceAnswer, advanceState}
 use Rattle.parts.specs.Opened.{Opened, settledAt, advanceRest}
-use Rattle.parts.proofs.OpenedLaws.{whole, own-few, long, good-state, not-state, cut, lists-is}
+use Rattle.parts.proofs.OpenedLaws.{whole, own-few, long, good-state, cut, lists-is}
 use Rattle.renewing.proofs.RenewLaws.{new-four}
 
 -- ---- imports taken and exports written
@@ -111,20 +110,13 @@ module _ (b : Bytes) where
   abbrev pub Answered : Answer → Bytes → Type 0
   Answered r x = (r ≡ advanceAnswer b) × (x ≡ advanceState b)
 
-  refused : (n : ℕ) → advanceNumber b ≡ n → (n ≡ 0 → ⊥) → Answered (Refused n) b
+  pub refused : (n : ℕ) → advanceNumber b ≡ n → (n ≡ 0 → ⊥) → Answered (Refused n) b
   unfolding advanceAnswer advanceState
-  refused n e z = (answer-refused n 0 z ∙ ap (λ m. answer m 0) (sym e), simp (e, ne-eqb n 0 z))
+  refused = refuses (advanceNumber b) 0 (advancedIn (listsOf b) (dynamic b) b) b
 
   done : advanceNumber b ≡ 0 → Answered (Done 0) (advancedIn (listsOf b) (dynamic b) b)
   unfolding advanceAnswer advanceState
-  done e = (answer-done (advanceNumber b) 0 e, simp e)
-
-  number-20 : bad20 b ≡ true → advanceNumber b ≡ 20
-  unfolding advanceNumber advanceTestsIn
-  number-20 e = simp e
-
-  pub told-20 : (u : Bool) → u ≡ isState b → not u ≡ true → Answered (Refused 20) b
-  told-20 u ue ut = refused 20 (number-20 (not-state b u ue ut)) (λ z. omega (arith, z))
+  done = accepts (advanceNumber b) 0 (advancedIn (listsOf b) (dynamic b) b) b
 
   here : (st : Bytes) (d round : ℕ) → round ≡ word b d + 1 → over b d (wordBytes round ++ (replicate 32 0 ++ blocks 1 (ownedCount st) (newAt (listsIn st) d b))) ≡ advancedIn (listsIn st) d b
   unfolding advancedIn listsIn
@@ -135,13 +127,10 @@ module _ (b : Bytes) where
     unfolding advanceNumber advanceTestsIn advanceRest
     number-here = simp (good-state (take d b) d b o)
 
-    number-is : advanceNumber b ≡ advanceRest (listsIn (take d b)) d b
+    pub number-is : advanceNumber b ≡ advanceRest (listsIn (take d b)) d b
     number-is = number-here ∙ ap₂ (λ (L : Lists) p. advanceRest L p b) (lists-is (take d b) d b o) (sym (o .place-is))
 
     module _ (n : ℕ) (ne : n ≡ advanceRest (listsIn (take d b)) d b) where
-      pub told-rest : (n ≡ 0 → ⊥) → Answered (Refused n) b
-      told-rest z = refused n (number-is ∙ sym ne) z
-
       pub told-done : n ≡ 0 → (owned : ℕ) → owned ≡ ownedCount (take d b) → (round : ℕ) → round ≡ word b d + 1 → (new x y : Bytes)
           → 4 * owned ≤ length new → x ≡ over new 0 (blocks 1 owned (newAt (listsIn (take d b)) d b)) → y ≡ over b d (wordBytes round ++ (replicate 32 0 ++ take (4 * owned) x)) → Answered (Done 0) y
       told-done z owned oe round re new x y room xe ye =

@@ -12,9 +12,8 @@ use Rattle.vocabulary.specs.Ranges.{picked}
 use Rattle.vocabulary.specs.RangeLaws.{picked-length-le, blocks-cong, blocks-picked}
 use Rattle.mesh.specs.Mesh.{top, firstCell, cellCount}
 use Rattle.split.specs.Split.{Split, splitOf, ownerAt, owns, holds, held, inside, imports, interior, halo, locals}
-use Rattle.split.specs.SplitLaws.{local-held, split-reach, split-own, split-owner}
+use Rattle.split.specs.SplitLaws.{map-facts, local-held, split-reach, split-own, split-owner}
 use Rattle.split.specs.Sorting.{ownsAt, sortAt, sorted, cellsOf, localsOf, Prepared}
-use Rattle.split.proofs.PreparedLaws.{map-right}
 use Rattle.mesh.proofs.AcceptedLaws.{cells-few}
 
 -- ---- sorts of cells: an owner's number is never 17 or 18
@@ -62,12 +61,6 @@ module _ (m : Bytes) (parts : ℕ) (owners st table : Bytes) (ends : List ℕ) (
   abbrev S : Split
   S = splitOf m parts owners st
 
-  few : parts ≤ 16
-  few = map-right m parts owners (R .map) .1
-
-  owner-in : (q : ℕ) → q < cellCount m → (1 ≤ byteAt owners q) × (byteAt owners q ≤ parts)
-  owner-in = map-right m parts owners (R .map) .3
-
   back : (q : ℕ) → firstCell m + q - firstCell m ≡ q
   back q = omega arith
 
@@ -98,7 +91,7 @@ module _ (m : Bytes) (parts : ℕ) (owners st table : Bytes) (ends : List ℕ) (
     interior-is =
         sorted-is 17 (λ c. eqb (S .owner c) i && inside S i c)
         (λ q h.
-        is-interior (eqb (byteAt owners q) i) (inside S i (firstCell m + q)) (holds S i (firstCell m + q)) (byteAt owners q) (omega (arith, owner-in q h .1, few))
+        is-interior (eqb (byteAt owners q) i) (inside S i (firstCell m + q)) (holds S i (firstCell m + q)) (byteAt owners q) (omega (arith, map-facts m parts owners [] (R .map) .owner-in q h .1, map-facts m parts owners [] (R .map) .few))
         ∙ ap (λ o. eqb o i && inside S i (firstCell m + q)) (sym (owner-at q)))
 
     pub halo-is : cellsOf owners table ends held′ i (firstCell m) (cellCount m) 18 ≡ halo S i
@@ -106,7 +99,7 @@ module _ (m : Bytes) (parts : ℕ) (owners st table : Bytes) (ends : List ℕ) (
     halo-is =
         sorted-is 18 (λ c. eqb (S .owner c) i && not (inside S i c))
         (λ q h.
-        is-halo (eqb (byteAt owners q) i) (inside S i (firstCell m + q)) (holds S i (firstCell m + q)) (byteAt owners q) (omega (arith, owner-in q h .1, few))
+        is-halo (eqb (byteAt owners q) i) (inside S i (firstCell m + q)) (holds S i (firstCell m + q)) (byteAt owners q) (omega (arith, map-facts m parts owners [] (R .map) .owner-in q h .1, map-facts m parts owners [] (R .map) .few))
         ∙ ap (λ o. eqb o i && not (inside S i (firstCell m + q))) (sym (owner-at q)))
 
     pub imports-are : (j : ℕ) → 1 ≤ j → j ≤ 16 → cellsOf owners table ends held′ i (firstCell m) (cellCount m) j ≡ imports S i j
@@ -121,7 +114,7 @@ module _ (m : Bytes) (parts : ℕ) (owners st table : Bytes) (ends : List ℕ) (
     unfolding localsOf locals splitOf
     locals-are =
         ap₂ _++_ interior-is
-        (ap₂ _++_ halo-is (blocks-cong 1 (cellsOf owners table ends held′ i (firstCell m) (cellCount m)) (imports S i) parts (λ j h. imports-are (1 + j) (omega arith) (omega (arith, few)))))
+        (ap₂ _++_ halo-is (blocks-cong 1 (cellsOf owners table ends held′ i (firstCell m) (cellCount m)) (imports S i) parts (λ j h. imports-are (1 + j) (omega arith) (omega (arith, map-facts m parts owners [] (R .map) .few)))))
 
   pub picked-few : (p : ℕ → Bool) → length (picked (S .first) (S .cells) p) ≤ 2000
   unfolding splitOf
@@ -130,5 +123,5 @@ module _ (m : Bytes) (parts : ℕ) (owners st table : Bytes) (ends : List ℕ) (
   pub locals-few : (i : ℕ) → length (locals S i) ≤ 2000
   locals-few i =
       subst (λ n. n ≤ 2000)
-      (sym (local-held S (split-reach m parts owners st) (split-owner m parts owners st owner-in) (split-own m parts owners st) i))
+      (sym (local-held S (split-reach m parts owners st) (split-owner m parts owners st (map-facts m parts owners [] (R .map) .owner-in)) (split-own m parts owners st) i))
       (unfold held in picked-few (holds S i))

@@ -54,32 +54,19 @@ inside-turn owners table i a t b l e n W = record {
       rw q (every-more a (entryOwned owners table i) (t - a) (W .each) (ap (entryOwned owners table i) r ∙ sym e ∙ not-false b n));
 }
 
--- ---- sorts
+-- ---- sorts, by the last answer y
 
-module _ (owners table : Bytes) (ends : List ℕ) (held : Bytes) (i q x : ℕ) (xe : x ≡ byteAt owners q) where
-  module _ (own : x ≡ i) (b : Bool) (be : b ≡ insideAt owners table ends i q) where
-    mine : sortAt owners table ends held i q ≡ cond b 17 18
-    unfolding sortAt ownsAt
-    mine = ap₂ (λ c d. cond c (cond d 17 18) (cond (heldAt held i q) (byteAt owners q) 0)) (eq-eqb (byteAt owners q) i (sym xe ∙ own)) (sym be)
+module _ (y : Bool) (owners table : Bytes) (ends : List ℕ) (held : Bytes) (i q x : ℕ) (xe : x ≡ byteAt owners q) (b : Bool) where
+  pub sort-mine : x ≡ i → b ≡ insideAt owners table ends i q → b ≡ y → cond y 17 18 ≡ sortAt owners table ends held i q
+  unfolding sortAt ownsAt
+  sort-mine own be t =
+      sym (ap₂ (λ c d. cond c (cond d 17 18) (cond (heldAt held i q) (byteAt owners q) 0)) (eq-eqb (byteAt owners q) i (sym xe ∙ own)) (sym be ∙ t))
 
-    pub sort-interior : b ≡ true → 17 ≡ sortAt owners table ends held i q
-    sort-interior t = sym (mine ∙ ap (λ c. cond c 17 18) t)
-
-    pub sort-halo : b ≡ false → 18 ≡ sortAt owners table ends held i q
-    sort-halo t = sym (mine ∙ ap (λ c. cond c 17 18) t)
-
-  module _ (other : x ≡ i → ⊥) (b : Bool) (be : b ≡ heldAt held i q) where
-    theirs : sortAt owners table ends held i q ≡ cond b x 0
-    unfolding sortAt ownsAt
-    theirs =
-        ap₂ (λ c d. cond c (cond (insideAt owners table ends i q) 17 18) (cond d (byteAt owners q) 0)) (ne-eqb (byteAt owners q) i (λ e. other (xe ∙ e))) (sym be)
-        ∙ ap (λ y. cond b y 0) (sym xe)
-
-    pub sort-import : b ≡ true → x ≡ sortAt owners table ends held i q
-    sort-import t = sym (theirs ∙ ap (λ c. cond c x 0) t)
-
-    pub sort-none : b ≡ false → 0 ≡ sortAt owners table ends held i q
-    sort-none t = sym (theirs ∙ ap (λ c. cond c x 0) t)
+  pub sort-theirs : (x ≡ i → ⊥) → b ≡ heldAt held i q → b ≡ y → cond y x 0 ≡ sortAt owners table ends held i q
+  unfolding sortAt ownsAt
+  sort-theirs other be t =
+      ap (λ z. cond y z 0) xe
+      ∙ sym (ap₂ (λ c d. cond c (cond (insideAt owners table ends i q) 17 18) (cond d (byteAt owners q) 0)) (ne-eqb (byteAt owners q) i (λ e. other (xe ∙ e))) (sym be ∙ t))
 
 -- ---- adding to a list
 

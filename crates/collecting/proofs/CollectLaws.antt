@@ -1,21 +1,21 @@
 -- Collect, by the tests and the loop of the code. Assumes nothing.
 use mathlib.Core.Path.{_≡_, refl, sym, ap, ap₂, _∙_}
-use mathlib.Core.Bool.{Bool, true, not}
+use mathlib.Core.Bool.{Bool, true, false, cond}
 use Prim.Native.Nat.{ℕ, suc, _+_, _-_, _*_, _≤_, _<_}
 use native.Mathlib.Omega.{arith}
+use lib.Dec.{ltb}
 use lib.ListN.{length, take, drop}
 use borrow.Author.Tests.{eq-eqb, ne-eqb, lt-ltb, le-ltb}
 use Rattle.vocabulary.specs.Bytes.{Bytes, over}
 use Rattle.layout.specs.Words.{word, wordAt}
 use Rattle.depths.specs.Depths.{four}
-use Rattle.layout.specs.Answers.{answer}
-use Rattle.layout.specs.AnswerLaws.{answer-done, answer-refused}
+use Rattle.layout.specs.AnswerLaws.{refuses, accepts}
 use Rattle.layout.specs.declared.Answer.{Answer}
 use Rattle.layout.specs.declared.Answer.the-variants.{Done, Refused}
-use Rattle.states.specs.State.{Lists, listsIn, listsOf, dynamic, roundAt, firstOfMesh, cellsOfMesh, globalAt, ownedCount, isState, bad20}
+use Rattle.states.specs.State.{Lists, listsIn, listsOf, dynamic, roundAt, firstOfMesh, cellsOfMesh, globalAt, ownedCount}
 use Rattle.parts.specs.Calls.{collectedIn, collectTestsIn, collectNumber, collectAnswer, collectOut}
 use Rattle.parts.specs.Opened.{Opened}
-use Rattle.parts.proofs.OpenedLaws.{lists-is, whole, own-few, long, good-state, not-state, four-cut}
+use Rattle.parts.proofs.OpenedLaws.{lists-is, whole, own-few, long, good-state, four-cut}
 use Rattle.vocabulary.specs.RangeLaws.{at-last}
 
 -- ---- the loop
@@ -63,22 +63,11 @@ module _ (b : Bytes) (k : ℕ) (f : Bytes) where
 
   refused : (n : ℕ) → collectNumber b k f ≡ n → (n ≡ 0 → ⊥) → Answered (Refused n) f
   unfolding collectAnswer collectOut
-  refused n e z = (answer-refused n (listsOf b .owned) z ∙ ap (λ m. answer m (listsOf b .owned)) (sym e), simp (e, ne-eqb n 0 z))
+  refused = refuses (collectNumber b k f) (listsOf b .owned) (collectedIn (listsOf b) (dynamic b) b (listsOf b .owned) f) f
 
-  done-answer : collectNumber b k f ≡ 0 → Done (listsOf b .owned) ≡ collectAnswer b k f
-  unfolding collectAnswer
-  done-answer e = answer-done (collectNumber b k f) (listsOf b .owned) e
-
-  done-out : collectNumber b k f ≡ 0 → collectedIn (listsOf b) (dynamic b) b (listsOf b .owned) f ≡ collectOut b k f
-  unfolding collectOut
-  done-out e = simp e
-
-  number-20 : bad20 b ≡ true → collectNumber b k f ≡ 20
-  unfolding collectNumber collectTestsIn
-  number-20 e = simp e
-
-  pub told-20 : (u : Bool) → u ≡ isState b → not u ≡ true → Answered (Refused 20) f
-  told-20 u ue ut = refused 20 (number-20 (not-state b u ue ut)) (λ z. omega (arith, z))
+  done : collectNumber b k f ≡ 0 → Answered (Done (listsOf b .owned)) (collectedIn (listsOf b) (dynamic b) b (listsOf b .owned) f)
+  unfolding collectAnswer collectOut
+  done = accepts (collectNumber b k f) (listsOf b .owned) (collectedIn (listsOf b) (dynamic b) b (listsOf b .owned) f) f
 
   module _ (st : Bytes) (d : ℕ) (o : Opened st d b) (r : ℕ) (re : r ≡ word b d) where
     round-is : roundAt b (dynamic b) ≡ r
@@ -96,16 +85,12 @@ module _ (b : Bytes) (k : ℕ) (f : Bytes) where
       unfolding listsIn
       cells-is = ap (λ (L : Lists). L .cells) (lists-is st d b o) ∙ sym ce
 
-      number-16 : length f < 4 * cells → collectNumber b k f ≡ 16
+      number-last : (x : Bool) → ltb (length f) (4 * cells) ≡ x → collectNumber b k f ≡ cond x 16 0
       unfolding collectNumber collectTestsIn
-      number-16 h = simp (good-state st d b o, round-is, eq-eqb k r (sym rk), cells-is, lt-ltb _ _ h)
-
-      number-none : 4 * cells ≤ length f → collectNumber b k f ≡ 0
-      unfolding collectNumber collectTestsIn
-      number-none h = simp (good-state st d b o, round-is, eq-eqb k r (sym rk), cells-is, le-ltb _ _ h)
+      number-last x e = simp (good-state st d b o, round-is, eq-eqb k r (sym rk), cells-is, e)
 
       pub told-16 : length f < 4 * cells → Answered (Refused 16) f
-      told-16 h = refused 16 (number-16 h) (λ z. omega (arith, z))
+      told-16 h = refused 16 (number-last true (lt-ltb _ _ h)) (λ z. omega (arith, z))
 
       own-is : (owned : ℕ) → owned ≡ wordAt st 11 → listsOf b .owned ≡ owned
       unfolding listsIn
@@ -113,11 +98,11 @@ module _ (b : Bytes) (k : ℕ) (f : Bytes) where
 
       pub told-done : 4 * cells ≤ length f → (owned : ℕ) → owned ≡ wordAt st 11 → (x : Bytes) → x ≡ collectedIn (listsIn st) d b owned f → Answered (Done owned) x
       told-done h owned oe x e =
-          let z : collectNumber b k f ≡ 0 = number-none h in
+          let a = done (number-last false (le-ltb _ _ h)) in
           let q : listsOf b .owned ≡ owned = own-is owned oe in (
-            ap Done (sym q) ∙ done-answer z,
+            ap Done (sym q) ∙ a .0,
             e
                 ∙ ap₂ (λ (L : Lists) n. collectedIn L d b n f) (sym (lists-is st d b o)) (sym q)
                 ∙ ap (λ p. collectedIn (listsOf b) p b (listsOf b .owned) f) (o .place-is)
-                ∙ done-out z,
+                ∙ a .1,
           )

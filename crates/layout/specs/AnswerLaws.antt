@@ -1,9 +1,10 @@
 -- Laws of answers: the number and the count that an answer gives. Assumes nothing.
-use mathlib.Core.Path.{_≡_, refl, sym}
+use mathlib.Core.Path.{_≡_, refl, sym, ap, _∙_}
 use mathlib.Core.Bool.{Bool, true, false, cond}
 use Prim.Native.Nat.{ℕ}
 use lib.Dec.{eqb}
 use borrow.Author.Tests.{eqb-true, eq-eqb, ne-eqb}
+use Rattle.vocabulary.specs.Bytes.{Bytes}
 use Rattle.layout.specs.declared.Answer.the-variants.{Done, Refused}
 use Rattle.layout.specs.Answers.{answer, numberOf, countOf}
 
@@ -31,3 +32,11 @@ answer-done n c e = simp (eq-eqb n 0 e)
 pub answer-refused : (n c : ℕ) → (n ≡ 0 → ⊥) → Refused n ≡ answer n c
 unfolding answer
 answer-refused n c h = simp (ne-eqb n 0 h)
+
+-- a call of number n that leaves `new` in a buffer where it is accepted, and `old` where it is refused
+module _ (n c : ℕ) (new old : Bytes) where
+  pub refuses : (k : ℕ) → n ≡ k → (k ≡ 0 → ⊥) → (Refused k ≡ answer n c) × (old ≡ cond (eqb n 0) new old)
+  refuses k e h = (answer-refused k c h ∙ ap (λ m. answer m c) (sym e), simp (e, ne-eqb k 0 h))
+
+  pub accepts : n ≡ 0 → (Done c ≡ answer n c) × (new ≡ cond (eqb n 0) new old)
+  accepts e = (answer-done n c e, simp e)

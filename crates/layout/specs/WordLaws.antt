@@ -153,21 +153,31 @@ unfolding words
 words-bytesOf ws = listed-back 0 (wordAt (bytesOf ws)) ws 0 (λ i h. ap (λ n. wordAt (bytesOf ws) n) (zero-add i) ∙ wordAt-bytesOf ws i h)
 
 -- the bytes of a list of words, word by word
-pub bytesOf-high : (ws : List ℕ) (i : ℕ) → i < length ws → byteAt (bytesOf ws) (2 * i) ≡ getD ws i 0 / 256
-unfolding bytesOf
-bytesOf-high [] i h = absurd (not-suc-le-zero h)
-bytesOf-high (v ∷ vs) zero h = refl
-bytesOf-high (v ∷ vs) (suc i) h =
-    let e : 2 * suc i ≡ suc (suc (2 * i)) = omega arith in
-    ap (λ n. byteAt (bytesOf (v ∷ vs)) n) e ∙ bytesOf-high vs i (le-of-suc-le-suc h)
+bytesOf-byte : (ws : List ℕ) (i r : ℕ) → i < length ws → r < 2 → byteAt (bytesOf ws) (2 * i + r) ≡ getD (wordBytes (getD ws i 0)) r 0
+unfolding bytesOf wordBytes
+bytesOf-byte [] i r h q = absurd (not-suc-le-zero h)
+bytesOf-byte (v ∷ vs) zero zero h q = refl
+bytesOf-byte (v ∷ vs) zero (suc zero) h q = refl
+bytesOf-byte (v ∷ vs) zero (suc (suc r)) h q = let z : ⊥ = omega arith in absurd z
+bytesOf-byte (v ∷ vs) (suc i) r h q =
+    let e : 2 * suc i + r ≡ suc (suc (2 * i + r)) = omega arith in
+    ap (λ n. byteAt (bytesOf (v ∷ vs)) n) e ∙ bytesOf-byte vs i r (le-of-suc-le-suc h) q
 
-pub bytesOf-low : (ws : List ℕ) (i : ℕ) → i < length ws → byteAt (bytesOf ws) (2 * i + 1) ≡ getD ws i 0 % 256
-unfolding bytesOf
-bytesOf-low [] i h = absurd (not-suc-le-zero h)
-bytesOf-low (v ∷ vs) zero h = refl
-bytesOf-low (v ∷ vs) (suc i) h =
-    let e : 2 * suc i + 1 ≡ suc (suc (2 * i + 1)) = omega arith in
-    ap (λ n. byteAt (bytesOf (v ∷ vs)) n) e ∙ bytesOf-low vs i (le-of-suc-le-suc h)
+-- the bytes of words that were read from bytes
+module _ (ws : List ℕ) (v : Bytes) (n : ℕ) (l : n ≤ length ws) (f : (k : ℕ) → k < n → (getD ws k 0 ≡ byteAt v (2 * k) * 256 + byteAt v (2 * k + 1)) × (byteAt v (2 * k + 1) < 256)) where
+  pub bytesOf-read : (x : ℕ) → x < 2 * n → byteAt (bytesOf ws) x ≡ byteAt v x
+  unfolding wordBytes
+  bytesOf-read x h = half (x / 2) (x % 2) (omega arith) (omega arith) (omega arith)
+    where
+      half : (k r : ℕ) → x ≡ 2 * k + r → r < 2 → k < n → byteAt (bytesOf ws) x ≡ byteAt v x
+      half k zero e g q =
+          let p : x ≡ 2 * k = omega arith in
+          let w = f k q in
+          ap (byteAt (bytesOf ws)) e ∙ bytesOf-byte ws k 0 (omega arith) g ∙ rw p (omega (arith, w .0, w .1))
+      half k (suc r) e g q =
+          let p : x ≡ 2 * k + 1 = omega arith in
+          let w = f k q in
+          ap (byteAt (bytesOf ws)) p ∙ bytesOf-byte ws k 1 (omega arith) (omega arith) ∙ rw p (omega (arith, w .0, w .1))
 
 -- two lists of words with the same bytes are one
 pub bytesOf-same : (vs ws : List ℕ) → bytesOf vs ≡ bytesOf ws → vs ≡ ws
@@ -183,20 +193,9 @@ module _ (b : Bytes) (n : ℕ) (l : length b ≡ 2 * n) (a : All (λ x. x < 256)
 
   byte-back : (i : ℕ) → i < length b → byteAt (bytesOf (words b 0 n)) i ≡ byteAt b i
   unfolding wordAt word
-  byte-back i h = half (i / 2) (i % 2) (omega arith) (omega arith) (omega arith)
-    where
-      read : (j : ℕ) → j < n → getD (words b 0 n) j 0 ≡ byteAt b (2 * j) * 256 + byteAt b (2 * j + 1)
-      read j k = words-at b 0 n j k ∙ ap (λ x. wordAt b x) (zero-add j)
-
-      half : (j r : ℕ) → i ≡ 2 * j + r → r < 2 → j < n → byteAt (bytesOf (words b 0 n)) i ≡ byteAt b i
-      half j zero e g k =
-          let q : i ≡ 2 * j = omega arith in
-          let s : byteAt b (2 * j + 1) < 256 = All-getD (λ x. x < 256) b (2 * j + 1) 0 a (omega arith) in
-          rw q (bytesOf-high (words b 0 n) j (omega (arith, length-words b 0 n)) ∙ omega (arith, read j k))
-      half j (suc r) e g k =
-          let q : i ≡ 2 * j + 1 = omega arith in
-          let s : byteAt b (2 * j + 1) < 256 = All-getD (λ x. x < 256) b (2 * j + 1) 0 a (omega arith) in
-          rw q (bytesOf-low (words b 0 n) j (omega (arith, length-words b 0 n)) ∙ omega (arith, read j k))
+  byte-back i h =
+      bytesOf-read (words b 0 n) b n (omega (arith, length-words b 0 n))
+      (λ j k. (words-at b 0 n j k ∙ ap (λ x. wordAt b x) (zero-add j), All-getD (λ x. x < 256) b (2 * j + 1) 0 a (omega arith))) i (omega arith)
 
   pub bytesOf-words : bytesOf (words b 0 n) ≡ b
   bytesOf-words = ext-getD 0 (bytesOf (words b 0 n)) b length-back (λ i h. byte-back i (omega (arith, length-back)))

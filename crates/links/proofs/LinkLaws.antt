@@ -9,7 +9,7 @@ use Rattle.vocabulary.specs.Ranges.{blocks}
 use Rattle.vocabulary.specs.RangeLaws.{blocks-turn, blocks-length, blocks-inner, total-cong, at-last}
 use Rattle.mesh.specs.Mesh.{elements, recordCount, firstCell, cellCount, headOf, elementIn, nextOf, follow, records, chain, allRecords}
 use Rattle.mesh.specs.Accepted.{Accepted}
-use Rattle.mesh.proofs.FollowLaws.{chain-ended, chain-spent, chain-more}
+use Rattle.mesh.proofs.FollowLaws.{chain-more}
 use Rattle.links.specs.Links.{Links, links, link, linkAll, linkCells}
 
 pub link-told : (c g t x : ℕ) (cell prev last cell′ prev′ last′ : List ℕ) → cell′ ≡ set cell (t + 1) c → x ≡ getD last g 0 → prev′ ≡ set prev (t + 1) x
@@ -20,13 +20,9 @@ link-told c g t x cell prev last cell′ prev′ last′ e f g′ h = rw (e, g�
 -- ---- the loop over a chain
 
 module _ (m : Bytes) (f : ℕ → ℕ) (c n k i : ℕ) (L W : Links) (inv : linkAll c L (map f (follow m (n - k) i)) ≡ W) where
-  pub link-ended : i < 1 → L ≡ W
+  pub link-done : follow m (n - k) i ≡ [] → L ≡ W
   unfolding linkAll
-  link-ended e = rw (chain-ended m n k i e) at inv
-
-  pub link-spent : n ≤ k → L ≡ W
-  unfolding linkAll
-  link-spent h = rw (chain-spent m n k i h) at inv
+  link-done z = rw z at inv
 
   pub link-turn : (M : Links) (g x : ℕ) → k < n → 1 ≤ i → g ≡ f i → M ≡ link c g L → x ≡ nextOf m i → linkAll c M (map f (follow m (n - (k + 1)) x)) ≡ W
   unfolding linkAll

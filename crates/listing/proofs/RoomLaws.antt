@@ -20,9 +20,8 @@ use Rattle.mesh.specs.Mesh.{top, counted, below, firstCell, cellCount, meshTest
 use Rattle.mesh.specs.WalkLaws.{below-grows}
 use Rattle.mesh.specs.Accepted.{Accepted}
 use Rattle.split.specs.Split.{Split, splitOf, held, holds, owns, inside as inside-of, imports, exports, interior, halo, range, touches, holdsLower, another, isPrivate, isExposed, isShared, isCopied}
-use Rattle.split.specs.SplitLaws.{own-count, order-length, local-held, split-reach, split-own, split-owner}
+use Rattle.split.specs.SplitLaws.{map-facts, own-count, order-length, local-held, split-reach, split-own, split-owner}
 use Rattle.split.specs.Lists.{bad8, bad12, splitTests, sizeTests, splitNumber}
-use Rattle.split.proofs.PreparedLaws.{map-right}
 use Rattle.split.proofs.PassedLaws.{tests-numbered, passed-facts}
 use Rattle.text.specs.Listing.{ascii, digits, decimal, spaced, line, lineUnlessEmpty, dimensionText, partText, splitText, meshPiece, partsPiece, ownersPiece, stencilPiece, listingNumber, listText}
 use Rattle.text.specs.Printing.{fitting, Printed}
@@ -122,7 +121,7 @@ module _ (m : Bytes) (parts : ℕ) (owners st : Bytes) (A : Accepted m) (right :
   S = splitOf m parts owners st
 
   few : parts ≤ 16
-  few = map-right m parts owners right .1
+  few = map-facts m parts owners [] right .few
 
   held-few : total 1 parts (λ i. length (held S i)) ≤ 4096
   held-few = ltb-false 4096 (total 1 parts (λ i. length (held S i))) (unfold bad12 splitOf in sized)
@@ -139,7 +138,7 @@ module _ (m : Bytes) (parts : ℕ) (owners st : Bytes) (A : Accepted m) (right :
         length-append (interior S i) (halo S i),
         own-count S i,
         order-length S i,
-        local-held S (split-reach m parts owners st) (split-owner m parts owners st (map-right m parts owners right .3)) (split-own m parts owners st) i,
+        local-held S (split-reach m parts owners st) (split-owner m parts owners st (map-facts m parts owners [] right .owner-in)) (split-own m parts owners st) i,
         few-held,
         same,
       )

@@ -57,13 +57,9 @@ module _ (m : Bytes) (n k i : ℕ) where
 -- ---- a loop that meets what f makes of each record: w is what meeting the whole chain gives
 
 module _ (m : Bytes) (f : ℕ → ℕ) (v r n k i : ℕ) (s : List ℕ) (w : Met) (inv : meet v r s (map f (follow m (n - k) i)) ≡ w) where
-  pub meet-ended : i < 1 → met false s ≡ w
+  pub meet-done : follow m (n - k) i ≡ [] → met false s ≡ w
   unfolding meet
-  meet-ended e = rw (chain-ended m n k i e) at inv
-
-  pub meet-spent : n ≤ k → met false s ≡ w
-  unfolding meet
-  meet-spent h = rw (chain-spent m n k i h) at inv
+  meet-done z = rw z at inv
 
   module _ (h : k < n) (z : 1 ≤ i) (g : ℕ) (e : g ≡ f i) where
     opened : meet v r s (g ∷ map f (follow m (n - (k + 1)) (nextOf m i))) ≡ w
@@ -91,13 +87,9 @@ module _ (m : Bytes) (f : ℕ → ℕ) (v r n k i : ℕ) (s : List ℕ) (w : Met
 -- ---- a loop that marks what f makes of each record: w is what marking the whole chain gives
 
 module _ (m : Bytes) (f : ℕ → ℕ) (v n k i : ℕ) (s : List ℕ) (w : List ℕ) (inv : stamp v s (map f (follow m (n - k) i)) ≡ w) where
-  pub stamp-ended : i < 1 → s ≡ w
+  pub stamp-done : follow m (n - k) i ≡ [] → s ≡ w
   unfolding stamp
-  stamp-ended e = rw (chain-ended m n k i e) at inv
-
-  pub stamp-spent : n ≤ k → s ≡ w
-  unfolding stamp
-  stamp-spent h = rw (chain-spent m n k i h) at inv
+  stamp-done z = rw z at inv
 
   pub stamp-turn : (t : List ℕ) (g x : ℕ) → k < n → 1 ≤ i → g ≡ f i → t ≡ set s g v → x ≡ nextOf m i → stamp v t (map f (follow m (n - (k + 1)) x)) ≡ w
   unfolding stamp
@@ -106,13 +98,9 @@ module _ (m : Bytes) (f : ℕ → ℕ) (v n k i : ℕ) (s : List ℕ) (w : List 
 -- ---- a loop that tries what f makes of each record: w is whether some of the whole chain passes
 
 module _ (m : Bytes) (f : ℕ → ℕ) (p : ℕ → Bool) (n k i : ℕ) (w : Bool) (inv : someOf (map f (follow m (n - k) i)) p ≡ w) where
-  pub try-ended : i < 1 → false ≡ w
+  pub try-done : follow m (n - k) i ≡ [] → false ≡ w
   unfolding someOf
-  try-ended e = rw (chain-ended m n k i e) at inv
-
-  pub try-spent : n ≤ k → false ≡ w
-  unfolding someOf
-  try-spent h = rw (chain-spent m n k i h) at inv
+  try-done z = rw z at inv
 
   module _ (h : k < n) (z : 1 ≤ i) (g : ℕ) (e : g ≡ f i) (b : Bool) (t : b ≡ p g) where
     tried : b || someOf (map f (follow m (n - (k + 1)) (nextOf m i))) p ≡ w

@@ -5,13 +5,17 @@ use mathlib.Core.List.{List, [], _∷_, _++_}
 use Prim.Native.Nat.{ℕ, _<_}
 use native.Mathlib.Omega.{arith}
 use lib.Dec.{eqb, leb}
-use lib.ListN.{length, getD, set, length-set}
+use lib.ListN.{length, getD, set, length-set, replicate}
 use lib.Seq.{getD-set-same, getD-set-other}
 use borrow.Author.Tests.{leb-true, eqb-true, eqb-false, eq-eqb, ne-eqb}
 use Rattle.vocabulary.specs.Ranges.{isUpTo}
 use Rattle.vocabulary.specs.Lists.{isIn, repeats, someOf}
-use Rattle.vocabulary.specs.ListLaws.{eqb-swap, and-true, or-right}
-use Rattle.mesh.specs.Meet.{Met, met, meet}
+use Rattle.vocabulary.specs.ListLaws.{eqb-swap, and-true, or-right, zeros}
+use Rattle.mesh.specs.Meet.{Met, met, meet, Under}
+
+-- no marks
+pub under-none : Under 1 (replicate 2001 0)
+under-none = record { size = zeros 2001 .size; each = λ i. omega (arith, zeros 2001 .each i) }
 
 abbrev pub told : Met → Bool
 told (met b s) = b

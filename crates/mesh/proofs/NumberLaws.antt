@@ -1,6 +1,6 @@
 -- The number of a mesh, by the tests that the code makes one after the other. Assumes nothing.
 use mathlib.Core.Path.{_≡_, sym, _∙_}
-use mathlib.Core.Bool.{Bool, true, false, _||_}
+use mathlib.Core.Bool.{Bool, true, false, _||_, cond}
 use Prim.Native.Nat.{ℕ}
 use native.Mathlib.Omega.{arith}
 use lib.Dec.{ltb}
@@ -29,51 +29,6 @@ sized m a b d n r e f g h p q t =
       r-is = t;
       r-high = omega (arith, ltb-false 12000 (recordCount m) (y .1));
     }
-
-module _ (m : Bytes) (a : Bool) (ae : a ≡ bad1 m) where
-  pub told1 : a ≡ true → 1 ≡ meshNumber m
-  unfolding meshNumber meshTests
-  told1 t = simp (sym ae, t)
-
-  module _ (af : a ≡ false) where
-    module _ (b : Bool) (be : b ≡ bad2 m) where
-      pub told2 : b ≡ true → 2 ≡ meshNumber m
-      unfolding meshNumber meshTests
-      told2 t = simp (sym ae, af, sym be, t)
-
-      module _ (bf : b ≡ false) where
-        module _ (c : Bool) (ce : c ≡ bad3 m) where
-          pub told3 : c ≡ true → 3 ≡ meshNumber m
-          unfolding meshNumber meshTests
-          told3 t = simp (sym ae, af, sym be, bf, sym ce, t)
-
-          module _ (cf : c ≡ false) where
-            module _ (d : Bool) (de : d ≡ bad4 m) where
-              pub told4 : d ≡ true → 4 ≡ meshNumber m
-              unfolding meshNumber meshTests
-              told4 t = simp (sym ae, af, sym be, bf, sym ce, cf, sym de, t)
-
-              module _ (df : d ≡ false) where
-                module _ (e : Bool) (ee : e ≡ bad5 m) where
-                  pub told5 : e ≡ true → 5 ≡ meshNumber m
-                  unfolding meshNumber meshTests
-                  told5 t = simp (sym ae, af, sym be, bf, sym ce, cf, sym de, df, sym ee, t)
-
-                  module _ (ef : e ≡ false) where
-                    module _ (f : Bool) (fe : f ≡ bad6 m) where
-                      pub told6 : f ≡ true → 6 ≡ meshNumber m
-                      unfolding meshNumber meshTests
-                      told6 t = simp (sym ae, af, sym be, bf, sym ce, cf, sym de, df, sym ee, ef, sym fe, t)
-
-                      module _ (ff : f ≡ false) where
-                        module _ (g : Bool) (ge : g ≡ bad7 m) where
-                          pub told7 : g ≡ true → 7 ≡ meshNumber m
-                          unfolding meshNumber meshTests
-                          told7 t = simp (sym ae, af, sym be, bf, sym ce, cf, sym de, df, sym ee, ef, sym fe, ff, sym ge, t)
-
-                          pub accepted : g ≡ false → 0 ≡ meshNumber m
-                          unfolding meshNumber meshTests
-                          accepted t = simp (sym ae, af, sym be, bf, sym ce, cf, sym de, df, sym ee, ef, sym fe, ff, sym ge, t)
 
 -- the answer of the call
 pub answered : (m : Bytes) (n c : ℕ) → n ≡ meshNumber m → n ≡ 0 → c ≡ cellCount m → Done c ≡ checkAnswer m

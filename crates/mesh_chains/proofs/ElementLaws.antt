@@ -18,13 +18,6 @@ use Rattle.mesh.specs.Meet.{Met, met, meet, Sizes, Under}
 use Rattle.mesh.proofs.MeetLaws.{outside, marks, fresh-tells}
 use Rattle.mesh.proofs.DimensionLaws.{lower-right}
 
-pub under-none : Under 1 (replicate 2001 0)
-under-none = record { size = length-replicate {A = ℕ} 2001 0; each = λ i. go i (ltb i 2001) refl }
-  where
-    go : (i : ℕ) (b : Bool) → ltb i 2001 ≡ b → getD (replicate 2001 0) i 0 < 1
-    go i true h = let z : _≡_ {A = ℕ} (getD (replicate 2001 0) i 0) 0 = getD-replicate 2001 i 0 0 (ltb-true i 2001 h) in omega arith
-    go i false h = let z : _≡_ {A = ℕ} (getD (replicate 2001 0) i 0) 0 = List·getD-eq-default (replicate 2001 0) 0 {n = i} (omega (arith, length-replicate {A = ℕ} 2001 0, ltb-false i 2001 h)) in omega arith
-
 pub set-under : (v i : ℕ) (s : List ℕ) → Under (v + 1) s → Under (v + 1) (set s i v)
 set-under v i s u = record { size = simp length-set (u .size); each = λ j. go j (eqb j i) refl (ltb i (length s)) refl }
   where

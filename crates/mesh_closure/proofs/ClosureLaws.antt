@@ -20,7 +20,8 @@ use Rattle.mesh.specs.Meet.{Sizes, Under, stamp, unlike, leavesBy}
 use Rattle.mesh.proofs.MeetLaws.{outside}
 use Rattle.mesh.proofs.DimensionLaws.{below-next, lower-right, lower-small, dimension-le}
 use Rattle.mesh.specs.WalkLaws.{below-grows}
-use Rattle.mesh_chains.proofs.ElementLaws.{set-under, under-none}
+use Rattle.mesh_chains.proofs.ElementLaws.{set-under}
+use Rattle.mesh.proofs.MeetLaws.{under-none}
 
 -- ---- one mark
 

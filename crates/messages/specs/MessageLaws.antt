@@ -27,26 +27,14 @@ Sound z = (length z ≡ 4) × (inRange (depthOf z) ≡ true)
 
 -- ---- the bytes of a message
 
-abbrev wordsOf : Message → List ℕ
+abbrev pub wordsOf : Message → List ℕ
 wordsOf x = x .from ∷ x .to ∷ x .round ∷ length (x .depths) ∷ []
 
 module _ (x : Message) where
-  -- its words
-  pub encode-from : fromIn (encode x) ≡ x .from
+  -- its words: from, to, round and count
+  pub encode-word : (k : ℕ) → k < 4 → wordAt (encode x) k ≡ getD (wordsOf x) k 0
   unfolding encode
-  encode-from = wordAt-first (wordsOf x) (joined (x .depths)) 0 (omega arith)
-
-  pub encode-to : toIn (encode x) ≡ x .to
-  unfolding encode
-  encode-to = wordAt-first (wordsOf x) (joined (x .depths)) 1 (omega arith)
-
-  pub encode-round : roundIn (encode x) ≡ x .round
-  unfolding encode
-  encode-round = wordAt-first (wordsOf x) (joined (x .depths)) 2 (omega arith)
-
-  pub encode-count : countIn (encode x) ≡ length (x .depths)
-  unfolding encode
-  encode-count = wordAt-first (wordsOf x) (joined (x .depths)) 3 (omega arith)
+  encode-word k h = wordAt-first (wordsOf x) (joined (x .depths)) k h
 
   -- written to a buffer: its words, and the depths behind them
   pub encode-over : (out : Bytes) → 8 ≤ length out
@@ -89,14 +77,14 @@ module _ (x : Message) where
         (λ t h.
         ap (λ z. inRange z) (sym (depth-four (encode x) (8 + 4 * (0 + t))) ∙ ap (λ f. depthOf f) (ap (λ k. four (encode x) (8 + 4 * k)) (zero-add t) ∙ encode-depth four-long t h))
         ∙ All-getD Sound (x .depths) t [] s h .1) in
-        simp (encode-count, le-ltb _ _ short, eq-eqb _ _ long, ranged)
+        simp (encode-word 3 (omega arith), le-ltb _ _ short, eq-eqb _ _ long, ranged)
 
     pub read-back : reading (encode x) ≡ read x
     unfolding reading
     read-back =
         let ds : listed 0 (length (x .depths)) (λ t. four (encode x) (8 + 4 * t)) ≡ x .depths =
         listed-back 0 (λ t. four (encode x) (8 + 4 * t)) (x .depths) [] (λ t h. ap (λ k. four (encode x) (8 + 4 * k)) (zero-add t) ∙ encode-depth four-long t h) in
-        simp (encode-good, encode-from, encode-to, encode-round, encode-count, ds)
+        simp (encode-good, encode-word 0 (omega arith), encode-word 1 (omega arith), encode-word 2 (omega arith), encode-word 3 (omega arith), ds)
 
 -- ---- what an accepted message has
 

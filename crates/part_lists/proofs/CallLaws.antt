@@ -10,14 +10,14 @@ use Rattle.vocabulary.specs.Bytes.{Bytes, over}
 use Rattle.vocabulary.specs.Tests.{refuse, firstOf, numbered, firstOf-append}
 use Rattle.layout.specs.Words.{bytesOf}
 use Rattle.layout.specs.Answers.{answer}
+use Rattle.layout.specs.AnswerLaws.{refuses}
 use Rattle.layout.specs.declared.Answer.{Answer}
 use Rattle.layout.specs.declared.Answer.the-variants.{Done, Refused}
 use Rattle.split.specs.Split.{splitOf}
-use Rattle.split.specs.Lists as Lists
 use Rattle.split.specs.Lists.{splitTests, sizeTests, splitNumber, sizesNumber, others, listOf, listWords, listTests, listNumber, listAnswer, listOut}
 use Rattle.split.proofs.PassedLaws.{tests-numbered, twice, passed-facts}
 use Rattle.split.specs.Sorting.{Prepared}
-use Rattle.part_lists.specs.Giving.{meant, chosen, givenNumber, givenAnswer, givenOut, namedWords, namedTests, namedAnswer, namedOut}
+use Rattle.part_lists.specs.Giving.{meant, Names, chosen, givenNumber, givenAnswer, givenOut, namedWords, namedTests, namedAnswer, namedOut}
 use Rattle.part_lists.specs.declared.lists.Wanted.{Wanted}
 use Rattle.part_lists.specs.declared.lists.Wanted.the-variants.{Interior, Halo, Locals, Imports, Exports, Private, Exposed, Shared, Copied}
 use Rattle.part_lists.proofs.ChosenLaws.{chosen-is, list-few}
@@ -40,11 +40,8 @@ module _ (w : Wanted) (m : Bytes) (parts : ℕ) (owners : Bytes) (i j k : ℕ) (
 
   module _ (n : ℕ) (h : n ≡ 0 → ⊥) (e : firstOf (namedTests w m parts owners i j k st out) ≡ n) where
     refusing : (Refused n ≡ namedAnswer w m parts owners i j k st out) × (out ≡ namedOut w m parts owners i j k st out)
-    unfolding namedAnswer namedOut answer
-    refusing = (
-      sym (ap (λ x. cond (eqb x 0) (Done (length (namedWords w m parts owners i j k st))) (Refused x)) e ∙ ap (λ b. cond b (Done (length (namedWords w m parts owners i j k st))) (Refused n)) (ne-eqb n 0 h)),
-      sym (ap (λ x. cond (eqb x 0) (over out 0 (bytesOf (namedWords w m parts owners i j k st))) out) e ∙ ap (λ b. cond b (over out 0 (bytesOf (namedWords w m parts owners i j k st))) out) (ne-eqb n 0 h)),
-    )
+    unfolding namedAnswer namedOut
+    refusing = refuses (firstOf (namedTests w m parts owners i j k st out)) (length (namedWords w m parts owners i j k st)) (over out 0 (bytesOf (namedWords w m parts owners i j k st))) out n e h
 
   pub refused-split : (n : ℕ) → n ≡ splitNumber m parts owners (i ∷ j ∷ []) st → (n ≡ 0 → ⊥) → (Refused n ≡ namedAnswer w m parts owners i j k st out) × (out ≡ namedOut w m parts owners i j k st out)
   refused-split n e h = refusing n h (number-is ∙ ap₂ (λ b x. cond b (cond (eqb (sizesNumber m parts owners st) 0) (givenNumber (namedWords w m parts owners i j k st) out) (sizesNumber m parts owners st)) x) (ne-eqb _ 0 (λ z. h (e ∙ z))) (sym e))
@@ -77,56 +74,29 @@ module _ (w : Wanted) (m : Bytes) (parts : ℕ) (owners : Bytes) (i j k : ℕ) (
         g .1 ∙ ap (λ ws. cond (eqb (givenNumber ws out) 0) (over out 0 (bytesOf ws)) out) words-are ∙ ap (λ n. cond (eqb n 0) (over out 0 (bytesOf (namedWords w m parts owners i j k st))) out) (sym given),
       )
 
--- ---- the public calls: a list that names no other part names its own twice
+-- ---- the call for the list that is meant: one that names no other part names its own twice
 
-module _ (m : Bytes) (parts : ℕ) (owners : Bytes) (i : ℕ) (st out : Bytes) (r : Answer) (after : Bytes) where
-  abbrev Told : Wanted → ℕ → ℕ → Type 0
-  Told w j k = (r ≡ namedAnswer w m parts owners i j k st out) × (after ≡ namedOut w m parts owners i j k st out)
+module _ (m : Bytes) (parts : ℕ) (owners : Bytes) (i j k : ℕ) (st : Bytes) where
+  once : j ≡ i → splitTests m parts owners (i ∷ j ∷ []) st ≡ splitTests m parts owners (i ∷ []) st
+  once e = ap (λ x. splitTests m parts owners (i ∷ x ∷ []) st) e ∙ twice m parts owners i st
 
-  abbrev Given : Lists.Wanted → Type 0
-  Given w = (r ≡ listAnswer m parts owners i st w out) × (after ≡ listOut m parts owners i st w out)
+  tests-meant : (w : Wanted) → Names w i j → splitTests m parts owners (i ∷ j ∷ []) st ≡ splitTests m parts owners (i ∷ others (meant w j k)) st
+  unfolding others
+  tests-meant Interior e = once e
+  tests-meant Halo e = once e
+  tests-meant Locals e = once e
+  tests-meant Imports e = refl
+  tests-meant Exports e = refl
+  tests-meant Private e = once e
+  tests-meant Exposed e = once e
+  tests-meant Shared e = once e
+  tests-meant Copied e = once e
 
-  one-list : (w : Wanted) (k : ℕ) → others (meant w i k) ≡ [] → Told w i k → Given (meant w i k)
+  pub as-meant : (w : Wanted) (out : Bytes) (r : Answer) (after : Bytes) → Names w i j → (r ≡ namedAnswer w m parts owners i j k st out) × (after ≡ namedOut w m parts owners i j k st out)
+      → (r ≡ listAnswer m parts owners i st (meant w j k) out) × (after ≡ listOut m parts owners i st (meant w j k) out)
   unfolding namedAnswer namedOut namedTests namedWords listAnswer listOut listNumber listTests listWords
-  one-list w k none g =
-      let x : List ℕ = listOf m (splitOf m parts owners st) i (meant w i k) in
-      let e : splitTests m parts owners (i ∷ i ∷ []) st ≡ splitTests m parts owners (i ∷ others (meant w i k)) st = twice m parts owners i st ∙ ap (λ ns. splitTests m parts owners (i ∷ ns) st) (sym none) in (
-        g .0 ∙ ap (λ ts. answer (firstOf (ts ++ (sizeTests m parts owners st ++ (refuse 16 (ltb (length out) (2 * length (listOf m (splitOf m parts owners st) i (meant w i k)))) ∷ [])))) (length (listOf m (splitOf m parts owners st) i (meant w i k)))) e,
-        g .1 ∙ ap (λ ts. cond (eqb (firstOf (ts ++ (sizeTests m parts owners st ++ (refuse 16 (ltb (length out) (2 * length (listOf m (splitOf m parts owners st) i (meant w i k)))) ∷ [])))) 0) (over out 0 (bytesOf (listOf m (splitOf m parts owners st) i (meant w i k)))) out) e,
+  as-meant w out r after n g =
+      let e : splitTests m parts owners (i ∷ j ∷ []) st ≡ splitTests m parts owners (i ∷ others (meant w j k)) st = tests-meant w n in (
+        g .0 ∙ ap (λ ts. answer (firstOf (ts ++ (sizeTests m parts owners st ++ (refuse 16 (ltb (length out) (2 * length (listOf m (splitOf m parts owners st) i (meant w j k)))) ∷ [])))) (length (listOf m (splitOf m parts owners st) i (meant w j k)))) e,
+        g .1 ∙ ap (λ ts. cond (eqb (firstOf (ts ++ (sizeTests m parts owners st ++ (refuse 16 (ltb (length out) (2 * length (listOf m (splitOf m parts owners st) i (meant w j k)))) ∷ [])))) 0) (over out 0 (bytesOf (listOf m (splitOf m parts owners st) i (meant w j k)))) out) e,
       )
-
-  pub told-interior : (k : ℕ) → Told Interior i k → Given Lists.interior-cells
-  unfolding meant others
-  told-interior k g = one-list Interior k refl g
-
-  pub told-halo : (k : ℕ) → Told Halo i k → Given Lists.halo-cells
-  unfolding meant others
-  told-halo k g = one-list Halo k refl g
-
-  pub told-locals : (k : ℕ) → Told Locals i k → Given Lists.local-order
-  unfolding meant others
-  told-locals k g = one-list Locals k refl g
-
-  pub told-imports : (j k : ℕ) → Told Imports j k → Given (Lists.imports-from j)
-  unfolding namedAnswer namedOut namedTests namedWords listAnswer listOut listNumber listTests listWords meant others
-  told-imports j k g = g
-
-  pub told-exports : (j k : ℕ) → Told Exports j k → Given (Lists.exports-to j)
-  unfolding namedAnswer namedOut namedTests namedWords listAnswer listOut listNumber listTests listWords meant others
-  told-exports j k g = g
-
-  pub told-private : (k : ℕ) → Told Private i k → Given (Lists.private-range k)
-  unfolding meant others
-  told-private k g = one-list Private k refl g
-
-  pub told-exposed : (k : ℕ) → Told Exposed i k → Given (Lists.exposed-range k)
-  unfolding meant others
-  told-exposed k g = one-list Exposed k refl g
-
-  pub told-shared : (k : ℕ) → Told Shared i k → Given (Lists.shared-range k)
-  unfolding meant others
-  told-shared k g = one-list Shared k refl g
-
-  pub told-copied : (k : ℕ) → Told Copied i k → Given (Lists.copied-range k)
-  unfolding meant others
-  told-copied k g = one-list Copied k refl g

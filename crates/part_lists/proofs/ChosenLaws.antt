@@ -20,7 +20,7 @@ module _ (m : Bytes) (parts : ℕ) (owners st table : Bytes) (ends : List ℕ) (
   -- ---- all lists
 
   pub chosen-is : (w : Wanted) (i j k : ℕ) → 1 ≤ i → i ≤ 16 → 1 ≤ j → j ≤ 16 → chosen w m parts owners table ends held′ i j k ≡ listOf m S i (meant w j k)
-  unfolding chosen listOf meant exports isPrivate isExposed isShared isCopied
+  unfolding chosen listOf exports isPrivate isExposed isShared isCopied
   chosen-is Interior i j k il ih jl jh = interior-is m parts owners st table ends held′ R i ih
   chosen-is Halo i j k il ih jl jh = halo-is m parts owners st table ends held′ R i ih
   chosen-is Locals i j k il ih jl jh = locals-are m parts owners st table ends held′ R i ih
@@ -34,7 +34,7 @@ module _ (m : Bytes) (parts : ℕ) (owners st table : Bytes) (ends : List ℕ) (
   -- ---- how long they are
 
   pub list-few : (w : Wanted) (i j k : ℕ) → length (listOf m S i (meant w j k)) ≤ 2000
-  unfolding listOf meant interior halo imports exports
+  unfolding listOf interior halo imports exports
   list-few Interior i j k = picked-few m parts owners st table ends held′ R _
   list-few Halo i j k = picked-few m parts owners st table ends held′ R _
   list-few Locals i j k = locals-few m parts owners st table ends held′ R i

@@ -21,25 +21,12 @@ use Rattle.split.specs.SplitLaws.{Cell, own-is, own-number, local-back, local-c
 -- ---- rising lists
 
 module _ (S : Split) (i : ℕ) where
-  pub owned-rises : Rises (owned S i)
-  unfolding owned
-  owned-rises = picked-rises (S .first) (owns S i) (S .cells)
-
-  pub held-rises : Rises (held S i)
-  unfolding held
-  held-rises = picked-rises (S .first) (holds S i) (S .cells)
-
-  pub interior-rises : Rises (interior S i)
-  unfolding interior
-  interior-rises = picked-rises (S .first) _ (S .cells)
-
-  pub halo-rises : Rises (halo S i)
-  unfolding halo
-  halo-rises = picked-rises (S .first) _ (S .cells)
-
-  pub imports-rise : (j : ℕ) → Rises (imports S i j)
-  unfolding imports
-  imports-rise j = picked-rises (S .first) _ (S .cells)
+  pub cells-rise : Rises (owned S i) × Rises (held S i) × Rises (interior S i) × Rises (halo S i) × ((j : ℕ) → Rises (imports S i j))
+  unfolding owned held interior halo imports
+  cells-rise = (rise (owns S i), rise (holds S i), rise _, rise _, λ j. rise _)
+    where
+      rise : (p : ℕ → Bool) → Rises (picked (S .first) (S .cells) p)
+      rise p = picked-rises (S .first) p (S .cells)
 
   -- "j exports the same list to i"
   pub exports-same : (j : ℕ) → exports S j i ≡ imports S i j
@@ -87,7 +74,7 @@ module _ (S : Split) (i : ℕ) where
   same-import : (j j′ t t′ : ℕ) → j ≡ j′ → t < length (imports S i j) → t′ < length (imports S i j′) → getD (imports S i j) t 0 ≡ getD (imports S i j′) t′ 0 → number j t ≡ number j′ t′
   same-import j j′ t t′ e h h′ f =
       let h2 : t < length (imports S i j′) = subst (λ x. t < length (imports S i x)) e h in
-      let q : t ≡ t′ = repeats-once (imports S i j′) t t′ (rises-once (imports S i j′) (imports-rise S i j′)) h2 h′ (ap (λ x. getD (imports S i x) t 0) (sym e) ∙ f) in
+      let q : t ≡ t′ = repeats-once (imports S i j′) t t′ (rises-once (imports S i j′) (cells-rise S i .4 j′)) h2 h′ (ap (λ x. getD (imports S i x) t 0) (sym e) ∙ f) in
       ap (λ x. number x t) e ∙ ap (number j′) q
 
   -- a cell has one local number

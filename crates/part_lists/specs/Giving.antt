@@ -1,5 +1,6 @@
 -- How the code chooses a list and gives it. No public contract rests on this page; the laws in proofs/ tie it to the definitions. Assumes
 -- nothing.
+use mathlib.Core.Path.{_≡_}
 use mathlib.Core.Bool.{cond}
 use mathlib.Core.List.{List, [], _∷_, _++_}
 use Prim.Native.Nat.{ℕ, _*_}
@@ -19,7 +20,7 @@ use Rattle.part_lists.specs.declared.lists.Wanted.{Wanted}
 use Rattle.part_lists.specs.declared.lists.Wanted.the-variants.{Interior, Halo, Locals, Imports, Exports, Private, Exposed, Shared, Copied}
 
 -- the list that is meant, with the other part j and the dimension k
-unfoldable pub meant : Wanted → ℕ → ℕ → Lists.Wanted
+abbrev pub meant : Wanted → ℕ → ℕ → Lists.Wanted
 meant Interior j k = Lists.interior-cells
 meant Halo j k = Lists.halo-cells
 meant Locals j k = Lists.local-order
@@ -29,6 +30,18 @@ meant Private j k = Lists.private-range k
 meant Exposed j k = Lists.exposed-range k
 meant Shared j k = Lists.shared-range k
 meant Copied j k = Lists.copied-range k
+
+-- a list that names no other part is asked for with the part itself in its place
+abbrev pub Names : Wanted → ℕ → ℕ → Type 0
+Names Interior i j = j ≡ i
+Names Halo i j = j ≡ i
+Names Locals i j = j ≡ i
+Names Imports i j = Unit {0}
+Names Exports i j = Unit {0}
+Names Private i j = j ≡ i
+Names Exposed i j = j ≡ i
+Names Shared i j = j ≡ i
+Names Copied i j = j ≡ i
 
 -- its words, from prepared tables
 unfoldable pub chosen : Wanted → Bytes → ℕ → Bytes → Bytes → List ℕ → Bytes → ℕ → ℕ → ℕ → List ℕ

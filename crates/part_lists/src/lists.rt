@@ -22,9 +22,9 @@ ghost use lib.ListN.{length, take};
 ghost use Rattle.vocabulary.specs.Bytes.{over};
 ghost use Rattle.layout.specs.Words.{bytesOf};
 ghost use Rattle.mesh.specs.Accepted.{Accepted};
-ghost use Rattle.split.specs.Lists.{splitNumber};
+ghost use Rattle.split.specs.Lists.{splitNumber, listAnswer, listOut};
 ghost use Rattle.split.specs.Sorting.{Added};
-ghost use Rattle.part_lists.specs.Giving.{chosen, givenAnswer, givenOut, namedAnswer, namedOut};
+ghost use Rattle.part_lists.specs.Giving.{meant, Names, chosen, givenAnswer, givenOut, namedAnswer, namedOut};
 
 // The lists that can be asked for. An import or export list names the other part, and a range its dimension; both stand beside it.
 pub enum Wanted {
@@ -187,7 +187,8 @@ pub fn list(
     st: &[u8],
     out: &mut [u8],
 ) -> Answer
-    ensures { λ r. ⌜ (r ≡ namedAnswer wanted (now (m .entry)) parts (now (owners .entry)) i j k (now (st .entry)) (now (out .entry))) × (now (out .exit) ≡ namedOut wanted (now (m .entry)) parts (now (owners .entry)) i j k (now (st .entry)) (now (out .entry))) ⌝ }
+    requires { ⌜ Names wanted i j ⌝ }
+    ensures { λ r. ⌜ (r ≡ listAnswer (now (m .entry)) parts (now (owners .entry)) i (now (st .entry)) (meant wanted j k) (now (out .entry))) × (now (out .exit) ≡ listOut (now (m .entry)) parts (now (owners .entry)) i (now (st .entry)) (meant wanted j k) (now (out .entry))) ⌝ }
 {
     let number = split_number(m, parts, owners, i, j, st);
     if number != 0 {

@@ -12,8 +12,7 @@ ghost use mathlib.Core.List.{_++_};
 ghost use lib.ListN.{length, take};
 ghost use Rattle.vocabulary.specs.Ranges.{blocks};
 ghost use Rattle.split.specs.Sorting.{Prepared};
-ghost use Rattle.part_lists.specs.declared.lists.Wanted.the-variants.{Imports, Exports};
-ghost use Rattle.text.specs.Listing.{ascii, spaced, lineUnlessEmpty};
+ghost use Rattle.text.specs.Listing.{spaced, lineUnlessEmpty};
 ghost use Rattle.text.specs.Printing.{Printed};
 ghost use Rattle.range_text.specs.Lines.{Ready, cellsLine, passing, partOf};
 
@@ -101,8 +100,10 @@ fn put_passing(
     put_full(label, j, &list, n, out, at)
 }
 
-// The lines of the imports, by rising part, and those of the exports.
-fn put_imports(
+// The lines of what passes between part i and each part, by rising part.
+fn put_all_passing(
+    wanted: Wanted,
+    label: &[u8],
     m: &[u8],
     parts: usize,
     owners: &[u8],
@@ -115,49 +116,13 @@ fn put_imports(
     at: usize,
 ) -> usize
     requires { ⌜ Ready (now m) parts (now owners) (now st) (now table) (now ends) (now held) i ⌝ }
-    ensures { λ t. ⌜ Printed (now (out .entry)) (now (out .exit)) at t (blocks 1 parts (passing (now (m .entry)) parts (now (owners .entry)) (now (st .entry)) Imports (ascii "import") i)) ⌝ }
+    ensures { λ t. ⌜ Printed (now (out .entry)) (now (out .exit)) at t (blocks 1 parts (passing (now (m .entry)) parts (now (owners .entry)) (now (st .entry)) wanted (now (label .entry)) i)) ⌝ }
 {
     let mut t = at;
     for j in 0..parts {
         t = put_passing(
-            Wanted::Imports,
-            b"import",
-            m,
-            parts,
-            owners,
-            st,
-            table,
-            ends,
-            held,
-            i,
-            j + 1,
-            out,
-            t,
-        );
-    }
-    t
-}
-
-fn put_exports(
-    m: &[u8],
-    parts: usize,
-    owners: &[u8],
-    st: &[u8],
-    table: &[u8],
-    ends: &[u16],
-    held: &[u8],
-    i: usize,
-    out: &mut [u8],
-    at: usize,
-) -> usize
-    requires { ⌜ Ready (now m) parts (now owners) (now st) (now table) (now ends) (now held) i ⌝ }
-    ensures { λ t. ⌜ Printed (now (out .entry)) (now (out .exit)) at t (blocks 1 parts (passing (now (m .entry)) parts (now (owners .entry)) (now (st .entry)) Exports (ascii "export") i)) ⌝ }
-{
-    let mut t = at;
-    for j in 0..parts {
-        t = put_passing(
-            Wanted::Exports,
-            b"export",
+            wanted,
+            label,
             m,
             parts,
             owners,
@@ -219,8 +184,34 @@ fn put_part(
         out,
         t,
     );
-    let t = put_imports(m, parts, owners, st, table, ends, held, i, out, t);
-    let t = put_exports(m, parts, owners, st, table, ends, held, i, out, t);
+    let t = put_all_passing(
+        Wanted::Imports,
+        b"import",
+        m,
+        parts,
+        owners,
+        st,
+        table,
+        ends,
+        held,
+        i,
+        out,
+        t,
+    );
+    let t = put_all_passing(
+        Wanted::Exports,
+        b"export",
+        m,
+        parts,
+        owners,
+        st,
+        table,
+        ends,
+        held,
+        i,
+        out,
+        t,
+    );
     put_dimensions(m, parts, owners, st, table, ends, held, i, out, t)
 }
 

@@ -1,14 +1,18 @@
 -- What a call knows of an accepted state, its lists cut off at d. Assumes nothing.
 use mathlib.Core.Path.{_≡_, refl, sym, ap, ap₂, _∙_}
-use mathlib.Core.Bool.{Bool, true, false, not}
+use mathlib.Core.Bool.{Bool, true, false, not, cond}
 use Prim.Native.Nat.{ℕ, _+_, _-_, _*_, _≤_, _<_}
 use native.Mathlib.Omega.{arith}
+use lib.Dec.{eqb}
 use lib.ListN.{length, take, drop}
 use borrow.Author.Tests.{not-false}
 use Rattle.vocabulary.specs.Bytes.{Bytes}
 use Rattle.vocabulary.specs.Ranges.{isUpTo, blocks}
 use Rattle.vocabulary.specs.RangeLaws.{upTo-true}
 use Rattle.layout.specs.Words.{wordAt}
+use Rattle.layout.specs.Answers.{answer}
+use Rattle.layout.specs.AnswerLaws.{refuses}
+use Rattle.layout.specs.declared.Answer.the-variants.{Refused}
 use Rattle.depths.specs.Depths.{four}
 use Rattle.depths.specs.DepthLaws.{fours-of}
 use Rattle.states.specs.State.{listsIn, listsOf, heldCount, ownedCount, isState, bad20}
@@ -53,6 +57,11 @@ module _ (b : Bytes) (x : ℕ) (u : Bool) (ue : u ≡ isState b) (uf : not u ≡
 pub not-state : (b : Bytes) (u : Bool) → u ≡ isState b → not u ≡ true → bad20 b ≡ true
 unfolding bad20
 not-state b u ue ut = ap not (sym ue) ∙ ut
+
+-- a call's first test, where it refuses
+pub told-20 : (b : Bytes) (k count : ℕ) (new old : Bytes) (u : Bool) → u ≡ isState b → not u ≡ true
+    → (Refused 20 ≡ answer (cond (bad20 b) 20 k) count) × (old ≡ cond (eqb (cond (bad20 b) 20 k) 0) new old)
+told-20 b k count new old u ue ut = refuses (cond (bad20 b) 20 k) count new old 20 (simp (not-state b u ue ut)) (λ z. omega (arith, z))
 
 pub good-state : (st : Bytes) (d : ℕ) (b : Bytes) → Opened st d b → bad20 b ≡ false
 unfolding bad20

@@ -12,7 +12,7 @@ use Rattle.mesh.specs.Mesh.{top}
 use Rattle.split.specs.Split.{splitOf}
 use Rattle.split.specs.Lists.{listOf}
 use Rattle.split.specs.Sorting.{Added, Prepared}
-use Rattle.part_lists.specs.Giving.{meant, chosen}
+use Rattle.part_lists.specs.Giving.{chosen}
 use Rattle.part_lists.specs.declared.lists.Wanted.{Wanted}
 use Rattle.part_lists.specs.declared.lists.Wanted.the-variants.{Interior, Halo, Imports, Exports, Private, Exposed, Shared, Copied}
 use Rattle.part_lists.proofs.ChosenLaws.{chosen-is, list-few}
@@ -138,7 +138,7 @@ module _ (m : Bytes) (parts : ℕ) (owners st : Bytes) where
 
   pub dimension-told : (i k : ℕ) (a b c d e : Bytes) (s t u v x : ℕ) → Printed a b s t (rangeLine m parts owners st Private b-private i k) → Printed b c t u (rangeLine m parts owners st Exposed b-exposed i k)
       → Printed c d u v (rangeLine m parts owners st Shared b-shared i k) → Printed d e v x (rangeLine m parts owners st Copied b-copied i k) → Printed a e s x (dimensionOf m parts owners st i k)
-  unfolding rangeLine dimensionOf dimensionText wantedOf listOf meant ascii
+  unfolding rangeLine dimensionOf dimensionText wantedOf listOf ascii
   dimension-told i k a b c d e s t u v x X Y Z W = print-both a b e s t x _ _ X (print-both b c e t u x _ _ Y (print-both c d e u v x _ _ Z W))
 
   pub passing-turn : (w : Wanted) (label a b c : Bytes) (s t u i j : ℕ) → Printed a b s t (blocks 1 j (passing m parts owners st w label i)) → Printed b c t u (passing m parts owners st w label i (j + 1))
@@ -157,7 +157,7 @@ module _ (m : Bytes) (parts : ℕ) (owners st : Bytes) where
       → Printed c d u v (cellsLine m parts owners st Halo b-halo i) → Printed d e v w (blocks 1 parts (passing m parts owners st Imports (ascii "import") i))
       → Printed e f w x (blocks 1 parts (passing m parts owners st Exports (ascii "export") i)) → Printed f g x y (blocks 0 (top m) (dimensionOf m parts owners st i))
       → Printed a g s y (partOf m parts owners st i)
-  unfolding cellsLine passing dimensionOf partOf partText wantedOf listOf meant splitOf ascii
+  unfolding cellsLine passing dimensionOf partOf partText wantedOf listOf splitOf ascii
   part-told i a b c d e f g s t u v w x y A B C D E F =
       print-both a b g s t y _ _ A (print-both b c g t u y _ _ B (print-both c d g u v y _ _ C (print-both d e g v w y _ _ D (print-both e f g w x y _ _ E F))))
 

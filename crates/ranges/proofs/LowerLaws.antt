@@ -7,6 +7,7 @@ use native.Mathlib.Omega.{arith}
 use lib.Dec.{eqb, ltb}
 use lib.ListN.{getD, length}
 use borrow.Author.Tests.{eq-eqb, lt-ltb, le-ltb, eqb-true, eqb-false, ne-eqb, not-true, ltb-true}
+use Rattle.split.specs.SplitLaws.{map-facts}
 use Rattle.vocabulary.specs.Bytes.{Bytes, byteAt}
 use Rattle.vocabulary.specs.Ranges.{picked, every, blocks, some}
 use Rattle.vocabulary.specs.RangeLaws.{picked-cong, blocks-cong, picked-all, picked-length-le, some-in, some-witness, blocks-picked}
@@ -26,7 +27,6 @@ use Rattle.mesh.proofs.DimensionLaws.{below-next}
 use Rattle.split.specs.Split.{range, Split, splitOf, ownerAt, owns, holds, held, cellsAt, holdsLower, touches, another}
 use Rattle.split.specs.Sorting.{sideAt, someSide, lowerSort, trailSort, trailSorted, rangeOf, Added, ownsAt, heldAt, elsewhereAt, Prepared}
 use Rattle.cell_lists.proofs.SortLaws.{add-none}
-use Rattle.split.proofs.PreparedLaws.{map-right}
 
 -- the stencil (d), which is always right: the chains turned round do not depend on the stencil
 alone-right : (d : ℕ) → bad10 d (d ∷ []) ≡ false
@@ -130,12 +130,6 @@ module _ (m : Bytes) (parts : ℕ) (owners st table : Bytes) (ends : List ℕ) (
   abbrev S : Split
   S = splitOf m parts owners st
 
-  few : parts ≤ 16
-  few = map-right m parts owners (R .map) .1
-
-  owner-in : (q : ℕ) → q < cellCount m → (1 ≤ byteAt owners q) × (byteAt owners q ≤ parts)
-  owner-in = map-right m parts owners (R .map) .3
-
   own-is : (y : ℕ) → S .owner y ≡ byteAt owners (y - firstCell m)
   unfolding splitOf ownerAt
   own-is y = refl
@@ -168,7 +162,7 @@ module _ (m : Bytes) (parts : ℕ) (owners st table : Bytes) (ends : List ℕ) (
         left t =
             let w = someOf-witness (λ y. not (eqb (byteAt owners (y - firstCell m)) i)) (cellsAt m S e) 0 t in
             let c = All-getD (λ y. (firstCell m ≤ y) × (y < firstCell m + cellCount m)) (cellsAt m S e) (w .0) 0 (at-cells e) (w .1) in
-            let o = owner-in (getD (cellsAt m S e) (w .0) 0 - firstCell m) (omega (arith, c .0, c .1)) in
+            let o = map-facts m parts owners [] (R .map) .owner-in (getD (cellsAt m S e) (w .0) 0 - firstCell m) (omega (arith, c .0, c .1)) in
             let n = eqb-false _ i (not-true _ (w .2)) in
             some-in 1 (λ j. not (eqb i j) && someOf (cellsAt m S e) (λ y. eqb (S .owner y) j)) parts (own (getD (cellsAt m S e) (w .0) 0)) (o .0) (omega (arith, o .1))
             (and-intro _ _ (ap not (ne-eqb i (own (getD (cellsAt m S e) (w .0) 0)) (λ z. n (sym z))))
@@ -195,7 +189,7 @@ module _ (m : Bytes) (parts : ℕ) (owners st table : Bytes) (ends : List ℕ) (
             let u = and-true (not (eqb i (1 + v .0))) (heldAt held′ (1 + v .0) (getD (cellsAt m S e) (w .0) 0 - firstCell m)) (v .2) in
             some-in 1 (λ j. not (eqb i j) && someOf (cellsAt m S e) (holds S j)) parts (1 + v .0) (omega arith) (omega (arith, v .1))
             (and-intro _ _ (u .0)
-            (someOf-has (holds S (1 + v .0)) (cellsAt m S e) 0 (w .0) (w .1) (sym (holds-at (1 + v .0) (getD (cellsAt m S e) (w .0) 0) (omega (arith, v .1, few)) (c .0) (c .1)) ∙ u .1)))
+            (someOf-has (holds S (1 + v .0)) (cellsAt m S e) 0 (w .0) (w .1) (sym (holds-at (1 + v .0) (getD (cellsAt m S e) (w .0) 0) (omega (arith, v .1, map-facts m parts owners [] (R .map) .few)) (c .0) (c .1)) ∙ u .1)))
 
         right : some 1 parts (λ j. not (eqb i j) && someOf (cellsAt m S e) (holds S j)) ≡ true → someOf (cellsAt m S e) (λ y. some 1 parts (λ j. not (eqb i j) && heldAt held′ j (y - firstCell m))) ≡ true
         right t =
@@ -205,7 +199,7 @@ module _ (m : Bytes) (parts : ℕ) (owners st table : Bytes) (ends : List ℕ) (
             let c = All-getD (λ y. (firstCell m ≤ y) × (y < firstCell m + cellCount m)) (cellsAt m S e) (w .0) 0 (at-cells e) (w .1) in
             someOf-has (λ y. some 1 parts (λ j. not (eqb i j) && heldAt held′ j (y - firstCell m))) (cellsAt m S e) 0 (w .0) (w .1)
             (some-in 1 (λ j. not (eqb i j) && heldAt held′ j (getD (cellsAt m S e) (w .0) 0 - firstCell m)) parts (1 + v .0) (omega arith) (omega (arith, v .1))
-            (and-intro _ _ (u .0) (holds-at (1 + v .0) (getD (cellsAt m S e) (w .0) 0) (omega (arith, v .1, few)) (c .0) (c .1) ∙ w .2)))
+            (and-intro _ _ (u .0) (holds-at (1 + v .0) (getD (cellsAt m S e) (w .0) 0) (omega (arith, v .1, map-facts m parts owners [] (R .map) .few)) (c .0) (c .1) ∙ w .2)))
 
     -- the sort, by the definitions
     lower-is : lowerSort (picked (firstCell m) (cellCount m) (incident m e)) (firstCell m) owners held′ parts i

@@ -90,10 +90,10 @@ module _ (cell prev : List ℕ) (first side : ℕ) (owners held : Bytes) (parts 
           ∙ R .same;
     }
 
--- ---- sorts
+-- ---- sorts, by the last answer y
 
-module _ (cell prev last : List ℕ) (first : ℕ) (owners held : Bytes) (parts i e t : ℕ) (te : t ≡ getD last e 0) (a : Bool)
-    (ae : a ≡ someSide (trail cell prev 12001 t) first 0 owners held parts i) where
+module _ (y : Bool) (cell prev last : List ℕ) (first : ℕ) (owners held : Bytes) (parts i e t : ℕ) (te : t ≡ getD last e 0) (a : Bool)
+    (ae : a ≡ someSide (trail cell prev 12001 t) first 0 owners held parts i) (b : Bool) where
   abbrev told : ℕ → Bool
   told side = someSide (trail cell prev 12001 t) first side owners held parts i
 
@@ -101,32 +101,16 @@ module _ (cell prev last : List ℕ) (first : ℕ) (owners held : Bytes) (parts 
   unfolding trailSort lowerSort
   sort-is = ap (λ u. lowerSort (trail cell prev 12001 u) first owners held parts i) (sym te)
 
-  module _ (at : a ≡ true) (b : Bool) (be : b ≡ someSide (trail cell prev 12001 t) first 1 owners held parts i) where
-    mine : trailSort cell prev last first owners held parts i e ≡ cond b 3 (cond (told 3) 2 1)
-    mine = sort-is ∙ ap₂ (λ x y. cond x (cond y 3 (cond (told 3) 2 1)) (cond (told 2) 4 0)) (sym ae ∙ at) (sym be)
+  pub is-shared : a ≡ true → b ≡ someSide (trail cell prev 12001 t) first 1 owners held parts i → b ≡ true → 3 ≡ trailSort cell prev last first owners held parts i e
+  is-shared at be bt = sym (sort-is ∙ ap₂ (λ x z. cond x (cond z 3 (cond (told 3) 2 1)) (cond (told 2) 4 0)) (sym ae ∙ at) (sym be ∙ bt))
 
-    pub is-shared : b ≡ true → 3 ≡ trailSort cell prev last first owners held parts i e
-    is-shared bt = sym (mine ∙ ap (λ x. cond x 3 (cond (told 3) 2 1)) bt)
+  pub is-alone : (c : Bool) → a ≡ true → b ≡ someSide (trail cell prev 12001 t) first 1 owners held parts i → b ≡ false → c ≡ someSide (trail cell prev 12001 t) first 3 owners held parts i
+      → c ≡ y → cond y 2 1 ≡ trailSort cell prev last first owners held parts i e
+  is-alone c at be bf ce ct =
+      sym (sort-is ∙ ap₂ (λ x z. cond x (cond z 3 (cond (told 3) 2 1)) (cond (told 2) 4 0)) (sym ae ∙ at) (sym be ∙ bf) ∙ ap (λ x. cond x 2 1) (sym ce ∙ ct))
 
-    module _ (bf : b ≡ false) (c : Bool) (ce : c ≡ someSide (trail cell prev 12001 t) first 3 owners held parts i) where
-      alone : trailSort cell prev last first owners held parts i e ≡ cond c 2 1
-      alone = mine ∙ ap₂ (λ x y. cond x 3 (cond y 2 1)) bf (sym ce)
-
-      pub is-exposed : c ≡ true → 2 ≡ trailSort cell prev last first owners held parts i e
-      is-exposed ct = sym (alone ∙ ap (λ x. cond x 2 1) ct)
-
-      pub is-private : c ≡ false → 1 ≡ trailSort cell prev last first owners held parts i e
-      is-private cf = sym (alone ∙ ap (λ x. cond x 2 1) cf)
-
-  module _ (af : a ≡ false) (b : Bool) (be : b ≡ someSide (trail cell prev 12001 t) first 2 owners held parts i) where
-    theirs : trailSort cell prev last first owners held parts i e ≡ cond b 4 0
-    theirs = sort-is ∙ ap₂ (λ x y. cond x (cond (told 1) 3 (cond (told 3) 2 1)) (cond y 4 0)) (sym ae ∙ af) (sym be)
-
-    pub is-copied : b ≡ true → 4 ≡ trailSort cell prev last first owners held parts i e
-    is-copied bt = sym (theirs ∙ ap (λ x. cond x 4 0) bt)
-
-    pub is-none : b ≡ false → 0 ≡ trailSort cell prev last first owners held parts i e
-    is-none bf = sym (theirs ∙ ap (λ x. cond x 4 0) bf)
+  pub is-theirs : a ≡ false → b ≡ someSide (trail cell prev 12001 t) first 2 owners held parts i → b ≡ y → cond y 4 0 ≡ trailSort cell prev last first owners held parts i e
+  is-theirs af be bt = sym (sort-is ∙ ap₂ (λ x z. cond x (cond (told 1) 3 (cond (told 3) 2 1)) (cond z 4 0)) (sym ae ∙ af) (sym be ∙ bt))
 
 module _ (cell prev last : List ℕ) (first : ℕ) (owners held : Bytes) (parts i lo k q x : ℕ) (xe : x ≡ trailSort cell prev last first owners held parts i (lo + 1 + q)) (b : List ℕ) (s : ℕ) where
   pub lower-skip : (x ≡ k → ⊥) → Added b b s s (trailSorted cell prev last first owners held parts i lo k q)

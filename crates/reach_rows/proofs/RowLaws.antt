@@ -20,7 +20,8 @@ use Rattle.mesh.specs.Walks.{incident, steps, stepTo, stepsTo, walked}
 use Rattle.mesh.specs.Accepted.{Cell}
 use Rattle.walks.specs.Walking.{firstMark, layerMark, walkedFrom, Cells, Walk}
 use Rattle.reach_rows.specs.Rows.{walkedTo, reachMark, rowMarks, Marks, layerAt, layersAt, layerOf, rowCells, Rowed, rowReach, Site, Space, Swept}
-use Rattle.walks.proofs.GroundLaws.{fresh, steps-is}
+use Rattle.walks.proofs.GroundLaws.{steps-is}
+use Rattle.mesh.proofs.MeetLaws.{under-none}
 
 -- ---- one place
 
@@ -262,4 +263,4 @@ sweep-start m st rows marks from found a s = record {
 }
 
 pub space-start : Space 1 (replicate 2001 0) (replicate 2001 0) (replicate 2001 0)
-space-start = record { fresh = fresh; from-long = length-replicate {A = ℕ} 2001 0; found-long = length-replicate {A = ℕ} 2001 0 }
+space-start = record { fresh = under-none; from-long = length-replicate {A = ℕ} 2001 0; found-long = length-replicate {A = ℕ} 2001 0 }

@@ -5,12 +5,12 @@ use mathlib.Core.List.{List}
 use Prim.Native.Nat.{ℕ, _+_, _-_, _*_, _≤_, _<_}
 use lib.Dec.{eqb, ltb}
 use lib.ListN.{length, getD, take}
+use Rattle.mesh.specs.Meet.{Under}
 use Rattle.vocabulary.specs.Bytes.{Bytes, byteAt}
 use Rattle.vocabulary.specs.Ranges.{some, picked}
 use Rattle.vocabulary.specs.Lists.{someOf}
 use Rattle.mesh.specs.Mesh.{elements, recordCount, firstCell, cellCount}
 use Rattle.mesh.specs.Walks.{stepsTo}
-use Rattle.visits.specs.Visits.{Fresh}
 use Rattle.walks.specs.Walking.{Ground}
 
 -- cell x is walked to from cell c
@@ -69,7 +69,7 @@ pub record Site (m st : Bytes) (cell prev last : List ℕ) (e r first cells n : 
 
 -- the work space of a walk
 pub record Space (v : ℕ) (marks from found : List ℕ) : Type 0 where
-  pub fresh : Fresh v marks
+  pub fresh : Under v marks
   pub from-long : length from ≡ 2001
   pub found-long : length found ≡ 2001
 

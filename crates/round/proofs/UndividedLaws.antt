@@ -1,7 +1,7 @@
 -- The undivided round by the rows of the table of the reaches, and its number by the tests that the code makes one after the other.
 -- Assumes nothing.
 use mathlib.Core.Path.{_≡_, refl, sym, ap, ap₂, _∙_}
-use mathlib.Core.Bool.{Bool, true, false}
+use mathlib.Core.Bool.{Bool, true, false, cond}
 use mathlib.Core.List.{List, map}
 use Prim.Native.Nat.{ℕ, _+_, _-_, _*_, _%_, _≤_, _<_}
 use native.Mathlib.Nat.{zero-add}
@@ -22,8 +22,7 @@ use Rattle.vocabulary.specs.RangeLaws.{listed-back, blocks-moved, at-last}
 use Rattle.vocabulary.specs.Tests.{passed, firstOf-left, firstOf-right}
 use Rattle.depths.specs.Depths.{four, depthBytes}
 use Rattle.depths.specs.DepthLaws.{length-four, fours-store}
-use Rattle.layout.specs.Answers.{answer}
-use Rattle.layout.specs.AnswerLaws.{answer-done, answer-refused}
+use Rattle.layout.specs.AnswerLaws.{refuses, accepts}
 use Rattle.layout.specs.declared.Answer.{Answer}
 use Rattle.layout.specs.declared.Answer.the-variants.{Done, Refused}
 use Rattle.mesh.specs.Mesh.{top, firstCell, cellCount, meshTests, meshNumber}
@@ -163,11 +162,11 @@ module _ (m st : Bytes) (kind : ℕ) (v f out : Bytes) where
 
   refused : (n : ℕ) → roundNumber m st kind v f out ≡ n → (n ≡ 0 → ⊥) → Answered (Refused n) out
   unfolding roundAnswer roundOut
-  refused n e z = (answer-refused n (cellCount m) z ∙ ap (λ k. answer k (cellCount m)) (sym e), simp (e, ne-eqb n 0 z))
+  refused = refuses (roundNumber m st kind v f out) (cellCount m) (over out 0 (round (schemeOf m st kind v) f)) out
 
-  done : (x : Bytes) → roundNumber m st kind v f out ≡ 0 → x ≡ over out 0 (round (schemeOf m st kind v) f) → Answered (Done (cellCount m)) x
+  done : roundNumber m st kind v f out ≡ 0 → Answered (Done (cellCount m)) (over out 0 (round (schemeOf m st kind v) f))
   unfolding roundAnswer roundOut
-  done x e q = (answer-done (roundNumber m st kind v f out) (cellCount m) e, simp (e, q))
+  done = accepts (roundNumber m st kind v f out) (cellCount m) (over out 0 (round (schemeOf m st kind v) f)) out
 
   mesh-passed : meshNumber m ≡ 0 → All (λ t. t .holds ≡ false) (meshTests m)
   unfolding meshNumber meshTests
@@ -195,13 +194,9 @@ module _ (m st : Bytes) (kind : ℕ) (v f out : Bytes) where
           number-14 a = firstOf-right (meshTests m) _ (mesh-passed mesh) ∙ simp (ten, eleven, thirteen, a)
 
           module _ (fourteen : bad14 (cellCount m) f ≡ false) where
-            number-16 : length out < 4 * cellCount m → roundNumber m st kind v f out ≡ 16
+            number-last : (x : Bool) → ltb (length out) (4 * cellCount m) ≡ x → roundNumber m st kind v f out ≡ cond x 16 0
             unfolding roundNumber roundTests
-            number-16 h = firstOf-right (meshTests m) _ (mesh-passed mesh) ∙ simp (ten, eleven, thirteen, fourteen, lt-ltb _ _ h)
-
-            number-none : 4 * cellCount m ≤ length out → roundNumber m st kind v f out ≡ 0
-            unfolding roundNumber roundTests
-            number-none h = firstOf-right (meshTests m) _ (mesh-passed mesh) ∙ simp (ten, eleven, thirteen, fourteen, le-ltb _ _ h)
+            number-last x a = firstOf-right (meshTests m) _ (mesh-passed mesh) ∙ simp (ten, eleven, thirteen, fourteen, a)
 
   number-mesh : (n : ℕ) → n ≡ meshNumber m → (n ≡ 0 → ⊥) → roundNumber m st kind v f out ≡ n
   unfolding roundNumber roundTests meshNumber
@@ -238,10 +233,9 @@ module _ (m st : Bytes) (kind : ℕ) (v f out : Bytes) where
 
           module _ (bf : b ≡ false) where
             pub told-16 : length out < 4 * cells → Answered (Refused 16) out
-            told-16 h = refused 16 (number-16 mesh ten eleven in-size (fourteen ∙ bf) (omega arith)) (λ z. omega (arith, z))
+            told-16 h = refused 16 (number-last mesh ten eleven in-size (fourteen ∙ bf) true (lt-ltb (length out) (4 * cellCount m) (omega arith))) (λ z. omega (arith, z))
 
             pub told-done : length before ≡ 32000 → 4 * cells ≤ length out → (x : Bytes) → x ≡ over out 0 (blocks 0 cells (rowNew kind v table ends f)) → Answered (Done cells) x
             told-done room h x e =
-                rw ce
-                (done x (number-none mesh ten eleven in-size (fourteen ∙ bf) (omega arith))
-                (e ∙ ap (λ n. over out 0 (blocks 0 n (rowNew kind v table ends f))) ce ∙ ap (over out 0) (rows-round m st kind v f before table ends r made few room)))
+                let a = done (number-last mesh ten eleven in-size (fourteen ∙ bf) false (le-ltb (length out) (4 * cellCount m) (omega arith))) in
+                (ap Done ce ∙ a .0, e ∙ ap (λ n. over out 0 (blocks 0 n (rowNew kind v table ends f))) ce ∙ ap (over out 0) (rows-round m st kind v f before table ends r made few room) ∙ a .1)

@@ -25,10 +25,10 @@ unfolding StateBound sizeNumber splitTests meshTests sizeTests stateSize listsLo
 state-bound m owners st parts i e =
     let S : Split = splitOf m parts owners st in
     let a = passed (splitTests m parts owners (i ∷ []) st ++ sizeTests m parts owners st) tt e in
-    let b = map-facts m parts owners i (a .1 .1 .1 .1 .1 .1 .1 .0) in
+    let b = map-facts m parts owners (i ∷ []) (a .1 .1 .1 .1 .1 .1 .1 .0) in
     omega (
       arith,
       order-length S i,
-      exports-few m owners st parts i (b .0) (b .3),
-      local-held S (split-reach m parts owners st) (split-owner m parts owners st (b .3)) (split-own m parts owners st) i,
+      exports-few m owners st parts i (b .few) (b .owner-in),
+      local-held S (split-reach m parts owners st) (split-owner m parts owners st (b .owner-in)) (split-own m parts owners st) i,
     )

@@ -16,7 +16,7 @@ use Rattle.vocabulary.specs.Ranges.{some, listed, blocks, total}
 use Rattle.vocabulary.specs.RangeLaws.{some-at, listed-length, listed-at, listed-back, blocks-fit, blocks-at, blocks-length, total-cong, total-start, total-turn}
 use Rattle.vocabulary.specs.CountLaws.{total-double}
 use Rattle.layout.specs.Words.{word, wordAt, bytesOf}
-use Rattle.layout.specs.WordLaws.{length-bytesOf, bytesOf-append, bytesOf-high, bytesOf-low, word-any}
+use Rattle.layout.specs.WordLaws.{length-bytesOf, bytesOf-append, bytesOf-read, word-any}
 use Rattle.mesh.specs.Walks.{Near}
 use Rattle.rules.specs.Rules.{weightCount, tooHeavy, bad11}
 use Rattle.split.specs.Split.{Split, imports, exports, localOf, globalOf}
@@ -352,19 +352,7 @@ module _ (S : Split) (i : ℕ) (order : List ℕ) (n kind : ℕ) (v : Bytes) whe
 
     weight-byte : (x : ℕ) → x < 2 * weightCount kind n → byteAt (bytesOf r1) x ≡ byteAt v x
     unfolding word
-    weight-byte x h = half (x / 2) (x % 2) (omega arith) (omega arith) (omega arith)
-      where
-        half : (k r : ℕ) → x ≡ 2 * k + r → r < 2 → k < weightCount kind n → byteAt (bytesOf r1) x ≡ byteAt v x
-        half k zero e g q =
-            let p : x ≡ 2 * k = omega arith in
-            let w : getD r1 k 0 ≡ byteAt v (2 * k) * 256 + byteAt v (2 * k + 1) = weight-word k q in
-            let y : byteAt v (2 * k) * 256 + byteAt v (2 * k + 1) ≤ 15 = light k q in
-            rw p (bytesOf-high r1 k (omega (arith, r1-long, few-weights)) ∙ omega arith)
-        half k (suc r) e g q =
-            let p : x ≡ 2 * k + 1 = omega arith in
-            let w : getD r1 k 0 ≡ byteAt v (2 * k) * 256 + byteAt v (2 * k + 1) = weight-word k q in
-            let y : byteAt v (2 * k) * 256 + byteAt v (2 * k + 1) ≤ 15 = light k q in
-            rw p (bytesOf-low r1 k (omega (arith, r1-long, few-weights)) ∙ omega arith)
+    weight-byte = bytesOf-read r1 v (weightCount kind n) (omega (arith, r1-long, few-weights)) (λ k q. (weight-word k q, omega (arith, light k q)))
 
     pub weights-back : weights front ≡ v
     unfolding weights listsWords

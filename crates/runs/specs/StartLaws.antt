@@ -56,19 +56,19 @@ pub started-facts : (I : Inputs) (i : ℕ) (buffer : Bytes) → startNumberIn I 
 unfolding startNumberIn startNumber startTests splitTests meshTests sizeTests ownerAt
 started-facts I i buffer e =
     let a = passed (startTests (I .mesh) (I .parts) (I .owners) i (I .stencil) (I .kind) (I .weights) (I .field) buffer) tt e in
-    let b = map-facts (I .mesh) (I .parts) (I .owners) i (a .1 .1 .1 .1 .1 .1 .1 .0) in
+    let b = map-facts (I .mesh) (I .parts) (I .owners) (i ∷ []) (a .1 .1 .1 .1 .1 .1 .1 .0) in
     let c = a .1 .1 .1 .1 .1 .1 .1 .1 .1 in
     record {
       inputs = record {
         mesh-good = (a .0, (a .1 .0, (a .1 .1 .0, (a .1 .1 .1 .0, (a .1 .1 .1 .1 .0, (a .1 .1 .1 .1 .1 .0, (a .1 .1 .1 .1 .1 .1 .0, tt)))))));
-        few-parts = b .0;
-        owners-in = b .3;
+        few-parts = b .few;
+        owners-in = b .owner-in;
         stencil-good = c .0;
         short = steps-few (top (I .mesh)) (I .stencil) (c .0);
         rule = c .1 .0;
         field-good = c .1 .1 .1 .1 .0;
       };
-      part = (b .1, b .2);
+      part = b .named-in .0;
       room = ltb-false _ _ (c .1 .1 .1 .1 .1 .0);
     }
 

@@ -58,21 +58,19 @@ more-all P n x xs p q = cond-has (All P) (eqb n 0) (x ∷ xs) xs (λ e. (p (eqb-
 
 -- ---- accepted calls are on states
 
-write-state : (b : Bytes) (j : ℕ) (out : Bytes) → writeNumber b j out ≡ 0 → isState b ≡ true
-unfolding writeNumber writeTestsIn bad20
-write-state b j out e = not-false _ (passed (writeTestsIn (listsOf b) (dynamic b) b j out) tt e .0)
+not-20 : (b : Bytes) → bad20 b ≡ false → isState b ≡ true
+unfolding bad20
+not-20 b e = not-false _ e
 
-take-state : (b x : Bytes) → takeNumber b x ≡ 0 → isState b ≡ true
-unfolding takeNumber takeTestsIn bad20
-take-state b x e = not-false _ (passed (takeTestsIn (listsOf b) (dynamic b) b x) tt e .1 .0)
-
-advance-state : (b : Bytes) → advanceNumber b ≡ 0 → isState b ≡ true
-unfolding advanceNumber advanceTestsIn bad20
-advance-state b e = not-false _ (passed (advanceTestsIn (listsOf b) (dynamic b) b) tt e .0)
-
-collect-state : (b : Bytes) (k : ℕ) (f : Bytes) → collectNumber b k f ≡ 0 → isState b ≡ true
-unfolding collectNumber collectTestsIn bad20
-collect-state b k f e = not-false _ (passed (collectTestsIn (listsOf b) (dynamic b) b k f) tt e .0)
+on-states : (b : Bytes) → ((j : ℕ) (out : Bytes) → writeNumber b j out ≡ 0 → isState b ≡ true) × ((x : Bytes) → takeNumber b x ≡ 0 → isState b ≡ true)
+    × (advanceNumber b ≡ 0 → isState b ≡ true) × ((k : ℕ) (f : Bytes) → collectNumber b k f ≡ 0 → isState b ≡ true)
+unfolding writeNumber writeTestsIn takeNumber takeTestsIn advanceNumber advanceTestsIn collectNumber collectTestsIn
+on-states b = (
+  λ j out e. not-20 b (passed (writeTestsIn (listsOf b) (dynamic b) b j out) tt e .0),
+  λ x e. not-20 b (passed (takeTestsIn (listsOf b) (dynamic b) b x) tt e .1 .0),
+  λ e. not-20 b (passed (advanceTestsIn (listsOf b) (dynamic b) b) tt e .0),
+  λ k f e. not-20 b (passed (collectTestsIn (listsOf b) (dynamic b) b k f) tt e .0),
+)
 
 -- and a write's is to a number from 1 to 16
 pub write-part : (b : Bytes) (j : ℕ) (out : Bytes) → writeNumber b j out ≡ 0 → (1 ≤ j) × (j ≤ 16)
@@ -139,7 +137,7 @@ module _ (I : Inputs) (front : ℕ → Bytes) where
         cond-has (Holds i rd) (eqb (writeNumber b j out) 0) (writtenIn (listsOf b) (dynamic b) b j) b
         (λ e _.
         let n : writeNumber b j out ≡ 0 = eqb-true _ 0 e in
-        let s = write-state b j out n in
+        let s = on-states b .0 j out n in
         let g = h s in
         let u = write-part b j out n in (
           g .0,
@@ -152,7 +150,7 @@ module _ (I : Inputs) (front : ℕ → Bytes) where
         → Sound (take (length (message b j)) (writeOut b j out))
     unfolding message
     write-sends i rd b j out h n =
-        let g = h (write-state b j out n) in
+        let g = h (on-states b .0 j out n) in
         let u = write-part b j out n in
         subst Sound (sym (written-is b j out n))
         (turn (λ L d. Sound (messageTo L d b j)) i rd b (g .1)
@@ -166,7 +164,7 @@ module _ (I : Inputs) (front : ℕ → Bytes) where
         cond-has (Holds i rd) (eqb (takeNumber b x) 0) (takenIn (listsOf b) (dynamic b) b x) b
         (λ e _.
         let n : takeNumber b x ≡ 0 = eqb-true _ 0 e in
-        let s = take-state b x n in
+        let s = on-states b .1 x n in
         let g = h s in
         let L : Lists = listsIn (front i) in
         let d : ℕ = length (front i) in
@@ -192,7 +190,7 @@ module _ (I : Inputs) (front : ℕ → Bytes) where
         go : (t : Bool) → eqb (advanceNumber b) 0 ≡ t → Holds i (cond t (suc rd) rd) (cond t (advancedIn (listsOf b) (dynamic b) b) b)
         go true e = λ _.
             let n : advanceNumber b ≡ 0 = eqb-true _ 0 e in
-            let s = advance-state b n in
+            let s = on-states b .2 n in
             let g = h s in
             let t = advance-taken (listsAt i) (length (front i)) b (back (λ L d. firstOf (advanceTestsIn L d b) ≡ 0) i rd b (g .1) n) in (
               g .0,
@@ -262,7 +260,7 @@ module _ (I : Inputs) (front : ℕ → Bytes) where
         → Right I (record { part = i; round = k; made = rd; before = f; field = collectOut b k f })
     unfolding collectNumber collectOut
     collect-gives i rd b k f h n =
-        let g = h (collect-state b k f n) in
+        let g = h (on-states b .3 k f n) in
         subst (λ t. Right I (record { part = i; round = k; made = rd; before = f; field = cond t (collectedIn (listsOf b) (dynamic b) b (listsOf b .owned) f) f })) (sym (eq-eqb _ 0 n))
         (turn (λ L d. Right I (record { part = i; round = k; made = rd; before = f; field = collectedIn L d b (L .owned) f })) i rd b (g .1)
         (collect-right i rd b (g .0) (g .1) k f (back (λ L d. firstOf (collectTestsIn L d b k f) ≡ 0) i rd b (g .1) n)))

@@ -11,7 +11,7 @@ use borrow.Author.Tests.{eqb-true, eq-eqb}
 use Rattle.vocabulary.specs.Bytes.{Bytes, byteAt}
 use Rattle.vocabulary.specs.Ranges.{picked, some, total}
 use Rattle.vocabulary.specs.RangeLaws.{some-in, some-witness, total-start, total-turn, total-cong, picked-all, picked-in, picked-passes, at-last}
-use Rattle.vocabulary.specs.Lists.{All}
+use Rattle.vocabulary.specs.Lists.{All, Zeros}
 use Rattle.vocabulary.specs.ListLaws.{and-true, and-intro, same-test, All-getD, All-of-map, someOf-has, someOf-witness, getD-map-any}
 use Rattle.mesh.specs.Mesh.{firstCell, cellCount}
 use Rattle.mesh.specs.Walks.{Near, layer, stepsTo, reach}
@@ -19,7 +19,7 @@ use Rattle.mesh.specs.Accepted.{Accepted}
 use Rattle.reach_rows.specs.Rows.{walkedTo, reachMark, rowMarks, Marks}
 use Rattle.split.specs.Split.{splitOf, ownerAt, owns, owned, reaches, holds, held}
 use Rattle.split.specs.Lists.{bad12}
-use Rattle.split.specs.Sorting.{heldAt, markAt, rowCount, Blank}
+use Rattle.split.specs.Sorting.{heldAt, markAt, rowCount}
 
 -- ---- counts
 
@@ -143,7 +143,7 @@ module _ (m : Bytes) (parts : ℕ) (owners st : Bytes) where
         cell-marks _ i q (t .0) (t .1) h (eqb-true _ i (t .2)) (reach-only _ (firstCell m + q) (w .2))
 
     -- the matrix
-    module _ (before after : Bytes) (B : Blank before) (M : Marks before after (rowMarks m st owners (cellCount m))) where
+    module _ (before after : Bytes) (B : Zeros 34000 before) (M : Marks before after (rowMarks m st owners (cellCount m))) where
       pub matrix-told : (i q : ℕ) → q < cellCount m → i ≤ 16 → heldAt after i q ≡ holds (splitOf m parts owners st) i (firstCell m + q)
       unfolding heldAt
       matrix-told i q h k =

@@ -6,19 +6,20 @@ use Prim.Native.Nat.{ℕ, _+_, _-_, _≤_, _<_}
 use native.Mathlib.Nat.{zero-add}
 use native.Mathlib.Omega.{arith}
 use lib.Dec.{eqb, leb}
-use lib.ListN.{length}
+use lib.ListN.{length, getD}
 use borrow.Author.Tests.{le-leb, lt-leb, eq-eqb, ne-eqb, not-true, not-false}
 use Rattle.vocabulary.specs.Bytes.{Bytes, byteAt}
 use Rattle.vocabulary.specs.Ranges.{isUpTo, every, some, picked}
 use Rattle.vocabulary.specs.RangeLaws.{every-at, every-intro, some-has, some-witness, some-at, some-more, picked-none, picked-at, every-stop, every-turn, some-stop, some-turn, at-last}
 use Rattle.vocabulary.specs.Lists.{everyOf}
-use Rattle.vocabulary.specs.ListLaws.{everyOf-at, everyOf-intro, All-intro, same-test}
+use Rattle.vocabulary.specs.ListLaws.{everyOf-at, everyOf-fails, everyOf-intro, All-intro, same-test}
 use Rattle.vocabulary.specs.Tests.{Test, refuse, firstOf, passed, firstOf-left, firstOf-right}
 use Rattle.mesh.specs.Mesh.{top, firstCell, cellCount, meshTests, meshNumber}
 use Rattle.mesh.specs.Walks.{bad10}
 use Rattle.split.specs.Split.{splitOf, ownerAt, owns, owned}
 use Rattle.split.specs.Lists.{bad8, bad9, splitTests, splitNumber}
 use Rattle.split.specs.Sorting.{ownerRight, ownsAt}
+use Rattle.split.proofs.PassedLaws.{mapTests}
 
 pub part-told : (parts i : ℕ) → 1 ≤ i → leb i parts ≡ isUpTo parts i
 unfolding isUpTo
@@ -129,12 +130,9 @@ module _ (m : Bytes) (parts : ℕ) (owners : Bytes) (i j : ℕ) (st : Bytes) (n 
   split-mesh h = ne ∙ sym (firstOf-left (meshTests m) _ (λ z. h (ne ∙ z)))
 
   module _ (z : n ≡ 0) where
-    abbrev rest : List Test
-    rest = refuse 8 (bad8 m parts owners (i ∷ j ∷ [])) ∷ refuse 9 (bad9 (splitOf m parts owners st)) ∷ refuse 10 (bad10 (top m) st) ∷ []
-
-    later : splitNumber m parts owners (i ∷ j ∷ []) st ≡ firstOf rest
+    later : splitNumber m parts owners (i ∷ j ∷ []) st ≡ firstOf (mapTests m parts owners (i ∷ j ∷ []) st)
     unfolding splitNumber splitTests meshNumber meshTests
-    later = firstOf-right (meshTests m) rest (passed (meshTests m) tt (sym ne ∙ z))
+    later = firstOf-right (meshTests m) (mapTests m parts owners (i ∷ j ∷ []) st) (passed (meshTests m) tt (sym ne ∙ z))
 
     eighth : bad8 m parts owners (i ∷ j ∷ []) ≡ true → 8 ≡ splitNumber m parts owners (i ∷ j ∷ []) st
     eighth e = sym (later ∙ ap (λ t. cond t 8 (cond (bad9 (splitOf m parts owners st)) 9 (cond (bad10 (top m) st) 10 0))) e)
@@ -148,22 +146,24 @@ module _ (m : Bytes) (parts : ℕ) (owners : Bytes) (i j : ℕ) (st : Bytes) (n 
           more false true c d e = refl
           more false false c d e = e
 
+      -- one of the parts named is none
+      wrong-named : (l : ℕ) → l < 2 → isUpTo parts (getD (i ∷ j ∷ []) l 0) ≡ false → bad8 m parts owners (i ∷ j ∷ []) ≡ true
+      unfolding bad8
+      wrong-named l h e =
+          ap (λ x. not (isUpTo 16 parts) || not x || not (eqb (length owners) (cellCount m)) || not (everyOf owners (isUpTo parts))) (everyOf-fails (isUpTo parts) (i ∷ j ∷ []) 0 l h e)
+          ∙ go (not (isUpTo 16 parts)) (not (eqb (length owners) (cellCount m))) (not (everyOf owners (isUpTo parts)))
+        where
+          go : (a c d : Bool) → a || true || c || d ≡ true
+          go true c d = refl
+          go false c d = refl
+
       module _ (af : a ≡ false) (b : Bool) (be : b ≡ isUpTo parts i) where
         pub split-part : not b ≡ true → 8 ≡ splitNumber m parts owners (i ∷ j ∷ []) st
-        split-part t = eighth (unfold bad8 everyOf in wrong (not (isUpTo 16 parts)) (isUpTo parts i) (isUpTo parts j && true) (not (eqb (length owners) (cellCount m))) (not (everyOf owners (isUpTo parts))) (sym be ∙ not-true b t))
-          where
-            wrong : (a x y c d : Bool) → x ≡ false → a || not (x && y) || c || d ≡ true
-            wrong true x y c d e = refl
-            wrong false x y c d e = ap (λ x. not (x && y) || c || d) e
+        split-part t = eighth (wrong-named 0 (omega arith) (sym be ∙ not-true b t))
 
         module _ (bf : not b ≡ false) (c : Bool) (ce : c ≡ isUpTo parts j) where
           pub split-other : not c ≡ true → 8 ≡ splitNumber m parts owners (i ∷ j ∷ []) st
-          split-other t = eighth (unfold bad8 everyOf in wrong (not (isUpTo 16 parts)) (isUpTo parts i) (isUpTo parts j) (not (eqb (length owners) (cellCount m))) (not (everyOf owners (isUpTo parts))) (sym ce ∙ not-true c t))
-            where
-              wrong : (a x y c d : Bool) → y ≡ false → a || not (x && (y && true)) || c || d ≡ true
-              wrong true x y c d e = refl
-              wrong false true y c d e = ap (λ y. not (y && true) || c || d) e
-              wrong false false y c d e = refl
+          split-other t = eighth (wrong-named 1 (omega arith) (sym ce ∙ not-true c t))
 
           module _ (cf : not c ≡ false) where
             fine : bad8 m parts owners (i ∷ j ∷ []) ≡ false

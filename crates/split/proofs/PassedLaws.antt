@@ -10,7 +10,7 @@ use borrow.Author.Tests.{not-false}
 use Rattle.vocabulary.specs.Bytes.{Bytes}
 use Rattle.vocabulary.specs.Ranges.{isUpTo}
 use Rattle.vocabulary.specs.RangeLaws.{upTo-true}
-use Rattle.vocabulary.specs.Lists.{everyOf}
+use Rattle.vocabulary.specs.Lists.{everyOf, Zeros}
 use Rattle.vocabulary.specs.ListLaws.{or-false, and-true, zeros-at}
 use Rattle.vocabulary.specs.Tests.{Test, refuse, firstOf, numbered, passed, passed-append}
 use Rattle.mesh.specs.Mesh.{top, cellCount, meshTests, meshNumber}
@@ -18,11 +18,12 @@ use Rattle.mesh.specs.Walks.{bad10}
 use Rattle.mesh.specs.Accepted.{Accepted}
 use Rattle.mesh.proofs.AcceptedLaws.{accepted-mesh}
 use Rattle.split.specs.Split.{splitOf}
+use Rattle.split.specs.SplitLaws.{map-facts}
 use Rattle.split.specs.Lists.{bad8, bad9, splitTests, splitNumber}
-use Rattle.split.specs.Sorting.{Blank}
 
-pub blank : Blank (replicate 34000 0)
-blank = record { size = length-replicate {A = ℕ} 34000 0; each = zeros-at 34000 }
+-- the tests 8 to 10
+abbrev pub mapTests : Bytes → ℕ → Bytes → List ℕ → Bytes → List Test
+mapTests m parts owners named st = refuse 8 (bad8 m parts owners named) ∷ refuse 9 (bad9 (splitOf m parts owners st)) ∷ refuse 10 (bad10 (top m) st) ∷ []
 
 pub tests-numbered : (m : Bytes) (parts : ℕ) (owners : Bytes) (named : List ℕ) (st : Bytes) → T (numbered (splitTests m parts owners named st))
 unfolding splitTests meshTests
@@ -47,26 +48,8 @@ pub record Passed (m : Bytes) (parts : ℕ) (owners : Bytes) (i j : ℕ) (st : B
   pub j-in : (1 ≤ j) × (j ≤ 16)
 
 module _ (m : Bytes) (parts : ℕ) (owners : Bytes) (i j : ℕ) (st : Bytes) where
-  named-parts : bad8 m parts owners (i ∷ j ∷ []) ≡ false → (parts ≤ 16) × ((1 ≤ i) × (i ≤ parts)) × ((1 ≤ j) × (j ≤ parts)) × (bad8 m parts owners [] ≡ false)
-  unfolding bad8 everyOf
-  named-parts e =
-      let a = not (isUpTo 16 parts) in
-      let b = not (isUpTo parts i && (isUpTo parts j && true)) in
-      let c = not (eqb (length owners) (cellCount m)) in
-      let d = not (everyOf owners (isUpTo parts)) in
-      let p = or-false (a || b || c) d e in
-      let q = or-false (a || b) c (p .0) in
-      let r = or-false a b (q .0) in
-      let u = and-true (isUpTo parts i) (isUpTo parts j && true) (not-false _ (r .1)) in
-      let v = and-true (isUpTo parts j) true (u .1) in (
-        upTo-true 16 parts (not-false _ (r .0)) .1,
-        upTo-true parts i (u .0),
-        upTo-true parts j (v .0),
-        λ x. (r .0 x || false) || q .1 x || p .1 x,
-      )
-
   abbrev later : List Test
-  later = refuse 8 (bad8 m parts owners (i ∷ j ∷ [])) ∷ refuse 9 (bad9 (splitOf m parts owners st)) ∷ refuse 10 (bad10 (top m) st) ∷ []
+  later = mapTests m parts owners (i ∷ j ∷ []) st
 
   both-parts : splitNumber m parts owners (i ∷ j ∷ []) st ≡ 0 → (meshNumber m ≡ 0) × (firstOf later ≡ 0)
   unfolding splitNumber splitTests meshNumber meshTests
@@ -76,12 +59,12 @@ module _ (m : Bytes) (parts : ℕ) (owners : Bytes) (i j : ℕ) (st : Bytes) whe
   passed-facts e =
       let p = both-parts e in
       let a = passed later tt (p .1) in
-      let n = named-parts (a .0) in
+      let n = map-facts m parts owners (i ∷ j ∷ []) (a .0) in
       record {
         mesh = accepted-mesh m (p .0);
-        map = n .3;
+        map = n .unnamed;
         stencil = a .1 .1 .0;
-        few = n .0;
-        i-in = (n .1 .0, omega (arith, n .0, n .1 .1));
-        j-in = (n .2 .0, omega (arith, n .0, n .2 .1));
+        few = n .few;
+        i-in = (n .named-in .0 .0, omega (arith, n .few, n .named-in .0 .1));
+        j-in = (n .named-in .1 .0 .0, omega (arith, n .few, n .named-in .1 .0 .1));
       }

@@ -7,10 +7,11 @@ use native.Mathlib.Omega.{arith}
 use lib.Dec.{eqb, ltb}
 use lib.ListN.{length, getD}
 use borrow.Author.Tests.{eqb-true, lt-ltb, le-ltb, not-false}
+use Rattle.split.specs.SplitLaws.{map-facts}
 use Rattle.vocabulary.specs.Bytes.{Bytes, byteAt, over}
 use Rattle.vocabulary.specs.Ranges.{isUpTo, every, total}
 use Rattle.vocabulary.specs.RangeLaws.{every-at, every-intro, upTo-true, upTo-intro}
-use Rattle.vocabulary.specs.Lists.{everyOf}
+use Rattle.vocabulary.specs.Lists.{everyOf, Zeros}
 use Rattle.vocabulary.specs.ListLaws.{same-test, or-false, everyOf-at, everyOf-intro, All-intro}
 use Rattle.layout.specs.Words.{wordAt, bytesOf}
 use Rattle.mesh.specs.Mesh.{top, firstCell, cellCount}
@@ -22,33 +23,15 @@ use Rattle.reaches.proofs.EntryLaws.{count-more, entry-is}
 use Rattle.reaches.proofs.SizeLaws.{table-refused}
 use Rattle.split.specs.Split.{splitOf, ownerAt, owns, inside}
 use Rattle.split.specs.Lists.{bad8, bad12, sizeTests, sizesNumber}
-use Rattle.split.specs.Sorting.{ownsAt, rowCount, entryOwned, insideAt, Blank, Holding, Prepared}
+use Rattle.split.specs.Sorting.{ownsAt, rowCount, entryOwned, insideAt, Holding, Prepared}
 use Rattle.split.proofs.HeldLaws.{matrix-told, held-is}
 
 -- ---- an accepted map
 
-pub map-right : (m : Bytes) (parts : ℕ) (owners : Bytes) → bad8 m parts owners [] ≡ false
-    → (1 ≤ parts) × (parts ≤ 16) × (length owners ≡ cellCount m) × ((k : ℕ) → k < cellCount m → (1 ≤ byteAt owners k) × (byteAt owners k ≤ parts))
-unfolding bad8 everyOf
-map-right m parts owners e =
-    let a = not (isUpTo 16 parts) in
-    let c = not (eqb (length owners) (cellCount m)) in
-    let d = not (everyOf owners (isUpTo parts)) in
-    let p = or-false (a || false || c) d e in
-    let q = or-false (a || false) c (p .0) in
-    let r = or-false a false (q .0) in
-    let l : length owners ≡ cellCount m = eqb-true _ _ (not-false _ (q .1)) in
-    let u = upTo-true 16 parts (not-false _ (r .0)) in (
-      u .0,
-      u .1,
-      l,
-      λ k h. upTo-true parts (byteAt owners k) (everyOf-at (isUpTo parts) owners 0 k (not-false _ (p .1)) (omega arith)),
-    )
-
 pub owners-told : (m : Bytes) (parts : ℕ) (owners : Bytes) → bad8 m parts owners [] ≡ false → every 0 (cellCount m) (λ k. isUpTo parts (byteAt owners k)) ≡ true
 owners-told m parts owners e =
     every-intro 0 (λ k. isUpTo parts (byteAt owners k)) (cellCount m)
-    (λ k h. let r = map-right m parts owners e .3 (0 + k) (omega arith) in upTo-intro parts (byteAt owners (0 + k)) (r .0) (r .1))
+    (λ k h. let r = map-facts m parts owners [] e .owner-in (0 + k) (omega arith) in upTo-intro parts (byteAt owners (0 + k)) (r .0) (r .1))
 
 -- ---- the table of the reaches
 
@@ -72,10 +55,10 @@ module _ (m st before table : Bytes) (e : table ≡ over before 0 (bytesOf (tabl
 
 -- ---- the tests 12 and 13
 
-module _ (m : Bytes) (parts : ℕ) (owners st : Bytes) (A : Accepted m) (right : bad8 m parts owners [] ≡ false) (before held : Bytes) (B : Blank before)
+module _ (m : Bytes) (parts : ℕ) (owners st : Bytes) (A : Accepted m) (right : bad8 m parts owners [] ≡ false) (before held : Bytes) (B : Zeros 34000 before)
     (M : Marks before held (rowMarks m st owners (cellCount m))) where
   pub holdings-told : (n s : ℕ) → n ≡ cellCount m → s ≡ total 1 parts (rowCount held n) → ltb 4096 s ≡ bad12 (splitOf m parts owners st)
-  holdings-told n s ne se = held-is m parts owners st A before held B M n s ne (map-right m parts owners right .1) se
+  holdings-told n s ne se = held-is m parts owners st A before held B M n s ne (map-facts m parts owners [] right .few) se
 
   pub holdings-are : Holding m parts owners st held
   holdings-are = record { each = matrix-told m parts owners st A before held B M }

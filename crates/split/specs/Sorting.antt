@@ -44,11 +44,6 @@ entryOwned owners table i t = ownsAt owners i (wordAt table (2 * t))
 unfoldable pub insideAt : Bytes → Bytes → List ℕ → ℕ → ℕ → Bool
 insideAt owners table ends i q = every (getD ends q 0) (getD ends (q + 1) 0 - getD ends q 0) (entryOwned owners table i)
 
--- a matrix with no marks
-pub record Blank (held : Bytes) : Type 0 where
-  pub size : length held ≡ 34000
-  pub each : (z : ℕ) → byteAt held z ≡ 0
-
 -- the matrix says what each part holds
 pub record Holding (m : Bytes) (parts : ℕ) (owners st held : Bytes) : Type 0 where
   pub each : (i q : ℕ) → q < cellCount m → i ≤ 16 → heldAt held i q ≡ holds (splitOf m parts owners st) i (firstCell m + q)

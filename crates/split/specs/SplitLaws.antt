@@ -13,7 +13,7 @@ use borrow.Author.Tests.{eqb-true, eqb-false, eq-eqb, ne-eqb, ltb-true, ltb-fals
 use Rattle.vocabulary.specs.Bytes.{Bytes, byteAt}
 use Rattle.vocabulary.specs.ByteLaws.{Place, below, inside as within, above, place}
 use Rattle.vocabulary.specs.Lists.{All, someOf, everyOf, placeOf, repeats}
-use Rattle.vocabulary.specs.ListLaws.{repeats-none, repeats-once, and-true, and-intro, and-left, and-right, or-false, everyOf-at, All-map, All-append, All-getD, All-intro, At, at-left, at-right, placeOf-is, placeOf-left, not-both, same-test, someOf-has}
+use Rattle.vocabulary.specs.ListLaws.{repeats-none, repeats-once, and-true, and-intro, and-left, and-right, or-false, everyOf-at, everyOf-true, All-map, All-append, All-getD, All-intro, At, at-left, at-right, placeOf-is, placeOf-left, not-both, same-test, someOf-has}
 use Rattle.vocabulary.specs.Ranges.{isUpTo, picked, blocks, total}
 use Rattle.vocabulary.specs.RangeLaws.{picked-all, picked-in, picked-passes, picked-none, picked-cong, picked-rises, blocks-all, blocks-cases, blocks-at, blocks-have, blocks-length, upTo-true}
 use Rattle.vocabulary.specs.CountLaws.{picked-halves, total-short, picked-shared}
@@ -323,25 +323,30 @@ module _ (S : Split) where
 
 -- ---- the split of a mesh, a part map and a stencil
 
--- an accepted part map
-pub map-facts : (m : Bytes) (parts : ℕ) (owners : Bytes) (i : ℕ) → bad8 m parts owners (i ∷ []) ≡ false
-    → (parts ≤ 16) × (1 ≤ i) × (i ≤ parts) × ((k : ℕ) → k < cellCount m → (1 ≤ byteAt owners k) × (byteAt owners k ≤ parts))
+-- an accepted part map, and the parts that a call names with it
+pub record Mapped (m : Bytes) (parts : ℕ) (owners : Bytes) (named : List ℕ) : Type 0 where
+  pub few : parts ≤ 16
+  pub named-in : All (λ i. (1 ≤ i) × (i ≤ parts)) named
+  pub owner-in : (k : ℕ) → k < cellCount m → (1 ≤ byteAt owners k) × (byteAt owners k ≤ parts)
+  pub unnamed : bad8 m parts owners [] ≡ false
+
+pub map-facts : (m : Bytes) (parts : ℕ) (owners : Bytes) (named : List ℕ) → bad8 m parts owners named ≡ false → Mapped m parts owners named
 unfolding bad8 everyOf
-map-facts m parts owners i e =
+map-facts m parts owners named e =
     let a = not (isUpTo 16 parts) in
-    let b = not (isUpTo parts i && true) in
+    let b = not (everyOf named (isUpTo parts)) in
     let c = not (eqb (length owners) (cellCount m)) in
     let d = not (everyOf owners (isUpTo parts)) in
     let p = or-false (a || b || c) d e in
     let q = or-false (a || b) c (p .0) in
     let r = or-false a b (q .0) in
     let l : length owners ≡ cellCount m = eqb-true _ _ (not-false _ (q .1)) in
-    let u = upTo-true parts i (and-true (isUpTo parts i) true (not-false _ (r .1)) .0) in (
-      upTo-true 16 parts (not-false _ (r .0)) .1,
-      u .0,
-      u .1,
-      λ k h. upTo-true parts (byteAt owners k) (everyOf-at (isUpTo parts) owners 0 k (not-false _ (p .1)) (omega arith)),
-    )
+    record {
+      few = upTo-true 16 parts (not-false _ (r .0)) .1;
+      named-in = All-map named (λ i t. upTo-true parts i t) (everyOf-true (isUpTo parts) named (not-false _ (r .1)));
+      owner-in = λ k h. upTo-true parts (byteAt owners k) (everyOf-at (isUpTo parts) owners 0 k (not-false _ (p .1)) (omega arith));
+      unnamed = λ x. (r .0 x || false) || q .1 x || p .1 x;
+    }
 
 module _ (m : Bytes) (parts : ℕ) (owners st : Bytes) where
   pub split-reach : (c : ℕ) → Cell (splitOf m parts owners st) c → All (λ e. Cell (splitOf m parts owners st) (e .cell)) (splitOf m parts owners st .reach c)

@@ -8,13 +8,14 @@ ghost use mathlib.Core.Bool.{false};
 ghost use mathlib.Core.List.{[]};
 ghost use Prim.Native.Nat.{_≤_, _<_, _*_};
 ghost use lib.ListN.{length};
+ghost use Rattle.vocabulary.specs.Lists.{Zeros};
 ghost use Rattle.vocabulary.specs.Ranges.{total};
 ghost use Rattle.mesh.specs.Mesh.{top};
 ghost use Rattle.mesh.specs.Walks.{bad10};
 ghost use Rattle.mesh.specs.Accepted.{Accepted};
 ghost use Rattle.split.specs.Split.{splitOf};
 ghost use Rattle.split.specs.Lists.{bad8, bad12, sizesNumber};
-ghost use Rattle.split.specs.Sorting.{heldAt, markAt, rowCount, Blank, Holding, Prepared};
+ghost use Rattle.split.specs.Sorting.{heldAt, markAt, rowCount, Holding, Prepared};
 
 // Whether part i holds the cell at place q.
 pub fn holds_at(held: &[u8], i: usize, q: usize) -> bool
@@ -58,7 +59,7 @@ fn held_count(held: &[u8], n: usize, parts: usize) -> usize
 
 // Marks in the matrix what each part holds, for an accepted mesh, map and stencil: whether that is too much, number 12.
 pub fn bad_holdings(m: &[u8], parts: u32, owners: &[u8], st: &[u8], held: &mut [u8]) -> bool
-    requires { ⌜ Accepted (now m) × (bad8 (now m) parts (now owners) [] ≡ false) × (bad10 (top (now m)) (now st) ≡ false) × Blank (now held) ⌝ }
+    requires { ⌜ Accepted (now m) × (bad8 (now m) parts (now owners) [] ≡ false) × (bad10 (top (now m)) (now st) ≡ false) × Zeros 34000 (now held) ⌝ }
     ensures { λ b. ⌜ (b ≡ bad12 (splitOf (now (m .entry)) parts (now (owners .entry)) (now (st .entry)))) × Holding (now (m .entry)) parts (now (owners .entry)) (now (st .entry)) (now (held .exit)) ⌝ }
 {
     mark_reaches(m, st, owners, parts as usize, held);
@@ -76,7 +77,7 @@ pub fn sizes_number(
     ends: &mut [u16],
     held: &mut [u8],
 ) -> u32
-    requires { ⌜ Accepted (now m) × (bad8 (now m) parts (now owners) [] ≡ false) × (bad10 (top (now m)) (now st) ≡ false) × (length (now table) ≡ 32000) × (length (now ends) ≡ 2001) × Blank (now held) ⌝ }
+    requires { ⌜ Accepted (now m) × (bad8 (now m) parts (now owners) [] ≡ false) × (bad10 (top (now m)) (now st) ≡ false) × (length (now table) ≡ 32000) × (length (now ends) ≡ 2001) × Zeros 34000 (now held) ⌝ }
     ensures { λ r. ⌜ (r ≡ sizesNumber (now (m .entry)) parts (now (owners .entry)) (now (st .entry))) × (r ≡ 0 → Prepared (now (m .entry)) parts (now (owners .entry)) (now (st .entry)) (now (table .exit)) (now (ends .exit)) (now (held .exit))) ⌝ }
 {
     if bad_holdings(m, parts, owners, st, held) {

@@ -17,7 +17,7 @@ use Rattle.layout.specs.Words.{bytesOf}
 use Rattle.layout.specs.WordLaws.{length-bytesOf}
 use Rattle.depths.specs.Depths.{four}
 use Rattle.layout.specs.Answers.{answer}
-use Rattle.layout.specs.AnswerLaws.{answer-done, answer-refused}
+use Rattle.layout.specs.AnswerLaws.{answer-done, answer-refused, refuses, accepts}
 use Rattle.layout.specs.declared.Answer.{Answer}
 use Rattle.layout.specs.declared.Answer.the-variants.{Done, Refused}
 use Rattle.mesh.specs.Mesh.{firstCell, cellCount, meshTests}
@@ -187,11 +187,11 @@ module _ (m : Bytes) (parts : ℕ) (owners : Bytes) (i : ℕ) (st : Bytes) (kind
 
   refused : (n : ℕ) → startNumber m parts owners i st kind v f b ≡ n → (n ≡ 0 → ⊥) → Answered (Refused n) b
   unfolding startAnswer startState
-  refused n e z = (answer-refused n (stateSize m parts owners i st) z ∙ ap (λ k. answer k (stateSize m parts owners i st)) (sym e), simp (e, ne-eqb n 0 z))
+  refused = refuses (startNumber m parts owners i st kind v f b) (stateSize m parts owners i st) (over b 0 (firstState m parts owners i st kind v f)) b
 
   done : startNumber m parts owners i st kind v f b ≡ 0 → Answered (Done (stateSize m parts owners i st)) (over b 0 (firstState m parts owners i st kind v f))
   unfolding startAnswer startState
-  done e = (answer-done (startNumber m parts owners i st kind v f b) (stateSize m parts owners i st) e, simp e)
+  done = accepts (startNumber m parts owners i st kind v f b) (stateSize m parts owners i st) (over b 0 (firstState m parts owners i st kind v f)) b
 
   -- the tests after 10, and those after 13
   abbrev rest : List Test

@@ -22,10 +22,9 @@ use Rattle.mesh.specs.WalkLaws.{reach-in}
 use Rattle.reaches.specs.Tables.{entryCount}
 use Rattle.reaches.proofs.EntryLaws.{count-more}
 use Rattle.split.specs.Split.{Split, splitOf, owns, held, inside, imports, exports, interior, halo, locals, localOf, globalOf}
-use Rattle.split.specs.SplitLaws.{Cell, ownCells, split-reach, split-own, split-owner, order-cells, order-length, own-count, own-first, held-length, imports-none, import-total, export-total}
+use Rattle.split.specs.SplitLaws.{map-facts, Cell, ownCells, split-reach, split-own, split-owner, order-cells, order-length, own-count, own-first, held-length, imports-none, import-total, export-total}
 use Rattle.split.specs.Lists.{bad12}
 use Rattle.split.specs.Sorting.{cellsOf, Prepared}
-use Rattle.split.proofs.PreparedLaws.{map-right}
 use Rattle.cell_lists.proofs.CellLaws.{imports-are, locals-few}
 use Rattle.starts.specs.Start.{ownedIn, reachOf, importEnds, exportEnds, reachEnds, reachWords, exportWords, listsLong, listsWords}
 use Rattle.start_lists.specs.Starting.{gotEnds, sentEnds, sentWords, placeAt, rowSize, rowEnds, entryWords, rowWords, startWords}
@@ -119,10 +118,10 @@ module _ (m : Bytes) (parts : ℕ) (owners st table : Bytes) (ends : List ℕ) (
 
   few-parts : S .parts ≤ 16
   unfolding splitOf
-  few-parts = map-right m parts owners (R .map) .1
+  few-parts = map-facts m parts owners [] (R .map) .few
 
   owner-in : (c : ℕ) → Cell S c → (1 ≤ S .owner c) × (S .owner c ≤ S .parts)
-  owner-in = split-owner m parts owners st (map-right m parts owners (R .map) .3)
+  owner-in = split-owner m parts owners st (map-facts m parts owners [] (R .map) .owner-in)
 
   -- ---- where the entries of a cell stand
 

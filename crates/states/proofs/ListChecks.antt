@@ -8,7 +8,7 @@ use lib.Dec.{eqb, ltb, leb}
 use lib.ListN.{take, drop}
 use borrow.Author.Tests.{le-leb, lt-leb, eq-eqb, ne-eqb, not-true, not-false}
 use Rattle.vocabulary.specs.Bytes.{Bytes}
-use Rattle.vocabulary.specs.ListLaws.{and-all, and-assoc}
+use Rattle.vocabulary.specs.ListLaws.{and-all, and-right, and-assoc}
 use Rattle.vocabulary.specs.Ranges.{isUpTo, every, some}
 use Rattle.vocabulary.specs.ScanLaws.{some-start-from, some-stop-from, some-turn-from, some-end-from}
 use Rattle.vocabulary.specs.Tests.{allOf}
@@ -17,6 +17,11 @@ use Rattle.rules.specs.Rules.{weightCount, bad11}
 use Rattle.states.specs.State.{LocalNear, partNumber, stepCount, ruleKind, weights, ownedCount, heldCount, importEnd, exportEnd, reachEnd, reachCount, entryAt, exportAt, localReach, globalFine, entryFine, ownFound, exportFine, exportCount, rises, listsTests}
 use Rattle.states.specs.Checks.{Counts, fineAt, ownEntry, headTests, endTests, entryTests}
 use Rattle.vocabulary.specs.RangeLaws.{someOf-listed}
+
+-- ---- a test of a range, asked with the count that stands in the lists
+
+pub counted-by : (a n c : ℕ) (p : ℕ → Bool) (r : Bool) → n ≡ c → r ≡ every a n p → r ≡ every a c p
+counted-by a n c p r e q = q ∙ ap (λ k. every a k p) e
 
 -- ---- a number from 1 to n
 
@@ -119,17 +124,9 @@ module _ (b : Bytes) (which x : ℕ) (r : Bool) where
   unfolding fineAt
   fine-2 held e h q = rw e (let p : 45 + heldCount b + x + 1 ≡ 45 + heldCount b + (x + 1) = omega arith in rw p at (rw h at q))
 
-  pub fine-3 : which ≡ 3 → r ≡ globalFine b x → r ≡ fineAt which b x
-  unfolding fineAt
-  fine-3 e q = rw e q
-
-  pub fine-4 : which ≡ 4 → r ≡ entryFine b x → r ≡ fineAt which b x
-  unfolding fineAt
-  fine-4 e q = rw e q
-
-  pub fine-5 : which ≡ 5 → r ≡ ownFound b x → r ≡ fineAt which b x
-  unfolding fineAt
-  fine-5 e q = rw e q
+-- a test whose number is known
+pub fine-as : (k : ℕ) (b : Bytes) (which x : ℕ) (r : Bool) → which ≡ k → r ≡ fineAt k b x → r ≡ fineAt which b x
+fine-as k b which x r e q = rw e q
 
 pub fine-6 : (b : Bytes) (which x : ℕ) (r : Bool) → (which ≡ 0 → ⊥) → (which ≡ 1 → ⊥) → (which ≡ 2 → ⊥) → (which ≡ 3 → ⊥) → (which ≡ 4 → ⊥) → (which ≡ 5 → ⊥)
     → r ≡ exportFine b x → r ≡ fineAt which b x
@@ -157,126 +154,47 @@ pub rule-told : (b : Bytes) (kind n count : ℕ) (r : Bool) → count ≡ weight
 rule-told b kind n count r e q =
     let p : 8 + 2 * count - 8 ≡ 2 * weightCount kind n = omega (arith, e) in ap not (q ∙ ap (λ k. bad11 kind n (take k (drop 8 b))) p)
 
-module _ (b : Bytes) (part : ℕ) (u : Bool) (pe : part ≡ wordAt b 1) (ue : u ≡ isUpTo 16 part) where
-  head-part : isUpTo 16 (partNumber b) ≡ u
-  head-part = ap (isUpTo 16) (sym pe) ∙ sym ue
+module _ (b : Bytes) where
+  pub head-part : (part : ℕ) (u : Bool) → part ≡ wordAt b 1 → u ≡ isUpTo 16 part → u ≡ isUpTo 16 (partNumber b)
+  head-part part u pe ue = ue ∙ ap (isUpTo 16) pe
 
-  pub head-1 : not u ≡ true → false ≡ allOf (headTests b)
-  head-1 z = simp (head-part, not-true u z)
+  module _ (n : ℕ) (ne : n ≡ wordAt b 2) where
+    pub steps-odd : (x : Bool) → (n % 2 ≡ 0 → ⊥) → false ≡ (eqb (stepCount b % 2) 0 && leb (stepCount b) 8) && x
+    steps-odd x o = simp (sym ne, ne-eqb _ _ o)
 
-  module _ (uf : not u ≡ false) (n : ℕ) (ne : n ≡ wordAt b 2) where
-    pub head-2 : (n % 2 ≡ 0 → ⊥) → false ≡ allOf (headTests b)
-    head-2 o = simp (head-part, not-false u uf, sym ne, ne-eqb _ _ o)
+    pub steps-many : (x : Bool) → 8 < n → false ≡ (eqb (stepCount b % 2) 0 && leb (stepCount b) 8) && x
+    steps-many x h = simp (sym ne, lt-leb _ _ h, and-right)
 
-    module _ (ev : n % 2 ≡ 0) where
-      pub head-3 : 8 < n → false ≡ allOf (headTests b)
-      head-3 h = simp (head-part, not-false u uf, sym ne, eq-eqb _ _ ev, lt-leb _ _ h)
+    pub steps-fine : (x y : Bool) → n % 2 ≡ 0 → n ≤ 8 → y ≡ x → y ≡ (eqb (stepCount b % 2) 0 && leb (stepCount b) 8) && x
+    steps-fine x y e h q = simp (sym ne, eq-eqb _ _ e, le-leb _ _ h, q)
 
-      module _ (few : n ≤ 8) (kind : ℕ) (ke : kind ≡ wordAt b 3) (w : Bool) (we : w ≡ not (bad11 kind n (take (2 * weightCount kind n) (drop 8 b)))) where
-        head-rule : not (bad11 (ruleKind b) (stepCount b) (weights b)) ≡ w
-        unfolding weights
-        head-rule = ap₂ (λ k m. not (bad11 k m (take (2 * weightCount k m) (drop 8 b)))) (sym ke) (sym ne) ∙ sym we
+    pub head-rule : (kind : ℕ) (w : Bool) → kind ≡ wordAt b 3 → w ≡ not (bad11 kind n (take (2 * weightCount kind n) (drop 8 b))) → w ≡ not (bad11 (ruleKind b) (stepCount b) (weights b))
+    unfolding weights
+    head-rule kind w ke we = we ∙ ap₂ (λ k m. not (bad11 k m (take (2 * weightCount k m) (drop 8 b)))) ke ne
 
-        head-steps : eqb (stepCount b % 2) 0 && leb (stepCount b) 8 ≡ true
-        head-steps = simp (sym ne, eq-eqb _ _ ev, le-leb _ _ few)
-
-        pub head-4 : not w ≡ true → false ≡ allOf (headTests b)
-        head-4 z = simp (head-part, not-false u uf, head-steps, head-rule, not-true w z)
-
-        pub head-5 : (held : ℕ) → not w ≡ false → held ≡ wordAt b 27 → leb held 2000 ≡ allOf (headTests b)
-        head-5 held z e = simp (head-part, not-false u uf, head-steps, head-rule, not-false w z, sym e, and-all)
+  pub head-held : (held : ℕ) → held ≡ wordAt b 27 → leb held 2000 ≡ leb (heldCount b) 2000 && true
+  head-held held e = simp (sym e, and-all)
 
 -- ---- the tables of ends, and the entries
 
-module _ (b : Bytes) where
-  range-0 : every 0 16 (fineAt 0 b) ≡ rises 16 (importEnd b)
-  unfolding fineAt rises
-  range-0 = refl
+-- the first end e: not 0, and 0
+module _ (e x : ℕ) (c : x ≡ e) (r y : Bool) where
+  pub first-wrong : (x ≡ 0 → ⊥) → false ≡ (eqb e 0 && r) && y
+  first-wrong z = simp (sym c, ne-eqb _ _ z)
 
-  range-1 : every 0 16 (fineAt 1 b) ≡ rises 16 (exportEnd b)
-  unfolding fineAt rises
-  range-1 = refl
-
-  range-2 : (n : ℕ) → every 0 n (fineAt 2 b) ≡ rises n (reachEnd b)
-  unfolding fineAt rises
-  range-2 n = refl
-
-  range-3 : (n : ℕ) → every 1 n (fineAt 3 b) ≡ every 1 n (globalFine b)
-  unfolding fineAt
-  range-3 n = refl
-
-  range-4 : (n : ℕ) → every 0 n (fineAt 4 b) ≡ every 0 n (entryFine b)
-  unfolding fineAt
-  range-4 n = refl
-
-  range-5 : (n : ℕ) → every 1 n (fineAt 5 b) ≡ every 1 n (ownFound b)
-  unfolding fineAt
-  range-5 n = refl
-
-  range-6 : (n : ℕ) → every 0 n (fineAt 6 b) ≡ every 0 n (exportFine b)
-  unfolding fineAt
-  range-6 n = refl
+  pub first-right : (t : Bool) → x ≡ 0 → t ≡ r && y → t ≡ (eqb e 0 && r) && y
+  first-right t z q = simp (sym c, eq-eqb _ _ z, q)
 
 module _ (b : Bytes) (held owned reached : ℕ) (C : Counts b held owned reached) where
-  module _ (r : Bool) (re : r ≡ every 0 16 (fineAt 0 b)) where
-    imports-rise : rises 16 (importEnd b) ≡ r
-    imports-rise = sym (re ∙ range-0 b)
+  module _ (y : ℕ) (ye : y ≡ wordAt b (45 + held)) (r z : Bool) where
+    reach-end : y ≡ reachEnd b 0
+    reach-end = ye ∙ ap (wordAt b) (let p : 45 + held ≡ 45 + heldCount b + 0 = omega (arith, C .held-is) in p)
 
-    pub ends-1 : not r ≡ true → false ≡ allOf (endTests b)
-    ends-1 z = simp (imports-rise, not-true r z)
+    pub reach-wrong : (y ≡ 0 → ⊥) → false ≡ (eqb (reachEnd b 0) 0 && r) && z
+    reach-wrong = first-wrong (reachEnd b 0) y reach-end r z
 
-    module _ (rt : not r ≡ false) (x : ℕ) (xe : x ≡ wordAt b 28) where
-      pub ends-2 : (x ≡ 0 → ⊥) → false ≡ allOf (endTests b)
-      ends-2 z = simp (imports-rise, not-false r rt, sym xe, ne-eqb _ _ z)
-
-      module _ (xz : x ≡ 0) (s : Bool) (se : s ≡ every 0 16 (fineAt 1 b)) where
-        exports-rise : eqb (exportEnd b 0) 0 && rises 16 (exportEnd b) ≡ s
-        exports-rise = ap₂ _&&_ (ap (λ y. eqb y 0) (sym xe) ∙ eq-eqb _ _ xz) (sym (se ∙ range-1 b))
-
-        pub ends-3 : not s ≡ true → false ≡ allOf (endTests b)
-        ends-3 z = simp (imports-rise, not-false r rt, exports-rise, not-true s z)
-
-        module _ (st : not s ≡ false) (y : ℕ) (ye : y ≡ wordAt b (45 + held)) where
-          first-end : reachEnd b 0 ≡ y
-          first-end = let p : 45 + heldCount b + 0 ≡ 45 + held = omega (arith, C .held-is) in ap (wordAt b) p ∙ sym ye
-
-          pub ends-4 : (y ≡ 0 → ⊥) → false ≡ allOf (endTests b)
-          ends-4 z = simp (imports-rise, not-false r rt, exports-rise, not-false s st, first-end, ne-eqb _ _ z)
-
-          pub ends-5 : (t : Bool) → y ≡ 0 → t ≡ every 0 owned (fineAt 2 b) → t ≡ allOf (endTests b)
-          ends-5 t z e = simp (imports-rise, not-false r rt, exports-rise, not-false s st, reaches-rise, and-all)
-            where
-              reaches-rise : eqb (reachEnd b 0) 0 && rises (ownedCount b) (reachEnd b) ≡ t
-              reaches-rise =
-                  ap₂ _&&_ (ap (λ y. eqb y 0) first-end ∙ eq-eqb _ _ z)
-                  (sym (e ∙ range-2 b owned ∙ ap (λ n. rises n (reachEnd b)) (C .owned-is)))
-
-  module _ (r : Bool) (re : r ≡ every 1 held (fineAt 3 b)) where
-    globals-are : every 1 (heldCount b) (globalFine b) ≡ r
-    globals-are = sym (re ∙ range-3 b held ∙ ap (λ n. every 1 n (globalFine b)) (C .held-is))
-
-    pub entries-1 : not r ≡ true → false ≡ allOf (entryTests b)
-    entries-1 z = simp (globals-are, not-true r z)
-
-    module _ (rt : not r ≡ false) (s : Bool) (se : s ≡ every 0 reached (fineAt 4 b)) where
-      reaches-are : every 0 (reachCount b) (entryFine b) ≡ s
-      reaches-are = sym (se ∙ range-4 b reached ∙ ap (λ n. every 0 n (entryFine b)) (C .reached-is))
-
-      pub entries-2 : not s ≡ true → false ≡ allOf (entryTests b)
-      entries-2 z = simp (globals-are, not-false r rt, reaches-are, not-true s z)
-
-      module _ (st : not s ≡ false) (t : Bool) (te : t ≡ every 1 owned (fineAt 5 b)) where
-        owns-are : every 1 (ownedCount b) (ownFound b) ≡ t
-        owns-are = sym (te ∙ range-5 b owned ∙ ap (λ n. every 1 n (ownFound b)) (C .owned-is))
-
-        pub entries-3 : not t ≡ true → false ≡ allOf (entryTests b)
-        entries-3 z = simp (globals-are, not-false r rt, reaches-are, not-false s st, owns-are, not-true t z)
-
-        pub entries-4 : (x : ℕ) (u : Bool) → not t ≡ false → x ≡ wordAt b 44 → u ≡ every 0 x (fineAt 6 b) → u ≡ allOf (entryTests b)
-        entries-4 x u tt xe ue = simp (globals-are, not-false r rt, reaches-are, not-false s st, owns-are, not-false t tt, exports-are, and-all)
-          where
-            exports-are : every 0 (exportCount b) (exportFine b) ≡ u
-            exports-are = sym (ue ∙ range-6 b x ∙ ap (λ n. every 0 n (exportFine b)) xe)
+    pub reach-right : (t : Bool) → y ≡ 0 → t ≡ r && z → t ≡ (eqb (reachEnd b 0) 0 && r) && z
+    reach-right = first-right (reachEnd b 0) y reach-end r z
 
 -- ---- the three groups
 

@@ -14,8 +14,7 @@ use Rattle.vocabulary.specs.Tests.{firstOf}
 use Rattle.vocabulary.specs.Ranges.{isUpTo}
 use Rattle.vocabulary.specs.RangeLaws.{upTo-true}
 use Rattle.layout.specs.Words.{word, wordAt}
-use Rattle.layout.specs.Answers.{answer}
-use Rattle.layout.specs.AnswerLaws.{answer-done, answer-refused}
+use Rattle.layout.specs.AnswerLaws.{refuses, accepts}
 use Rattle.layout.specs.declared.Answer.{Answer}
 use Rattle.layout.specs.declared.Answer.the-variants.{Done, Refused}
 use types.Run.{OneOf}
@@ -124,44 +123,34 @@ module _ (b x : Bytes) where
   abbrev pub Answered : Answer → Bytes → Type 0
   Answered r y = (r ≡ takeAnswer b x) × (y ≡ takeState b x)
 
-  refused : (n : ℕ) → takeNumber b x ≡ n → (n ≡ 0 → ⊥) → Answered (Refused n) b
+  pub refused : (n : ℕ) → takeNumber b x ≡ n → (n ≡ 0 → ⊥) → Answered (Refused n) b
   unfolding takeAnswer takeState
-  refused n e z = (answer-refused n 0 z ∙ ap (λ m. answer m 0) (sym e), simp (e, ne-eqb n 0 z))
+  refused = refuses (takeNumber b x) 0 (takenIn (listsOf b) (dynamic b) b x) b
 
-  done-answer : takeNumber b x ≡ 0 → Done 0 ≡ takeAnswer b x
-  unfolding takeAnswer
-  done-answer e = answer-done (takeNumber b x) 0 e
-
-  done-state : takeNumber b x ≡ 0 → takenIn (listsOf b) (dynamic b) b x ≡ takeState b x
-  unfolding takeState
-  done-state e = simp e
+  done : takeNumber b x ≡ 0 → Answered (Done 0) (takenIn (listsOf b) (dynamic b) b x)
+  unfolding takeAnswer takeState
+  done = accepts (takeNumber b x) 0 (takenIn (listsOf b) (dynamic b) b x) b
 
   here : (L : Lists) (d : ℕ) → over (set b (d + 1 + fromIn x) 1) (d + 30 + 4 * (L .before (fromIn x) + 1)) (drop 8 x) ≡ takenIn L d b x
   unfolding takenIn
   here L d = refl
 
-  number-15 : bad15 x ≡ true → takeNumber b x ≡ 15
-  unfolding takeNumber takeTestsIn
-  number-15 e = simp e
-
-  number-20 : bad15 x ≡ false → bad20 b ≡ true → takeNumber b x ≡ 20
-  unfolding takeNumber takeTestsIn
-  number-20 e f = simp (e, f)
-
   -- the reader refused
   pub told-15 : (r : Reading) (n : ℕ) → r ≡ headOf x → OneOf (1 ∷ []) (tagOf K.the-type r) → n ≡ numberOf r → Answered (Refused n) b
+  unfolding takeNumber takeTestsIn
   told-15 r n e o q =
-      let z : n ≡ 15 = else-number x r n e o q in refused n (number-15 (else-bad x r e o) ∙ sym z) (λ k. omega (arith, k))
+      let z : n ≡ 15 = else-number x r n e o q in refused n (simp (else-bad x r e o) (sym z)) (λ k. omega (arith, k))
 
   pub told-20 : (r : Reading) (u : Bool) → r ≡ headOf x → OneOf (0 ∷ []) (tagOf K.the-type r) → u ≡ isState b → not u ≡ true → Answered (Refused 20) b
-  told-20 r u e o ue ut = refused 20 (number-20 (message-good x r e o) (not-state b u ue ut)) (λ k. omega (arith, k))
+  unfolding takeNumber takeTestsIn
+  told-20 r u e o ue ut = refused 20 (simp (message-good x r e o, not-state b u ue ut)) (λ k. omega (arith, k))
 
   module _ (d : ℕ) (o : Opened (take d b) d b) (fifteen : bad15 x ≡ false) (from to round count : ℕ) (fe : from ≡ fromIn x) (te : to ≡ toIn x) (re : round ≡ roundIn x) (ce : count ≡ countIn x) where
     number-here : takeNumber b x ≡ takeRest (listsOf b) (dynamic b) b (fromIn x) (toIn x) (roundIn x) (countIn x)
     unfolding takeNumber takeTestsIn takeRest wrongSender
     number-here = simp (fifteen, good-state (take d b) d b o)
 
-    number-is : takeNumber b x ≡ takeRest (listsIn (take d b)) d b from to round count
+    pub number-is : takeNumber b x ≡ takeRest (listsIn (take d b)) d b from to round count
     number-is =
         number-here
         ∙ ap₂ (λ (L : Lists) p. takeRest L p b (fromIn x) (toIn x) (roundIn x) (countIn x)) (lists-is (take d b) d b o) (sym (o .place-is))
@@ -169,9 +158,6 @@ module _ (b x : Bytes) where
         ∙ ap₂ (λ r c. takeRest (listsIn (take d b)) d b from to r c) (sym re) (sym ce)
 
     module _ (n : ℕ) (ne : n ≡ takeRest (listsIn (take d b)) d b from to round count) where
-      pub told-rest : (n ≡ 0 → ⊥) → Answered (Refused n) b
-      told-rest z = refused n (number-is ∙ sym ne) z
-
       module _ (nz : n ≡ 0) where
         accepted : takeNumber b x ≡ 0
         accepted = number-is ∙ sym ne ∙ nz
@@ -209,7 +195,7 @@ module _ (b x : Bytes) where
           )
 
           pub told-done : (y : Bytes) → y ≡ over (set b (d + 1 + from) 1) (d + 30 + 4 * (before + 1)) (drop 8 x) → Answered (Done 0) y
-          told-done y e = (done-answer accepted, e ∙ taken-is ∙ done-state accepted)
+          told-done y e = let a = done accepted in (a .0, e ∙ taken-is ∙ a .1)
             where
               taken-is : over (set b (d + 1 + from) 1) (d + 30 + 4 * (before + 1)) (drop 8 x) ≡ takenIn (listsOf b) (dynamic b) b x
               taken-is =

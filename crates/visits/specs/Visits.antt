@@ -15,11 +15,6 @@ unfoldable pub between : ℕ → ℕ → List ℕ → List ℕ
 between lo hi [] = []
 between lo hi (g ∷ gs) = cond (ltb lo g && leb g hi) (g ∷ between lo hi gs) (between lo hi gs)
 
--- no element bears the mark v or a greater one
-pub record Fresh (v : ℕ) (marks : List ℕ) : Type 0 where
-  pub size : length marks ≡ 2001
-  pub each : (y : ℕ) → getD marks y 0 < v
-
 -- the first n numbers of `found` are the elements that bear the mark v, each once
 pub record Gathered (v : ℕ) (marks found : List ℕ) (n : ℕ) : Type 0 where
   pub size : length marks ≡ 2001

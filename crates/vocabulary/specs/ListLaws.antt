@@ -2,16 +2,16 @@
 -- Assumes nothing.
 use mathlib.Core.Path.{_≡_, refl, sym, ap, ap₂, _∙_, subst}
 use mathlib.Core.Logic.{_⊎_, inl, inr, ⊎-elim}
-use mathlib.Core.Bool.{Bool, true, false, _&&_, _||_, cond, true≢false, false≢true}
+use mathlib.Core.Bool.{Bool, true, false, _&&_, _||_, not, cond, true≢false, false≢true}
 use mathlib.Core.List.{List, [], _∷_, _++_, map, List·Memᴰ, List·Memᴰ·not-nil, List·Memᴰ·cases-cons}
 use Prim.Native.Nat.{ℕ, zero, suc, _+_, _*_, _<_, _≤_, suc-le-suc}
 use native.Mathlib.Nat.{not-suc-le-zero, le-of-suc-le-suc, zero-lt-suc}
 use native.Mathlib.Omega.{arith}
-use lib.ListN.{length, getD, length-append, List·getD-append, replicate}
+use lib.ListN.{length, getD, length-append, List·getD-append, replicate, length-replicate}
 use lib.Seq.{getD-append-add}
 use lib.Dec.{eqb}
-use borrow.Author.Tests.{eq-eqb, ne-eqb, eqb-true, eqb-false}
-use Rattle.vocabulary.specs.Lists.{isIn, placeOf, repeats, someOf, everyOf, joined, All}
+use borrow.Author.Tests.{eq-eqb, ne-eqb, eqb-true, eqb-false, not-true}
+use Rattle.vocabulary.specs.Lists.{isIn, placeOf, repeats, someOf, everyOf, joined, All, Zeros}
 
 -- ---- tests
 
@@ -70,6 +70,16 @@ or-false true b e = absurd (true≢false e)
 or-false false b e = (refl, e)
 
 -- no test both passes and fails
+-- neither of the two; and all but the second
+pub neither : (a b : Bool) → not a && not b ≡ not (a || b)
+neither true b = refl
+neither false b = refl
+
+pub not-or-not : (a b : Bool) → not a && b ≡ not (a || not b)
+not-or-not true b = refl
+not-or-not false true = refl
+not-or-not false false = refl
+
 pub not-both : (b : Bool) → b ≡ true → b ≡ false → ⊥
 not-both b e f = true≢false (sym e ∙ f)
 
@@ -289,21 +299,24 @@ module _ {A : Type 0} (p : A → Bool) where
       go true e = absurd (not-both (p (getD xs l d)) (everyOf-at xs d l e h) f)
       go false e = e
 
+module _ {A : Type 0} (p : A → Bool) where
   pub someOf-has : (xs : List A) (d : A) (l : ℕ) → l < length xs → p (getD xs l d) ≡ true → someOf xs p ≡ true
   unfolding someOf
   someOf-has [] d l h e = absurd (not-suc-le-zero h)
   someOf-has (x ∷ xs) d zero h e = or-left (p x) (someOf xs p) e
   someOf-has (x ∷ xs) d (suc l) h e = or-right (p x) (someOf xs p) (someOf-has xs d l (le-of-suc-le-suc h) e)
 
+  -- none passes: all pass the contrary test
+  everyOf-not : (xs : List A) → everyOf xs (λ x. not (p x)) ≡ not (someOf xs p)
+  unfolding everyOf someOf
+  everyOf-not [] = refl
+  everyOf-not (x ∷ xs) = ap (λ b. not (p x) && b) (everyOf-not xs) ∙ neither (p x) (someOf xs p)
+
   pub someOf-none : (xs : List A) → All (λ x. p x ≡ false) xs → someOf xs p ≡ false
-  unfolding someOf
-  someOf-none [] a = refl
-  someOf-none (x ∷ xs) a = or-none (p x) (someOf xs p) (a .0) (someOf-none xs (a .1))
+  someOf-none xs a = not-true _ (sym (everyOf-not xs) ∙ everyOf-intro (λ x. not (p x)) xs (All-map xs (λ x e. ap not e) a))
 
   pub someOf-false : (xs : List A) → someOf xs p ≡ false → All (λ x. p x ≡ false) xs
-  unfolding someOf
-  someOf-false [] e = tt
-  someOf-false (x ∷ xs) e = let r = or-false (p x) (someOf xs p) e in (r .0, someOf-false xs (r .1))
+  someOf-false xs e = All-map xs (λ x f. not-true (p x) f) (everyOf-true (λ x. not (p x)) xs (everyOf-not xs ∙ ap not e))
 
   pub someOf-witness : (xs : List A) (d : A) → someOf xs p ≡ true → (l : ℕ) × (l < length xs) × (p (getD xs l d) ≡ true)
   unfolding someOf
@@ -484,3 +497,6 @@ pub zeros-at : (n i : ℕ) → _≡_ {A = ℕ} (getD (replicate n 0) i 0) 0
 zeros-at zero i = refl
 zeros-at (suc n) zero = refl
 zeros-at (suc n) (suc i) = zeros-at n i
+
+pub zeros : (n : ℕ) → Zeros n (replicate n 0)
+zeros n = record { size = length-replicate {A = ℕ} n 0; each = zeros-at n }

@@ -1,8 +1,10 @@
 -- Words over a list: membership, the first place of a number, a repeat, and tests of the elements. Assumes nothing.
+use mathlib.Core.Path.{_≡_}
 use mathlib.Core.Bool.{Bool, true, false, _&&_, _||_, cond}
 use mathlib.Core.List.{List, [], _∷_, _++_}
 use Prim.Native.Nat.{ℕ, zero, suc}
 use lib.Dec.{eqb}
+use lib.ListN.{length, getD}
 
 -- x stands in the list
 unfoldable pub isIn : ℕ → List ℕ → Bool
@@ -37,3 +39,8 @@ everyOf (x ∷ xs) p = p x && everyOf xs p
 abbrev pub All : {A : Type 0} → (A → Type 0) → List A → Type 0
 All P [] = Unit {0}
 All P (x ∷ xs) = P x × All P xs
+
+-- n zeros
+pub record Zeros (n : ℕ) (xs : List ℕ) : Type 0 where
+  pub size : length xs ≡ n
+  pub each : (i : ℕ) → getD xs i 0 ≡ 0

@@ -12,7 +12,7 @@ use lib.Seq.{getD-append-add, getD-append-seam, ext-getD}
 use lib.Dec.{eqb, ltb, leb}
 use borrow.Author.Tests.{eqb-true, eqb-false, ltb-true, ltb-false, lt-ltb, leb-true, le-leb, not-true, not-false}
 use Rattle.vocabulary.specs.Lists.{isIn, someOf, repeats, joined, All}
-use Rattle.vocabulary.specs.ListLaws.{isIn-append, someOf-append, someOf-witness, someOf-has, or-nothing, same-test, and-true, and-intro, and-false, or-left, or-right, or-true, or-none, not-both, All-append, All-getD, At, at-left, at-right, repeats-none, map-append}
+use Rattle.vocabulary.specs.ListLaws.{isIn-append, someOf-append, someOf-witness, someOf-has, or-nothing, same-test, and-true, and-intro, and-false, or-left, or-right, or-true, or-none, not-both, not-or-not, All-append, All-getD, At, at-left, at-right, repeats-none, map-append}
 use Rattle.vocabulary.specs.Ranges.{isUpTo, picked, every, some, listed, blocks, total}
 
 -- a loop that has come to its end: what holds so far holds in all
@@ -35,48 +35,6 @@ upTo-true n x e = let r = and-true (leb 1 x) (leb x n) e in (leb-true 1 x (r .0)
 pub upTo-intro : (n x : ℕ) → 1 ≤ x → x ≤ n → isUpTo n x ≡ true
 unfolding isUpTo
 upTo-intro n x h k = and-intro (leb 1 x) (leb x n) (le-leb 1 x h) (le-leb x n k)
-
--- ---- every
-
-module _ (a : ℕ) (p : ℕ → Bool) where
-  pub every-none : every a 0 p ≡ true
-  unfolding every
-  every-none = refl
-
-  pub every-more : (n : ℕ) → every a n p ≡ true → p (a + n) ≡ true → every a (n + 1) p ≡ true
-  unfolding every
-  every-more n e f = rw add-one (and-intro (every a n p) (p (a + n)) e f)
-
-  pub every-at : (n i : ℕ) → every a n p ≡ true → i < n → p (a + i) ≡ true
-  unfolding every
-  every-at zero i e h = absurd (not-suc-le-zero h)
-  every-at (suc n) i e h =
-      let r = and-true (every a n p) (p (a + n)) e in
-      ⊎-elim (λ k. every-at n i (r .0) k) (λ q. ap (λ x. p (a + x)) q ∙ r .1) (last-or i n h)
-
-  pub every-in : (n x : ℕ) → every a n p ≡ true → a ≤ x → x < a + n → p x ≡ true
-  every-in n x e h k = let q : a + (x - a) ≡ x = omega arith in subst (λ y. p y ≡ true) q (every-at n (x - a) e (omega arith))
-
-  pub every-intro : (n : ℕ) → ((i : ℕ) → i < n → p (a + i) ≡ true) → every a n p ≡ true
-  unfolding every
-  every-intro zero f = refl
-  every-intro (suc n) f = and-intro (every a n p) (p (a + n)) (every-intro n (λ i h. f i (omega arith))) (f n (omega arith))
-
-  pub every-fails : (n i : ℕ) → i < n → p (a + i) ≡ false → every a n p ≡ false
-  every-fails n i h e = go (every a n p) refl
-    where
-      go : (b : Bool) → every a n p ≡ b → every a n p ≡ false
-      go true q = absurd (not-both (p (a + i)) (every-at n i q h) e)
-      go false q = q
-
-  pub every-witness : (n : ℕ) → every a n p ≡ false → (i : ℕ) × (i < n) × (p (a + i) ≡ false)
-  unfolding every
-  every-witness zero e = absurd (false≢true (sym e))
-  every-witness (suc n) e =
-      ⊎-elim
-      (λ q. let r = every-witness n q in (r .0, omega (arith, r .1), r .2))
-      (λ q. (n, omega arith, q))
-      (and-false (every a n p) (p (a + n)) e)
 
 -- ---- some
 
@@ -118,6 +76,45 @@ module _ (a : ℕ) (p : ℕ → Bool) where
       go : (b : Bool) → p (a + i) ≡ b → p (a + i) ≡ false
       go true q = absurd (not-both (some a n p) (some-has n i h q) e)
       go false q = q
+
+-- ---- every: none fails
+
+module _ (a : ℕ) (p : ℕ → Bool) where
+  abbrev fails : ℕ → Bool
+  fails x = not (p x)
+
+  every-not : (n : ℕ) → every a n p ≡ not (some a n fails)
+  unfolding every some
+  every-not zero = refl
+  every-not (suc n) = ap (λ b. b && p (a + n)) (every-not n) ∙ not-or-not (some a n fails) (p (a + n))
+
+  pub none-fails : (n : ℕ) → every a n p ≡ true → some a n fails ≡ false
+  none-fails n e = not-true _ (sym (every-not n) ∙ e)
+
+  pub every-by : (n : ℕ) (b : Bool) → some a n fails ≡ b → every a n p ≡ not b
+  every-by n b e = every-not n ∙ ap not e
+
+  pub every-none : every a 0 p ≡ true
+  unfolding every
+  every-none = refl
+
+  pub every-more : (n : ℕ) → every a n p ≡ true → p (a + n) ≡ true → every a (n + 1) p ≡ true
+  every-more n e f = every-by (n + 1) false (some-more a fails n (none-fails n e) (ap not f))
+
+  pub every-at : (n i : ℕ) → every a n p ≡ true → i < n → p (a + i) ≡ true
+  every-at n i e h = not-false _ (some-at a fails n i (none-fails n e) h)
+
+  pub every-in : (n x : ℕ) → every a n p ≡ true → a ≤ x → x < a + n → p x ≡ true
+  every-in n x e h k = let q : a + (x - a) ≡ x = omega arith in subst (λ y. p y ≡ true) q (every-at n (x - a) e (omega arith))
+
+  pub every-intro : (n : ℕ) → ((i : ℕ) → i < n → p (a + i) ≡ true) → every a n p ≡ true
+  every-intro n f = every-by n false (some-none a fails n (λ i h. ap not (f i h)))
+
+  pub every-fails : (n i : ℕ) → i < n → p (a + i) ≡ false → every a n p ≡ false
+  every-fails n i h e = every-by n true (some-has a fails n i h (ap not e))
+
+  pub every-witness : (n : ℕ) → every a n p ≡ false → (i : ℕ) × (i < n) × (p (a + i) ≡ false)
+  every-witness n e = let r = some-witness a fails n (not-false _ (sym (every-not n) ∙ e)) in (r .0, r .1, not-true _ (r .2))
 
 -- ---- picked
 
@@ -203,11 +200,6 @@ module _ (a : ℕ) (p : ℕ → Bool) where
 -- ---- agreeing tests and functions
 
 module _ (a : ℕ) (p q : ℕ → Bool) where
-  pub every-cong : (n : ℕ) → ((i : ℕ) → i < n → p (a + i) ≡ q (a + i)) → every a n p ≡ every a n q
-  unfolding every
-  every-cong zero f = refl
-  every-cong (suc n) f = ap₂ _&&_ (every-cong n (λ i h. f i (omega arith))) (f n (omega arith))
-
   pub some-cong : (n : ℕ) → ((i : ℕ) → i < n → p (a + i) ≡ q (a + i)) → some a n p ≡ some a n q
   unfolding some
   some-cong zero f = refl
@@ -218,12 +210,18 @@ module _ (a : ℕ) (p q : ℕ → Bool) where
   picked-cong zero f = refl
   picked-cong (suc n) f = ap₂ (λ xs b. xs ++ cond b ((a + n) ∷ []) []) (picked-cong n (λ i h. f i (omega arith))) (f n (omega arith))
 
-pub listed-cong : {A : Type 0} (a : ℕ) (f g : ℕ → A) (n : ℕ) → ((i : ℕ) → i < n → f (a + i) ≡ g (a + i)) → listed a n f ≡ listed a n g
-unfolding listed
-listed-cong a f g zero h = refl
-listed-cong a f g (suc n) h = ap₂ (λ xs x. xs ++ (x ∷ [])) (listed-cong a f g n (λ i k. h i (omega arith))) (h n (omega arith))
+pub every-cong : (a : ℕ) (p q : ℕ → Bool) (n : ℕ) → ((i : ℕ) → i < n → p (a + i) ≡ q (a + i)) → every a n p ≡ every a n q
+every-cong a p q n f = every-not a p n ∙ ap not (some-cong a (λ x. not (p x)) (λ x. not (q x)) n (λ i h. ap not (f i h))) ∙ sym (every-not a q n)
 
 -- the same lists, whatever the numbers they are made of
+pub listed-moved : {A : Type 0} (a b : ℕ) (f g : ℕ → A) (n : ℕ) → ((i : ℕ) → i < n → f (a + i) ≡ g (b + i)) → listed a n f ≡ listed b n g
+unfolding listed
+listed-moved a b f g zero h = refl
+listed-moved a b f g (suc n) h = ap₂ (λ xs x. xs ++ (x ∷ [])) (listed-moved a b f g n (λ i k. h i (omega arith))) (h n (omega arith))
+
+pub listed-cong : {A : Type 0} (a : ℕ) (f g : ℕ → A) (n : ℕ) → ((i : ℕ) → i < n → f (a + i) ≡ g (a + i)) → listed a n f ≡ listed a n g
+listed-cong a f g n h = listed-moved a a f g n h
+
 pub blocks-moved : {A : Type 0} (a b : ℕ) (f g : ℕ → List A) (n : ℕ) → ((i : ℕ) → i < n → f (a + i) ≡ g (b + i)) → blocks a n f ≡ blocks b n g
 unfolding blocks
 blocks-moved a b f g zero h = refl
@@ -509,11 +507,6 @@ pub someOf-listed : {A : Type 0} (p : A → Bool) (g : ℕ → A) (a n : ℕ) �
 unfolding listed some someOf
 someOf-listed p g a zero = refl
 someOf-listed p g a (suc n) = someOf-append p (listed a n g) (g (a + n) ∷ []) ∙ ap₂ _||_ (someOf-listed p g a n) (or-nothing (p (g (a + n))))
-
-pub listed-moved : {A : Type 0} (a b : ℕ) (f g : ℕ → A) (n : ℕ) → ((i : ℕ) → i < n → f (a + i) ≡ g (b + i)) → listed a n f ≡ listed b n g
-unfolding listed
-listed-moved a b f g zero h = refl
-listed-moved a b f g (suc n) h = ap₂ (λ xs x. xs ++ (x ∷ [])) (listed-moved a b f g n (λ i k. h i (omega arith))) (h n (omega arith))
 
 -- lists over a range that are empty but for a part of it
 pub blocks-empty : {A : Type 0} (a : ℕ) (g : ℕ → List A) (n : ℕ) → ((i : ℕ) → i < n → g (a + i) ≡ []) → blocks a n g ≡ []

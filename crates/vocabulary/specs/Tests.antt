@@ -1,16 +1,16 @@
 -- A call's refusals as a list of tests in the order in which they are tried: its number is that of the first test that holds, and 0
 -- where none does. Assumes nothing.
 use mathlib.Core.Path.{_≡_, refl, sym, ap, _∙_}
-use mathlib.Core.Bool.{Bool, true, false, _&&_, cond}
+use mathlib.Core.Bool.{Bool, true, false, not, _&&_, cond}
 use mathlib.Core.List.{List, [], _∷_, _++_}
 use Prim.Native.Nat.{ℕ, zero, suc, _<_}
 use native.Mathlib.Nat.{not-suc-le-zero, le-of-suc-le-suc}
 use native.Mathlib.Omega.{arith}
 use lib.ListN.{length, getD, take}
 use lib.Dec.{T, eqb, ltb, ltb→lt}
-use borrow.Author.Tests.{eqb-true, eqb-false}
+use borrow.Author.Tests.{eqb-true, eqb-false, not-true, not-false}
 use Rattle.vocabulary.specs.Lists.{All}
-use Rattle.vocabulary.specs.ListLaws.{and-true, and-intro}
+use Rattle.vocabulary.specs.ListLaws.{and-true, and-intro, and-all}
 
 pub record Test : Type 0 where
   pub number : ℕ
@@ -31,6 +31,25 @@ allOf [] = true
 allOf (t ∷ ts) = t && allOf ts
 
 -- ---- laws
+
+-- tests made one after the other, where the answer r of a call stands in for the test t: the first that holds gives the number,
+module _ (n k : ℕ) (t r : Bool) (e : r ≡ t) where
+  pub told-here : r ≡ true → n ≡ cond t n k
+  told-here z = simp (sym e, z)
+
+  pub told-later : (x : ℕ) → r ≡ false → x ≡ k → x ≡ cond t n k
+  told-later x z q = simp (sym e, z, q)
+
+-- and the first that fails gives false
+module _ (t r x : Bool) (e : r ≡ t) where
+  pub fails-here : not r ≡ true → false ≡ t && x
+  fails-here z = simp (sym e, not-true r z)
+
+  pub passes-here : (y : Bool) → not r ≡ false → y ≡ x → y ≡ t && x
+  passes-here y z q = simp (sym e, not-false r z, q)
+
+  pub last-here : r ≡ t && true
+  last-here = e ∙ sym (and-all t)
 
 -- every test's number is above 0: by `tt` of a list written out
 abbrev pub numbered : List Test → Bool

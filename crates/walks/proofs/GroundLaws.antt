@@ -7,10 +7,11 @@ use native.Mathlib.Omega.{arith}
 use lib.Dec.{eqb, leb, ltb}
 use lib.ListN.{length, getD, length-map, replicate, length-replicate}
 use borrow.Author.Tests.{eqb-true, eq-eqb, le-leb, lt-ltb, leb-true, ltb-true}
+use Rattle.mesh.specs.Meet.{Under}
 use Rattle.vocabulary.specs.Bytes.{Bytes}
 use Rattle.vocabulary.specs.Ranges.{some, blocks}
 use Rattle.vocabulary.specs.RangeLaws.{some-witness, some-in, blocks-length, blocks-inner, total-cong}
-use Rattle.vocabulary.specs.Lists.{isIn, All}
+use Rattle.vocabulary.specs.Lists.{isIn, All, Zeros}
 use Rattle.vocabulary.specs.ListLaws.{and-true, and-intro, same-test, All-map, zeros-at}
 use Rattle.mesh.specs.Mesh.{top, elements, firstCell, cellCount, dimension, elementIn, records, chain, allRecords}
 use Rattle.mesh.specs.Walks.{bad10, steps}
@@ -18,10 +19,9 @@ use Rattle.mesh.specs.Accepted.{Accepted}
 use Rattle.mesh.proofs.DimensionLaws.{dimension-le}
 use Rattle.mesh.specs.WalkLaws.{below-grows}
 use Rattle.links.specs.Links.{links, linkCells}
-use Rattle.walks.specs.Walking.{isCell, Ground, Clear}
+use Rattle.walks.specs.Walking.{isCell, Ground}
 use Rattle.links.proofs.TrailLaws.{Linked, LinkedAs, pairs, empty, linked-cells, trail-same, count-cells}
 use Rattle.links.proofs.LinkLaws.{entries}
-use Rattle.visits.specs.Visits.{Fresh}
 
 pairs-told : (m : Bytes) (first n x y : ℕ) → pairs m first n x y ≡ (leb first y && ltb y (first + n)) && isIn x (chain m y)
 unfolding pairs
@@ -81,12 +81,6 @@ module _ (m : Bytes) (A : Accepted m) (first cells : ℕ) (fe : first ≡ firstC
           ∙ pairs-told m first cells x y
           ∙ ap₂ (λ a b. (leb a y && ltb y (a + b)) && isIn x (chain m y)) fe ce;
     }
-
-pub clear : Clear (replicate 2001 0)
-clear = record { size = length-replicate {A = ℕ} 2001 0; each = zeros-at 2001 }
-
-pub fresh : Fresh 1 (replicate 2001 0)
-fresh = record { size = length-replicate {A = ℕ} 2001 0; each = λ y. omega (arith, zeros-at 2001 y) }
 
 pub steps-is : (st : Bytes) (n : ℕ) → n + 1 ≡ length st → n ≡ steps st
 unfolding steps

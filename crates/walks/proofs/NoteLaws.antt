@@ -9,20 +9,21 @@ use lib.Dec.{eqb}
 use lib.ListN.{length, getD, set, take, length-set, length-take}
 use lib.Seq.{getD-set-same, getD-set-other, take-suc, getD-take}
 use borrow.Author.Tests.{eqb-true, eqb-false, eq-eqb, ne-eqb}
+use Rattle.mesh.specs.Meet.{Under}
 use Rattle.vocabulary.specs.Bytes.{Bytes}
 use Rattle.vocabulary.specs.Ranges.{blocks}
 use Rattle.vocabulary.specs.Lists.{isIn, repeats, All}
 use Rattle.vocabulary.specs.ListLaws.{or-nothing, eqb-swap, isIn-append, All-getD}
 use Rattle.mesh.specs.Mesh.{top, below}
 use Rattle.mesh.specs.Accepted.{Accepted}
-use Rattle.visits.specs.Visits.{Fresh, Gathered, Toward, with, down, up, Upward}
+use Rattle.visits.specs.Visits.{Gathered, Toward, with, down, up, Upward}
 use Rattle.walks.specs.Walking.{Ground, Cells, Lowers, stepped, noted, Noted, among}
 use Rattle.walks.proofs.StepLaws.{down-told, up-told, upward}
 use Rattle.mesh.specs.WalkLaws.{below-grows}
 use Rattle.vocabulary.specs.RangeLaws.{at-last}
 
 -- nothing gathered yet
-pub begin : (v : ℕ) (marks found : List ℕ) → Fresh v marks → length found ≡ 2001 → Gathered v marks found 0
+pub begin : (v : ℕ) (marks found : List ℕ) → Under v marks → length found ≡ 2001 → Gathered v marks found 0
 unfolding isIn repeats
 begin v marks found F r = record {
   size = F .size;

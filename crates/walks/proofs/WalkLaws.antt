@@ -9,10 +9,11 @@ use lib.Dec.{eqb}
 use lib.ListN.{length, getD, set, take, length-take}
 use lib.Seq.{take-suc, take-suc-set}
 use borrow.Author.Tests.{eqb-true, eqb-false, ne-eqb}
+use Rattle.mesh.specs.Meet.{Under}
 use Rattle.vocabulary.specs.Bytes.{Bytes, byteAt}
 use Rattle.vocabulary.specs.Ranges.{picked}
 use Rattle.vocabulary.specs.RangeLaws.{picked-passes, picked-cong, at-last}
-use Rattle.vocabulary.specs.Lists.{isIn, All}
+use Rattle.vocabulary.specs.Lists.{isIn, All, Zeros}
 use Rattle.vocabulary.specs.ListLaws.{or-nothing, All-map, All-append, All-split, isIn-at, at-isIn, at-all, All-intro}
 use Rattle.mesh.specs.Mesh.{top, elements, counted, below, firstCell, cellCount}
 use Rattle.mesh.specs.Walks.{bad10, stepTo}
@@ -21,8 +22,8 @@ use Rattle.mesh.specs.Accepted.{Accepted, Cell}
 use Rattle.mesh.proofs.DimensionLaws.{below-more}
 use Rattle.mesh.specs.WalkLaws.{below-grows}
 use Rattle.walks.proofs.StepLaws.{someOf-like}
-use Rattle.visits.specs.Visits.{Fresh, Gathered, Toward}
-use Rattle.walks.specs.Walking.{Ground, Cells, Lowers, Sided, Clear, stepped, firstMark, layerMark, noted, Noted, among, walkedFrom, Walk, Within, Widened, Departed, Arrived}
+use Rattle.visits.specs.Visits.{Gathered, Toward}
+use Rattle.walks.specs.Walking.{Ground, Cells, Lowers, Sided, stepped, firstMark, layerMark, noted, Noted, among, walkedFrom, Walk, Within, Widened, Departed, Arrived}
 
 -- ---- the copy
 
@@ -124,7 +125,7 @@ layer-more m st cs k z =
 
 -- ---- no step, and one step more
 
-walk-none : (m st : Bytes) (s k v : ℕ) (marks from layers layers′ : List ℕ) → k ≡ 0 → Cells m from s → s ≤ 2000 → Fresh v marks → length from ≡ 2001 → Clear layers
+walk-none : (m st : Bytes) (s k v : ℕ) (marks from layers layers′ : List ℕ) → k ≡ 0 → Cells m from s → s ≤ 2000 → Under v marks → length from ≡ 2001 → Zeros 2001 layers
     → Noted 0 layers layers′ (among from s) → Walk m st (take s from) k (v + k) marks from layers′ s
 walk-none m st s k v marks from layers layers′ z C few F r K N = subst (λ x. Walk m st (take s from) x (v + x) marks from layers′ s) (sym z) (record {
   fresh = record { size = F .size; each = λ y. omega (arith, F .each y) };
@@ -178,7 +179,7 @@ pub notes-room : (m st : Bytes) (cs : List ℕ) (k w n v s : ℕ) (marks₀ from
     → All (λ y. y < length layers) (take s found)
 notes-room m st cs k w n v s marks₀ from marks found layers W G = All-map (take s found) (λ y h. omega (arith, h .1, W .size)) (G .in-range)
 
-pub cells-fit : (m st : Bytes) (cell prev last layers from : List ℕ) (s : ℕ) → Ground m st cell prev last → Cells m from s → Clear layers → All (λ y. y < length layers) (take s from)
+pub cells-fit : (m st : Bytes) (cell prev last layers from : List ℕ) (s : ℕ) → Ground m st cell prev last → Cells m from s → Zeros 2001 layers → All (λ y. y < length layers) (take s from)
 cells-fit m st cell prev last layers from s G C K = All-map (take s from) (λ y h. omega (arith, h .high, G .mesh .cells-in, G .mesh .sizes .n-high, K .size)) (C .each)
 
 -- ---- the bounds of the cells met
@@ -249,7 +250,7 @@ module _ (m : Bytes) (k n low high : ℕ) (from layers layers′ : List ℕ) (N 
       out : (z : ℕ) → firstCell m ≤ z → isIn z (take n from) ≡ true → ⊥
       out z h = outside _ z (take n from) C (λ q. let l : below m (top m) + 1 ≤ z = h in let o : ⊥ = omega (arith, q .1, l) in o)
 
-within-none : (m st : Bytes) (cell prev last : List ℕ) (e s low high : ℕ) (from layers layers′ : List ℕ) → Ground m st cell prev last → e ≡ elements m → Cells m from s → Clear layers
+within-none : (m st : Bytes) (cell prev last : List ℕ) (e s low high : ℕ) (from layers layers′ : List ℕ) → Ground m st cell prev last → e ≡ elements m → Cells m from s → Zeros 2001 layers
     → Noted 0 layers layers′ (among from s) → Widened (e + 1) 0 low high (take s from) → Within m layers′ low high
 within-none m st cell prev last e s low high from layers layers′ G ee C K N U =
     within-cells m 0 s (e + 1) 0 from layers layers′ N
@@ -268,7 +269,7 @@ module _ (m st : Bytes) (cell prev last cs : List ℕ) (k v n low high : ℕ) (m
 -- ---- what a walk answers
 
 pub ends-none : (m st : Bytes) (cell prev last : List ℕ) (e s k v f n low high : ℕ) (marks from layers layers′ : List ℕ) → Ground m st cell prev last → e ≡ elements m → Cells m from s
-    → s ≤ 2000 → Fresh v marks → length from ≡ 2001 → f ≡ 2001 → Clear layers → k ≡ 0 → Departed e from s layers layers′ n low high
+    → s ≤ 2000 → Under v marks → length from ≡ 2001 → f ≡ 2001 → Zeros 2001 layers → k ≡ 0 → Departed e from s layers layers′ n low high
     → Walk m st (take s from) k (v + k) marks from layers′ n × (f ≡ 2001) × Within m layers′ low high
 ends-none m st cell prev last e s k v f n low high marks from layers layers′ G ee C few F r fe K z D = (
   subst (Walk m st (take s from) k (v + k) marks from layers′) (sym (D .count)) (walk-none m st s k v marks from layers layers′ z C few F r K (D .notes)),

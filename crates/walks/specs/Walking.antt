@@ -5,6 +5,7 @@ use mathlib.Core.List.{List, [], _∷_}
 use Prim.Native.Nat.{ℕ, zero, suc, _+_, _%_, _≤_, _<_}
 use lib.Dec.{eqb, leb, ltb}
 use lib.ListN.{length, getD, take}
+use Rattle.mesh.specs.Meet.{Under}
 use Rattle.vocabulary.specs.Bytes.{Bytes, byteAt}
 use Rattle.vocabulary.specs.Ranges.{picked}
 use Rattle.vocabulary.specs.Lists.{isIn, All}
@@ -12,7 +13,6 @@ use Rattle.mesh.specs.Mesh.{top, below, firstCell, cellCount, chain}
 use Rattle.mesh.specs.Walks.{bad10, stepTo}
 use Rattle.mesh.specs.Accepted.{Accepted, Cell}
 use Rattle.links.specs.Links.{trail}
-use Rattle.visits.specs.Visits.{Fresh}
 
 -- y is a cell
 unfoldable pub isCell : Bytes → ℕ → Bool
@@ -66,7 +66,7 @@ among from n z = isIn z (take n from)
 
 -- after k steps from the cells cs: where the walks end, the layers, and marks below v
 pub record Walk (m st : Bytes) (cs : List ℕ) (k v : ℕ) (marks from layers : List ℕ) (n : ℕ) : Type 0 where
-  pub fresh : Fresh v marks
+  pub fresh : Under v marks
   pub room : length from ≡ 2001
   pub count : length (take n from) ≡ n
   pub few : n ≤ 2000
@@ -108,8 +108,3 @@ pub record Arrived (k : ℕ) (found : List ℕ) (n : ℕ) (from from′ layers l
 pub record Sided (m : Bytes) (k : ℕ) (from : List ℕ) (n : ℕ) : Type 0 where
   pub odd : k % 2 ≡ 1 → Cells m from n
   pub even : (k % 2 ≡ 1 → ⊥) → Lowers m from n
-
--- nothing has a layer
-pub record Clear (layers : List ℕ) : Type 0 where
-  pub size : length layers ≡ 2001
-  pub each : (z : ℕ) → getD layers z 0 ≡ 0

@@ -11,12 +11,13 @@ ghost use mathlib.Core.List.{[], _∷_};
 ghost use Prim.Native.Nat.{ℕ, _+_, _<_, _≤_};
 ghost use lib.Dec.{eqb};
 ghost use lib.ListN.{length, take};
+ghost use Rattle.mesh.specs.Meet.{Under};
 ghost use Rattle.vocabulary.specs.Bytes.{byteAt};
-ghost use Rattle.vocabulary.specs.Lists.{All};
+ghost use Rattle.vocabulary.specs.Lists.{All, Zeros};
 ghost use Rattle.mesh.specs.Mesh.{top, elements, recordCount};
 ghost use Rattle.mesh.specs.Accepted.{Accepted};
-ghost use Rattle.visits.specs.Visits.{Fresh, Gathered, Toward};
-ghost use Rattle.walks.specs.Walking.{Ground, Cells, Lowers, Sided, Clear, stepped, Noted, among, Walk, Within, Widened, Departed, Arrived};
+ghost use Rattle.visits.specs.Visits.{Gathered, Toward};
+ghost use Rattle.walks.specs.Walking.{Ground, Cells, Lowers, Sided, stepped, Noted, among, Walk, Within, Widened, Departed, Arrived};
 
 // Down from the first n cells of `from` to the elements of dimension a.
 pub fn walk_down(
@@ -30,7 +31,7 @@ pub fn walk_down(
     marks: &mut [u16],
     found: &mut [u16],
 ) -> usize
-    requires { ⌜ Accepted (now m) × (e ≡ elements (now m)) × (r ≡ recordCount (now m)) × (a < top (now m)) × Cells (now m) (now from) n × Fresh v (now marks) × (length (now found) ≡ 2001) ⌝ }
+    requires { ⌜ Accepted (now m) × (e ≡ elements (now m)) × (r ≡ recordCount (now m)) × (a < top (now m)) × Cells (now m) (now from) n × Under v (now marks) × (length (now found) ≡ 2001) ⌝ }
     ensures { λ s. ⌜ Gathered v (now (marks .exit)) (now (found .exit)) s × Toward (now (found .exit)) s [] (stepped (now (m .entry)) a (now (from .entry)) n) × (s ≤ 2000) ⌝ }
 {
     let lo = below_of(m, a);
@@ -51,7 +52,7 @@ pub fn walk_up(
     marks: &mut [u16],
     found: &mut [u16],
 ) -> usize
-    requires { ⌜ Ground (now m) (now st) (now cell) (now prev) (now last) × Lowers (now m) (now from) n × Fresh v (now marks) × (length (now found) ≡ 2001) ⌝ }
+    requires { ⌜ Ground (now m) (now st) (now cell) (now prev) (now last) × Lowers (now m) (now from) n × Under v (now marks) × (length (now found) ≡ 2001) ⌝ }
     ensures { λ s. ⌜ Gathered v (now (marks .exit)) (now (found .exit)) s × Toward (now (found .exit)) s [] (stepped (now (m .entry)) (top (now (m .entry))) (now (from .entry)) n) × (s ≤ 2000) ⌝ }
 {
     step_up(cell, prev, last, from, n, v, marks, found)
@@ -93,7 +94,7 @@ fn step(
     marks: &mut [u16],
     found: &mut [u16],
 ) -> usize
-    requires { ⌜ Ground (now m) (now st) (now cell) (now prev) (now last) × (e ≡ elements (now m)) × (r ≡ recordCount (now m)) × (k < length (now st)) × Sided (now m) k (now from) n × Fresh v (now marks) × (length (now found) ≡ 2001) ⌝ }
+    requires { ⌜ Ground (now m) (now st) (now cell) (now prev) (now last) × (e ≡ elements (now m)) × (r ≡ recordCount (now m)) × (k < length (now st)) × Sided (now m) k (now from) n × Under v (now marks) × (length (now found) ≡ 2001) ⌝ }
     ensures { λ s. ⌜ Gathered v (now (marks .exit)) (now (found .exit)) s × Toward (now (found .exit)) s [] (stepped (now (m .entry)) (byteAt (now (st .entry)) k) (now (from .entry)) n) × (s ≤ 2000) ⌝ }
 {
     if k % 2 == 1 {
@@ -209,7 +210,7 @@ pub fn walk(
     found: &mut [u16],
     layers: &mut [u16],
 ) -> Ends
-    requires { ⌜ Ground (now m) (now st) (now cell) (now prev) (now last) × (e ≡ elements (now m)) × (r ≡ recordCount (now m)) × Cells (now m) (now from) s × (s ≤ 2000) × (k < length (now st)) × (k ≤ 8) × (v ≤ 60000) × Fresh v (now marks) × (length (now from) ≡ 2001) × (length (now found) ≡ 2001) × Clear (now layers) ⌝ }
+    requires { ⌜ Ground (now m) (now st) (now cell) (now prev) (now last) × (e ≡ elements (now m)) × (r ≡ recordCount (now m)) × Cells (now m) (now from) s × (s ≤ 2000) × (k < length (now st)) × (k ≤ 8) × (v ≤ 60000) × Under v (now marks) × (length (now from) ≡ 2001) × (length (now found) ≡ 2001) × Zeros 2001 (now layers) ⌝ }
     ensures { λ w. ⌜ Walk (now (m .entry)) (now (st .entry)) (take s (now (from .entry))) k (v + k) (now (marks .exit)) (now (from .exit)) (now (layers .exit)) (w .count) × (length (now (found .exit)) ≡ 2001) × Within (now (m .entry)) (now (layers .exit)) (w .low) (w .high) ⌝ }
 {
     if k == 0 {

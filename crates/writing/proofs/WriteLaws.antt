@@ -16,17 +16,16 @@ use Rattle.layout.specs.Words.{word, wordAt, bytesOf}
 use Rattle.layout.specs.WordLaws.{length-bytesOf}
 use Rattle.depths.specs.Depths.{four}
 use Rattle.depths.specs.DepthLaws.{length-four, fours-store, joined-length}
-use Rattle.layout.specs.Answers.{answer}
-use Rattle.layout.specs.AnswerLaws.{answer-done, answer-refused}
+use Rattle.layout.specs.AnswerLaws.{refuses, accepts}
 use Rattle.layout.specs.declared.Answer.{Answer}
 use Rattle.layout.specs.declared.Answer.the-variants.{Done, Refused}
 use Rattle.messages.specs.Messages.{encode}
-use Rattle.states.specs.State.{Lists, listsIn, listsOf, dynamic, roundAt, exportEnd, exportCount, exportAt, localExports, heldCount, ownedCount, reachCount, isState, bad20, depthPlace}
+use Rattle.states.specs.State.{Lists, listsIn, listsOf, dynamic, roundAt, exportEnd, exportCount, exportAt, localExports, heldCount, ownedCount, reachCount, depthPlace}
 use Rattle.parts.specs.Calls.{exportsTo, depthAt, messageTo, writeTestsIn, writtenIn, writeNumber, message, writeAnswer, writeState, writeOut}
 use Rattle.parts.specs.CallLaws.{fours-long}
 use Rattle.states.specs.Checks.{Counts}
 use Rattle.parts.specs.Opened.{Opened, sentTo, sentAt}
-use Rattle.parts.proofs.OpenedLaws.{whole, own-few, long, good-state, not-state, four-cut, cut, lists-is, part-few}
+use Rattle.parts.proofs.OpenedLaws.{whole, own-few, long, good-state, four-cut, cut, lists-is, part-few}
 
 sent-at : (st : Bytes) (d : ℕ) (b : Bytes) (x : ℕ) → four b (d + 30 + 4 * exportAt st x) ≡ sentAt st d b x
 unfolding sentAt
@@ -178,24 +177,20 @@ module _ (b : Bytes) (j : ℕ) (out : Bytes) where
   abbrev pub Answered : Answer → Bytes → Bytes → Type 0
   Answered r x y = (r ≡ writeAnswer b j out) × (x ≡ writeState b j out) × (y ≡ writeOut b j out)
 
+  abbrev state : Bytes
+  state = writtenIn (listsOf b) (dynamic b) b j
+
   refused : (n : ℕ) → writeNumber b j out ≡ n → (n ≡ 0 → ⊥) → Answered (Refused n) b out
   unfolding writeAnswer writeState writeOut
-  refused n e z = (answer-refused n (length (message b j)) z ∙ ap (λ m. answer m (length (message b j))) (sym e), simp (e, ne-eqb n 0 z), simp (e, ne-eqb n 0 z))
+  refused n e z = let a = refuses (writeNumber b j out) (length (message b j)) state b n e z in (a .0, a .1, refuses (writeNumber b j out) 0 (over out 0 (message b j)) out n e z .1)
 
-  done : writeNumber b j out ≡ 0 → Answered (Done (length (message b j))) (writtenIn (listsOf b) (dynamic b) b j) (over out 0 (message b j))
+  done : writeNumber b j out ≡ 0 → Answered (Done (length (message b j))) state (over out 0 (message b j))
   unfolding writeAnswer writeState writeOut
-  done e = (answer-done (writeNumber b j out) (length (message b j)) e, simp e, simp e)
+  done e = let a = accepts (writeNumber b j out) (length (message b j)) state b e in (a .0, a .1, accepts (writeNumber b j out) 0 (over out 0 (message b j)) out e .1)
 
   written-is : set b (dynamic b + 17 + j) 1 ≡ writtenIn (listsOf b) (dynamic b) b j
   unfolding writtenIn
   written-is = refl
-
-  number-20 : bad20 b ≡ true → writeNumber b j out ≡ 20
-  unfolding writeNumber writeTestsIn
-  number-20 e = simp e
-
-  pub told-20 : (u : Bool) → u ≡ isState b → not u ≡ true → Answered (Refused 20) b out
-  told-20 u ue ut = refused 20 (number-20 (not-state b u ue ut)) (λ z. omega (arith, z))
 
   module _ (d : ℕ) (o : Opened (take d b) d b) (count : ℕ) (ce : count ≡ sentTo (listsIn (take (d - 0) (drop 0 b))) j) where
     count-here : count ≡ sentTo (listsIn (take d b)) j
@@ -224,20 +219,16 @@ module _ (b : Bytes) (j : ℕ) (out : Bytes) where
       size-is : length (message b j) ≡ 8 + 4 * count
       size-is = ap length (sym message-here) ∙ message-length (listsIn (take d b)) d b j ∙ ap (λ n. 8 + 4 * n) (sym (count-is (take d b) j count count-here some))
 
-      number-16 : length out < 8 + 4 * count → writeNumber b j out ≡ 16
+      number-last : (x : Bool) → ltb (length out) (8 + 4 * count) ≡ x → writeNumber b j out ≡ cond x 16 0
       unfolding writeNumber writeTestsIn message
-      number-16 h = simp (good-state (take d b) d b o, sends, lt-ltb 0 count some, size-is, lt-ltb _ _ h)
-
-      number-none : 8 + 4 * count ≤ length out → writeNumber b j out ≡ 0
-      unfolding writeNumber writeTestsIn message
-      number-none h = simp (good-state (take d b) d b o, sends, lt-ltb 0 count some, size-is, le-ltb _ _ h)
+      number-last x e = simp (good-state (take d b) d b o, sends, lt-ltb 0 count some, size-is, e)
 
       pub told-16 : length out < 8 + 4 * count → Answered (Refused 16) b out
-      told-16 h = refused 16 (number-16 h) (λ z. omega (arith, z))
+      told-16 h = refused 16 (number-last true (lt-ltb _ _ h)) (λ z. omega (arith, z))
 
       pub told-done : 8 + 4 * count ≤ length out → (x y : Bytes) → y ≡ over out 0 (messageTo (listsIn (take d b)) d b j) → x ≡ set b (d + 17 + j) 1 → Answered (Done (8 + 4 * count)) x y
       told-done h x y ye xe =
-          let a = done (number-none h) in (
+          let a = done (number-last false (le-ltb _ _ h)) in (
             ap Done (sym size-is) ∙ a .0,
             xe ∙ ap (λ p. set b (p + 17 + j) 1) (o .place-is) ∙ written-is ∙ a .1,
             ye ∙ ap (over out 0) message-here ∙ a .2,

@@ -1,17 +1,18 @@
 -- `advancing::advance` meets its contract. Assumes nothing.
-use Rattle.parts.proofs.OpenedLaws.{opened-here}
-use Rattle.advancing.proofs.AdvanceLaws.{told-20}
+use Rattle.parts.specs.Calls.{advanceTestsIn, advanceNumber, advanceAnswer, advanceState}
+use Rattle.parts.proofs.OpenedLaws.{opened-here, told-20}
 use borrow.Author.Needs.{needs}
 use Rattle.advancing.proofs.advance.Statement.{statement}
 use Rattle.advancing.proofs.advance.Tie as tie
 
 pub advance-spec : {M : Type 1} → statement M
+unfolding advanceTestsIn advanceNumber advanceAnswer advanceState
 advance-spec =
     tie.close
     (tie.spec
     (λ c κs. search needs)
     (λ c. search needs)
-    (λ c. told-20 _ _ (c .before .is-state .ensures) (c .if1 .taken))
+    (λ c. told-20 _ _ _ _ _ _ (c .before .is-state .ensures) (c .if1 .taken))
     (λ c κs. search needs)
     (λ c. search needs)
     (λ c. search needs)

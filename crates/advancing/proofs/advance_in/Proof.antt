@@ -1,7 +1,8 @@
 -- `advancing::advance_in` meets its contract. Assumes nothing.
+use mathlib.Core.Path.{sym, _∙_}
 use native.Mathlib.Omega.{arith}
 use Rattle.parts.proofs.OpenedLaws.{long}
-use Rattle.advancing.proofs.AdvanceLaws.{told-rest, told-done, owned-room, round-small}
+use Rattle.advancing.proofs.AdvanceLaws.{refused, number-is, told-done, owned-room, round-small}
 use borrow.Author.Needs.{needs}
 use Rattle.advancing.proofs.advance_in.Statement.{statement}
 use Rattle.advancing.proofs.advance_in.Tie as tie
@@ -12,7 +13,7 @@ advance-in-spec =
     (tie.spec
     (λ c κs. search needs)
     (λ c. search needs)
-    (λ c. told-rest _ _ (c .before .before .before .before .before .pre .0) _ (c .before .advance-number .ensures) (c .if1 .taken))
+    (λ c. refused _ _ (number-is _ _ (c .before .before .before .before .before .pre .0) ∙ sym (c .before .advance-number .ensures)) (c .if1 .taken))
     (λ c. search needs)
     (λ c. search needs)
     (λ c. omega (arith, long _ _ _ (c .before .before .before .before .before .before .pre .0)))

@@ -1,16 +1,17 @@
 -- `collecting::collect` meets its contract. Assumes nothing.
-use Rattle.parts.proofs.OpenedLaws.{opened, opened-room}
-use Rattle.collecting.proofs.CollectLaws.{told-20}
+use Rattle.parts.specs.Calls.{collectTestsIn, collectNumber, collectAnswer, collectOut}
+use Rattle.parts.proofs.OpenedLaws.{opened, opened-room, told-20}
 use borrow.Author.Needs.{needs}
 use Rattle.collecting.proofs.collect.Statement.{statement}
 use Rattle.collecting.proofs.collect.Tie as tie
 
 pub collect-spec : {M : Type 1} → statement M
+unfolding collectTestsIn collectNumber collectAnswer collectOut
 collect-spec =
     tie.close
     (tie.spec
     (λ c κs. search needs)
-    (λ c. told-20 _ _ _ _ (c .before .is-state .ensures) (c .if1 .taken))
+    (λ c. told-20 _ _ _ _ _ _ (c .before .is-state .ensures) (c .if1 .taken))
     (λ c κs. search needs)
     (λ c. search needs)
     (λ c. search needs)

@@ -1,7 +1,8 @@
 -- `taking::take_in` meets its contract. Assumes nothing.
+use mathlib.Core.Path.{sym, _∙_}
 use native.Mathlib.Omega.{arith}
 use Rattle.parts.proofs.OpenedLaws.{long}
-use Rattle.taking.proofs.TakeLaws.{told-rest, from-few, store-fits, told-done}
+use Rattle.taking.proofs.TakeLaws.{refused, number-is, from-few, store-fits, told-done}
 use borrow.Author.Needs.{needs}
 use Rattle.taking.proofs.take_in.Statement.{statement}
 use Rattle.taking.proofs.take_in.Tie as tie
@@ -12,7 +13,7 @@ take-in-spec =
     (tie.spec
     (λ c κs. search needs)
     (λ c. search needs)
-    (λ c. told-rest _ _ _ (c .before .before .before .before .before .pre .0) (c .before .before .before .before .before .pre .1) _ _ _ _ (c .before .before .before .before .before .pre .2) (c .before .before .before .before .before .pre .3) (c .before .before .before .before .before .pre .4) (c .before .before .before .before .before .pre .5) _ (c .before .take-rest .ensures) (c .if1 .taken))
+    (λ c. refused _ _ _ (number-is _ _ _ (c .before .before .before .before .before .pre .0) (c .before .before .before .before .before .pre .1) _ _ _ _ (c .before .before .before .before .before .pre .2) (c .before .before .before .before .before .pre .3) (c .before .before .before .before .before .pre .4) (c .before .before .before .before .before .pre .5) ∙ sym (c .before .take-rest .ensures)) (c .if1 .taken))
     (λ c. search needs)
     (λ c. search needs)
     (λ c. omega (arith, long _ _ _ (c .before .before .before .before .before .before .pre .0)))

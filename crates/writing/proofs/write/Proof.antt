@@ -1,17 +1,19 @@
 -- `writing::write` meets its contract. Assumes nothing.
-use Rattle.parts.proofs.OpenedLaws.{opened-here}
-use Rattle.writing.proofs.WriteLaws.{told-20}
+use mathlib.Core.List.{[]}
+use Rattle.parts.specs.Calls.{writeTestsIn, writeNumber, writeAnswer, writeState, writeOut}
+use Rattle.parts.proofs.OpenedLaws.{opened-here, told-20}
 use borrow.Author.Needs.{needs}
 use Rattle.writing.proofs.write.Statement.{statement}
 use Rattle.writing.proofs.write.Tie as tie
 
 pub write-spec : {M : Type 1} → statement M
+unfolding writeTestsIn writeNumber writeAnswer writeState writeOut
 write-spec =
     tie.close
     (tie.spec
     (λ c κs. search needs)
     (λ c. search needs)
-    (λ c. told-20 _ _ _ _ (c .before .is-state .ensures) (c .if1 .taken))
+    (λ c. (told-20 _ _ _ [] [] _ (c .before .is-state .ensures) (c .if1 .taken) .0, told-20 _ _ 0 _ _ _ (c .before .is-state .ensures) (c .if1 .taken) .1, told-20 _ _ 0 _ _ _ (c .before .is-state .ensures) (c .if1 .taken) .1))
     (λ c κs. search needs)
     (λ c. search needs)
     (λ c κs. opened-here _ _ _ (c .before .before .before .before .before .is-state .ensures) (c .before .before .before .before .if1 .left) (c .before .before .word-at .ensures .0) (c .before .before .word-at .ensures .1))

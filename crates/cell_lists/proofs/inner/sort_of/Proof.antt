@@ -1,5 +1,6 @@
 -- `cell_lists::inner::sort_of` meets its contract. Assumes nothing.
-use Rattle.cell_lists.proofs.SortLaws.{sort-interior, sort-halo, sort-import, sort-none}
+use mathlib.Core.Bool.{true, false}
+use Rattle.cell_lists.proofs.SortLaws.{sort-mine, sort-theirs}
 use borrow.Author.Needs.{needs}
 use Rattle.cell_lists.proofs.inner.sort_of.Statement.{statement}
 use Rattle.cell_lists.proofs.inner.sort_of.Tie as tie
@@ -11,8 +12,8 @@ sort-of-spec =
     (λ c κs. search needs)
     (λ c. search needs)
     (λ c κs. search needs)
-    (λ c. search sort-interior)
-    (λ c. search sort-halo)
+    (λ c. search (sort-mine true))
+    (λ c. search (sort-mine false))
     (λ c κs. search needs)
-    (λ c. search sort-import)
-    (λ c. search sort-none))
+    (λ c. search (sort-theirs true))
+    (λ c. search (sort-theirs false)))

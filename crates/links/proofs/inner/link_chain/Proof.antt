@@ -6,7 +6,8 @@ use native.Mathlib.Nat.{sub-zero}
 use lib.ListN.{length}
 use Rattle.mesh.specs.Mesh.{elementIn, follow}
 use Rattle.links.specs.Links.{links, linkAll}
-use Rattle.links.proofs.LinkLaws.{link-ended, link-spent, link-turn, room-one, room-turn}
+use Rattle.mesh.proofs.FollowLaws.{chain-ended, chain-spent}
+use Rattle.links.proofs.LinkLaws.{link-done, link-turn, room-one, room-turn}
 use borrow.Author.Needs.{needs}
 use Rattle.links.proofs.inner.link_chain.Statement.{statement}
 use Rattle.links.proofs.inner.link_chain.Tie as tie
@@ -28,7 +29,7 @@ link-chain-spec =
     (λ c. search needs)
     (λ c. search needs)
     (λ c. search needs)
-    (λ c. search link-ended)
+    (λ c. search (link-done, chain-ended))
     (λ c κs. search needs)
     (λ c κs. search room-one)
     (λ c. search needs)
@@ -37,4 +38,4 @@ link-chain-spec =
     (λ c. search needs)
     (λ c. search needs)
     (λ c. search needs)
-    (λ c. search link-spent))
+    (λ c. search (link-done, chain-spent)))

@@ -1,6 +1,7 @@
 -- `listing::pieces::list_passed` meets its contract. Assumes nothing.
 use mathlib.Core.Path.{refl}
-use Rattle.split.proofs.PassedLaws.{blank, passed-facts}
+use Rattle.vocabulary.specs.ListLaws.{zeros}
+use Rattle.split.proofs.PassedLaws.{passed-facts}
 use Rattle.listing.proofs.PieceLaws.{refused-sizes, passed-all}
 use borrow.Author.Needs.{needs}
 use Rattle.listing.proofs.pieces.list_passed.Statement.{statement}
@@ -13,7 +14,7 @@ list-passed-spec =
     (λ c. search needs)
     (λ c. search needs)
     (λ c. search needs)
-    (λ c κs. (passed-facts _ _ _ _ _ _ (c .before .before .before .before .before .before .before .pre) .mesh, passed-facts _ _ _ _ _ _ (c .before .before .before .before .before .before .before .pre) .map, passed-facts _ _ _ _ _ _ (c .before .before .before .before .before .before .before .pre) .stencil, refl, refl, blank))
+    (λ c κs. (passed-facts _ _ _ _ _ _ (c .before .before .before .before .before .before .before .pre) .mesh, passed-facts _ _ _ _ _ _ (c .before .before .before .before .before .before .before .pre) .map, passed-facts _ _ _ _ _ _ (c .before .before .before .before .before .before .before .pre) .stencil, refl, refl, zeros 34000))
     (λ c. search needs)
     (λ c. search needs)
     (λ c κs. search needs)

@@ -6,7 +6,8 @@ use Rattle.vocabulary.specs.Ranges.{some}
 use Rattle.vocabulary.specs.ScanLaws.{some-start-from, some-turn-from}
 use Rattle.mesh.specs.Mesh.{wrongAt, bad5}
 use Rattle.mesh.specs.Meet.{Under}
-use Rattle.mesh_chains.proofs.ElementLaws.{under-none, one-found, none-found}
+use Rattle.mesh.proofs.MeetLaws.{under-none}
+use Rattle.mesh_chains.proofs.ElementLaws.{one-found, none-found}
 use borrow.Author.Needs.{needs}
 use Rattle.mesh_chains.proofs.inner.bad5.Statement.{statement}
 use Rattle.mesh_chains.proofs.inner.bad5.Tie as tie

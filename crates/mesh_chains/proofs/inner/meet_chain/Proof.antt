@@ -5,7 +5,7 @@ use Prim.Native.Nat.{_+_, _-_, _<_}
 use native.Mathlib.Nat.{sub-zero}
 use Rattle.mesh.specs.Mesh.{follow}
 use Rattle.mesh.specs.Meet.{meet, itself}
-use Rattle.mesh.proofs.FollowLaws.{meet-ended, meet-spent, meet-above, meet-again, meet-turn}
+use Rattle.mesh.proofs.FollowLaws.{chain-ended, chain-spent, meet-done, meet-above, meet-again, meet-turn}
 use borrow.Author.Needs.{needs}
 use Rattle.mesh_chains.proofs.inner.meet_chain.Statement.{statement}
 use Rattle.mesh_chains.proofs.inner.meet_chain.Tie as tie
@@ -24,7 +24,7 @@ meet-chain-spec =
     μ-loop
     (λ c. search needs)
     (λ c. (refl, search needs, simp sub-zero))
-    (λ c. search meet-ended)
+    (λ c. search (meet-done, chain-ended))
     (λ c. search meet-above)
     (λ c. search needs)
     (λ c. search meet-again)
@@ -33,4 +33,4 @@ meet-chain-spec =
     (λ c. search needs)
     (λ c. search needs)
     (λ c. (search needs, search needs, search meet-turn))
-    (λ c. search meet-spent))
+    (λ c. search (meet-done, chain-spent)))

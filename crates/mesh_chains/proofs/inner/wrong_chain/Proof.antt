@@ -5,7 +5,7 @@ use Prim.Native.Nat.{_+_, _-_, _<_}
 use native.Mathlib.Nat.{sub-zero}
 use Rattle.mesh.specs.Mesh.{elementIn, follow}
 use Rattle.mesh.specs.Meet.{meet}
-use Rattle.mesh.proofs.FollowLaws.{meet-ended, meet-spent, meet-zero, meet-above, meet-again, meet-turn}
+use Rattle.mesh.proofs.FollowLaws.{chain-ended, chain-spent, meet-done, meet-zero, meet-above, meet-again, meet-turn}
 use borrow.Author.Needs.{needs}
 use Rattle.mesh_chains.proofs.inner.wrong_chain.Statement.{statement}
 use Rattle.mesh_chains.proofs.inner.wrong_chain.Tie as tie
@@ -24,7 +24,7 @@ wrong-chain-spec =
     μ-loop
     (λ c. search needs)
     (λ c. (refl, search needs, simp sub-zero))
-    (λ c. search meet-ended)
+    (λ c. search (meet-done, chain-ended))
     (λ c κs. search needs)
     (λ c. search meet-zero)
     (λ c. search meet-above)
@@ -36,4 +36,4 @@ wrong-chain-spec =
     (λ c. search needs)
     (λ c. search needs)
     (λ c. (search needs, search needs, search meet-turn))
-    (λ c. search meet-spent))
+    (λ c. search (meet-done, chain-spent)))

@@ -6,7 +6,7 @@ use native.Mathlib.Nat.{sub-zero}
 use Rattle.vocabulary.specs.Lists.{someOf}
 use Rattle.mesh.specs.Mesh.{elementIn, follow}
 use Rattle.mesh.specs.Meet.{leavesBy}
-use Rattle.mesh.proofs.FollowLaws.{try-ended, try-spent, try-found, try-turn}
+use Rattle.mesh.proofs.FollowLaws.{chain-ended, chain-spent, try-done, try-found, try-turn}
 use borrow.Author.Needs.{needs}
 use Rattle.mesh_closure.proofs.inner.any_leaves.Statement.{statement}
 use Rattle.mesh_closure.proofs.inner.any_leaves.Tie as tie
@@ -25,11 +25,11 @@ any-leaves-spec =
     μ-loop
     (λ c. search needs)
     (λ c. (refl, search needs, simp sub-zero))
-    (λ c. search try-ended)
+    (λ c. search (try-done, chain-ended))
     (λ c κs. search needs)
     (λ c κs. search needs)
     (λ c. search try-found)
     (λ c. search needs)
     (λ c. search needs)
     (λ c. (search needs, search needs, search try-turn))
-    (λ c. search try-spent))
+    (λ c. search (try-done, chain-spent)))

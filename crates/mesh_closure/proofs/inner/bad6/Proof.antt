@@ -6,7 +6,7 @@ use Rattle.vocabulary.specs.Ranges.{some}
 use Rattle.vocabulary.specs.ScanLaws.{some-start-from, some-turn-from}
 use Rattle.mesh.specs.Mesh.{unclosed, bad6}
 use Rattle.mesh.specs.Meet.{Under}
-use Rattle.mesh_chains.proofs.ElementLaws.{under-none}
+use Rattle.mesh.proofs.MeetLaws.{under-none}
 use Rattle.mesh_chains.proofs.ElementLaws.{one-found, none-found}
 use borrow.Author.Needs.{needs}
 use Rattle.mesh_closure.proofs.inner.bad6.Statement.{statement}

@@ -5,7 +5,7 @@ use Prim.Native.Nat.{_+_, _-_, _<_}
 use Rattle.vocabulary.specs.Lists.{someOf}
 use Rattle.mesh.specs.Mesh.{elementIn, follow}
 use Rattle.mesh.specs.Meet.{unlike, leavesBy}
-use Rattle.mesh.proofs.FollowLaws.{try-ended, try-spent, try-found, try-turn}
+use Rattle.mesh.proofs.FollowLaws.{chain-ended, chain-spent, try-done, try-found, try-turn}
 use Rattle.mesh_closure.proofs.ClosureLaws.{leaves-begin}
 use borrow.Author.Needs.{needs}
 use Rattle.mesh_closure.proofs.inner.leaves_by.Statement.{statement}
@@ -26,11 +26,11 @@ leaves-by-spec =
     (λ c κs. search needs)
     (λ c. search needs)
     (λ c. (refl, search needs, search leaves-begin))
-    (λ c. search try-ended)
+    (λ c. search (try-done, chain-ended))
     (λ c κs. search needs)
     (λ c κs. search needs)
     (λ c. search try-found)
     (λ c. search needs)
     (λ c. search needs)
     (λ c. (search needs, search needs, search try-turn))
-    (λ c. search try-spent))
+    (λ c. search (try-done, chain-spent)))

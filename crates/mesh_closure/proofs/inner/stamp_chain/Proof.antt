@@ -6,7 +6,7 @@ use native.Mathlib.Nat.{sub-zero}
 use lib.ListN.{length}
 use Rattle.mesh.specs.Mesh.{elementIn, follow}
 use Rattle.mesh.specs.Meet.{stamp}
-use Rattle.mesh.proofs.FollowLaws.{stamp-ended, stamp-spent, stamp-turn}
+use Rattle.mesh.proofs.FollowLaws.{chain-ended, chain-spent, stamp-done, stamp-turn}
 use borrow.Author.Needs.{needs}
 use Rattle.mesh_closure.proofs.inner.stamp_chain.Statement.{statement}
 use Rattle.mesh_closure.proofs.inner.stamp_chain.Tie as tie
@@ -26,11 +26,11 @@ stamp-chain-spec =
     (λ c. search needs)
     (λ c. (refl, search needs, refl, simp sub-zero))
     (λ c. search needs)
-    (λ c. search stamp-ended)
+    (λ c. search (stamp-done, chain-ended))
     (λ c κs. search needs)
     (λ c κs. search needs)
     (λ c. search needs)
     (λ c. search needs)
     (λ c. (search needs, search needs, search needs, search stamp-turn))
     (λ c. search needs)
-    (λ c. search stamp-spent))
+    (λ c. search (stamp-done, chain-spent)))

@@ -1,6 +1,7 @@
 -- `part_lists::lists::list_passed` meets its contract. Assumes nothing.
 use mathlib.Core.Path.{refl, sym, _∙_}
-use Rattle.split.proofs.PassedLaws.{blank, passed-facts}
+use Rattle.vocabulary.specs.ListLaws.{zeros}
+use Rattle.split.proofs.PassedLaws.{passed-facts}
 use Rattle.part_lists.proofs.CallLaws.{refused-sizes, chosen-few, given-named}
 use borrow.Author.Needs.{needs}
 use Rattle.part_lists.proofs.lists.list_passed.Statement.{statement}
@@ -13,7 +14,7 @@ list-passed-spec =
     (λ c. search needs)
     (λ c. search needs)
     (λ c. search needs)
-    (λ c κs. (passed-facts _ _ _ _ _ _ (c .before .before .before .before .before .before .before .pre) .mesh, passed-facts _ _ _ _ _ _ (c .before .before .before .before .before .before .before .pre) .map, passed-facts _ _ _ _ _ _ (c .before .before .before .before .before .before .before .pre) .stencil, refl, refl, blank))
+    (λ c κs. (passed-facts _ _ _ _ _ _ (c .before .before .before .before .before .before .before .pre) .mesh, passed-facts _ _ _ _ _ _ (c .before .before .before .before .before .before .before .pre) .map, passed-facts _ _ _ _ _ _ (c .before .before .before .before .before .before .before .pre) .stencil, refl, refl, zeros 34000))
     (λ c. refused-sizes _ _ _ _ _ _ _ _ _ (c .before .before .before .before .before .before .before .before .before .before .before .before .pre) _ (c .before .before .before .before .sizes-number .ensures .0) (c .if1 .taken))
     (λ c. search needs)
     (λ c. search needs)

@@ -1,5 +1,6 @@
 -- `ranges::inner::lower_sort` meets its contract. Assumes nothing.
-use Rattle.ranges.proofs.RangeSorts.{is-shared, is-exposed, is-private, is-copied, is-none}
+use mathlib.Core.Bool.{true, false}
+use Rattle.ranges.proofs.RangeSorts.{is-shared, is-alone, is-theirs}
 use borrow.Author.Needs.{needs}
 use Rattle.ranges.proofs.inner.lower_sort.Statement.{statement}
 use Rattle.ranges.proofs.inner.lower_sort.Tie as tie
@@ -12,10 +13,10 @@ lower-sort-spec =
     (λ c. search needs)
     (λ c κs. search needs)
     (λ c κs. search needs)
-    (λ c. search is-shared)
+    (λ c. search (is-shared true))
     (λ c κs. search needs)
-    (λ c. search is-exposed)
-    (λ c. search is-private)
+    (λ c. search (is-alone true))
+    (λ c. search (is-alone false))
     (λ c κs. search needs)
-    (λ c. search is-copied)
-    (λ c. search is-none))
+    (λ c. search (is-theirs true))
+    (λ c. search (is-theirs false)))

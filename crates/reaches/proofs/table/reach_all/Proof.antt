@@ -3,17 +3,17 @@ use mathlib.Core.Path.{_≡_, refl}
 use Prim.Native.Nat.{_+_, _-_, _*_, _≤_}
 use native.Mathlib.Omega.{arith}
 use lib.ListN.{length}
-use Rattle.visits.specs.Visits.{Fresh}
+use Rattle.mesh.specs.Meet.{Under}
 use Rattle.reaches.specs.Tables.{tableWords, Emitted, Ends}
 use Rattle.reaches.proofs.ReachLaws.{first-small, cell-is, table-start, ends-start, table-turn, ends-turn, table-over, table-end}
 use borrow.Author.Needs.{needs}
 use Rattle.reaches.proofs.table.reach_all.Statement.{statement}
 use Rattle.reaches.proofs.table.reach_all.Tie as tie
 use Rattle.mesh.proofs.AcceptedLaws.{cells-few}
-use Rattle.walks.proofs.GroundLaws.{fresh}
+use Rattle.mesh.proofs.MeetLaws.{under-none}
 
 abbrev Inv-loop : tie.InvT-loop
-Inv-loop m e r st n cell prev last first cells table₀ ends₀ marks₀ from₀ found₀ t₀ v₀ x₀ x-end table ends marks from found t v x = (first ≤ x) × (x ≤ first + cells) × (x-end ≡ first + cells) × (t ≤ 8000) × (v ≤ 1 + 8 * (x - first)) × Fresh v marks × (length from ≡ 2001) × (length found ≡ 2001) × (length table ≡ 32000) × (length ends ≡ 2001) × Emitted table₀ table 0 t (tableWords m st (x - first)) × Ends m st ends (x - first)
+Inv-loop m e r st n cell prev last first cells table₀ ends₀ marks₀ from₀ found₀ t₀ v₀ x₀ x-end table ends marks from found t v x = (first ≤ x) × (x ≤ first + cells) × (x-end ≡ first + cells) × (t ≤ 8000) × (v ≤ 1 + 8 * (x - first)) × Under v marks × (length from ≡ 2001) × (length found ≡ 2001) × (length table ≡ 32000) × (length ends ≡ 2001) × Emitted table₀ table 0 t (tableWords m st (x - first)) × Ends m st ends (x - first)
 
 abbrev μ-loop : tie.MeasureT-loop
 μ-loop m e r st n cell prev last first cells table₀ ends₀ marks₀ from₀ found₀ t₀ v₀ x₀ x-end table ends marks from found t v x = x-end - x
@@ -26,7 +26,7 @@ reach-all-spec =
     μ-loop
     (λ c κs. search needs)
     (λ c. omega (arith, first-small _ _ (c .before .before .before .before .before .before .before .before .before .before .before .pre .0 .mesh) (c .before .before .before .before .before .before .before .before .before .before .before .pre .3), cells-few _ _ (c .before .before .before .before .before .before .before .before .before .before .before .pre .0 .mesh) (c .before .before .before .before .before .before .before .before .before .before .before .pre .4)))
-    (λ c. (search needs, search needs, refl, search needs, search needs, fresh, refl, refl, c .before .before .before .before .before .before .before .before .before .before .before .pre .7, search needs, table-start _ _ _ _, ends-start _ _ _ (c .before .before .before .before .before .before .before .before .before .before .before .args .ends .now) _ (c .before .before .before .before .before .before .before .before .before .before .before .pre .8) (c .before .before .put-number-at .ensures)))
+    (λ c. (search needs, search needs, refl, search needs, search needs, under-none, refl, refl, c .before .before .before .before .before .before .before .before .before .before .before .pre .7, search needs, table-start _ _ _ _, ends-start _ _ _ (c .before .before .before .before .before .before .before .before .before .before .before .args .ends .now) _ (c .before .before .before .before .before .before .before .before .before .before .before .pre .8) (c .before .before .put-number-at .ensures)))
     (λ c. search needs)
     (λ c. search needs)
     (λ c. search needs)

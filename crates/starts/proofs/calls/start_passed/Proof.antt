@@ -1,6 +1,7 @@
 -- `starts::calls::start_passed` meets its contract. Assumes nothing.
 use mathlib.Core.Path.{refl, sym, _∙_}
-use Rattle.split.proofs.PassedLaws.{passed-facts, blank}
+use Rattle.vocabulary.specs.ListLaws.{zeros}
+use Rattle.split.proofs.PassedLaws.{passed-facts}
 use Rattle.starts.proofs.PlanLaws.{start-sizes}
 use borrow.Author.Needs.{needs}
 use Rattle.starts.proofs.calls.start_passed.Statement.{statement}
@@ -13,7 +14,7 @@ start-passed-spec =
     (λ c. search needs)
     (λ c. search needs)
     (λ c. search needs)
-    (λ c κs. (passed-facts _ _ _ _ _ _ (c .before .before .before .before .before .before .before .before .before .pre .0) .mesh, passed-facts _ _ _ _ _ _ (c .before .before .before .before .before .before .before .before .before .pre .0) .map, passed-facts _ _ _ _ _ _ (c .before .before .before .before .before .before .before .before .before .pre .0) .stencil, refl, refl, blank))
+    (λ c κs. (passed-facts _ _ _ _ _ _ (c .before .before .before .before .before .before .before .before .before .pre .0) .mesh, passed-facts _ _ _ _ _ _ (c .before .before .before .before .before .before .before .before .before .pre .0) .map, passed-facts _ _ _ _ _ _ (c .before .before .before .before .before .before .before .before .before .pre .0) .stencil, refl, refl, zeros 34000))
     (λ c. start-sizes _ _ _ _ _ _ _ _ _ (c .before .before .before .before .before .before .before .before .before .before .before .before .before .before .pre .0) (c .before .before .before .before .before .before .before .before .before .before .before .before .before .before .pre .1) _ (c .before .before .before .before .sizes-number .ensures .0) (c .if1 .taken))
     (λ c. search needs)
     (λ c. search needs)

@@ -1,21 +1,25 @@
 -- `states::lists::ends_fine` meets its contract. Assumes nothing.
-use Rattle.states.proofs.ListChecks.{ends-1, ends-2, ends-3, ends-4, ends-5}
+use Rattle.vocabulary.specs.Tests.{fails-here, passes-here, last-here}
+use Rattle.states.specs.State.{rises}
+use Rattle.states.specs.Checks.{fineAt}
+use Rattle.states.proofs.ListChecks.{counted-by, first-wrong, first-right, reach-wrong, reach-right}
 use borrow.Author.Needs.{needs}
 use Rattle.states.proofs.lists.ends_fine.Statement.{statement}
 use Rattle.states.proofs.lists.ends_fine.Tie as tie
 
 pub ends-fine-spec : {M : Type 1} → statement M
+unfolding fineAt rises
 ends-fine-spec =
     tie.close
     (tie.spec
     (λ c κs. search needs)
-    (λ c. search ends-1)
+    (λ c. search fails-here)
     (λ c κs. search needs)
-    (λ c. search ends-2)
+    (λ c. search (passes-here, first-wrong))
     (λ c κs. search needs)
-    (λ c. search ends-3)
+    (λ c. search (passes-here, first-right, fails-here))
     (λ c. search needs)
     (λ c κs. search needs)
-    (λ c. search ends-4)
+    (λ c. search (passes-here, first-right, reach-wrong) depth 8 fits 4000)
     (λ c κs. search needs)
-    (λ c. search ends-5))
+    (λ c. search (passes-here, first-right, reach-right, last-here, counted-by) depth 8 fits 4000))

@@ -1,5 +1,6 @@
 -- `states::lists::head_fine` meets its contract. Assumes nothing.
-use Rattle.states.proofs.ListChecks.{head-1, head-2, head-3, head-4, head-5}
+use Rattle.vocabulary.specs.Tests.{fails-here, passes-here}
+use Rattle.states.proofs.ListChecks.{head-part, steps-odd, steps-many, steps-fine, head-rule, head-held}
 use borrow.Author.Needs.{needs}
 use Rattle.states.proofs.lists.head_fine.Statement.{statement}
 use Rattle.states.proofs.lists.head_fine.Tie as tie
@@ -10,12 +11,12 @@ head-fine-spec =
     (tie.spec
     (λ c κs. search needs)
     (λ c κs. search needs)
-    (λ c. search head-1)
+    (λ c. search (fails-here, head-part))
     (λ c κs. search needs)
-    (λ c. search head-2)
-    (λ c. search head-3)
+    (λ c. search (passes-here, head-part, steps-odd))
+    (λ c. search (passes-here, head-part, steps-many))
     (λ c κs. search needs)
     (λ c κs. search needs)
-    (λ c. search head-4)
+    (λ c. search (passes-here, fails-here, head-part, steps-fine, head-rule))
     (λ c κs. search needs)
-    (λ c. search head-5))
+    (λ c. search (passes-here, head-part, steps-fine, head-rule, head-held)))

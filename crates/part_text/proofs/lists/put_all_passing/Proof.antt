@@ -1,0 +1,32 @@
+-- `part_text::lists::put_all_passing` meets its contract. The invariant: the lines before part j + 1 are put. Assumes nothing.
+use mathlib.Core.Path.{_≡_, refl}
+use Prim.Native.Nat.{_-_, _≤_}
+use lib.ListN.{length}
+use Rattle.vocabulary.specs.Ranges.{blocks}
+use Rattle.text.specs.Printing.{Printed}
+use Rattle.range_text.specs.Lines.{passing}
+use Rattle.range_text.proofs.PartLaws.{texts-start, passing-turn, texts-end}
+use borrow.Author.Needs.{needs}
+use Rattle.part_text.proofs.lists.put_all_passing.Statement.{statement}
+use Rattle.part_text.proofs.lists.put_all_passing.Tie as tie
+
+abbrev Inv-loop : tie.InvT-loop
+Inv-loop wanted label m parts owners st table ends held i out₀ at t₀ j₀ out t j = (j ≤ parts) × (length out ≡ length out₀) × Printed out₀ out at t (blocks 1 j (passing m parts owners st wanted label i))
+
+abbrev μ-loop : tie.MeasureT-loop
+μ-loop wanted label m parts owners st table ends held i out₀ at t₀ j₀ out t j = parts - j
+
+pub put-all-passing-spec : {M : Type 1} → statement M
+put-all-passing-spec =
+    tie.close
+    (tie.spec
+    Inv-loop
+    μ-loop
+    (λ c. (search needs, refl, search texts-start))
+    (λ c. search needs)
+    (λ c κs. search needs)
+    (λ c. search needs)
+    (λ c. search needs)
+    (λ c. (search needs, search needs, search passing-turn))
+    (λ c. search needs)
+    (λ c. search texts-end))
