@@ -15,17 +15,18 @@ use contract.Lifetimes.{Lfts}
 use types.Kit.{Given, ‵, _⊛_, given, _$_, _∵_, !, qed, move, drop, use1, split, learn, fsplit, fjoin, frame, done}
 use denote.RattleType.{RattleType, owns}
 use denote.Laws.{Is}
-use denote.Plain.{uint-makes}
+use denote.Plain.{uint-vals, uint-tells, uint-lawful, uint-makes}
 use denote.Builtin.{u8, usize}
 use denote.Ref.{RefT}
-use denote.Signature.{namedLft}
-use denote.Slice.{sliceVal, ShrSlice, shr-slice-copy}
+use denote.Signature.{plain, shrSliceOf, namedLft}
+use denote.Slice.{sliceVal, ShrSlice, slice-vals, shr-slice-tells, shr-slice-lawful, shr-slice-copy}
 use denote.Steps.{owned, nothing}
 use denote.Struct.Declared.{Declared}
 use denote.Struct.Laws as LL
 use denote.Struct.Rest.{all-own, ownAt, rest, own-open, own-out}
 use denote.Struct.Values.{Values}
 use Rattle.mesh.specs.declared.reader.ChainReader.{ChainReader}
+use Rattle.mesh.proofs.ReaderWalks.{Told}
 use Rattle.mesh.proofs.reader.ChainReader as T
 use Rattle.mesh.proofs.reader.ChainReader.Laws as T′
 
@@ -38,6 +39,34 @@ L κs = T′.the-laws (namedLft 1 0 tt κs)
 
 abbrev pub Reader : Lfts 1 → RattleType
 Reader κs = T.the-row (namedLft 1 0 tt κs)
+
+-- the three types of parameter: a reader, a slice of bytes and a number
+abbrev pub reader : Told {n = 1} (plain Reader)
+reader = record {
+  vals = λ κs. LL.vals (D κs) (L κs);
+  tells = λ κs. LL.tells (D κs) (L κs);
+  lawful = λ 𝓤 H A W κs. LL.lawful (D κs) (L κs) 𝓤 H A W;
+  last = λ κs k x. tt;
+  silent = λ κs k x w. refl;
+}
+
+abbrev pub bytes-of : Told (shrSliceOf {n = 1} (0 ∷ []) tt (plain (λ _. u8)))
+bytes-of = record {
+  vals = λ κs. slice-vals;
+  tells = λ κs. shr-slice-tells (named 0) (κs .0) u8;
+  lawful = λ 𝓤 H A W κs. shr-slice-lawful 𝓤 H A W (named 0) (κs .0) u8;
+  last = λ κs k x. tt;
+  silent = λ κs k x w. refl;
+}
+
+abbrev pub number : Told {n = 1} (plain (λ _. usize))
+number = record {
+  vals = λ κs. uint-vals w64;
+  tells = λ κs. uint-tells w64;
+  lawful = λ 𝓤 H A W κs. uint-lawful 𝓤 H A W w64;
+  last = λ κs k x. tt;
+  silent = λ κs k x w. refl;
+}
 
 -- the machine values of its slice, and of what is passed to a function over the bytes
 abbrev pub slice : ChainReader → Val
