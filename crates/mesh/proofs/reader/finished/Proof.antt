@@ -31,7 +31,7 @@ use denote.Triple.Walked.{says, Stays, stay-none, walkOf, goes-none, Walks, ends
 use denote.Exit.{yes}
 use Rattle.mesh.specs.declared.reader.ChainReader.{ChainReader}
 use Rattle.mesh.proofs.ReaderType.{reader}
-use Rattle.mesh.proofs.ReaderWalks.{by-walk}
+use Rattle.mesh.proofs.ReaderWalks.{by-walk, free-all}
 use Rattle.mesh.proofs.reader.ChainReader.Laws as T′
 use Rattle.mesh.proofs.reader.finished.Key.{name as #finished}
 use Rattle.mesh.proofs.reader.finished as finished
@@ -46,5 +46,5 @@ finished-spec 𝓤 H 𝓜 𝓖 𝓡 =
     -- [_2; …; _1; …; room for _0; …; the token; what c owns]
     assigns ! (of-opd ! (load ! (from ! (fld ! refl (stop !))) (look-in ! 2 (sub ! 1 refl (whole !))))) (from ! (stop !)) (init ! 0 refl (tt, wt .0 .1 .1 .0)) $
     assigns ! (bin ! (load ! (from ! (stop !)) (look ! 0 refl)) (lit ! tt) tt) (from ! (stop !)) (init ! 4 refl (tt, tt)) $
-    returns ! (look ! 4 refl) $ forget ! 0 refl $ forget ! 2 refl $ forget ! 4 refl $ move ! (4 ∷ 5 ∷ []) $ free1 ! $ move ! (2 ∷ 3 ∷ []) $ free1 ! $ free1 ! $ free0 ! $
+    returns ! (look ! 4 refl) $ free-all ! 0 _ _ refl $
     move ! (1 ∷ []) $ drop ! $ owned ! bool (Is bool) (bool-makes 𝓤 H (𝓖 .A) W) (eqb (c .index) 0) _ refl $ move ! (1 ∷ 0 ∷ []) $ by ! (ends _ (eqb (c .index) 0) (factI 𝓤 _ _ refl))))))
