@@ -4,10 +4,9 @@ use mathlib.Core.Path.{refl}
 use mathlib.Core.List.{[], _∷_}
 use contract.Monad.{factI}
 use types.Kit.{_$_, !, by, move, drop}
-use types.Part.{whole, sub, look-in}
-use types.Run.{look, init, stop, fld, from, load, of-opd, assigns, returns, alloc1, alloc0, params1, pass1, pass0}
+use types.Run.{look, init, stop, from, assigns, returns}
 use Rattle.mesh.proofs.ReaderType.{reader, counted}
-use Rattle.mesh.proofs.ReaderWalks.{by-walk, free-all}
+use Rattle.mesh.proofs.ReaderWalks.{by-walk, starts, free-all, part-of}
 use Rattle.mesh.proofs.reader.record_of.Key.{name as #record-of}
 use Rattle.mesh.proofs.reader.record_of as record-of
 use Rattle.mesh.proofs.reader.record_of.Statement as stated
@@ -16,9 +15,8 @@ use Rattle.mesh.proofs.reader.record_of.Code as code
 pub record-of-spec : {M : Type 1} → stated.statement M
 unfolding code.routine
 record-of-spec 𝓤 H 𝓜 𝓖 𝓡 =
-    by-walk 𝓤 H 𝓜 𝓖 𝓡 code.env #record-of code.function (code.unfolded 𝓤 H 𝓜 𝓡) record-of.ended (reader, tt) (record-of.clauses 𝓤 H (𝓖 .A) (𝓜 .mem) (𝓡 .run)) (λ W fm κs qs c wt g Post ends.
-    drop ! $ alloc1 ! (λ l₀. alloc1 ! (λ l₁. alloc0 ! $ params1 ! $ pass1 ! (init ! 0 refl (wt .0)) $ pass0 ! $
-    -- [_1; …; room for _0; …; the token; what c owns]
-    assigns ! (of-opd ! (load ! (from ! (fld ! refl (stop !))) (look-in ! 0 (sub ! 1 refl (whole !))))) (from ! (stop !)) (init ! 2 refl (tt, wt .0 .1 .1 .0)) $
-    returns ! (look ! 2 refl) $ free-all ! 0 _ _ refl $ move ! (1 ∷ []) $ drop ! $
-    counted ! (c .index) (wt .0 .1 .1 .0 .fits) $ move ! (1 ∷ 0 ∷ []) $ by ! (ends _ (c .index) (factI 𝓤 _ _ refl)))))
+    by-walk 𝓤 H 𝓜 𝓖 𝓡 code.env #record-of code.function (code.unfolded 𝓤 H 𝓜 𝓡) record-of.ended (reader, tt) (record-of.clauses 𝓤 H (𝓖 .A) (𝓜 .mem) (𝓡 .run)) (λ W fm κs qs c ct g Post ends.
+    drop ! $ starts ! (ct .0, tt) (λ b bs.
+    -- [room for _0; …; _1; …; the token; what c owns]
+    assigns ! (part-of ! 2 1 refl refl refl) (from ! (stop !)) (init ! 0 refl (tt, ct .0 .1 .1 .0)) $ returns ! (look ! 0 refl) $ free-all ! 0 _ _ refl $ move ! (1 ∷ []) $ drop ! $
+    counted ! (c .index) (ct .0 .1 .1 .0 .fits) $ move ! (1 ∷ 0 ∷ []) $ by ! (ends _ (c .index) (factI 𝓤 _ _ refl))))
