@@ -3,11 +3,11 @@
 use mathlib.Core.Path.{refl}
 use mathlib.Core.List.{[], _∷_}
 use contract.Monad.{factI}
-use types.Kit.{_$_, !, by, move}
-use types.Run.{look, init, stop, from, and-then, no-more, assigns, land, returns}
+use types.Kit.{_$_, !, move}
+use types.Run.{and-then, no-more}
 use denote.Steps.{heard}
 use Rattle.mesh.proofs.ReaderType.{reader, bytes-of, number, lends}
-use Rattle.mesh.proofs.ReaderWalks.{by-walk, calls-met, starts, free-all, cell, part-of}
+use Rattle.mesh.proofs.ReaderWalks.{by-walk, calls-met, starts, leaves, cell, part-of, sets, takes}
 use Rattle.mesh.proofs.reader.element_in as element-in
 use Rattle.mesh.proofs.reader.element_in.Met as element-in-thm
 use Rattle.mesh.proofs.reader.element_of.Key.{name as #element-of}
@@ -18,12 +18,12 @@ use Rattle.mesh.proofs.reader.element_of.Code as code
 pub element-of-spec : {M : Type 1} → stated.statement M
 unfolding code.routine
 element-of-spec 𝓤 H 𝓜 𝓖 𝓡 =
-    by-walk 𝓤 H 𝓜 𝓖 𝓡 code.env #element-of code.function (code.unfolded 𝓤 H 𝓜 𝓡) element-of.ended (reader, (number, tt)) (element-of.clauses 𝓤 H (𝓖 .A) (𝓜 .mem) (𝓡 .run)) (λ W fm κs qs c ct n nt g Post ends.
+    by-walk 𝓤 H 𝓜 𝓖 𝓡 code.env #element-of code.function (code.unfolded 𝓤 H 𝓜 𝓡) element-of.ended (reader, (number, tt)) (element-of.clauses 𝓤 H) (λ W fm κs qs c ct n nt g Post ends.
     heard ! _ (λ ok. starts ! (ct .0, (nt .0, tt)) (λ b bs.
     -- [room for _0; …; _1; …; _2; …; room for _3; …; room for _4; …; the token; what c and n own]
-    assigns ! (part-of ! 2 0 refl refl refl) (from ! (stop !)) (init ! 6 refl (tt, ct .0 .1 .0)) $ assigns ! (part-of ! 2 1 refl refl refl) (from ! (stop !)) (init ! 8 refl (tt, ct .0 .1 .1 .0)) $
+    sets ! 6 (part-of ! 2 0 refl refl refl) refl (tt, ct .0 .1 .0) $ sets ! 8 (part-of ! 2 1 refl refl refl) refl (tt, ct .0 .1 .1 .0) $
     move ! (11 ∷ []) $ lends W κs c n (ct .0 .1 .1 .0 .fits) $ move ! (0 ∷ 11 ∷ []) $
-    calls-met W 𝓡 code.env fm element-in.ended (bytes-of, (number, (number, tt))) number (element-in.clauses 𝓤 H (𝓖 .A) (𝓜 .mem) (𝓡 .run)) κs qs tt (c .mesh, (n, (c .index, tt))) tt code.calls-mesh·reader·element-in (element-in-thm.met 𝓤 H 𝓜 𝓖 𝓡) (factI 𝓤 _ _ ok)
+    calls-met W 𝓡 code.env fm element-in.ended (bytes-of, (number, (number, tt))) number (element-in.clauses 𝓤 H) κs qs tt (c .mesh, (n, (c .index, tt))) tt code.calls-mesh·reader·element-in (element-in-thm.met 𝓤 H 𝓜 𝓖 𝓡) (factI 𝓤 _ _ ok)
     (and-then ! (cell ! 7 refl) (and-then ! (cell ! 5 refl) (and-then ! (cell ! 9 refl) (no-more !)))) (λ x ws xt. heard ! _ (λ said.
     -- [what the element owns; the token; room for _0; …; .. _4; …]
-    land ! (from ! (stop !)) (init ! 2 refl (xt .0)) $ returns ! (look ! 2 refl) $ free-all ! 2 _ _ refl $ move ! (1 ∷ 0 ∷ []) $ by ! (ends _ x (factI 𝓤 _ _ said)))))))
+    takes ! 2 refl (xt .0) $ leaves ! 2 refl _ _ refl $ ends _ x (factI 𝓤 _ _ said))))))

@@ -6,16 +6,16 @@ use Prim.Native.Nat.{ℕ, _<_}
 use mathlib.Core.List.{List, [], _∷_}
 use base.Logic.{id⊢}
 use contract.Monad.{factI}
-use types.Kit.{_$_, !, by, move, drop, use1, ‵, fsplit}
+use types.Kit.{_$_, !, move, drop, use1, ‵, fsplit}
 use types.Part.{agg}
-use types.Run.{look, init, stop, from, of-opd, and-then, no-more, assigns, land, returns}
+use types.Run.{of-opd, and-then, no-more}
 use denote.Ref.{RefT, now}
 use denote.Steps.{heard}
 use denote.Struct.Rest.{own-shut}
 use Rattle.mesh.specs.Mesh.{elements, elementIn, nextOf}
 use Rattle.mesh.specs.declared.reader.ChainReader.{ChainReader}
 use Rattle.mesh.proofs.ReaderType.{reader, bytes-of, number, counted, and-number, alone, twice}
-use Rattle.mesh.proofs.ReaderWalks.{by-walk, calls-met, starts, free-all, cell}
+use Rattle.mesh.proofs.ReaderWalks.{by-walk, calls-met, starts, leaves, cell, sets, takes}
 use Rattle.mesh.proofs.reader.Record as R
 use Rattle.mesh.proofs.reader.Record.Laws as R′
 use Rattle.mesh.proofs.reader.at_record as at-record
@@ -49,28 +49,28 @@ module _ (m : RefT (List ℕ)) (n i : ℕ) (c : ChainReader) (at : (c .mesh ≡ 
 pub read-record-spec : {M : Type 1} → stated.statement M
 unfolding code.routine
 read-record-spec 𝓤 H 𝓜 𝓖 𝓡 =
-    by-walk 𝓤 H 𝓜 𝓖 𝓡 code.env #read-record code.function (code.unfolded 𝓤 H 𝓜 𝓡) read-record.ended (bytes-of, (number, (number, tt))) (read-record.clauses 𝓤 H (𝓖 .A) (𝓜 .mem) (𝓡 .run)) (λ W fm κs qs m mt n nt i it g Post ends.
+    by-walk 𝓤 H 𝓜 𝓖 𝓡 code.env #read-record code.function (code.unfolded 𝓤 H 𝓜 𝓡) read-record.ended (bytes-of, (number, (number, tt))) (read-record.clauses 𝓤 H) (λ W fm κs qs m mt n nt i it g Post ends.
     heard ! _ (λ ok. starts ! (mt .0, (nt .0, (it .0, tt))) (λ b bs.
     -- [room for _0; …; _1; …; _2; …; _3; …; room for _4; …; .. _9; …; the token; what the parameters own]
     move ! (21 ∷ []) $ fsplit ! $ move ! (1 ∷ []) $ drop ! $ and-number ! i (it .0 .1 .fits) $ move ! (0 ∷ 21 ∷ []) $
-    calls-met W 𝓡 code.env fm at-record.ended (bytes-of, (number, tt)) reader (at-record.clauses 𝓤 H (𝓖 .A) (𝓜 .mem) (𝓡 .run)) κs qs tt (m, (i, tt)) tt code.calls-mesh·reader·at-record (at-record-thm.met 𝓤 H 𝓜 𝓖 𝓡) (id⊢ 𝓤 _)
+    calls-met W 𝓡 code.env fm at-record.ended (bytes-of, (number, tt)) reader (at-record.clauses 𝓤 H) κs qs tt (m, (i, tt)) tt code.calls-mesh·reader·at-record (at-record-thm.met 𝓤 H 𝓜 𝓖 𝓡) (id⊢ 𝓤 _)
     (and-then ! (cell ! 3 refl) (and-then ! (cell ! 7 refl) (no-more !))) (λ c ws ct. heard ! _ (λ at.
     -- [what c owns; the token; _0; …; .. _9; …]
-    land ! (from ! (stop !)) (init ! 10 refl (tt, ct .0 .1)) $ assigns ! (of-opd ! (cell ! 10 refl)) (from ! (stop !)) (init ! 14 refl (tt, ct .0 .1)) $
+    takes ! 10 refl (tt, ct .0 .1) $ sets ! 14 (of-opd ! (cell ! 10 refl)) refl (tt, ct .0 .1) $
     twice W κs c $ and-number ! n (nt .0 .1 .fits) $ move ! (0 ∷ 2 ∷ []) $
-    calls-met W 𝓡 code.env fm element-of.ended (reader, (number, tt)) number (element-of.clauses 𝓤 H (𝓖 .A) (𝓜 .mem) (𝓡 .run)) κs qs tt (c, (n, tt)) tt code.calls-mesh·reader·element-of (element-of-thm.met 𝓤 H 𝓜 𝓖 𝓡) (factI 𝓤 _ _ (asked m n i c at ok))
+    calls-met W 𝓡 code.env fm element-of.ended (reader, (number, tt)) number (element-of.clauses 𝓤 H) κs qs tt (c, (n, tt)) tt code.calls-mesh·reader·element-of (element-of-thm.met 𝓤 H 𝓜 𝓖 𝓡) (factI 𝓤 _ _ (asked m n i c at ok))
     (and-then ! (cell ! 14 refl) (and-then ! (cell ! 6 refl) (no-more !))) (λ x ws₁ xt. heard ! _ (λ said. drop ! $
     -- [the token; what c owns; _0; …; .. _9; …]
-    land ! (from ! (stop !)) (init ! 12 refl (xt .0)) $ assigns ! (of-opd ! (cell ! 10 refl)) (from ! (stop !)) (init ! 20 refl (tt, ct .0 .1)) $
+    takes ! 12 refl (xt .0) $ sets ! 20 (of-opd ! (cell ! 10 refl)) refl (tt, ct .0 .1) $
     move ! (1 ∷ []) $ and-number ! n (nt .0 .1 .fits) $
-    calls-met W 𝓡 code.env fm moved-on.ended (reader, (number, tt)) reader (moved-on.clauses 𝓤 H (𝓖 .A) (𝓜 .mem) (𝓡 .run)) κs qs tt (c, (n, tt)) tt code.calls-mesh·reader·moved-on (moved-on-thm.met 𝓤 H 𝓜 𝓖 𝓡) (factI 𝓤 _ _ (asked m n i c at ok))
+    calls-met W 𝓡 code.env fm moved-on.ended (reader, (number, tt)) reader (moved-on.clauses 𝓤 H) κs qs tt (c, (n, tt)) tt code.calls-mesh·reader·moved-on (moved-on-thm.met 𝓤 H 𝓜 𝓖 𝓡) (factI 𝓤 _ _ (asked m n i c at ok))
     (and-then ! (cell ! 19 refl) (and-then ! (cell ! 5 refl) (no-more !))) (λ d ws₂ dt. heard ! _ (λ moved.
     -- [what d owns; the token; _0; …; .. _9; …]
-    land ! (from ! (stop !)) (init ! 18 refl (tt, dt .0 .1)) $ alone ! $
-    calls-met W 𝓡 code.env fm record-of.ended (reader, tt) number (record-of.clauses 𝓤 H (𝓖 .A) (𝓜 .mem) (𝓡 .run)) κs qs tt (d, tt) tt code.calls-mesh·reader·record-of (record-of-thm.met 𝓤 H 𝓜 𝓖 𝓡) (id⊢ 𝓤 _)
+    takes ! 18 refl (tt, dt .0 .1) $ alone ! $
+    calls-met W 𝓡 code.env fm record-of.ended (reader, tt) number (record-of.clauses 𝓤 H) κs qs tt (d, tt) tt code.calls-mesh·reader·record-of (record-of-thm.met 𝓤 H 𝓜 𝓖 𝓡) (id⊢ 𝓤 _)
     (and-then ! (cell ! 17 refl) (no-more !)) (λ h ws₃ ht. heard ! _ (λ is. drop ! $
     -- [the token; _0; …; .. _9; …]
-    land ! (from ! (stop !)) (init ! 15 refl (ht .0)) $ assigns ! (agg ! (and-then ! (cell ! 11 refl) (and-then ! (cell ! 15 refl) (no-more !)))) (from ! (stop !)) (init ! 1 refl (tt, (xt .0 .1, (ht .0 .1, tt)))) $
-    returns ! (look ! 1 refl) $ free-all ! 1 _ _ refl $
+    takes ! 15 refl (ht .0) $ sets ! 1 (agg ! (and-then ! (cell ! 11 refl) (and-then ! (cell ! 15 refl) (no-more !)))) refl (tt, (xt .0 .1, (ht .0 .1, tt))) $
+    leaves ! 1 refl _ _ refl $
     counted ! x (xt .0 .1 .fits) $ and-number ! h (ht .0 .1 .fits) $ use1 W (‵ (R.the-row .own (record { element = x; next = h }) (R′.lowered (record { element = x; next = h }) ∷ []))) (own-shut 𝓤 H (𝓖 .A) W R.the-type R′.the-laws (x, (h, tt))) $
-    move ! (1 ∷ 0 ∷ []) $ by ! (ends _ (record { element = x; next = h }) (factI 𝓤 _ _ (told m n i c at x h d said moved is))))))))))))))
+    ends _ (record { element = x; next = h }) (factI 𝓤 _ _ (told m n i c at x h d said moved is)))))))))))))

@@ -3,10 +3,9 @@
 use mathlib.Core.Path.{refl}
 use mathlib.Core.List.{[], _∷_}
 use contract.Monad.{factI}
-use types.Kit.{_$_, !, by, move, drop}
-use types.Run.{look, init, stop, from, assigns, returns}
+use types.Kit.{_$_, !, move, drop}
 use Rattle.mesh.proofs.ReaderType.{reader, counted}
-use Rattle.mesh.proofs.ReaderWalks.{by-walk, starts, free-all, part-of}
+use Rattle.mesh.proofs.ReaderWalks.{by-walk, starts, leaves, part-of, sets}
 use Rattle.mesh.proofs.reader.record_of.Key.{name as #record-of}
 use Rattle.mesh.proofs.reader.record_of as record-of
 use Rattle.mesh.proofs.reader.record_of.Statement as stated
@@ -15,8 +14,8 @@ use Rattle.mesh.proofs.reader.record_of.Code as code
 pub record-of-spec : {M : Type 1} → stated.statement M
 unfolding code.routine
 record-of-spec 𝓤 H 𝓜 𝓖 𝓡 =
-    by-walk 𝓤 H 𝓜 𝓖 𝓡 code.env #record-of code.function (code.unfolded 𝓤 H 𝓜 𝓡) record-of.ended (reader, tt) (record-of.clauses 𝓤 H (𝓖 .A) (𝓜 .mem) (𝓡 .run)) (λ W fm κs qs c ct g Post ends.
+    by-walk 𝓤 H 𝓜 𝓖 𝓡 code.env #record-of code.function (code.unfolded 𝓤 H 𝓜 𝓡) record-of.ended (reader, tt) (record-of.clauses 𝓤 H) (λ W fm κs qs c ct g Post ends.
     drop ! $ starts ! (ct .0, tt) (λ b bs.
     -- [room for _0; …; _1; …; the token; what c owns]
-    assigns ! (part-of ! 2 1 refl refl refl) (from ! (stop !)) (init ! 0 refl (tt, ct .0 .1 .1 .0)) $ returns ! (look ! 0 refl) $ free-all ! 0 _ _ refl $ move ! (1 ∷ []) $ drop ! $
-    counted ! (c .index) (ct .0 .1 .1 .0 .fits) $ move ! (1 ∷ 0 ∷ []) $ by ! (ends _ (c .index) (factI 𝓤 _ _ refl))))
+    sets ! 0 (part-of ! 2 1 refl refl refl) refl (tt, ct .0 .1 .1 .0) $ leaves ! 0 refl _ _ refl $ move ! (1 ∷ []) $ drop ! $
+    counted ! (c .index) (ct .0 .1 .1 .0 .fits) $ ends _ (c .index) (factI 𝓤 _ _ refl)))
