@@ -14,7 +14,7 @@ use denote.Steps.{heard}
 use denote.Struct.Rest.{own-shut}
 use Rattle.mesh.specs.Mesh.{elements, elementIn, nextOf}
 use Rattle.mesh.specs.declared.reader.ChainReader.{ChainReader}
-use Rattle.mesh.proofs.ReaderType.{reader, bytes-of, number, counted, and-number, alone, twice}
+use Rattle.mesh.proofs.ReaderType.{reader, bytes, number, counted, and-number, alone, twice}
 use Rattle.mesh.proofs.ReaderWalks.{by-walk, calls-met, starts, leaves, cell, sets, takes}
 use Rattle.mesh.proofs.reader.Record as R
 use Rattle.mesh.proofs.reader.Record.Laws as R′
@@ -49,11 +49,11 @@ module _ (m : RefT (List ℕ)) (n i : ℕ) (c : ChainReader) (at : (c .mesh ≡ 
 pub read-record-spec : {M : Type 1} → stated.statement M
 unfolding code.routine
 read-record-spec 𝓤 H 𝓜 𝓖 𝓡 =
-    by-walk 𝓤 H 𝓜 𝓖 𝓡 code.env #read-record code.function (code.unfolded 𝓤 H 𝓜 𝓡) read-record.ended (bytes-of, (number, (number, tt))) (read-record.clauses 𝓤 H) (λ W fm κs qs m mt n nt i it g Post ends.
+    by-walk 𝓤 H 𝓜 𝓖 𝓡 code.env #read-record code.function (code.unfolded 𝓤 H 𝓜 𝓡) read-record.ended (bytes, (number, (number, tt))) (read-record.clauses 𝓤 H) (λ W fm κs qs m mt n nt i it g Post ends.
     heard ! _ (λ ok. starts ! (mt .0, (nt .0, (it .0, tt))) (λ b bs.
     -- [room for _0; …; _1; …; _2; …; _3; …; room for _4; …; .. _9; …; the token; what the parameters own]
     move ! (21 ∷ []) $ fsplit ! $ move ! (1 ∷ []) $ drop ! $ and-number ! i (it .0 .1 .fits) $ move ! (0 ∷ 21 ∷ []) $
-    calls-met W 𝓡 code.env fm at-record.ended (bytes-of, (number, tt)) reader (at-record.clauses 𝓤 H) κs qs tt (m, (i, tt)) tt code.calls-mesh·reader·at-record (at-record-thm.met 𝓤 H 𝓜 𝓖 𝓡) (id⊢ 𝓤 _)
+    calls-met W 𝓡 code.env fm at-record.ended (bytes, (number, tt)) reader (at-record.clauses 𝓤 H) κs qs tt (m, (i, tt)) tt code.calls-mesh·reader·at-record (at-record-thm.met 𝓤 H 𝓜 𝓖 𝓡) (id⊢ 𝓤 _)
     (and-then ! (cell ! 3 refl) (and-then ! (cell ! 7 refl) (no-more !))) (λ c ws ct. heard ! _ (λ at.
     -- [what c owns; the token; _0; …; .. _9; …]
     takes ! 10 refl (tt, ct .0 .1) $ sets ! 14 (of-opd ! (cell ! 10 refl)) refl (tt, ct .0 .1) $
