@@ -220,6 +220,13 @@ module _ {M : Type 1} {𝓤 : URA M} where
   behind (suc n) [] = []
   behind (suc n) (i ∷ Γ) = behind n Γ
 
+  -- what stands behind the locals
+  abbrev past : List (Ty × ℕ) → List (Item 𝓤) → List (Item 𝓤)
+  past [] Γ = Γ
+  past (e ∷ E) [] = []
+  past (e ∷ E) (i ∷ []) = []
+  past (e ∷ E) (i ∷ j ∷ Γ) = past E Γ
+
   whole-again : (n : ℕ) (Γ : List (Item 𝓤)) → Γ ≡ ahead n Γ ++ behind n Γ
   whole-again zero Γ = refl
   whole-again (suc n) [] = refl
@@ -270,10 +277,10 @@ module _ {M : Type 1} {𝓤 : URA M} {H : Heap 𝓤} {A : Atoms 𝓤} {W : Given
 
   -- a body ends: the first n entries are kept, and after them stand the locals, the result first, which are freed, whatever they hold
   pub leaves : Go {0} → (n : ℕ) {E : Places 𝓤 H} {C : Calls 𝓤 H} {Λ : Loops 𝓤 H} {Post : Val → SProp 𝓤} {q : Share} {v : Val} → nth 𝓤 H A n Γ ≡ ‵ (fat q (spotOf 𝓤 H E 0 .0) (spotOf 𝓤 H E 0 .1) 0 v)
-      → (vs : Held E) (Δ : List (Item 𝓤)) → behind n Γ ≡ held-in E vs Δ → Step (Go {0}) W (ahead n Γ ++ Δ) (prop (Post v)) Γ (runs C Λ E return (atRet E Post))
-  leaves t n {E} {Post = Post} {v = v} at vs Δ e = step (λ s. returns ! (look ! n at) $ record {
+      → (vs : Held E) → behind n Γ ≡ held-in E vs (past E (behind n Γ)) → Step (Go {0}) W (ahead n Γ ++ past E (behind n Γ)) (prop (Post v)) Γ (runs C Λ E return (atRet E Post))
+  leaves t n {E} {Post = Post} {v = v} at vs e = step (λ s. returns ! (look ! n at) $ record {
     prf = subst (λ (Γ′ : List (Item 𝓤)). ent 𝓤 (⋆ 𝓤 H A Γ′) (release 𝓤 H E (Post v))) (sym (whole-again n Γ ∙ ap (λ (Γ′ : List (Item 𝓤)). ahead n Γ ++ Γ′) e))
-        (via 𝓤 _ (⊢++ 𝓤 H A (ahead n Γ) (held-in E vs Δ)) (let-go 𝓤 H A W E vs (⋆ 𝓤 H A (ahead n Γ)) (Post v) Δ (via 𝓤 _ (++⊢ 𝓤 H A (ahead n Γ) Δ) (s .prf))));
+        (via 𝓤 _ (⊢++ 𝓤 H A (ahead n Γ) (held-in E vs (past E (behind n Γ)))) (let-go 𝓤 H A W E vs (⋆ 𝓤 H A (ahead n Γ)) (Post v) (past E (behind n Γ)) (via 𝓤 _ (++⊢ 𝓤 H A (ahead n Γ) (past E (behind n Γ))) (s .prf))));
   })
 
 module _ {M : Type 1} {𝓤 : URA M} {H : Heap 𝓤} {A : Atoms 𝓤} {W : Given 𝓤 H A} {Γ : List (Item 𝓤)} {E : Places 𝓤 H} {i : ℕ} where

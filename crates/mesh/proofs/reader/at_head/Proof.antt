@@ -27,5 +27,5 @@ at-head-spec 𝓤 H 𝓜 𝓖 𝓡 =
     (and-then ! (cell ! 4 refl) (and-then ! (cell ! 6 refl) (no-more !))) (λ h ws ht. heard ! _ (λ said. drop ! $
     -- [the token; what m owns; room for _0; …; _1; …; _2; …; room for _3; …]
     takes ! 8 refl (ht .0) $ sets ! 2 (agg ! (and-then ! (cell ! 4 refl) (and-then ! (cell ! 8 refl) (no-more !)))) refl (tt, (mt .0 .1, (ht .0 .1, tt))) $
-    leaves ! 2 refl _ _ refl $
+    leaves ! 2 refl _ refl $
     move ! (1 ∷ []) $ and-number ! h (ht .0 .1 .fits) $ made W κs m h $ ends _ (record { mesh = m; index = h }) (factI 𝓤 _ _ (refl, said .0)))))))

@@ -19,5 +19,5 @@ at-record-spec 𝓤 H 𝓜 𝓖 𝓡 =
     by-walk 𝓤 H 𝓜 𝓖 𝓡 code.env #at-record code.function (code.unfolded 𝓤 H 𝓜 𝓡) at-record.ended (bytes, (number, tt)) (at-record.clauses 𝓤 H) (λ W fm κs qs m mt i it g Post ends.
     drop ! $ starts ! (mt .0, (it .0, tt)) (λ b bs.
     -- [room for _0; …; _1; …; _2; …; the token; what m and i own]
-    sets ! 0 (agg ! (and-then ! (cell ! 2 refl) (and-then ! (cell ! 4 refl) (no-more !)))) refl (tt, (mt .0 .1, (it .0 .1, tt))) $ leaves ! 0 refl _ _ refl $
+    sets ! 0 (agg ! (and-then ! (cell ! 2 refl) (and-then ! (cell ! 4 refl) (no-more !)))) refl (tt, (mt .0 .1, (it .0 .1, tt))) $ leaves ! 0 refl _ refl $
     move ! (1 ∷ []) $ made W κs m i $ ends _ (record { mesh = m; index = i }) (factI 𝓤 _ _ (refl, refl))))

@@ -24,5 +24,5 @@ finished-spec 𝓤 H 𝓜 𝓖 𝓡 =
     drop ! $ starts ! (ct .0, tt) (λ b bs.
     -- [room for _0; …; _1; …; room for _2; …; the token; what c owns]
     sets ! 4 (part-of ! 2 1 refl refl refl) refl (tt, ct .0 .1 .1 .0) $ sets ! 0 (bin ! (cell ! 4 refl) (lit ! tt) tt) refl (tt, tt) $
-    leaves ! 0 refl _ _ refl $ move ! (1 ∷ []) $ drop ! $
+    leaves ! 0 refl _ refl $ move ! (1 ∷ []) $ drop ! $
     owned ! bool (Is bool) (bool-makes 𝓤 H (𝓖 .A) W) (eqb (c .index) 0) _ refl $ ends _ (eqb (c .index) 0) (factI 𝓤 _ _ refl)))

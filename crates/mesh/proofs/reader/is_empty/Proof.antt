@@ -33,4 +33,4 @@ is-empty-spec 𝓤 H 𝓜 𝓖 𝓡 =
     calls-met W 𝓡 code.env fm finished.ended (reader, tt) truth (finished.clauses 𝓤 H) κs qs tt (c, tt) tt code.calls-mesh·reader·finished (finished-thm.met 𝓤 H 𝓜 𝓖 𝓡) (id⊢ 𝓤 _)
     (and-then ! (cell ! 7 refl) (no-more !)) (λ d ws₁ dt. heard ! _ (λ told.
     -- [what the answer owns; the token; room for _0; …; .. _3; …]
-    takes ! 2 refl (dt .0) $ leaves ! 2 refl _ _ refl $ ends _ d (factI 𝓤 _ _ (told ∙ ap (λ i. eqb i 0) (at .1))))))))))
+    takes ! 2 refl (dt .0) $ leaves ! 2 refl _ refl $ ends _ d (factI 𝓤 _ _ (told ∙ ap (λ i. eqb i 0) (at .1))))))))))

@@ -29,5 +29,5 @@ moved-on-spec 𝓤 H 𝓜 𝓖 𝓡 =
     (and-then ! (cell ! 12 refl) (and-then ! (cell ! 6 refl) (and-then ! (cell ! 14 refl) (no-more !)))) (λ x ws xt. heard ! _ (λ said. drop ! $
     -- [the token; what c owns; room for _0; …; .. _6; …]
     takes ! 10 refl (xt .0) $ sets ! 2 (agg ! (and-then ! (cell ! 8 refl) (and-then ! (cell ! 10 refl) (no-more !)))) refl (tt, (ct .0 .1 .0, (xt .0 .1, tt))) $
-    leaves ! 2 refl _ _ refl $
+    leaves ! 2 refl _ refl $
     move ! (1 ∷ []) $ opened W κs c $ and-number ! x (xt .0 .1 .fits) $ made W κs (c .mesh) x $ ends _ (record { mesh = c .mesh; index = x }) (factI 𝓤 _ _ (refl, said .0, said .1)))))))
