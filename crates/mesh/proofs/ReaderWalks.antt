@@ -129,7 +129,8 @@ module _ {M : Type 1} {𝓤 : URA M} {H : Heap 𝓤} {A : Atoms 𝓤} (W : Given
 
 module _ {M : Type 1} (𝓤 : URA M) (H : Heap 𝓤) (𝓜 : Model 𝓤 H) (𝓖 : GhostRules 𝓤 H) (𝓡 : Running 𝓤 H 𝓜) (γ : Env) (k : Name) (f : Fn) (closed : Closed 𝓤 H (tables 𝓤 H 𝓜 𝓡 γ .C) (tables 𝓤 H 𝓜 𝓡 γ .Λ) k f) where
   -- a function's theorem, by a walk of its MIR
-  pub by-walk : (T : Ended) (ts : Tolds (T .signature .params)) (c : (A : Atoms 𝓤) (mem : Memory → SProp 𝓤) (run : Routine → Fun 𝓤) → Clauses 𝓤 T) → ((W : Given 𝓤 H (𝓖 .A)) → FmC 𝓤 H (W .laws) (tables 𝓤 H 𝓜 𝓡 γ .C) → Walk W T ts (c (𝓖 .A) (𝓜 .mem) (𝓡 .run)) (tables 𝓤 H 𝓜 𝓡 γ .C) (tables 𝓤 H 𝓜 𝓡 γ .Λ) f)
+  pub by-walk : (T : Ended) (ts : Tolds (T .signature .params)) (c : (A : Atoms 𝓤) (mem : Memory → SProp 𝓤) (run : Routine → Fun 𝓤) → Clauses 𝓤 T)
+      → ((W : Given 𝓤 H (𝓖 .A)) → FmC 𝓤 H (W .laws) (tables 𝓤 H 𝓜 𝓡 γ .C) → Walk W T ts (c (𝓖 .A) (𝓜 .mem) (𝓡 .run)) (tables 𝓤 H 𝓜 𝓡 γ .C) (tables 𝓤 H 𝓜 𝓡 γ .Λ) f)
       → Meets 𝓤 H (𝓖 .A) (T .signature) (𝓡 .run (γ k)) (closing 𝓤 H (𝓖 .A) T (c (𝓖 .A) (𝓜 .mem) (𝓡 .run)))
   unfolding tablesOf
   by-walk T ts c walk =
@@ -237,6 +238,7 @@ module _ {M : Type 1} (𝓤 : URA M) (H : Heap 𝓤) (A : Atoms 𝓤) (W : Given
   put-back : (P : SProp 𝓤) (i j : Item 𝓤) (Γ : List (Item 𝓤)) (Q : SProp 𝓤) → ent 𝓤 (sep 𝓤 P (⋆ 𝓤 H A (i ∷ j ∷ Γ))) Q → ent 𝓤 (sep 𝓤 (sep 𝓤 P (sep 𝓤 (mean 𝓤 H A i) (mean 𝓤 H A j))) (⋆ 𝓤 H A Γ)) Q
   put-back P i j Γ Q h = qed W ((raw P ⊛ i ⊛ j) ∷ raw (⋆ 𝓤 H A Γ) ∷ []) ∵ split3 ! $ move ! (2 ∷ 3 ∷ []) $ use2 W (raw (⋆ 𝓤 H A (j ∷ Γ))) (push 𝓤 H A j Γ) $ move ! (2 ∷ 0 ∷ []) $ join ! $ move ! (1 ∷ 0 ∷ []) $ by ! h
 
+  -- beside what P has: room for the locals, the values passed in the parameters, and all given back
   room-for : (ls : List Local) (Kt : Places 𝓤 H → Goal 𝓤 H) (P : SProp 𝓤) (Γ : List (Item 𝓤)) → ((bs : Blocks ls) → ent 𝓤 (sep 𝓤 P (⋆ 𝓤 H A (rooms ls bs Γ))) (aim 𝓤 H (Kt (places ls bs)))) → Sq W (raw P ∷ raw (⋆ 𝓤 H A Γ) ∷ []) (allocs ls Kt)
   room-for [] Kt P Γ k = alloc0 ! $ by ! (k tt)
   room-for (local τ h ∷ ls) Kt P Γ k = alloc1 ! (λ b. move ! (2 ∷ 0 ∷ 1 ∷ []) $ group ! 3 $ use1 W (raw (sep 𝓤 P (sep 𝓤 (H .room τ b 0) (H .dies τ b)))) (id⊢ 𝓤 _) $
@@ -264,8 +266,7 @@ module _ {M : Type 1} {𝓤 : URA M} {H : Heap 𝓤} {A : Atoms 𝓤} {W : Given
   pub starts : Go {0} → {τ : Ty} {h : Home} {ls : List Local} {vs : List Val} {G : Places 𝓤 H → Goal 𝓤 H} → Passes ls vs
       → ((b : ℕ) (bs : Blocks ls) → Sq W (‵ (froom τ b 0) ∷ ‵ (fdies τ b) ∷ passed-in ls bs vs Γ) (G ((τ, b) ∷ places ls bs))) → Sq W Γ (allocs (local τ h ∷ ls) (λ E. params′ E vs (G E)))
   starts t {τ} {h} {ls} {vs} {G} ok k = record {
-    prf = via 𝓤 (sep 𝓤 (emp 𝓤) (⋆ 𝓤 H A Γ)) (emp∗ 𝓤 (⋆ 𝓤 H A Γ)) (room-for 𝓤 H A W (local τ h ∷ ls) (λ E. params′ E vs (G E)) (emp 𝓤) Γ (λ bs.
-        entering (bs .0) (bs .1)) .prf);
+    prf = via 𝓤 (sep 𝓤 (emp 𝓤) (⋆ 𝓤 H A Γ)) (emp∗ 𝓤 (⋆ 𝓤 H A Γ)) (room-for 𝓤 H A W (local τ h ∷ ls) (λ E. params′ E vs (G E)) (emp 𝓤) Γ (λ bs. entering (bs .0) (bs .1)) .prf);
   }
     where
       entering : (b : ℕ) (bs : Blocks ls) → ent 𝓤 (sep 𝓤 (emp 𝓤) (⋆ 𝓤 H A (‵ (froom τ b 0) ∷ ‵ (fdies τ b) ∷ rooms ls bs Γ))) (pass 𝓤 H (places ls bs) vs (aim 𝓤 H (G ((τ, b) ∷ places ls bs))))
