@@ -6,3 +6,4 @@ pub mod DimensionLaws
 pub mod NumberLaws
 pub mod AcceptedLaws
 pub mod ReaderType
+pub mod ReaderWalks
