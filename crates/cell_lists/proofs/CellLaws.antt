@@ -18,17 +18,16 @@ use Rattle.mesh.proofs.AcceptedLaws.{cells-few}
 
 -- ---- sorts of cells: an owner's number is never 17 or 18
 
-is-interior : (a b h : Bool) (o : ℕ) → o ≤ 16 → eqb (cond a (cond b 17 18) (cond h o 0)) 17 ≡ a && b
-is-interior true true h o l = refl
-is-interior true false h o l = refl
-is-interior false b true o l = ne-eqb o 17 (omega arith)
-is-interior false b false o l = refl
-
-is-halo : (a b h : Bool) (o : ℕ) → o ≤ 16 → eqb (cond a (cond b 17 18) (cond h o 0)) 18 ≡ a && not b
-is-halo true true h o l = refl
-is-halo true false h o l = refl
-is-halo false b true o l = ne-eqb o 18 (omega arith)
-is-halo false b false o l = refl
+-- an owned cell's sort is 17 where it is inside and 18 where it is not, and no other cell has either
+is-own : (y a b h : Bool) (o : ℕ) → o ≤ 16 → eqb (cond a (cond b 17 18) (cond h o 0)) (cond y 17 18) ≡ a && cond y b (not b)
+is-own true true true h o l = refl
+is-own true true false h o l = refl
+is-own false true true h o l = refl
+is-own false true false h o l = refl
+is-own true false b true o l = ne-eqb o 17 (omega arith)
+is-own false false b true o l = ne-eqb o 18 (omega arith)
+is-own true false b false o l = refl
+is-own false false b false o l = refl
 
 is-import : (b h : Bool) (o i j : ℕ) → 1 ≤ j → j ≤ 16 → eqb (cond (eqb o i) (cond b 17 18) (cond h o 0)) j ≡ not (eqb i j) && eqb o j && h
 is-import b h o i j low high = go (eqb o i) refl (eqb o j) refl
@@ -86,21 +85,21 @@ module _ (m : Bytes) (parts : ℕ) (owners st table : Bytes) (ends : List ℕ) (
         (λ q h. let l : 0 + q < cellCount m = omega arith in ap (λ b. cond b ((firstCell m + (0 + q)) ∷ []) []) (ap (λ x. eqb x k) (sort-told (0 + q) l) ∙ f (0 + q) l))
         ∙ blocks-picked (firstCell m) (cellCount m) p
 
+    own-cells : (y : Bool) → cellsOf owners table ends held′ i (firstCell m) (cellCount m) (cond y 17 18) ≡ picked (firstCell m) (cellCount m) (λ c. eqb (S .owner c) i && cond y (inside S i c) (not (inside S i c)))
+    own-cells y =
+        sorted-is (cond y 17 18) (λ c. eqb (S .owner c) i && cond y (inside S i c) (not (inside S i c)))
+        (λ q h.
+        let f = map-facts m parts owners [] (R .map) in
+        is-own y (eqb (byteAt owners q) i) (inside S i (firstCell m + q)) (holds S i (firstCell m + q)) (byteAt owners q) (omega (arith, f .owner-in q h .1, f .few))
+        ∙ ap (λ o. eqb o i && cond y (inside S i (firstCell m + q)) (not (inside S i (firstCell m + q)))) (sym (owner-at q)))
+
     pub interior-is : cellsOf owners table ends held′ i (firstCell m) (cellCount m) 17 ≡ interior S i
     unfolding interior owns splitOf
-    interior-is =
-        sorted-is 17 (λ c. eqb (S .owner c) i && inside S i c)
-        (λ q h.
-        is-interior (eqb (byteAt owners q) i) (inside S i (firstCell m + q)) (holds S i (firstCell m + q)) (byteAt owners q) (omega (arith, map-facts m parts owners [] (R .map) .owner-in q h .1, map-facts m parts owners [] (R .map) .few))
-        ∙ ap (λ o. eqb o i && inside S i (firstCell m + q)) (sym (owner-at q)))
+    interior-is = own-cells true
 
     pub halo-is : cellsOf owners table ends held′ i (firstCell m) (cellCount m) 18 ≡ halo S i
     unfolding halo owns splitOf
-    halo-is =
-        sorted-is 18 (λ c. eqb (S .owner c) i && not (inside S i c))
-        (λ q h.
-        is-halo (eqb (byteAt owners q) i) (inside S i (firstCell m + q)) (holds S i (firstCell m + q)) (byteAt owners q) (omega (arith, map-facts m parts owners [] (R .map) .owner-in q h .1, map-facts m parts owners [] (R .map) .few))
-        ∙ ap (λ o. eqb o i && not (inside S i (firstCell m + q))) (sym (owner-at q)))
+    halo-is = own-cells false
 
     pub imports-are : (j : ℕ) → 1 ≤ j → j ≤ 16 → cellsOf owners table ends held′ i (firstCell m) (cellCount m) j ≡ imports S i j
     unfolding imports owns splitOf

@@ -99,18 +99,13 @@ module _ (g : ℕ → List ℕ) where
   pub add-end : (a b : List ℕ) (s t q n : ℕ) → q ≤ n → n ≤ q → Added a b s t (blocks 0 q g) → Added a b s t (blocks 0 n g)
   add-end a b s t q n h k X = at-last (λ j. Added a b s t (blocks 0 j g)) q n h k X
 
-module _ (owners table : Bytes) (ends : List ℕ) (held : Bytes) (i first k q x : ℕ) (xe : x ≡ sortAt owners table ends held i q) (b : List ℕ) (s : ℕ) where
-  pub add-skip : (x ≡ k → ⊥) → Added b b s s (sorted owners table ends held i first k q)
-  add-skip n = subst (Added b b s s) (sym empty) (add-none b s)
-    where
-      empty : sorted owners table ends held i first k q ≡ []
-      empty = unfold sorted in ap (λ c. cond c ((first + q) ∷ []) []) (ne-eqb (sortAt owners table ends held i q) k (λ e. n (xe ∙ e)))
+-- v is added where its sort y, which the code read as x, is the one wanted
+module _ (x y k v : ℕ) (e : x ≡ y) (b : List ℕ) (s : ℕ) where
+  pub sort-skips : (x ≡ k → ⊥) → Added b b s s (cond (eqb y k) (v ∷ []) [])
+  sort-skips n = subst (λ c. Added b b s s (cond c (v ∷ []) [])) (sym (ne-eqb y k (λ z. n (e ∙ z)))) (add-none b s)
 
-  pub add-put : (a : List ℕ) → x ≡ k → a ≡ set b s (first + q) → Added b a s (s + 1) (sorted owners table ends held i first k q)
-  add-put a n e = subst (Added b a s (s + 1)) (sym full) (add-one b a s (first + q) e)
-    where
-      full : sorted owners table ends held i first k q ≡ (first + q) ∷ []
-      full = unfold sorted in ap (λ c. cond c ((first + q) ∷ []) []) (eq-eqb (sortAt owners table ends held i q) k (sym xe ∙ n))
+  pub sort-adds : (a : List ℕ) → x ≡ k → a ≡ set b s v → Added b a s (s + 1) (cond (eqb y k) (v ∷ []) [])
+  sort-adds a n f = subst (λ c. Added b a s (s + 1) (cond c (v ∷ []) [])) (sym (eq-eqb y k (sym e ∙ n))) (add-one b a s v f)
 
 -- ---- the cells of a sort, and the local order
 

@@ -10,9 +10,9 @@ use borrow.Author.Tests.{eq-eqb, lt-ltb, le-ltb, eqb-true, eqb-false, ne-eqb, no
 use Rattle.split.specs.SplitLaws.{map-facts}
 use Rattle.vocabulary.specs.Bytes.{Bytes, byteAt}
 use Rattle.vocabulary.specs.Ranges.{picked, every, blocks, some}
-use Rattle.vocabulary.specs.RangeLaws.{picked-cong, blocks-cong, picked-all, picked-length-le, some-in, some-witness, blocks-picked}
+use Rattle.vocabulary.specs.RangeLaws.{picked-cong, some-cong, some-swap, blocks-cong, picked-all, picked-length-le, some-in, some-witness, blocks-picked}
 use Rattle.vocabulary.specs.Lists.{isIn, someOf, All}
-use Rattle.vocabulary.specs.ListLaws.{or-nothing, and-true, and-intro, same-test, All-map, All-getD, someOf-has, someOf-witness, someOf-cong, cond-has}
+use Rattle.vocabulary.specs.ListLaws.{or-nothing, and-true, and-intro, same-test, All-map, All-getD, someOf-has, someOf-witness, someOf-cong, someOf-and, cond-has}
 use Rattle.mesh.specs.Mesh.{top, counted, below, firstCell, cellCount}
 use Rattle.mesh.specs.Walks.{incident, rightAt, bad10, stepTo}
 use Rattle.mesh.specs.Accepted.{Accepted}
@@ -94,37 +94,23 @@ range-fits m d k lo n A e h loe ne = omega (arith, below-next m k, below-grows m
 
 -- ---- a range is that of the definitions
 
-pub sort-private : (t a e h : Bool) → eqb (cond t (cond a 3 (cond e 2 1)) (cond h 4 0)) 1 ≡ t && not a && not e
-sort-private true true e h = refl
-sort-private true false true h = refl
-sort-private true false false h = refl
-sort-private false a e true = refl
-sort-private false a e false = refl
+-- the sort of an element, by its four tests
+abbrev pub sortBy : Bool → Bool → Bool → Bool → ℕ
+sortBy t a e h = cond t (cond a 3 (cond e 2 1)) (cond h 4 0)
 
-pub sort-exposed : (t a e h : Bool) → eqb (cond t (cond a 3 (cond e 2 1)) (cond h 4 0)) 2 ≡ t && not a && e
-sort-exposed true true e h = refl
-sort-exposed true false true h = refl
-sort-exposed true false false h = refl
-sort-exposed false a e true = refl
-sort-exposed false a e false = refl
+-- private, exposed, shared and copied
+abbrev pub Sorts : Bool → Bool → Bool → Bool → Type 0
+Sorts t a e h = (eqb (sortBy t a e h) 1 ≡ t && not a && not e) × (eqb (sortBy t a e h) 2 ≡ t && not a && e) × (eqb (sortBy t a e h) 3 ≡ t && a) × (eqb (sortBy t a e h) 4 ≡ h && not t)
 
-pub sort-shared : (t a e h : Bool) → eqb (cond t (cond a 3 (cond e 2 1)) (cond h 4 0)) 3 ≡ t && a
-sort-shared true true e h = refl
-sort-shared true false true h = refl
-sort-shared true false false h = refl
-sort-shared false a e true = refl
-sort-shared false a e false = refl
-
--- a cell that part i owns it holds
-pub sort-copied : (t a e h : Bool) → eqb (cond t (cond a 3 (cond e 2 1)) (cond h 4 0)) 4 ≡ h && not t
-sort-copied true true e true = refl
-sort-copied true true e false = refl
-sort-copied true false true true = refl
-sort-copied true false true false = refl
-sort-copied true false false true = refl
-sort-copied true false false false = refl
-sort-copied false a e true = refl
-sort-copied false a e false = refl
+pub sort-tells : (t a e h : Bool) → Sorts t a e h
+sort-tells true true e true = (refl, refl, refl, refl)
+sort-tells true true e false = (refl, refl, refl, refl)
+sort-tells true false true true = (refl, refl, refl, refl)
+sort-tells true false true false = (refl, refl, refl, refl)
+sort-tells true false false true = (refl, refl, refl, refl)
+sort-tells true false false false = (refl, refl, refl, refl)
+sort-tells false a e true = (refl, refl, refl, refl)
+sort-tells false a e false = (refl, refl, refl, refl)
 
 module _ (m : Bytes) (parts : ℕ) (owners st table : Bytes) (ends : List ℕ) (held′ : Bytes) (R : Prepared m parts owners st table ends held′) where
   abbrev S : Split
@@ -147,9 +133,12 @@ module _ (m : Bytes) (parts : ℕ) (owners st table : Bytes) (ends : List ℕ) (
     unfolding someSide sideAt ownsAt touches owns splitOf ownerAt
     mine = refl
 
+    here : (j : ℕ) → j ≤ 16 → someOf (cellsAt m S e) (λ y. heldAt held′ j (y - firstCell m)) ≡ someOf (cellsAt m S e) (holds S j)
+    here j l = someOf-cong (λ y. heldAt held′ j (y - firstCell m)) (holds S j) (cellsAt m S e) (All-map (cellsAt m S e) (λ y w. holds-at j y l (w .0) (w .1)) (at-cells e))
+
     held-here : someSide (cellsAt m S e) (firstCell m) 2 owners held′ parts i ≡ holdsLower m S i e
     unfolding someSide sideAt holdsLower
-    held-here = someOf-cong (λ y. heldAt held′ i (y - firstCell m)) (holds S i) (cellsAt m S e) (All-map (cellsAt m S e) (λ y w. holds-at i y high (w .0) (w .1)) (at-cells e))
+    held-here = here i high
 
     anothers : someSide (cellsAt m S e) (firstCell m) 1 owners held′ parts i ≡ another m S i (touches m S e)
     unfolding someSide sideAt ownsAt another touches owns splitOf
@@ -179,27 +168,12 @@ module _ (m : Bytes) (parts : ℕ) (owners st table : Bytes) (ends : List ℕ) (
 
     held-others : someSide (cellsAt m S e) (firstCell m) 3 owners held′ parts i ≡ another m S i (λ j. holdsLower m S j e)
     unfolding someSide sideAt elsewhereAt another holdsLower splitOf
-    held-others = same-test _ _ left right
-      where
-        left : someOf (cellsAt m S e) (λ y. some 1 parts (λ j. not (eqb i j) && heldAt held′ j (y - firstCell m))) ≡ true → some 1 parts (λ j. not (eqb i j) && someOf (cellsAt m S e) (holds S j)) ≡ true
-        left t =
-            let w = someOf-witness (λ y. some 1 parts (λ j. not (eqb i j) && heldAt held′ j (y - firstCell m))) (cellsAt m S e) 0 t in
-            let c = All-getD (λ y. (firstCell m ≤ y) × (y < firstCell m + cellCount m)) (cellsAt m S e) (w .0) 0 (at-cells e) (w .1) in
-            let v = some-witness 1 (λ j. not (eqb i j) && heldAt held′ j (getD (cellsAt m S e) (w .0) 0 - firstCell m)) parts (w .2) in
-            let u = and-true (not (eqb i (1 + v .0))) (heldAt held′ (1 + v .0) (getD (cellsAt m S e) (w .0) 0 - firstCell m)) (v .2) in
-            some-in 1 (λ j. not (eqb i j) && someOf (cellsAt m S e) (holds S j)) parts (1 + v .0) (omega arith) (omega (arith, v .1))
-            (and-intro _ _ (u .0)
-            (someOf-has (holds S (1 + v .0)) (cellsAt m S e) 0 (w .0) (w .1) (sym (holds-at (1 + v .0) (getD (cellsAt m S e) (w .0) 0) (omega (arith, v .1, map-facts m parts owners [] (R .map) .few)) (c .0) (c .1)) ∙ u .1)))
-
-        right : some 1 parts (λ j. not (eqb i j) && someOf (cellsAt m S e) (holds S j)) ≡ true → someOf (cellsAt m S e) (λ y. some 1 parts (λ j. not (eqb i j) && heldAt held′ j (y - firstCell m))) ≡ true
-        right t =
-            let v = some-witness 1 (λ j. not (eqb i j) && someOf (cellsAt m S e) (holds S j)) parts t in
-            let u = and-true (not (eqb i (1 + v .0))) (someOf (cellsAt m S e) (holds S (1 + v .0))) (v .2) in
-            let w = someOf-witness (holds S (1 + v .0)) (cellsAt m S e) 0 (u .1) in
-            let c = All-getD (λ y. (firstCell m ≤ y) × (y < firstCell m + cellCount m)) (cellsAt m S e) (w .0) 0 (at-cells e) (w .1) in
-            someOf-has (λ y. some 1 parts (λ j. not (eqb i j) && heldAt held′ j (y - firstCell m))) (cellsAt m S e) 0 (w .0) (w .1)
-            (some-in 1 (λ j. not (eqb i j) && heldAt held′ j (getD (cellsAt m S e) (w .0) 0 - firstCell m)) parts (1 + v .0) (omega arith) (omega (arith, v .1))
-            (and-intro _ _ (u .0) (holds-at (1 + v .0) (getD (cellsAt m S e) (w .0) 0) (omega (arith, v .1, map-facts m parts owners [] (R .map) .few)) (c .0) (c .1) ∙ w .2)))
+    held-others =
+        sym (some-swap 1 parts (cellsAt m S e) (λ j y. not (eqb i j) && heldAt held′ j (y - firstCell m)))
+        ∙ some-cong 1 (λ j. someOf (cellsAt m S e) (λ y. not (eqb i j) && heldAt held′ j (y - firstCell m))) (λ j. not (eqb i j) && someOf (cellsAt m S e) (holds S j)) parts
+        (λ k h.
+        someOf-and (not (eqb i (1 + k))) (λ y. heldAt held′ (1 + k) (y - firstCell m)) (cellsAt m S e)
+        ∙ ap (λ b. not (eqb i (1 + k)) && b) (here (1 + k) (omega (arith, map-facts m parts owners [] (R .map) .few))))
 
     -- the sort, by the definitions
     lower-is : lowerSort (picked (firstCell m) (cellCount m) (incident m e)) (firstCell m) owners held′ parts i

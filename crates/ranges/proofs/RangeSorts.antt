@@ -111,16 +111,3 @@ module _ (y : Bool) (cell prev last : List ℕ) (first : ℕ) (owners held : Byt
 
   pub is-theirs : a ≡ false → b ≡ someSide (trail cell prev 12001 t) first 2 owners held parts i → b ≡ y → cond y 4 0 ≡ trailSort cell prev last first owners held parts i e
   is-theirs af be bt = sym (sort-is ∙ ap₂ (λ x z. cond x (cond (told 1) 3 (cond (told 3) 2 1)) (cond z 4 0)) (sym ae ∙ af) (sym be ∙ bt))
-
-module _ (cell prev last : List ℕ) (first : ℕ) (owners held : Bytes) (parts i lo k q x : ℕ) (xe : x ≡ trailSort cell prev last first owners held parts i (lo + 1 + q)) (b : List ℕ) (s : ℕ) where
-  pub lower-skip : (x ≡ k → ⊥) → Added b b s s (trailSorted cell prev last first owners held parts i lo k q)
-  lower-skip n = subst (Added b b s s) (sym empty) (add-none b s)
-    where
-      empty : trailSorted cell prev last first owners held parts i lo k q ≡ []
-      empty = unfold trailSorted in ap (λ c. cond c ((lo + 1 + q) ∷ []) []) (ne-eqb (trailSort cell prev last first owners held parts i (lo + 1 + q)) k (λ e. n (xe ∙ e)))
-
-  pub lower-put : (a : List ℕ) → x ≡ k → a ≡ set b s (lo + 1 + q) → Added b a s (s + 1) (trailSorted cell prev last first owners held parts i lo k q)
-  lower-put a n e = subst (Added b a s (s + 1)) (sym full) (add-one b a s (lo + 1 + q) e)
-    where
-      full : trailSorted cell prev last first owners held parts i lo k q ≡ (lo + 1 + q) ∷ []
-      full = unfold trailSorted in ap (λ c. cond c ((lo + 1 + q) ∷ []) []) (eq-eqb (trailSort cell prev last first owners held parts i (lo + 1 + q)) k (sym xe ∙ n))

@@ -327,6 +327,12 @@ module _ {A : Type 0} (p : A → Bool) where
       (λ q. let r = someOf-witness xs d q in (suc (r .0), suc-le-suc (r .1), r .2))
       (or-true (p x) (someOf xs p) e)
 
+pub someOf-and : {A : Type 0} (c : Bool) (p : A → Bool) (xs : List A) → someOf xs (λ x. c && p x) ≡ c && someOf xs p
+unfolding someOf
+someOf-and true p xs = refl
+someOf-and false p [] = refl
+someOf-and false p (x ∷ xs) = someOf-and false p xs
+
 pub someOf-cong : {A : Type 0} (p q : A → Bool) (xs : List A) → All (λ x. p x ≡ q x) xs → someOf xs p ≡ someOf xs q
 unfolding someOf
 someOf-cong p q [] a = refl
