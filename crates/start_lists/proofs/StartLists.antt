@@ -9,7 +9,7 @@ use lib.Seq.{length-take-le}
 use Rattle.vocabulary.specs.Bytes.{Bytes, over}
 use Rattle.vocabulary.specs.ByteLaws.{over-none}
 use Rattle.vocabulary.specs.Ranges.{listed, blocks}
-use Rattle.vocabulary.specs.RangeLaws.{listed-cong, listed-length, blocks-start, at-last}
+use Rattle.vocabulary.specs.RangeLaws.{listed-cong, listed-length, blocks-start}
 use Rattle.layout.specs.Words.{wordAt}
 use Rattle.depths.specs.Depths.{four}
 use Rattle.depths.specs.DepthLaws.{length-four, fours-store}
@@ -109,9 +109,6 @@ depth-four f first order l = length-four f _
 
 pub held-start : (f : Bytes) (first : ℕ) (order : List ℕ) (b : Bytes) (at : ℕ) → b ≡ over b at (blocks 1 (1 - 1) (startDepth f first order))
 held-start f first order b at = sym (ap (over b at) (blocks-start 1 (startDepth f first order)) ∙ over-none b at)
-
-pub held-end : (f : Bytes) (first : ℕ) (order : List ℕ) (b x : Bytes) (at l n : ℕ) → l ≤ n + 1 → n + 1 ≤ l → x ≡ over b at (blocks 1 (l - 1) (startDepth f first order)) → x ≡ over b at (blocks 1 n (startDepth f first order))
-held-end f first order b x at l n g h e = at-last (λ m. x ≡ over b at (blocks 1 m (startDepth f first order))) (l - 1) n (omega arith) (omega arith) e
 
 module _ (f : Bytes) (first : ℕ) (order : List ℕ) (n : ℕ) (C : Cells f first order n) (l g : ℕ) (h : 1 ≤ l) (k : l < n + 1) (ge : g ≡ getD order (l - 1) 0) where
   pub held-low : first ≤ g

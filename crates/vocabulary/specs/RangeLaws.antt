@@ -11,13 +11,22 @@ use lib.ListN.{length, getD, length-append, List·getD-append}
 use lib.Seq.{getD-append-add, getD-append-seam, ext-getD}
 use lib.Dec.{eqb, ltb, leb}
 use borrow.Author.Tests.{eqb-true, eqb-false, ltb-true, ltb-false, lt-ltb, leb-true, le-leb, not-true, not-false}
+use Rattle.vocabulary.specs.Bytes.{Bytes, over}
 use Rattle.vocabulary.specs.Lists.{isIn, someOf, repeats, joined, All}
-use Rattle.vocabulary.specs.ListLaws.{isIn-append, someOf-append, someOf-witness, someOf-has, or-nothing, same-test, and-true, and-intro, and-false, or-left, or-right, or-true, or-none, not-both, not-or-not, All-append, All-getD, At, at-left, at-right, repeats-none, map-append}
+use Rattle.vocabulary.specs.ListLaws.{isIn-append, someOf-append, someOf-witness, someOf-has, or-nothing, same-test, and-true, and-intro, and-false, or-left, or-right, or-true, or-none, not-both, not-or-not, All-append, All-getD, At, at-left, at-right, repeats-none, map-append, joined-last}
 use Rattle.vocabulary.specs.Ranges.{isUpTo, picked, every, some, listed, blocks, total}
 
 -- a loop that has come to its end: what holds so far holds in all
 pub at-last : (P : ℕ → Type 0) (k n : ℕ) → k ≤ n → n ≤ k → P k → P n
 at-last P k n g h p = let q : k ≡ n = omega arith in subst P q p
+
+-- such a loop that writes a list for each number into a buffer
+pub stored-end : (b x : Bytes) (o a : ℕ) (g : ℕ → Bytes) (k n : ℕ) → k ≤ n → n ≤ k → x ≡ over b o (blocks a k g) → x ≡ over b o (blocks a n g)
+stored-end b x o a g k n h l e = at-last (λ j. x ≡ over b o (blocks a j g)) k n h l e
+
+-- the same for a loop that counts from 1
+pub stored-up : (b x : Bytes) (o : ℕ) (g : ℕ → Bytes) (l n : ℕ) → l ≤ n + 1 → n + 1 ≤ l → x ≡ over b o (blocks 1 (l - 1) g) → x ≡ over b o (blocks 1 n g)
+stored-up b x o g l n h k e = stored-end b x o 1 g (l - 1) n (omega arith) (omega arith) e
 
 -- a number below suc n is the last or comes before it
 pub last-or : (i n : ℕ) → i < suc n → (i < n) ⊎ (i ≡ n)
@@ -235,6 +244,10 @@ unfolding total
 total-cong a f g zero h = refl
 total-cong a f g (suc n) h = ap₂ _+_ (total-cong a f g n (λ i k. h i (omega arith))) (h n (omega arith))
 
+-- the same sums of numbers from 1 to n, where the summands up to m agree
+pub total-agree : (f g : ℕ → ℕ) (m n : ℕ) → n ≤ m → ((j : ℕ) → 1 ≤ j → j ≤ m → f j ≡ g j) → total 1 n f ≡ total 1 n g
+total-agree f g m n h k = total-cong 1 f g n (λ i l. k (1 + i) (omega arith) (omega arith))
+
 -- ---- listed
 
 module _ {A : Type 0} (a : ℕ) (g : ℕ → A) where
@@ -278,11 +291,6 @@ listed-all P a (suc n) g f = All-append P (listed a n g) (g (a + n) ∷ []) (lis
 -- ---- blocks
 
 -- the lists of a range, joined
-joined-last : {A : Type 0} (xs : List (List A)) (x : List A) → joined (xs ++ (x ∷ [])) ≡ joined xs ++ x
-unfolding joined
-joined-last [] x = append-nil x
-joined-last (y ∷ ys) x = ap (λ r. y ++ r) (joined-last ys x) ∙ sym (append-assoc y (joined ys) x)
-
 pub joined-listed : {A : Type 0} (a : ℕ) (g : ℕ → List A) (n : ℕ) → joined (listed a n g) ≡ blocks a n g
 unfolding joined listed blocks
 joined-listed a g zero = refl
@@ -355,6 +363,10 @@ module _ {A : Type 0} (a : ℕ) (g : ℕ → List A) where
   unfolding blocks total
   blocks-length zero = refl
   blocks-length (suc n) = length-append (blocks a n g) (g (a + n)) ∙ ap (λ x. x + length (g (a + n))) (blocks-length n)
+
+  -- the same, where the length of each is known
+  pub blocks-sized : (f : ℕ → ℕ) (n : ℕ) → ((x : ℕ) → length (g x) ≡ f x) → length (blocks a n g) ≡ total a n f
+  blocks-sized f n h = blocks-length n ∙ total-cong a (λ x. length (g x)) f n (λ i k. h (a + i))
 
   -- rows: blocks of w elements each
   pub rows-length : (w n : ℕ) → ((j : ℕ) → j < n → length (g (a + j)) ≡ w) → length (blocks a n g) ≡ w * n
@@ -474,6 +486,13 @@ module _ (a : ℕ) (g : ℕ → ℕ) where
   pub total-turn : (n : ℕ) → total a (n + 1) g ≡ total a n g + g (a + n)
   unfolding total
   total-turn n = rw add-one refl
+
+-- a sum from 1 on, and its last summand
+pub total-last : (g : ℕ → ℕ) (l : ℕ) → 1 ≤ l → total 1 l g ≡ total 1 (l - 1) g + g l
+total-last g l h =
+    let p : l ≡ l - 1 + 1 = omega arith in
+    let q : 1 + (l - 1) ≡ l = omega arith in
+    ap (λ x. total 1 x g) p ∙ total-turn 1 g (l - 1) ∙ ap (λ x. total 1 (l - 1) g + g x) q
 
 -- `for k in 0..n`, which asks a test t of each k and leaves at the first that fails, or at the first that passes
 module _ (p : ℕ → Bool) (n k : ℕ) where
