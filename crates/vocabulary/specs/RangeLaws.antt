@@ -125,6 +125,13 @@ module _ (a : ℕ) (p : ℕ → Bool) where
   pub every-witness : (n : ℕ) → every a n p ≡ false → (i : ℕ) × (i < n) × (p (a + i) ≡ false)
   every-witness n e = let r = some-witness a fails n (not-false _ (sym (every-not n) ∙ e)) in (r .0, r .1, not-true _ (r .2))
 
+-- ---- what is built up turn by turn, from a start on, is decided by what each turn adds
+
+range-same : {R X : Type 0} (add : R → X → R) (F G : ℕ → R) (f g : ℕ → X) → F 0 ≡ G 0 → ((k : ℕ) → F (suc k) ≡ add (F k) (f k)) → ((k : ℕ) → G (suc k) ≡ add (G k) (g k))
+    → (n : ℕ) → ((i : ℕ) → i < n → f i ≡ g i) → F n ≡ G n
+range-same add F G f g z s t zero h = z
+range-same add F G f g z s t (suc n) h = s n ∙ ap₂ add (range-same add F G f g z s t n (λ i k. h i (omega arith))) (h n (omega arith)) ∙ sym (t n)
+
 -- ---- picked
 
 -- rising: each number is below every later one
@@ -183,9 +190,8 @@ module _ (a : ℕ) (p : ℕ → Bool) where
 
   pub picked-none : (n : ℕ) → ((i : ℕ) → i < n → p (a + i) ≡ false) → picked a n p ≡ []
   unfolding picked
-  picked-none zero f = refl
-  picked-none (suc n) f =
-      ap₂ (λ xs b. xs ++ cond b ((a + n) ∷ []) []) (picked-none n (λ i h. f i (omega arith))) (f n (omega arith))
+  picked-none n f =
+      range-same _++_ (λ k. picked a k p) (λ k. []) (λ i. cond (p (a + i)) ((a + i) ∷ []) []) (λ i. []) refl (λ k. refl) (λ k. refl) n (λ i h. ap (λ b. cond b ((a + i) ∷ []) []) (f i h))
 
   pub picked-length-le : (n : ℕ) → length (picked a n p) ≤ n
   unfolding picked
@@ -211,13 +217,13 @@ module _ (a : ℕ) (p : ℕ → Bool) where
 module _ (a : ℕ) (p q : ℕ → Bool) where
   pub some-cong : (n : ℕ) → ((i : ℕ) → i < n → p (a + i) ≡ q (a + i)) → some a n p ≡ some a n q
   unfolding some
-  some-cong zero f = refl
-  some-cong (suc n) f = ap₂ _||_ (some-cong n (λ i h. f i (omega arith))) (f n (omega arith))
+  some-cong n f = range-same _||_ (λ k. some a k p) (λ k. some a k q) (λ i. p (a + i)) (λ i. q (a + i)) refl (λ k. refl) (λ k. refl) n f
 
   pub picked-cong : (n : ℕ) → ((i : ℕ) → i < n → p (a + i) ≡ q (a + i)) → picked a n p ≡ picked a n q
   unfolding picked
-  picked-cong zero f = refl
-  picked-cong (suc n) f = ap₂ (λ xs b. xs ++ cond b ((a + n) ∷ []) []) (picked-cong n (λ i h. f i (omega arith))) (f n (omega arith))
+  picked-cong n f =
+      range-same _++_ (λ k. picked a k p) (λ k. picked a k q) (λ i. cond (p (a + i)) ((a + i) ∷ []) []) (λ i. cond (q (a + i)) ((a + i) ∷ []) []) refl (λ k. refl) (λ k. refl) n
+      (λ i h. ap (λ b. cond b ((a + i) ∷ []) []) (f i h))
 
 pub every-cong : (a : ℕ) (p q : ℕ → Bool) (n : ℕ) → ((i : ℕ) → i < n → p (a + i) ≡ q (a + i)) → every a n p ≡ every a n q
 every-cong a p q n f = every-not a p n ∙ ap not (some-cong a (λ x. not (p x)) (λ x. not (q x)) n (λ i h. ap not (f i h))) ∙ sym (every-not a q n)
@@ -225,24 +231,21 @@ every-cong a p q n f = every-not a p n ∙ ap not (some-cong a (λ x. not (p x))
 -- the same lists, whatever the numbers they are made of
 pub listed-moved : {A : Type 0} (a b : ℕ) (f g : ℕ → A) (n : ℕ) → ((i : ℕ) → i < n → f (a + i) ≡ g (b + i)) → listed a n f ≡ listed b n g
 unfolding listed
-listed-moved a b f g zero h = refl
-listed-moved a b f g (suc n) h = ap₂ (λ xs x. xs ++ (x ∷ [])) (listed-moved a b f g n (λ i k. h i (omega arith))) (h n (omega arith))
+listed-moved a b f g n h = range-same (λ xs x. xs ++ (x ∷ [])) (λ k. listed a k f) (λ k. listed b k g) (λ i. f (a + i)) (λ i. g (b + i)) refl (λ k. refl) (λ k. refl) n h
 
 pub listed-cong : {A : Type 0} (a : ℕ) (f g : ℕ → A) (n : ℕ) → ((i : ℕ) → i < n → f (a + i) ≡ g (a + i)) → listed a n f ≡ listed a n g
 listed-cong a f g n h = listed-moved a a f g n h
 
 pub blocks-moved : {A : Type 0} (a b : ℕ) (f g : ℕ → List A) (n : ℕ) → ((i : ℕ) → i < n → f (a + i) ≡ g (b + i)) → blocks a n f ≡ blocks b n g
 unfolding blocks
-blocks-moved a b f g zero h = refl
-blocks-moved a b f g (suc n) h = ap₂ _++_ (blocks-moved a b f g n (λ i k. h i (omega arith))) (h n (omega arith))
+blocks-moved a b f g n h = range-same _++_ (λ k. blocks a k f) (λ k. blocks b k g) (λ i. f (a + i)) (λ i. g (b + i)) refl (λ k. refl) (λ k. refl) n h
 
 pub blocks-cong : {A : Type 0} (a : ℕ) (f g : ℕ → List A) (n : ℕ) → ((i : ℕ) → i < n → f (a + i) ≡ g (a + i)) → blocks a n f ≡ blocks a n g
 blocks-cong a f g n h = blocks-moved a a f g n h
 
 pub total-cong : (a : ℕ) (f g : ℕ → ℕ) (n : ℕ) → ((i : ℕ) → i < n → f (a + i) ≡ g (a + i)) → total a n f ≡ total a n g
 unfolding total
-total-cong a f g zero h = refl
-total-cong a f g (suc n) h = ap₂ _+_ (total-cong a f g n (λ i k. h i (omega arith))) (h n (omega arith))
+total-cong a f g n h = range-same _+_ (λ k. total a k f) (λ k. total a k g) (λ i. f (a + i)) (λ i. g (a + i)) refl (λ k. refl) (λ k. refl) n h
 
 -- the same sums of numbers from 1 to n, where the summands up to m agree
 pub total-agree : (f g : ℕ → ℕ) (m n : ℕ) → n ≤ m → ((j : ℕ) → 1 ≤ j → j ≤ m → f j ≡ g j) → total 1 n f ≡ total 1 n g
@@ -530,8 +533,7 @@ someOf-listed p g a (suc n) = someOf-append p (listed a n g) (g (a + n) ∷ []) 
 -- lists over a range that are empty but for a part of it
 pub blocks-empty : {A : Type 0} (a : ℕ) (g : ℕ → List A) (n : ℕ) → ((i : ℕ) → i < n → g (a + i) ≡ []) → blocks a n g ≡ []
 unfolding blocks
-blocks-empty a g zero f = refl
-blocks-empty a g (suc n) f = ap₂ _++_ (blocks-empty a g n (λ i h. f i (omega arith))) (f n (omega arith))
+blocks-empty a g n f = range-same _++_ (λ k. blocks a k g) (λ k. []) (λ i. g (a + i)) (λ i. []) refl (λ k. refl) (λ k. refl) n f
 
 pub blocks-part : {A : Type 0} (g : ℕ → List A) (a k n : ℕ) → a + k ≤ n → ((i : ℕ) → i < a → g i ≡ []) → ((i : ℕ) → a + k ≤ i → i < n → g i ≡ []) → blocks 0 n g ≡ blocks a k g
 blocks-part g a k n h before after =
