@@ -17,7 +17,7 @@ use Rattle.vocabulary.specs.Bytes.{Bytes, over}
 use Rattle.vocabulary.specs.ByteLaws.{over-none}
 use Rattle.vocabulary.specs.ListLaws.{and-true, someOf-witness}
 use Rattle.vocabulary.specs.Ranges.{listed, blocks}
-use Rattle.vocabulary.specs.RangeLaws.{listed-map, listed-length, listed-at, blocks-start, listed-moved, at-last}
+use Rattle.vocabulary.specs.RangeLaws.{listed-map, listed-length, listed-at, blocks-start, listed-moved}
 use Rattle.layout.specs.Words.{word, wordAt}
 use Rattle.depths.specs.Depths.{four, depthFrom, depthBytes}
 use Rattle.depths.specs.DepthLaws.{length-four, fours-store, ranged-size}
@@ -168,9 +168,6 @@ module _ (st : Bytes) (d : ℕ) (b new : Bytes) (owned : ℕ) where
       ∙ ap (λ n. over (over new 0 (blocks 1 (l - 1) (newAt (listsIn st) d b))) n (newAt (listsIn st) d b (1 + (l - 1)))) (sym (zero-add (4 * (l - 1))))
       ∙ fours-store 1 (l - 1) (newAt (listsIn st) d b) (λ t c. new-four st d b (1 + t)) new 0 (omega arith)
       ∙ ap (λ n. over new 0 (blocks 1 n (newAt (listsIn st) d b))) j
-
-  pub renew-end : (x : Bytes) (l : ℕ) → l ≤ owned + 1 → owned + 1 ≤ l → x ≡ over new 0 (blocks 1 (l - 1) (newAt (listsIn st) d b)) → x ≡ over new 0 (blocks 1 owned (newAt (listsIn st) d b))
-  renew-end x l g h e = at-last (λ n. x ≡ over new 0 (blocks 1 n (newAt (listsIn st) d b))) (l - 1) owned (omega arith) (omega arith) e
 
 -- the weights, as they are cut out of the lists
 pub weights-cut : (st : Bytes) (kind n count : ℕ) → kind ≡ wordAt st 3 → n ≡ wordAt st 2 → count ≡ weightCount kind n → take (8 + 2 * count - 8) (drop 8 st) ≡ weights st

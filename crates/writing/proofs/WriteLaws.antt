@@ -11,7 +11,7 @@ use Rattle.vocabulary.specs.Bytes.{Bytes, over}
 use Rattle.vocabulary.specs.ByteLaws.{over-none, over-more}
 use Rattle.vocabulary.specs.Lists.{joined}
 use Rattle.vocabulary.specs.Ranges.{isUpTo, blocks}
-use Rattle.vocabulary.specs.RangeLaws.{upTo-true, listed-length, joined-mapped, blocks-start, at-last}
+use Rattle.vocabulary.specs.RangeLaws.{upTo-true, listed-length, joined-mapped, blocks-start}
 use Rattle.layout.specs.Words.{word, wordAt, bytesOf}
 use Rattle.layout.specs.WordLaws.{length-bytesOf}
 use Rattle.depths.specs.Depths.{four}
@@ -132,9 +132,6 @@ module _ (st : Bytes) (d : ℕ) (b : Bytes) (o : Opened st d b) (held owned reac
       where
         sent-is : four b (d + 30 + 4 * l) ≡ sentAt st d b (from + t)
         sent-is = ap (λ k. four b (d + 30 + 4 * k)) (sym local-is) ∙ sent-at st d b (from + t)
-
-  pub put-end : (out x : Bytes) (t : ℕ) → t ≤ count → count ≤ t → x ≡ over out 8 (blocks from t (sentAt st d b)) → x ≡ over out 8 (blocks from count (sentAt st d b))
-  put-end out x t g h e = at-last (λ n. x ≡ over out 8 (blocks from n (sentAt st d b))) t count g h e
 
 -- the words first, and the depths behind them
 pub message-put : (b out x y : Bytes) (st : Bytes) (d j count from part round : ℕ) → Opened st d b → count ≡ sentTo (listsIn st) j → 1 ≤ count → 8 + 4 * count ≤ length out
