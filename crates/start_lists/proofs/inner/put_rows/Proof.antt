@@ -26,9 +26,9 @@ put-rows-spec =
     (λ c. search needs)
     (λ c. (refl, search needs, search needs, search needs, search many-start))
     (λ c κs.
-      let w =
-          many-room _ _ _ (rows-long _ _ _ _ _ _) _ (row-length _ _ _ _ _) _ _ _ _ _ (c .before .before .loop .inv .1) (omega (arith, c .before .before .loop .inv .0, c .before .loop-test .taken)) (c .before .before .before .before .before .before .before .pre .0) (c .before .before .before .before .before .before .before .pre .1) (c .before .before .loop .inv .3) (c .before .before .loop .inv .4) in
-      (w .0, w .1, c .before .before .loop .inv .1, c .before .before .before .before .before .before .before .pre .3, c .before .before .before .before .before .before .before .pre .4, search rows-each))
+    let w =
+    many-room _ _ _ (rows-long _ _ _ _ _ _) _ (row-length _ _ _ _ _) _ _ _ _ _ (c .before .before .loop .inv .1) (omega (arith, c .before .before .loop .inv .0, c .before .loop-test .taken)) (c .before .before .before .before .before .before .before .pre .0) (c .before .before .before .before .before .before .before .pre .1) (c .before .before .loop .inv .3) (c .before .before .loop .inv .4) in
+    (w .0, w .1, c .before .before .loop .inv .1, c .before .before .before .before .before .before .before .pre .3, c .before .before .before .before .before .before .before .pre .4, search rows-each))
     (λ c. search needs)
     (λ c. search needs)
     (λ c. (search needs, search needs, search needs, search needs, search (many-turn, rows-long)))

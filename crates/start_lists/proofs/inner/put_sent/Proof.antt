@@ -24,9 +24,9 @@ put-sent-spec =
     μ-loop
     (λ c. (search needs, search needs, search needs, search needs, search many-start))
     (λ c κs.
-      let w =
-          many-room _ 16 _ (all-long _ _ _ _ _ _ _ _ _) _ (sent-long _ _ _ _ _ _ _ _ _) _ _ _ _ _ (c .before .before .before .loop .inv .0) (c .before .before .loop-test .taken) (c .before .before .before .before .before .before .before .before .before .before .before .pre .0) (c .before .before .before .before .before .before .before .before .before .before .before .pre .1) (c .before .before .before .loop .inv .2) (c .before .before .before .loop .inv .4) in
-      (w .0, w .1, search needs, c .before .before .before .before .before .before .before .before .before .before .before .pre .2, c .before .before .before .before .before .before .before .before .before .before .before .pre .3, c .before .before .before .before .before .before .before .before .before .before .before .pre .4, c .before .before .before .before .before .before .before .before .before .before .before .pre .5, c .before .before .before .loop .inv .3))
+    let w =
+    many-room _ 16 _ (all-long _ _ _ _ _ _ _ _ _) _ (sent-long _ _ _ _ _ _ _ _ _) _ _ _ _ _ (c .before .before .before .loop .inv .0) (c .before .before .loop-test .taken) (c .before .before .before .before .before .before .before .before .before .before .before .pre .0) (c .before .before .before .before .before .before .before .before .before .before .before .pre .1) (c .before .before .before .loop .inv .2) (c .before .before .before .loop .inv .4) in
+    (w .0, w .1, search needs, c .before .before .before .before .before .before .before .before .before .before .before .pre .2, c .before .before .before .before .before .before .before .before .before .before .before .pre .3, c .before .before .before .before .before .before .before .before .before .before .before .pre .4, c .before .before .before .before .before .before .before .before .before .before .before .pre .5, c .before .before .before .loop .inv .3))
     (λ c. search needs)
     (λ c. search needs)
     (λ c. (search needs, search needs, search needs, c .before .before .before .before .put-sent-to .ensures .1, many-turn _ 16 _ (all-long _ _ _ _ _ _ _ _ _) _ _ _ _ _ _ _ (c .before .before .before .before .before .before .before .before .loop .inv .0) (c .before .before .before .before .before .before .before .loop-test .taken) (c .before .before .before .before .before .before .before .before .before .before .before .before .before .before .before .before .pre .0) (c .before .before .before .before .before .before .before .before .loop .inv .4) (c .before .before .before .before .put-sent-to .ensures .0)))
