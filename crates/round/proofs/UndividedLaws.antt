@@ -14,7 +14,6 @@ use mir.Val.{toZ, ofZ}
 use lib.ListN.{length, getD, length-map}
 use borrow.Author.Tests.{ne-eqb, lt-ltb, le-ltb}
 use Rattle.vocabulary.specs.Bytes.{Bytes, over}
-use Rattle.vocabulary.specs.ByteLaws.{over-none}
 use Rattle.vocabulary.specs.Lists.{All}
 use Rattle.vocabulary.specs.ListLaws.{All-getD, getD-map-any}
 use Rattle.vocabulary.specs.Ranges.{listed, blocks}
@@ -61,10 +60,6 @@ module _ (kind : ℕ) (v table : Bytes) (ends : List ℕ) (f : Bytes) (b : Bytes
   row-four : (j : ℕ) → length (rowNew kind v table ends f j) ≡ 4
   unfolding rowNew
   row-four j = new-length kind v _ _ (length-four f (0 + 4 * j))
-
-  pub renew-start : b ≡ over b 0 (blocks 0 0 (rowNew kind v table ends f))
-  unfolding blocks
-  renew-start = sym (over-none b 0)
 
   -- z is what `new_at` gave, in its register
   pub renew-turn : (x y : Bytes) (j : ℕ) (z : ℤ) → mag z < 2147483648 → j < cells → x ≡ over b 0 (blocks 0 j (rowNew kind v table ends f)) → depthBytes z ≡ rowNew kind v table ends f j

@@ -12,6 +12,7 @@ use lib.Seq.{getD-append-add, getD-append-seam, ext-getD}
 use lib.Dec.{eqb, ltb, leb}
 use borrow.Author.Tests.{eqb-true, eqb-false, ltb-true, ltb-false, lt-ltb, leb-true, le-leb, not-true, not-false}
 use Rattle.vocabulary.specs.Bytes.{Bytes, over}
+use Rattle.vocabulary.specs.ByteLaws.{over-none}
 use Rattle.vocabulary.specs.Lists.{isIn, someOf, repeats, joined, All}
 use Rattle.vocabulary.specs.ListLaws.{isIn-append, someOf-append, someOf-witness, someOf-has, or-nothing, same-test, and-true, and-intro, and-false, or-left, or-right, or-true, or-none, not-both, not-or-not, All-append, All-getD, At, at-left, at-right, repeats-none, map-append, joined-last}
 use Rattle.vocabulary.specs.Ranges.{isUpTo, picked, every, some, listed, blocks, total}
@@ -20,7 +21,11 @@ use Rattle.vocabulary.specs.Ranges.{isUpTo, picked, every, some, listed,
 pub at-last : (P : ℕ → Type 0) (k n : ℕ) → k ≤ n → n ≤ k → P k → P n
 at-last P k n g h p = let q : k ≡ n = omega arith in subst P q p
 
--- such a loop that writes a list for each number into a buffer
+-- a loop that writes a list for each number into a buffer: where it starts, and where it ends
+pub stored-start : (b : Bytes) (o a : ℕ) (g : ℕ → Bytes) → b ≡ over b o (blocks a 0 g)
+unfolding blocks
+stored-start b o a g = sym (over-none b o)
+
 pub stored-end : (b x : Bytes) (o a : ℕ) (g : ℕ → Bytes) (k n : ℕ) → k ≤ n → n ≤ k → x ≡ over b o (blocks a k g) → x ≡ over b o (blocks a n g)
 stored-end b x o a g k n h l e = at-last (λ j. x ≡ over b o (blocks a j g)) k n h l e
 

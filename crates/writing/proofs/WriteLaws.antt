@@ -8,10 +8,10 @@ use lib.Dec.{ltb}
 use lib.ListN.{length, set, take, drop, length-append, length-map}
 use borrow.Author.Tests.{ne-eqb, lt-ltb, le-ltb, not-true, not-false}
 use Rattle.vocabulary.specs.Bytes.{Bytes, over}
-use Rattle.vocabulary.specs.ByteLaws.{over-none, over-more}
+use Rattle.vocabulary.specs.ByteLaws.{over-more}
 use Rattle.vocabulary.specs.Lists.{joined}
 use Rattle.vocabulary.specs.Ranges.{isUpTo, blocks}
-use Rattle.vocabulary.specs.RangeLaws.{upTo-true, listed-length, joined-mapped, blocks-start}
+use Rattle.vocabulary.specs.RangeLaws.{upTo-true, listed-length, joined-mapped}
 use Rattle.layout.specs.Words.{word, wordAt, bytesOf}
 use Rattle.layout.specs.WordLaws.{length-bytesOf}
 use Rattle.depths.specs.Depths.{four}
@@ -108,9 +108,6 @@ module _ (st : Bytes) (d : ℕ) (b : Bytes) (o : Opened st d b) (held owned reac
   sent-four : (x : ℕ) → length (sentAt st d b x) ≡ 4
   unfolding sentAt
   sent-four x = length-four b (depthPlace d (exportAt st x))
-
-  pub put-start : (out : Bytes) → out ≡ over out 8 (blocks from 0 (sentAt st d b))
-  put-start out = sym (ap (over out 8) (blocks-start from (sentAt st d b)) ∙ over-none out 8)
 
   module _ (t l : ℕ) (h : t < count) (le : l ≡ wordAt st (46 + held + owned + 2 * reached + (from + t))) where
     local-is : exportAt st (from + t) ≡ l

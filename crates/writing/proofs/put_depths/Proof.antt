@@ -4,9 +4,9 @@ use Prim.Native.Nat.{_+_, _-_, _*_, _≤_}
 use lib.ListN.{length}
 use Rattle.vocabulary.specs.Bytes.{over}
 use Rattle.vocabulary.specs.Ranges.{blocks}
-use Rattle.vocabulary.specs.RangeLaws.{stored-end}
+use Rattle.vocabulary.specs.RangeLaws.{stored-start, stored-end}
 use Rattle.parts.specs.Opened.{sentAt}
-use Rattle.writing.proofs.WriteLaws.{put-start, put-room, put-turn}
+use Rattle.writing.proofs.WriteLaws.{put-room, put-turn}
 use borrow.Author.Needs.{needs}
 use Rattle.writing.proofs.put_depths.Statement.{statement}
 use Rattle.writing.proofs.put_depths.Tie as tie
@@ -27,7 +27,7 @@ put-depths-spec =
     (λ c. search needs)
     (λ c. search needs)
     (λ c. search needs)
-    (λ c. (refl, search needs, search needs, search put-start))
+    (λ c. (refl, search needs, search needs, search stored-start))
     (λ c. search needs)
     (λ c. search needs)
     (λ c κs. search needs)

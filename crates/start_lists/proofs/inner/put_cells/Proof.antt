@@ -4,9 +4,9 @@ use Prim.Native.Nat.{_+_, _-_, _≤_}
 use lib.ListN.{length}
 use Rattle.vocabulary.specs.Bytes.{over}
 use Rattle.vocabulary.specs.Ranges.{blocks}
-use Rattle.vocabulary.specs.RangeLaws.{stored-up}
+use Rattle.vocabulary.specs.RangeLaws.{stored-start, stored-up}
 use Rattle.start_lists.specs.Starting.{startDepth}
-use Rattle.start_lists.proofs.StartLists.{held-start, held-low, held-room, held-turn}
+use Rattle.start_lists.proofs.StartLists.{held-low, held-room, held-turn}
 use borrow.Author.Needs.{needs}
 use Rattle.start_lists.proofs.inner.put_cells.Statement.{statement}
 use Rattle.start_lists.proofs.inner.put_cells.Tie as tie
@@ -24,7 +24,7 @@ put-cells-spec =
     Inv-loop
     μ-loop
     (λ c. search needs)
-    (λ c. (refl, search needs, search needs, search needs, search held-start))
+    (λ c. (refl, search needs, search needs, search needs, search stored-start))
     (λ c. search needs)
     (λ c κs. search needs)
     (λ c. search needs)
