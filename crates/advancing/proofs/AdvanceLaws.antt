@@ -10,7 +10,7 @@ use lib.Seq.{length-take-le, take-at}
 use borrow.Author.Tests.{ne-eqb, lt-ltb, le-ltb, le-leb, lt-leb, not-true, not-false}
 use Rattle.vocabulary.specs.Bytes.{Bytes, byteAt, over}
 use Rattle.vocabulary.specs.ByteLaws.{over-length, over-more, over-front}
-use Rattle.vocabulary.specs.Ranges.{every, listed, blocks}
+use Rattle.vocabulary.specs.Ranges.{isUpTo, every, blocks}
 use Rattle.vocabulary.specs.RangeLaws.{every-cong, upTo-intro, listed-length}
 use Rattle.layout.specs.Words.{word, wordAt, wordBytes}
 use Rattle.layout.specs.WordLaws.{length-wordBytes}
@@ -18,7 +18,7 @@ use Rattle.depths.specs.DepthLaws.{fours-length}
 use Rattle.layout.specs.AnswerLaws.{refuses, accepts}
 use Rattle.layout.specs.declared.Answer.{Answer}
 use Rattle.layout.specs.declared.Answer.the-variants.{Done, Refused}
-use Rattle.states.specs.State.{Lists, listsIn, listsOf, dynamic, ownedCount, takenPlace, writtenPlace, exportEnd, exportAt, localExports}
+use Rattle.states.specs.State.{Lists, listsIn, listsOf, dynamic, ownedCount, exportEnd, exportAt, localExports}
 use Rattle.parts.specs.Calls.{importsFrom, exportsTo, allTaken, allWritten, newAt, advancedIn, advanceTestsIn, advanceNumber, advanceAnswer, advanceState}
 use Rattle.parts.specs.Opened.{Opened, settledAt, advanceRest}
 use Rattle.parts.proofs.OpenedLaws.{whole, own-few, long, good-state, cut, lists-is}
@@ -35,38 +35,27 @@ module _ (st b : Bytes) (ends flags j n : ℕ) (ne : n ≡ wordAt st (ends + j +
   unfolding settledAt
   settled-some x h e = simp (sym ne, lt-ltb 0 n h, sym e)
 
-taken-each : (st b : Bytes) (d j : ℕ) → 1 ≤ j → j ≤ 16 → settledAt st b 10 (d + 1) j ≡ not (importsFrom (listsIn st) j) || eqb (byteAt b (takenPlace d j)) 1
-unfolding settledAt importsFrom listsIn
-taken-each st b d j h k =
-    let p : 10 + j + 1 ≡ 11 + j = omega arith in
-    let q : 10 + j ≡ 11 + (j - 1) = omega arith in
-    ap₂ (λ x y. not (ltb 0 (wordAt st x - wordAt st y)) || eqb (byteAt b (d + 1 + j)) 1) p q
-    ∙ ap (λ t. not (t && ltb 0 (wordAt st (11 + j) - wordAt st (11 + (j - 1)))) || eqb (byteAt b (d + 1 + j)) 1) (sym (upTo-intro 16 j h k))
-
-written-each : (st b : Bytes) (d j : ℕ) → 1 ≤ j → j ≤ 16 → settledAt st b 27 (d + 17) j ≡ not (exportsTo (listsIn st) j) || eqb (byteAt b (writtenPlace d j)) 1
-unfolding settledAt exportsTo listsIn localExports
-written-each st b d j h k =
-    let p : 27 + j + 1 ≡ 28 + j = omega arith in
-    let q : 27 + j ≡ 28 + (j - 1) = omega arith in
-    let l : length (listed (exportEnd st (j - 1)) (exportEnd st j - exportEnd st (j - 1)) (exportAt st)) ≡ exportEnd st j - exportEnd st (j - 1) =
-    listed-length (exportEnd st (j - 1)) (exportAt st) (exportEnd st j - exportEnd st (j - 1)) in
-    ap₂ (λ x y. not (ltb 0 (wordAt st x - wordAt st y)) || eqb (byteAt b (d + 17 + j)) 1) p q
-    ∙ ap₂ (λ t n. not (t && ltb 0 n) || eqb (byteAt b (d + 17 + j)) 1) (sym (upTo-intro 16 j h k)) (sym l)
+-- the same of all parts, where n j is what is between the ends of part j
+settled-are : (st b : Bytes) (ends flags : ℕ) (n : ℕ → ℕ) → ((j : ℕ) → n j ≡ wordAt st (ends + 1 + j) - wordAt st (ends + 1 + (j - 1)))
+    → every 1 16 (settledAt st b ends flags) ≡ every 1 16 (λ j. not (isUpTo 16 j && ltb 0 (n j)) || eqb (byteAt b (flags + j)) 1)
+unfolding settledAt
+settled-are st b ends flags n is = every-cong 1 (settledAt st b ends flags) (λ j. not (isUpTo 16 j && ltb 0 (n j)) || eqb (byteAt b (flags + j)) 1) 16 each
+  where
+    each : (i : ℕ) → i < 16 → settledAt st b ends flags (1 + i) ≡ not (isUpTo 16 (1 + i) && ltb 0 (n (1 + i))) || eqb (byteAt b (flags + (1 + i))) 1
+    each i h =
+        let p : ends + (1 + i) + 1 ≡ ends + 1 + (1 + i) = omega arith in
+        let q : ends + (1 + i) ≡ ends + 1 + (1 + i - 1) = omega arith in
+        ap₂ (λ t x. not (t && ltb 0 x) || eqb (byteAt b (flags + (1 + i))) 1) (sym (upTo-intro 16 (1 + i) (omega arith) (omega arith)))
+        (ap₂ (λ x y. wordAt st x - wordAt st y) p q ∙ sym (is (1 + i)))
 
 module _ (st b : Bytes) (d : ℕ) where
   taken-is : every 1 16 (settledAt st b 10 (d + 1)) ≡ allTaken (listsIn st) d b
-  unfolding allTaken
-  taken-is = every-cong 1 (settledAt st b 10 (d + 1)) (λ j. not (importsFrom (listsIn st) j) || eqb (byteAt b (takenPlace d j)) 1) 16 each
-    where
-      each : (i : ℕ) → i < 16 → settledAt st b 10 (d + 1) (1 + i) ≡ not (importsFrom (listsIn st) (1 + i)) || eqb (byteAt b (takenPlace d (1 + i))) 1
-      each i h = taken-each st b d (1 + i) (omega arith) (omega arith)
+  unfolding allTaken importsFrom listsIn
+  taken-is = settled-are st b 10 (d + 1) (listsIn st .imported) (λ j. refl)
 
   written-is : every 1 16 (settledAt st b 27 (d + 17)) ≡ allWritten (listsIn st) d b
-  unfolding allWritten
-  written-is = every-cong 1 (settledAt st b 27 (d + 17)) (λ j. not (exportsTo (listsIn st) j) || eqb (byteAt b (writtenPlace d j)) 1) 16 each
-    where
-      each : (i : ℕ) → i < 16 → settledAt st b 27 (d + 17) (1 + i) ≡ not (exportsTo (listsIn st) (1 + i)) || eqb (byteAt b (writtenPlace d (1 + i))) 1
-      each i h = written-each st b d (1 + i) (omega arith) (omega arith)
+  unfolding allWritten exportsTo listsIn localExports
+  written-is = settled-are st b 27 (d + 17) (λ j. length (listsIn st .exports j)) (λ j. listed-length (exportEnd st (j - 1)) (exportAt st) (exportEnd st j - exportEnd st (j - 1)))
 
   module _ (u : Bool) (ue : u ≡ every 1 16 (settledAt st b 10 (d + 1))) where
     pub rest-24 : not u ≡ true → 24 ≡ advanceRest (listsIn st) d b

@@ -42,30 +42,32 @@ mesh-length-told b n r e f = ap₂ (λ x y. 2 * (6 + x + 2 * y)) e f
 
 -- ---- the pieces from the last to the first
 
-module _ (a z : Bytes) (t : ℕ) (m : Bytes) (parts : ℕ) where
-  module _ (owners : Bytes) where
-    pub stencil-wrong : (n : ℕ) (st : Bytes) → (length st ≡ n → ⊥) → Printed a z 0 t (piecesText m parts owners (take 0 st)) → Printed a z 0 t (stencilText n m parts owners st)
-    unfolding stencilText
-    stencil-wrong n st h X = subst (λ (s : Bytes). Printed a z 0 t (piecesText m parts owners s)) (sym (ap (λ (b : Bool). cond b st []) (ne-eqb (length st) n h))) X
+module _ (a z : Bytes) (t : ℕ) where
+  -- b is whether the stencil has n bytes
+  pub stencil-told : (n : ℕ) (m : Bytes) (parts : ℕ) (owners st : Bytes) (b : Bool) → eqb (length st) n ≡ b → Printed a z 0 t (piecesText m parts owners (cond b st [])) → Printed a z 0 t (stencilText n m parts owners st)
+  unfolding stencilText
+  stencil-told n m parts owners st b e X = subst (λ c. Printed a z 0 t (piecesText m parts owners (cond c st []))) (sym e) X
 
-    pub stencil-right : (n : ℕ) (st : Bytes) → length st ≡ n → Printed a z 0 t (piecesText m parts owners st) → Printed a z 0 t (stencilText n m parts owners st)
-    unfolding stencilText
-    stencil-right n st h X = subst (λ (s : Bytes). Printed a z 0 t (piecesText m parts owners s)) (sym (ap (λ (b : Bool). cond b st []) (eq-eqb (length st) n h))) X
+  -- a text of x and of what comes after the first n bytes of b, which end at e
+  cut-told : {A : Type 0} (text : A → Bytes → Bytes) (x y : A) (b : Bytes) (e n : ℕ) → x ≡ y → drop e b ≡ drop n b → Printed a z 0 t (text x (take (length b - e) (drop e b)))
+      → Printed a z 0 t (text y (drop n b))
+  cut-told text x y b e n q d X = subst (Printed a z 0 t) (ap₂ text q (rest-is b e ∙ d)) X
 
-    pub last-told : (last : Bytes) (n e : ℕ) → n ≡ byteAt last 0 → drop e last ≡ drop 1 last → Printed a z 0 t (stencilText n m parts owners (take (length last - e) (drop e last)))
+  module _ (m : Bytes) (parts : ℕ) where
+    pub last-told : (owners last : Bytes) (n e : ℕ) → n ≡ byteAt last 0 → drop e last ≡ drop 1 last → Printed a z 0 t (stencilText n m parts owners (take (length last - e) (drop e last)))
         → Printed a z 0 t (lastText m parts owners last)
     unfolding lastText
-    last-told last n e q d X = subst (Printed a z 0 t) (ap₂ (λ x (s : Bytes). stencilText x m parts owners s) q (rest-is last e ∙ d)) X
+    last-told owners last n e = cut-told (λ x s. stencilText x m parts owners s) n (byteAt last 0) last e 1
 
-  pub owners-told : (b : Bytes) (cells e : ℕ) → take e b ≡ take cells b → drop e b ≡ drop cells b → Printed a z 0 t (lastText m parts (take e b) (take (length b - e) (drop e b)))
-      → Printed a z 0 t (ownersText cells m parts b)
-  unfolding ownersText
-  owners-told b cells e k d X = subst (Printed a z 0 t) (ap₂ (λ (o : Bytes) (s : Bytes). lastText m parts o s) k (rest-is b e ∙ d)) X
+    pub owners-told : (b : Bytes) (cells e : ℕ) → take e b ≡ take cells b → drop e b ≡ drop cells b → Printed a z 0 t (lastText m parts (take e b) (take (length b - e) (drop e b)))
+        → Printed a z 0 t (ownersText cells m parts b)
+    unfolding ownersText
+    owners-told b cells e = cut-told (lastText m parts) (take e b) (take cells b) b e cells
 
-  pub map-told : (b : Bytes) (cells e : ℕ) → parts ≡ byteAt b 0 → drop e b ≡ drop 1 b → Printed a z 0 t (ownersText cells m parts (take (length b - e) (drop e b)))
-      → Printed a z 0 t (mapText cells m b)
-  unfolding mapText
-  map-told b cells e q d X = subst (Printed a z 0 t) (ap₂ (λ x (s : Bytes). ownersText cells m x s) q (rest-is b e ∙ d)) X
+    pub map-told : (b : Bytes) (cells e : ℕ) → parts ≡ byteAt b 0 → drop e b ≡ drop 1 b → Printed a z 0 t (ownersText cells m parts (take (length b - e) (drop e b)))
+        → Printed a z 0 t (mapText cells m b)
+    unfolding mapText
+    map-told b cells e = cut-told (ownersText cells m) parts (byteAt b 0) b e 1
 
 module _ (a z : Bytes) (t : ℕ) (b : Bytes) where
   pub too-long : 65536 < length b → Printed a z 0 t (116 ∷ 111 ∷ 111 ∷ 32 ∷ 108 ∷ 111 ∷ 110 ∷ 103 ∷ 10 ∷ []) → Printed a z 0 t (listText b)
@@ -85,10 +87,7 @@ module _ (a z : Bytes) (t : ℕ) (b : Bytes) where
   pub text-told : (cells n e : ℕ) → length b ≤ 65536 → cells ≡ cellCount b → n ≡ meshLength b → take e b ≡ take n b → drop e b ≡ drop n b
       → Printed a z 0 t (mapText cells (take e b) (take (length b - e) (drop e b))) → Printed a z 0 t (listText b)
   text-told cells n e h c l k d X =
-      subst (Printed a z 0 t)
-      (ap₂ (λ (x : Bytes) (y : Bytes). mapText cells x y) (k ∙ ap (λ x. take x b) l) (rest-is b e ∙ d ∙ ap (λ x. drop x b) l)
-      ∙ ap (λ x. mapText x (take (meshLength b) b) (drop (meshLength b) b)) c
-      ∙ pieces-are h) X
+      subst (Printed a z 0 t) (ap₂ (λ i j. mapText i (take j b) (drop j b)) c l ∙ pieces-are h) (cut-told a z t (mapText cells) (take e b) (take n b) b e n k d X)
 
 -- ---- the number
 

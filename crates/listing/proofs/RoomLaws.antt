@@ -163,7 +163,8 @@ module _ (m : Bytes) (parts : ℕ) (owners st : Bytes) (A : Accepted m) (right :
           (λ x e. and-true (not (eqb j i) && owns S i x) (holds S j x) e .1) (S .cells)
 
   passing-length : (label : Bytes) (g : ℕ → List ℕ) → length label ≤ 6 → ((j : ℕ) → All (λ v. v < 10000) (g j))
-      → length (blocks 1 parts (λ j. lineUnlessEmpty (label ++ spaced j) (g j))) ≤ 192 + 5 * total 1 parts (λ j. length (g j))
+      → length (blocks 1 (S .parts) (λ j. lineUnlessEmpty (label ++ spaced j) (g j))) ≤ 192 + 5 * total 1 parts (λ j. length (g j))
+  unfolding splitOf
   passing-length label g h a =
       omega (
         arith,
@@ -269,8 +270,8 @@ module _ (m : Bytes) (parts : ℕ) (owners st : Bytes) (A : Accepted m) (right :
         own-last,
         own-few i,
         exports-few i,
-        imported,
-        exported,
+        passing-length (ascii "import") (imports S i) (unfold ascii in omega arith) (λ j. imports-small i j),
+        passing-length (ascii "export") (exports S i) (unfold ascii in omega arith) (λ j. unfold exports in imports-small j i),
         dimensions-length i,
       )
     where
@@ -282,12 +283,6 @@ module _ (m : Bytes) (parts : ℕ) (owners st : Bytes) (A : Accepted m) (right :
 
       own-last : length (line (ascii "halo") (halo S i)) ≤ 5 + 5 * length (halo S i)
       own-last = unfold ascii halo in line-length (ascii "halo") (halo S i) (cells-small (λ c. owns S i c && not (inside-of S i c)))
-
-      imported : length (blocks 1 (S .parts) (λ j. lineUnlessEmpty (ascii "import" ++ spaced j) (imports S i j))) ≤ 192 + 5 * total 1 parts (λ j. length (imports S i j))
-      imported = unfold ascii splitOf in passing-length (ascii "import") (imports S i) (omega arith) (λ j. imports-small i j)
-
-      exported : length (blocks 1 (S .parts) (λ j. lineUnlessEmpty (ascii "export" ++ spaced j) (exports S i j))) ≤ 192 + 5 * total 1 parts (λ j. length (exports S i j))
-      exported = unfold ascii splitOf exports in passing-length (ascii "export") (exports S i) (omega arith) (λ j. imports-small j i)
 
   pub split-length : length (splitText m S) ≤ 657500
   unfolding splitText

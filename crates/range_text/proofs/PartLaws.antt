@@ -113,8 +113,8 @@ module _ (f : ℕ) (g : ℕ → Bytes) where
   pub texts-start : (b : Bytes) (s : ℕ) → Printed b b s s (blocks f 0 g)
   texts-start b s = subst (Printed b b s s) (sym (blocks-start f g)) (print-none b s)
 
-  texts-more : (a b c : Bytes) (s t u k x : ℕ) → x ≡ f + k → Printed a b s t (blocks f k g) → Printed b c t u (g x) → Printed a c s u (blocks f (k + 1) g)
-  texts-more a b c s t u k x e X Y =
+  pub texts-turn : (a b c : Bytes) (s t u k x : ℕ) → Printed a b s t (blocks f k g) → Printed b c t u (g x) → x ≡ f + k → Printed a c s u (blocks f (k + 1) g)
+  texts-turn a b c s t u k x X Y e =
       subst (Printed a c s u) (sym (blocks-turn f g k)) (print-both a b c s t u (blocks f k g) (g (f + k)) X (subst (λ y. Printed b c t u (g y)) e Y))
 
   pub texts-end : (a b : Bytes) (s t k n : ℕ) → k ≤ n → n ≤ k → Printed a b s t (blocks f k g) → Printed a b s t (blocks f n g)
@@ -140,18 +140,6 @@ module _ (m : Bytes) (parts : ℕ) (owners st : Bytes) where
       → Printed c d u v (rangeLine m parts owners st Shared b-shared i k) → Printed d e v x (rangeLine m parts owners st Copied b-copied i k) → Printed a e s x (dimensionOf m parts owners st i k)
   unfolding rangeLine dimensionOf dimensionText wantedOf listOf ascii
   dimension-told i k a b c d e s t u v x X Y Z W = print-both a b e s t x _ _ X (print-both b c e t u x _ _ Y (print-both c d e u v x _ _ Z W))
-
-  pub passing-turn : (w : Wanted) (label a b c : Bytes) (s t u i j : ℕ) → Printed a b s t (blocks 1 j (passing m parts owners st w label i)) → Printed b c t u (passing m parts owners st w label i (j + 1))
-      → Printed a c s u (blocks 1 (j + 1) (passing m parts owners st w label i))
-  passing-turn w label a b c s t u i j X Y = texts-more 1 (passing m parts owners st w label i) a b c s t u j (j + 1) (omega arith) X Y
-
-  pub dimensions-turn : (a b c : Bytes) (s t u i k : ℕ) → Printed a b s t (blocks 0 k (dimensionOf m parts owners st i)) → Printed b c t u (dimensionOf m parts owners st i k)
-      → Printed a c s u (blocks 0 (k + 1) (dimensionOf m parts owners st i))
-  dimensions-turn a b c s t u i k X Y = texts-more 0 (dimensionOf m parts owners st i) a b c s t u k k (omega arith) X Y
-
-  pub parts-turn : (a b c : Bytes) (s t u k : ℕ) → Printed a b s t (blocks 1 k (partOf m parts owners st)) → Printed b c t u (partOf m parts owners st (k + 1))
-      → Printed a c s u (blocks 1 (k + 1) (partOf m parts owners st))
-  parts-turn a b c s t u k X Y = texts-more 1 (partOf m parts owners st) a b c s t u k (k + 1) (omega arith) X Y
 
   pub part-told : (i : ℕ) (a b c d e f g : Bytes) (s t u v w x y : ℕ) → Printed a b s t (line b-part (i ∷ [])) → Printed b c t u (cellsLine m parts owners st Interior b-interior i)
       → Printed c d u v (cellsLine m parts owners st Halo b-halo i) → Printed d e v w (blocks 1 parts (passing m parts owners st Imports (ascii "import") i))

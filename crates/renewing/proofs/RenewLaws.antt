@@ -14,10 +14,9 @@ use mir.Syntax.{w32}
 use mir.Val.{toZ, ofZ}
 use borrow.Author.Tests.{eqb-true}
 use Rattle.vocabulary.specs.Bytes.{Bytes, over}
-use Rattle.vocabulary.specs.ByteLaws.{over-none}
 use Rattle.vocabulary.specs.ListLaws.{and-true, someOf-witness}
 use Rattle.vocabulary.specs.Ranges.{listed, blocks}
-use Rattle.vocabulary.specs.RangeLaws.{listed-map, listed-length, listed-at, blocks-start, listed-moved, at-last}
+use Rattle.vocabulary.specs.RangeLaws.{listed-map, listed-length, listed-at, listed-moved}
 use Rattle.layout.specs.Words.{word, wordAt}
 use Rattle.depths.specs.Depths.{four, depthFrom, depthBytes}
 use Rattle.depths.specs.DepthLaws.{length-four, fours-store, ranged-size}
@@ -155,9 +154,6 @@ pub new-four : (st : Bytes) (d : ℕ) (b : Bytes) (l : ℕ) → length (newAt (l
 new-four st d b l = ap length (sym (new-is st d b l)) ∙ new-length (ruleKind st) (weights st) _ _ (length-four b (d + 30 + 4 * l))
 
 module _ (st : Bytes) (d : ℕ) (b new : Bytes) (owned : ℕ) where
-  pub renew-start : new ≡ over new 0 (blocks 1 (1 - 1) (newAt (listsIn st) d b))
-  renew-start = sym (ap (over new 0) (blocks-start 1 (newAt (listsIn st) d b)) ∙ over-none new 0)
-
   pub renew-turn : 4 * owned ≤ length new → (l : ℕ) → 1 ≤ l → l < owned + 1 → (z : ℤ) → mag z < 2147483648 → depthBytes z ≡ newAt (listsIn st) d b l → (x y : Bytes)
       → x ≡ over new 0 (blocks 1 (l - 1) (newAt (listsIn st) d b)) → y ≡ over x (4 * (l - 1)) (depthBytes (toZ w32 (ofZ w32 z))) → y ≡ over new 0 (blocks 1 (l + 1 - 1) (newAt (listsIn st) d b))
   renew-turn room l h k z m e x y p q =
@@ -168,9 +164,6 @@ module _ (st : Bytes) (d : ℕ) (b new : Bytes) (owned : ℕ) where
       ∙ ap (λ n. over (over new 0 (blocks 1 (l - 1) (newAt (listsIn st) d b))) n (newAt (listsIn st) d b (1 + (l - 1)))) (sym (zero-add (4 * (l - 1))))
       ∙ fours-store 1 (l - 1) (newAt (listsIn st) d b) (λ t c. new-four st d b (1 + t)) new 0 (omega arith)
       ∙ ap (λ n. over new 0 (blocks 1 n (newAt (listsIn st) d b))) j
-
-  pub renew-end : (x : Bytes) (l : ℕ) → l ≤ owned + 1 → owned + 1 ≤ l → x ≡ over new 0 (blocks 1 (l - 1) (newAt (listsIn st) d b)) → x ≡ over new 0 (blocks 1 owned (newAt (listsIn st) d b))
-  renew-end x l g h e = at-last (λ n. x ≡ over new 0 (blocks 1 n (newAt (listsIn st) d b))) (l - 1) owned (omega arith) (omega arith) e
 
 -- the weights, as they are cut out of the lists
 pub weights-cut : (st : Bytes) (kind n count : ℕ) → kind ≡ wordAt st 3 → n ≡ wordAt st 2 → count ≡ weightCount kind n → take (8 + 2 * count - 8) (drop 8 st) ≡ weights st

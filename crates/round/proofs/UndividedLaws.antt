@@ -14,11 +14,10 @@ use mir.Val.{toZ, ofZ}
 use lib.ListN.{length, getD, length-map}
 use borrow.Author.Tests.{ne-eqb, lt-ltb, le-ltb}
 use Rattle.vocabulary.specs.Bytes.{Bytes, over}
-use Rattle.vocabulary.specs.ByteLaws.{over-none}
 use Rattle.vocabulary.specs.Lists.{All}
 use Rattle.vocabulary.specs.ListLaws.{All-getD, getD-map-any}
 use Rattle.vocabulary.specs.Ranges.{listed, blocks}
-use Rattle.vocabulary.specs.RangeLaws.{listed-back, blocks-moved, at-last}
+use Rattle.vocabulary.specs.RangeLaws.{listed-back, blocks-moved}
 use Rattle.vocabulary.specs.Tests.{passed, firstOf-left, firstOf-right}
 use Rattle.depths.specs.Depths.{four, depthBytes}
 use Rattle.depths.specs.DepthLaws.{length-four, fours-store}
@@ -62,10 +61,6 @@ module _ (kind : ℕ) (v table : Bytes) (ends : List ℕ) (f : Bytes) (b : Bytes
   unfolding rowNew
   row-four j = new-length kind v _ _ (length-four f (0 + 4 * j))
 
-  pub renew-start : b ≡ over b 0 (blocks 0 0 (rowNew kind v table ends f))
-  unfolding blocks
-  renew-start = sym (over-none b 0)
-
   -- z is what `new_at` gave, in its register
   pub renew-turn : (x y : Bytes) (j : ℕ) (z : ℤ) → mag z < 2147483648 → j < cells → x ≡ over b 0 (blocks 0 j (rowNew kind v table ends f)) → depthBytes z ≡ rowNew kind v table ends f j
       → y ≡ over x (4 * j) (depthBytes (toZ w32 (ofZ w32 z))) → y ≡ over b 0 (blocks 0 (j + 1) (rowNew kind v table ends f))
@@ -74,9 +69,6 @@ module _ (kind : ℕ) (v table : Bytes) (ends : List ℕ) (f : Bytes) (b : Bytes
       ∙ ap₂ (λ (w : Bytes) (d : Bytes). over w (4 * j) d) e (ap depthBytes (depth-held z z m refl) ∙ p)
       ∙ ap₂ (λ o i. over (over b 0 (blocks 0 j (rowNew kind v table ends f))) o (rowNew kind v table ends f i)) (sym (zero-add (4 * j))) (sym (zero-add j))
       ∙ fours-store 0 j (rowNew kind v table ends f) (λ k l. row-four (0 + k)) b 0 (omega arith)
-
-  pub renew-end : (x : Bytes) (j : ℕ) → j ≤ cells → cells ≤ j → x ≡ over b 0 (blocks 0 j (rowNew kind v table ends f)) → x ≡ over b 0 (blocks 0 cells (rowNew kind v table ends f))
-  renew-end x j g h e = at-last (λ n. x ≡ over b 0 (blocks 0 n (rowNew kind v table ends f))) j cells g h e
 
 -- ---- the rows of the table that the walks made
 

@@ -1,9 +1,9 @@
 -- The lists that start writes are the lists that a call reads: the words of a state by their places, and each of the lists by its index.
 -- Assumes nothing.
-use mathlib.Core.Path.{_≡_, sym, ap, ap₂, _∙_, subst}
+use mathlib.Core.Path.{_≡_, refl, sym, ap, ap₂, _∙_, subst}
 use mathlib.Core.Bool.{Bool, true, false, not, _&&_, _||_, cond}
 use mathlib.Core.List.{List, [], _∷_, _++_, map}
-use Prim.Native.Nat.{ℕ, zero, suc, _+_, _-_, _*_, _/_, _%_, _<_, _≤_}
+use Prim.Native.Nat.{ℕ, _+_, _-_, _*_, _/_, _<_, _≤_}
 use native.Mathlib.Nat.{zero-add}
 use native.Mathlib.Omega.{arith}
 use lib.Dec.{eqb, ltb}
@@ -12,8 +12,8 @@ use lib.Seq.{getD-append-add, getD-take, ext-getD, length-take-le, drop-at}
 use borrow.Author.Tests.{eqb-true, ltb-false, not-false}
 use Rattle.vocabulary.specs.Bytes.{Bytes, byteAt}
 use Rattle.vocabulary.specs.ListLaws.{or-false, getD-map-any, pairs-length, pairs-at}
-use Rattle.vocabulary.specs.Ranges.{some, listed, blocks, total}
-use Rattle.vocabulary.specs.RangeLaws.{some-at, listed-length, listed-at, listed-back, blocks-fit, blocks-at, blocks-length, total-cong, total-start, total-turn}
+use Rattle.vocabulary.specs.Ranges.{some, listed, blocks}
+use Rattle.vocabulary.specs.RangeLaws.{some-at, listed-length, listed-at, listed-back, blocks-fit, blocks-at, blocks-sized, total-start, total-last}
 use Rattle.vocabulary.specs.CountLaws.{total-double}
 use Rattle.layout.specs.Words.{word, wordAt, bytesOf}
 use Rattle.layout.specs.WordLaws.{length-bytesOf, bytesOf-append, bytesOf-read, word-any}
@@ -60,7 +60,9 @@ module _ (S : Split) (i : ℕ) (order : List ℕ) (n kind : ℕ) (v : Bytes) whe
 
   reaches-length : (l : ℕ) → length (blocks 1 l (reachWords S i order)) ≡ 2 * reachEnds S i order l
   unfolding reachEnds
-  reaches-length l = blocks-length 1 (reachWords S i order) l ∙ total-double 1 l (λ k. length (reachWords S i order k)) (λ k. length (reachOf S i order k)) reach-length
+  reaches-length l =
+      blocks-sized 1 (reachWords S i order) (λ k. 2 * length (reachOf S i order k)) l reach-length
+      ∙ total-double 1 l (λ k. 2 * length (reachOf S i order k)) (λ k. length (reachOf S i order k)) (λ k. refl)
 
   pub export-length : (j : ℕ) → length (exportWords S i order j) ≡ length (exports S i j)
   unfolding exportWords
@@ -68,7 +70,7 @@ module _ (S : Split) (i : ℕ) (order : List ℕ) (n kind : ℕ) (v : Bytes) whe
 
   pub exports-length : (j : ℕ) → length (blocks 1 j (exportWords S i order)) ≡ exportEnds S i order j
   unfolding exportEnds
-  exports-length j = blocks-length 1 (exportWords S i order) j ∙ total-cong 1 (λ k. length (exportWords S i order k)) (λ k. length (exports S i k)) j (λ k h. export-length (1 + k))
+  exports-length j = blocks-sized 1 (exportWords S i order) (λ k. length (exports S i k)) j export-length
 
   -- the words are as many as they say
   pub words-length : length (listsWords S i order n kind v) ≡ listsLong S i order
@@ -222,15 +224,6 @@ module _ (S : Split) (i : ℕ) (order : List ℕ) (n kind : ℕ) (v : Bytes) whe
     toLocal e = record { local = localOf order (e .cell); layer = e .layer }
 
     module _ (l : ℕ) (h : 1 ≤ l) (k : l ≤ ownedIn S i) where
-      last-end : reachEnds S i order l ≡ reachEnds S i order (l - 1) + length (reachOf S i order l)
-      unfolding reachEnds
-      last-end =
-          let p : l ≡ l - 1 + 1 = omega arith in
-          let q : 1 + (l - 1) ≡ l = omega arith in
-          ap (λ x. total 1 x (λ k. length (reachOf S i order k))) p
-          ∙ total-turn 1 (λ k. length (reachOf S i order k)) (l - 1)
-          ∙ ap (λ x. total 1 (l - 1) (λ k. length (reachOf S i order k)) + length (reachOf S i order x)) q
-
       -- the place of the t-th entry among the words of the reaches
       entry-fits : (t : ℕ) → t < length (reachOf S i order l) → 2 * (reachEnds S i order (l - 1) + t) + 1 < length (blocks 1 (ownedIn S i) (reachWords S i order))
       entry-fits t q =
@@ -276,7 +269,8 @@ module _ (S : Split) (i : ℕ) (order : List ℕ) (n kind : ℕ) (v : Bytes) whe
           let d : Near = record { cell = 0; layer = 0 } in
           let m : length (map toLocal (reachOf S i order l)) ≡ length (reachOf S i order l) = length-map (reachOf S i order l) toLocal in
           let a : reachEnd front (l - 1) ≡ reachEnds S i order (l - 1) = ends-back (l - 1) (omega arith) in
-          let c : reachEnd front l - reachEnd front (l - 1) ≡ length (map toLocal (reachOf S i order l)) = omega (arith, ends-back l k, last-end) in
+          let e : reachEnds S i order l ≡ reachEnds S i order (l - 1) + length (reachOf S i order l) = unfold reachEnds in total-last (λ x. length (reachOf S i order x)) l h in
+          let c : reachEnd front l - reachEnd front (l - 1) ≡ length (map toLocal (reachOf S i order l)) = omega (arith, ends-back l k) in
           ap₂ (λ x y. listed x y (entryAt front)) a c
           ∙ listed-back (reachEnds S i order (l - 1)) (entryAt front) ls (toLocal d)
           (λ t q.
@@ -284,15 +278,6 @@ module _ (S : Split) (i : ℕ) (order : List ℕ) (n kind : ℕ) (v : Bytes) whe
           entry-back t lt ∙ sym (getD-map-any toLocal es t d (toLocal d) lt))
 
     module _ (j : ℕ) (h : 1 ≤ j) (k : j ≤ 16) where
-      last-export : exportEnds S i order j ≡ exportEnds S i order (j - 1) + length (exports S i j)
-      unfolding exportEnds
-      last-export =
-          let p : j ≡ j - 1 + 1 = omega arith in
-          let q : 1 + (j - 1) ≡ j = omega arith in
-          ap (λ x. total 1 x (λ k. length (exports S i k))) p
-          ∙ total-turn 1 (λ k. length (exports S i k)) (j - 1)
-          ∙ ap (λ x. total 1 (j - 1) (λ k. length (exports S i k)) + length (exports S i x)) q
-
       pub exports-back : localExports front j ≡ map (localOf order) (exports S i j)
       unfolding localExports exportWords
       exports-back =
@@ -300,7 +285,8 @@ module _ (S : Split) (i : ℕ) (order : List ℕ) (n kind : ℕ) (v : Bytes) whe
           let p : 1 + (j - 1) ≡ j = omega arith in
           let m : length (exportWords S i order j) ≡ length (exports S i j) = export-length j in
           let a : exportEnd front (j - 1) ≡ exportEnds S i order (j - 1) = export-back (j - 1) (omega arith) in
-          let c : exportEnd front j - exportEnd front (j - 1) ≡ length (exportWords S i order j) = omega (arith, export-back j k, last-export) in
+          let e : exportEnds S i order j ≡ exportEnds S i order (j - 1) + length (exports S i j) = unfold exportEnds in total-last (λ x. length (exports S i x)) j h in
+          let c : exportEnd front j - exportEnd front (j - 1) ≡ length (exportWords S i order j) = omega (arith, export-back j k) in
           ap₂ (λ x y. listed x y (exportAt front)) a c
           ∙ listed-back (exportEnds S i order (j - 1)) (exportAt front) xs 0
           (λ t q.

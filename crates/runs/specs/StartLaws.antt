@@ -15,7 +15,7 @@ use Rattle.vocabulary.specs.ByteLaws.{over-front}
 use Rattle.vocabulary.specs.Lists.{All}
 use Rattle.vocabulary.specs.ListLaws.{All-map, All-getD, map-cong, map-map, getD-map-any, At, All-of-map, map-id}
 use Rattle.vocabulary.specs.Ranges.{blocks, total}
-use Rattle.vocabulary.specs.RangeLaws.{total-turn, total-fit}
+use Rattle.vocabulary.specs.RangeLaws.{total-last, total-fit}
 use Rattle.vocabulary.specs.Tests.{passed}
 use Rattle.layout.specs.Words.{word}
 use Rattle.layout.specs.WordLaws.{wordAt-first}
@@ -148,11 +148,7 @@ module _ (I : Inputs) (R : Ready I) where
     pub lists-imported : (j : ℕ) → 1 ≤ j → j ≤ 16 → L .imported j ≡ length (imports S i j)
     unfolding listsIn importEnds
     lists-imported j h k =
-        let p : j - 1 + 1 ≡ j = omega arith in
-        let q : 1 + (j - 1) ≡ j = omega arith in
-        let g : ℕ → ℕ = λ k. length (imports S i k) in
-        let t : total 1 j (λ k. length (imports S i k)) ≡ total 1 (j - 1) (λ k. length (imports S i k)) + length (imports S i j) =
-        ap (λ x. total 1 x g) (sym p) ∙ total-turn 1 g (j - 1) ∙ ap (λ x. total 1 (j - 1) g + length (imports S i x)) q in
+        let t : total 1 j (λ k. length (imports S i k)) ≡ total 1 (j - 1) (λ k. length (imports S i k)) + length (imports S i j) = total-last (λ k. length (imports S i k)) j h in
         omega (
           arith,
           import-back S i order (steps (I .stencil)) (I .kind) (I .weights) (j - 1) (omega arith),

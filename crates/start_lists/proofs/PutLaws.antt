@@ -83,19 +83,24 @@ module _ (g : ℕ → List ℕ) (n : ℕ) where
   pub many-fit : (l : ℕ) → 1 ≤ l → l < n + 1 → length (blocks 1 (l - 1) g) + length (g l) ≤ length (blocks 1 n g)
   many-fit l h k = let e : 1 + (l - 1) ≡ l = omega arith in omega (arith, blocks-fit 1 g n (l - 1) (omega arith), ap (λ x. length (g x)) e)
 
-  pub many-room : (a b : Bytes) (s u l : ℕ) → 1 ≤ l → l < n + 1 → 2 * (s + length (blocks 1 n g)) ≤ length a → s + length (blocks 1 n g) < 65536 → length b ≡ length a
-      → Put a b s u (blocks 1 (l - 1) g) → (2 * (u + length (g l)) ≤ length b) × (u < 65536)
-  many-room a b s u l h k r q e P = (omega (arith, P .count, many-fit l h k), omega (arith, P .count, many-fit l h k))
-
-  pub many-turn : (a b c : Bytes) (s u w l : ℕ) → 1 ≤ l → l < n + 1 → 2 * (s + length (blocks 1 n g)) ≤ length a → Put a b s u (blocks 1 (l - 1) g) → Put b c u w (g l) → Put a c s w (blocks 1 (l + 1 - 1) g)
-  many-turn a b c s u w l h k r P Q =
-      let i₁ : l ≡ 1 + (l - 1) = omega arith in
-      let i₂ : l - 1 + 1 ≡ l + 1 - 1 = omega arith in
-      put-as a c s w (blocks 1 (l - 1) g ++ g l) (blocks 1 (l + 1 - 1) g) (ap (λ x. blocks 1 (l - 1) g ++ g x) i₁ ∙ sym (blocks-turn 1 g (l - 1)) ∙ ap (λ k. blocks 1 k g) i₂)
-      (put-both a b c s u w (blocks 1 (l - 1) g) (g l) P Q (omega (arith, P .count, many-fit l h k)))
-
   pub many-end : (a b : Bytes) (s u l : ℕ) → l ≤ n + 1 → n + 1 ≤ l → Put a b s u (blocks 1 (l - 1) g) → Put a b s u (blocks 1 n g)
   many-end a b s u l p h P = at-last (λ k. Put a b s u (blocks 1 k g)) (l - 1) n (omega arith) (omega arith) P
+
+  -- where they have w words in all, and list l has size l of them
+  module _ (w : ℕ) (whole : length (blocks 1 n g) ≡ w) where
+    pub many-count : (a b : Bytes) (s t : ℕ) → Put a b s t (blocks 1 n g) → t ≡ s + w
+    many-count a b s t P = omega (arith, P .count)
+
+    pub many-room : (size : ℕ → ℕ) → ((l : ℕ) → length (g l) ≡ size l) → (a b : Bytes) (s u l : ℕ) → 1 ≤ l → l < n + 1 → 2 * (s + w) ≤ length a → s + w < 65536 → length b ≡ length a
+        → Put a b s u (blocks 1 (l - 1) g) → (2 * (u + size l) ≤ length b) × (u < 65536)
+    many-room size each a b s u l h k r q e P = (omega (arith, P .count, many-fit l h k, each l), omega (arith, P .count, many-fit l h k))
+
+    pub many-turn : (a b c : Bytes) (s u v l : ℕ) → 1 ≤ l → l < n + 1 → 2 * (s + w) ≤ length a → Put a b s u (blocks 1 (l - 1) g) → Put b c u v (g l) → Put a c s v (blocks 1 (l + 1 - 1) g)
+    many-turn a b c s u v l h k r P Q =
+        let i₁ : l ≡ 1 + (l - 1) = omega arith in
+        let i₂ : l - 1 + 1 ≡ l + 1 - 1 = omega arith in
+        put-as a c s v (blocks 1 (l - 1) g ++ g l) (blocks 1 (l + 1 - 1) g) (ap (λ x. blocks 1 (l - 1) g ++ g x) i₁ ∙ sym (blocks-turn 1 g (l - 1)) ∙ ap (λ k. blocks 1 k g) i₂)
+        (put-both a b c s u v (blocks 1 (l - 1) g) (g l) P Q (omega (arith, P .count, many-fit l h k)))
 
 -- ---- several, one after another
 

@@ -9,13 +9,13 @@ use lib.Seq.{take-suc}
 use Rattle.vocabulary.specs.ListLaws.{map-append}
 use Rattle.vocabulary.specs.Bytes.{Bytes}
 use Rattle.vocabulary.specs.Ranges.{blocks, total}
-use Rattle.vocabulary.specs.RangeLaws.{total-grows, total-cong, blocks-turn, blocks-length, rows-length, at-last}
+use Rattle.vocabulary.specs.RangeLaws.{total-grows, blocks-turn, blocks-sized, rows-length, at-last}
 use Rattle.vocabulary.specs.CountLaws.{total-double}
 use Rattle.layout.specs.Words.{wordAt}
 use Rattle.split.specs.Split.{localOf}
 use Rattle.split.specs.Sorting.{cellsOf, Added}
 use Rattle.cell_lists.proofs.SortLaws.{added-take}
-use Rattle.start_lists.proofs.PutLaws.{put-as, put-none, put-both, many-room, many-turn}
+use Rattle.start_lists.proofs.PutLaws.{put-as, put-none, put-both}
 use Rattle.start_lists.specs.Starting.{Put, placeAt, rowSize, partCount, endsOf, Counted, Before, entryWords, rowEnds, rowWords, Row, Rows, sentEnds, sentWords}
 
 module _ (table : Bytes) (ends : List ℕ) (first : ℕ) (order : List ℕ) (l g from to : ℕ) (ge : g ≡ getD order (l - 1) 0) (fe : from ≡ getD ends (g - first) 0) (te : to ≡ getD ends (g - first + 1) 0) where
@@ -145,7 +145,7 @@ entry-two : (table : Bytes) (first : ℕ) (order : List ℕ) (n t : ℕ) → len
 unfolding entryWords
 entry-two table first order n t = refl
 
-row-length : (table : Bytes) (ends : List ℕ) (first : ℕ) (order : List ℕ) (n l : ℕ) → length (rowWords table ends first order n l) ≡ 2 * rowSize table ends first order l
+pub row-length : (table : Bytes) (ends : List ℕ) (first : ℕ) (order : List ℕ) (n l : ℕ) → length (rowWords table ends first order n l) ≡ 2 * rowSize table ends first order l
 unfolding rowWords
 row-length table ends first order n l = rows-length (getD ends (placeAt table ends first order l) 0) (entryWords table first order n) 2 (rowSize table ends first order l) (λ j h. entry-two table first order n _)
 
@@ -155,20 +155,9 @@ row-count a b u w from t s table first order n P e h = omega (arith, P .count, e
 module _ (table : Bytes) (ends : List ℕ) (first : ℕ) (order : List ℕ) (n owned : ℕ) where
   pub rows-long : length (blocks 1 owned (rowWords table ends first order n)) ≡ 2 * rowEnds table ends first order owned
   unfolding rowEnds
-  rows-long = blocks-length 1 (rowWords table ends first order n) owned ∙ total-double 1 owned (λ l. length (rowWords table ends first order n l)) (rowSize table ends first order) (row-length table ends first order n)
-
-  pub rows-count : (a b : Bytes) (s t : ℕ) → Put a b s t (blocks 1 owned (rowWords table ends first order n)) → t ≡ s + 2 * rowEnds table ends first order owned
-  rows-count a b s t P = omega (arith, P .count, rows-long)
-
-  pub rows-room : (a b : Bytes) (s u l : ℕ) → 1 ≤ l → l < owned + 1 → 2 * (s + 2 * rowEnds table ends first order owned) ≤ length a → s + 2 * rowEnds table ends first order owned < 65536 → length b ≡ length a
-      → Put a b s u (blocks 1 (l - 1) (rowWords table ends first order n)) → (2 * (u + 2 * rowSize table ends first order l) ≤ length b) × (u < 65536)
-  rows-room a b s u l h k r q e P =
-      let w = many-room (rowWords table ends first order n) owned a b s u l h k (omega (arith, rows-long)) (omega (arith, rows-long)) e P in
-      (omega (arith, w .0, row-length table ends first order n l), w .1)
-
-  pub rows-turn : (a b c : Bytes) (s u w l : ℕ) → 1 ≤ l → l < owned + 1 → 2 * (s + 2 * rowEnds table ends first order owned) ≤ length a
-      → Put a b s u (blocks 1 (l - 1) (rowWords table ends first order n)) → Put b c u w (rowWords table ends first order n l) → Put a c s w (blocks 1 (l + 1 - 1) (rowWords table ends first order n))
-  rows-turn a b c s u w l h k r P Q = many-turn (rowWords table ends first order n) owned a b c s u w l h k (omega (arith, rows-long)) P Q
+  rows-long =
+      blocks-sized 1 (rowWords table ends first order n) (λ l. 2 * rowSize table ends first order l) owned (row-length table ends first order n)
+      ∙ total-double 1 owned (λ l. 2 * rowSize table ends first order l) (rowSize table ends first order) (λ l. refl)
 
   pub rows-each : (l : ℕ) → Rows table ends first order owned → 1 ≤ l → l < owned + 1 → Row table ends first order l
   rows-each l R h k = R .each l h (omega arith)
@@ -203,23 +192,10 @@ module _ (owners table : Bytes) (ends : List ℕ) (held : Bytes) (i first cells 
   sent-put a b s t j k x y A l h P =
       put-as a b s t _ _ (ap (map (localOf (take n order))) (added-take x y k (cellsOf owners table ends held j first cells i) A l (omega (arith, A .count)))) P
 
-  sent-long : (j : ℕ) → length (sentWords owners table ends held i first cells order n j) ≡ length (cellsOf owners table ends held j first cells i)
+  pub sent-long : (j : ℕ) → length (sentWords owners table ends held i first cells order n j) ≡ length (cellsOf owners table ends held j first cells i)
   unfolding sentWords
   sent-long j = length-map (cellsOf owners table ends held j first cells i) (localOf (take n order))
 
   pub all-long : length (blocks 1 16 (sentWords owners table ends held i first cells order n)) ≡ sentEnds owners table ends held i first cells 16
   unfolding sentEnds
-  all-long = blocks-length 1 (sentWords owners table ends held i first cells order n) 16 ∙ total-cong 1 _ _ 16 (λ k h. sent-long (1 + k))
-
-  pub sents-count : (a b : Bytes) (s t : ℕ) → Put a b s t (blocks 1 16 (sentWords owners table ends held i first cells order n)) → t ≡ s + sentEnds owners table ends held i first cells 16
-  sents-count a b s t P = omega (arith, P .count, all-long)
-
-  pub sents-room : (a b : Bytes) (s u j : ℕ) → 1 ≤ j → j < 17 → 2 * (s + sentEnds owners table ends held i first cells 16) ≤ length a → s + sentEnds owners table ends held i first cells 16 < 65536 → length b ≡ length a
-      → Put a b s u (blocks 1 (j - 1) (sentWords owners table ends held i first cells order n)) → (2 * (u + length (cellsOf owners table ends held j first cells i)) ≤ length b) × (u < 65536)
-  sents-room a b s u j h k r q e P =
-      let w = many-room (sentWords owners table ends held i first cells order n) 16 a b s u j h (omega arith) (omega (arith, all-long)) (omega (arith, all-long)) e P in
-      (omega (arith, w .0, sent-long j), w .1)
-
-  pub sents-turn : (a b c : Bytes) (s u w j : ℕ) → 1 ≤ j → j < 17 → 2 * (s + sentEnds owners table ends held i first cells 16) ≤ length a
-      → Put a b s u (blocks 1 (j - 1) (sentWords owners table ends held i first cells order n)) → Put b c u w (sentWords owners table ends held i first cells order n j) → Put a c s w (blocks 1 (j + 1 - 1) (sentWords owners table ends held i first cells order n))
-  sents-turn a b c s u w j h k r P Q = many-turn (sentWords owners table ends held i first cells order n) 16 a b c s u w j h (omega arith) (omega (arith, all-long)) P Q
+  all-long = blocks-sized 1 (sentWords owners table ends held i first cells order n) (λ j. length (cellsOf owners table ends held j first cells i)) 16 sent-long

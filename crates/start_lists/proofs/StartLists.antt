@@ -7,9 +7,8 @@ use native.Mathlib.Omega.{arith}
 use lib.ListN.{length, getD, take, drop, length-append}
 use lib.Seq.{length-take-le}
 use Rattle.vocabulary.specs.Bytes.{Bytes, over}
-use Rattle.vocabulary.specs.ByteLaws.{over-none}
 use Rattle.vocabulary.specs.Ranges.{listed, blocks}
-use Rattle.vocabulary.specs.RangeLaws.{listed-cong, listed-length, blocks-start, at-last}
+use Rattle.vocabulary.specs.RangeLaws.{listed-cong, listed-length}
 use Rattle.layout.specs.Words.{wordAt}
 use Rattle.depths.specs.Depths.{four}
 use Rattle.depths.specs.DepthLaws.{length-four, fours-store}
@@ -106,12 +105,6 @@ module _ (owners table : Bytes) (ends : List ℕ) (held : Bytes) (i first cells 
 depth-four : (f : Bytes) (first : ℕ) (order : List ℕ) (l : ℕ) → length (startDepth f first order l) ≡ 4
 unfolding startDepth
 depth-four f first order l = length-four f _
-
-pub held-start : (f : Bytes) (first : ℕ) (order : List ℕ) (b : Bytes) (at : ℕ) → b ≡ over b at (blocks 1 (1 - 1) (startDepth f first order))
-held-start f first order b at = sym (ap (over b at) (blocks-start 1 (startDepth f first order)) ∙ over-none b at)
-
-pub held-end : (f : Bytes) (first : ℕ) (order : List ℕ) (b x : Bytes) (at l n : ℕ) → l ≤ n + 1 → n + 1 ≤ l → x ≡ over b at (blocks 1 (l - 1) (startDepth f first order)) → x ≡ over b at (blocks 1 n (startDepth f first order))
-held-end f first order b x at l n g h e = at-last (λ m. x ≡ over b at (blocks 1 m (startDepth f first order))) (l - 1) n (omega arith) (omega arith) e
 
 module _ (f : Bytes) (first : ℕ) (order : List ℕ) (n : ℕ) (C : Cells f first order n) (l g : ℕ) (h : 1 ≤ l) (k : l < n + 1) (ge : g ≡ getD order (l - 1) 0) where
   pub held-low : first ≤ g

@@ -13,7 +13,7 @@ use Rattle.vocabulary.specs.Bytes.{Bytes}
 use Rattle.vocabulary.specs.Lists.{joined, placeOf}
 use Rattle.vocabulary.specs.ListLaws.{All-getD}
 use Rattle.vocabulary.specs.Ranges.{picked, listed, blocks, total}
-use Rattle.vocabulary.specs.RangeLaws.{picked-length-le, listed-cong, listed-back, blocks-moved, blocks-cong, blocks-length, joined-mapped, total-cong, total-grows, total-has, total-mono}
+use Rattle.vocabulary.specs.RangeLaws.{picked-length-le, listed-cong, listed-back, blocks-moved, blocks-cong, blocks-length, joined-mapped, total-cong, total-agree, total-grows, total-has, total-mono}
 use Rattle.vocabulary.specs.CountLaws.{total-add}
 use Rattle.layout.specs.Words.{wordAt}
 use Rattle.mesh.specs.Mesh.{firstCell, cellCount}
@@ -179,18 +179,12 @@ module _ (m : Bytes) (parts : ℕ) (owners st table : Bytes) (ends : List ℕ) (
 
     -- ---- imports and exports
 
-    pub got-are : (j : ℕ) → 1 ≤ j → j ≤ 16 → cellsOf owners table ends held′ i first cells j ≡ imports S i j
-    got-are j l h = ap₂ (λ f c. cellsOf owners table ends held′ i f c j) fe ce ∙ imports-are m parts owners st table ends held′ R i high j l h
-
-    pub sent-are : (j : ℕ) → 1 ≤ j → j ≤ 16 → cellsOf owners table ends held′ j first cells i ≡ exports S i j
-    unfolding exports
-    sent-are j l h = ap₂ (λ f c. cellsOf owners table ends held′ j f c i) fe ce ∙ imports-are m parts owners st table ends held′ R j h i low high
+    cells-are : (k j : ℕ) → k ≤ 16 → 1 ≤ j → j ≤ 16 → cellsOf owners table ends held′ k first cells j ≡ imports S k j
+    cells-are k j h l q = ap₂ (λ f c. cellsOf owners table ends held′ k f c j) fe ce ∙ imports-are m parts owners st table ends held′ R k h j l q
 
     pub sent-ends : (j : ℕ) → j ≤ 16 → sentEnds owners table ends held′ i first cells j ≡ exportEnds S i L j
-    unfolding sentEnds exportEnds
-    sent-ends j h =
-        total-cong 1 (λ k. length (cellsOf owners table ends held′ k first cells i)) (λ k. length (exports S i k)) j
-        (λ k q. ap length (sent-are (1 + k) (omega arith) (omega arith)))
+    unfolding sentEnds exportEnds exports
+    sent-ends j h = total-agree (λ k. length (cellsOf owners table ends held′ k first cells i)) (λ k. length (exports S i k)) 16 j h (λ k l q. ap length (cells-are k i q low high))
 
     pub sent-few : bad12 S ≡ false → (j : ℕ) → j ≤ 16 → sentEnds owners table ends held′ i first cells j ≤ 4096
     sent-few e j h =
@@ -200,10 +194,7 @@ module _ (m : Bytes) (parts : ℕ) (owners st table : Bytes) (ends : List ℕ) (
     module _ (order : List ℕ) (n own : ℕ) (oe : take n order ≡ locals S i) (ne : n ≡ length (locals S i)) (we : own ≡ ownedIn S i) where
       pub got-ends : (j : ℕ) → j ≤ 16 → gotEnds owners table ends held′ i first cells own j ≡ importEnds S i L j
       unfolding gotEnds importEnds
-      got-ends j h =
-          ap₂ _+_ we
-          (total-cong 1 (λ k. length (cellsOf owners table ends held′ i first cells k)) (λ k. length (imports S i k)) j
-          (λ k q. ap length (got-are (1 + k) (omega arith) (omega arith))))
+      got-ends j h = ap₂ _+_ we (total-agree (λ k. length (cellsOf owners table ends held′ i first cells k)) (λ k. length (imports S i k)) 16 j h (λ k l q. ap length (cells-are i k high l q)))
 
       -- all imports are all that is held
       pub got-all : gotEnds owners table ends held′ i first cells own 16 ≡ n
@@ -215,8 +206,8 @@ module _ (m : Bytes) (parts : ℕ) (owners st table : Bytes) (ends : List ℕ) (
       got-few j h = omega (arith, got-all, got-ends 16 (omega arith), got-ends j h, total-grows 1 (λ k. length (imports S i k)) j 16 h)
 
       pub sent-words : (j : ℕ) → 1 ≤ j → j ≤ 16 → sentWords owners table ends held′ i first cells order n j ≡ exportWords S i L j
-      unfolding sentWords exportWords
-      sent-words j l h = ap₂ (λ (o xs : List ℕ). map (localOf o) xs) oe (sent-are j l h)
+      unfolding sentWords exportWords exports
+      sent-words j l h = ap₂ (λ (o xs : List ℕ). map (localOf o) xs) oe (cells-are j i h low high)
 
       -- ---- the order
 
@@ -308,8 +299,7 @@ module _ (m : Bytes) (parts : ℕ) (owners st table : Bytes) (ends : List ℕ) (
 
       pub row-ends : (l : ℕ) → l ≤ own → rowEnds table ends first order l ≡ reachEnds S i L l
       unfolding rowEnds reachEnds
-      row-ends l h =
-          total-cong 1 (rowSize table ends first order) (λ k. length (reachOf S i L k)) l (λ k q. row-size (1 + k) (omega arith) (omega arith))
+      row-ends l h = total-agree (rowSize table ends first order) (λ k. length (reachOf S i L k)) own l h row-size
 
       pub ends-few : bad13 m st ≡ false → (l : ℕ) → l ≤ own → rowEnds table ends first order l ≤ 8000
       unfolding splitOf entryCount

@@ -1,7 +1,7 @@
 -- Texts put one after another. Assumes nothing.
 use mathlib.Core.Path.{_≡_, refl, sym, ap, ap₂, _∙_, subst}
 use mathlib.Core.Bool.{Bool, true, false, cond}
-use mathlib.Core.List.{List, [], _∷_, _++_, map, append-assoc, append-nil}
+use mathlib.Core.List.{List, [], _∷_, _++_, map, append-nil}
 use Prim.Native.Nat.{ℕ, zero, suc, _+_, _-_, _/_, _%_, _≤_, _<_}
 use native.Mathlib.Numerals.{add-one}
 use native.Mathlib.Omega.{arith}
@@ -12,6 +12,7 @@ use borrow.Author.Tests.{ltb-true, ltb-false, lt-ltb, le-ltb}
 use Rattle.vocabulary.specs.Bytes.{Bytes, over}
 use Rattle.vocabulary.specs.ByteLaws.{over-none, over-one, over-more}
 use Rattle.vocabulary.specs.Lists.{joined}
+use Rattle.vocabulary.specs.ListLaws.{map-append, joined-last}
 use Rattle.text.specs.Listing.{ascii, digits, decimal, spaced, line}
 use Rattle.text.specs.Printing.{fitting, Printed, numbers}
 
@@ -151,15 +152,6 @@ spaced-told a b c s t u v X Y = print-both a b c s t u (32 ∷ []) (decimal v) X
 
 -- ---- numbers
 
-joined-snoc : (xs : List Bytes) (y : Bytes) → joined (xs ++ (y ∷ [])) ≡ joined xs ++ y
-unfolding joined
-joined-snoc [] y = append-nil y
-joined-snoc (x ∷ xs) y = ap (λ r. x ++ r) (joined-snoc xs y) ∙ sym (append-assoc x (joined xs) y)
-
-map-snoc : (f : ℕ → Bytes) (xs : List ℕ) (y : ℕ) → map f (xs ++ (y ∷ [])) ≡ map f xs ++ (f y ∷ [])
-map-snoc f [] y = refl
-map-snoc f (x ∷ xs) y = ap (λ r. f x ∷ r) (map-snoc f xs y)
-
 -- the first k numbers of a list
 unfoldable pub spacedTo : ℕ → List ℕ → Bytes
 spacedTo k list = joined (map spaced (take k list))
@@ -177,8 +169,8 @@ spaced-turn list a b c s t u k n x g l e X Y = subst (Printed a c s u) (sym more
     more : spacedTo (k + 1) list ≡ spacedTo k list ++ spaced (getD list k 0)
     more = unfold spacedTo in
         ap (λ (xs : List ℕ). joined (map spaced xs)) longer
-        ∙ ap joined (map-snoc spaced (take k list) (getD list k 0))
-        ∙ joined-snoc (map spaced (take k list)) (spaced (getD list k 0))
+        ∙ ap joined (map-append spaced (take k list) (getD list k 0 ∷ []))
+        ∙ joined-last (map spaced (take k list)) (spaced (getD list k 0))
 
 pub numbers-told : (list : List ℕ) (a b c : Bytes) (s t u k n : ℕ) → k ≤ n → n ≤ k → Printed a b s t (spacedTo k list) → Printed b c t u (10 ∷ []) → Printed a c s u (numbers (take n list))
 unfolding numbers spacedTo ascii

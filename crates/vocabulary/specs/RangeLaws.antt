@@ -11,13 +11,27 @@ use lib.ListN.{length, getD, length-append, List·getD-append}
 use lib.Seq.{getD-append-add, getD-append-seam, ext-getD}
 use lib.Dec.{eqb, ltb, leb}
 use borrow.Author.Tests.{eqb-true, eqb-false, ltb-true, ltb-false, lt-ltb, leb-true, le-leb, not-true, not-false}
+use Rattle.vocabulary.specs.Bytes.{Bytes, over}
+use Rattle.vocabulary.specs.ByteLaws.{over-none}
 use Rattle.vocabulary.specs.Lists.{isIn, someOf, repeats, joined, All}
-use Rattle.vocabulary.specs.ListLaws.{isIn-append, someOf-append, someOf-witness, someOf-has, or-nothing, same-test, and-true, and-intro, and-false, or-left, or-right, or-true, or-none, not-both, not-or-not, All-append, All-getD, At, at-left, at-right, repeats-none, map-append}
+use Rattle.vocabulary.specs.ListLaws.{isIn-append, someOf-append, someOf-witness, someOf-has, or-nothing, same-test, and-true, and-intro, and-false, or-left, or-right, or-true, or-none, not-both, not-or-not, All-append, All-getD, At, at-left, at-right, repeats-none, map-append, joined-last}
 use Rattle.vocabulary.specs.Ranges.{isUpTo, picked, every, some, listed, blocks, total}
 
 -- a loop that has come to its end: what holds so far holds in all
 pub at-last : (P : ℕ → Type 0) (k n : ℕ) → k ≤ n → n ≤ k → P k → P n
 at-last P k n g h p = let q : k ≡ n = omega arith in subst P q p
+
+-- a loop that writes a list for each number into a buffer: where it starts, and where it ends
+pub stored-start : (b : Bytes) (o a : ℕ) (g : ℕ → Bytes) → b ≡ over b o (blocks a 0 g)
+unfolding blocks
+stored-start b o a g = sym (over-none b o)
+
+pub stored-end : (b x : Bytes) (o a : ℕ) (g : ℕ → Bytes) (k n : ℕ) → k ≤ n → n ≤ k → x ≡ over b o (blocks a k g) → x ≡ over b o (blocks a n g)
+stored-end b x o a g k n h l e = at-last (λ j. x ≡ over b o (blocks a j g)) k n h l e
+
+-- the same for a loop that counts from 1
+pub stored-up : (b x : Bytes) (o : ℕ) (g : ℕ → Bytes) (l n : ℕ) → l ≤ n + 1 → n + 1 ≤ l → x ≡ over b o (blocks 1 (l - 1) g) → x ≡ over b o (blocks 1 n g)
+stored-up b x o g l n h k e = stored-end b x o 1 g (l - 1) n (omega arith) (omega arith) e
 
 -- a number below suc n is the last or comes before it
 pub last-or : (i n : ℕ) → i < suc n → (i < n) ⊎ (i ≡ n)
@@ -116,6 +130,13 @@ module _ (a : ℕ) (p : ℕ → Bool) where
   pub every-witness : (n : ℕ) → every a n p ≡ false → (i : ℕ) × (i < n) × (p (a + i) ≡ false)
   every-witness n e = let r = some-witness a fails n (not-false _ (sym (every-not n) ∙ e)) in (r .0, r .1, not-true _ (r .2))
 
+-- ---- what is built up turn by turn, from a start on, is decided by what each turn adds
+
+range-same : {R X : Type 0} (add : R → X → R) (F G : ℕ → R) (f g : ℕ → X) → F 0 ≡ G 0 → ((k : ℕ) → F (suc k) ≡ add (F k) (f k)) → ((k : ℕ) → G (suc k) ≡ add (G k) (g k))
+    → (n : ℕ) → ((i : ℕ) → i < n → f i ≡ g i) → F n ≡ G n
+range-same add F G f g z s t zero h = z
+range-same add F G f g z s t (suc n) h = s n ∙ ap₂ add (range-same add F G f g z s t n (λ i k. h i (omega arith))) (h n (omega arith)) ∙ sym (t n)
+
 -- ---- picked
 
 -- rising: each number is below every later one
@@ -174,9 +195,8 @@ module _ (a : ℕ) (p : ℕ → Bool) where
 
   pub picked-none : (n : ℕ) → ((i : ℕ) → i < n → p (a + i) ≡ false) → picked a n p ≡ []
   unfolding picked
-  picked-none zero f = refl
-  picked-none (suc n) f =
-      ap₂ (λ xs b. xs ++ cond b ((a + n) ∷ []) []) (picked-none n (λ i h. f i (omega arith))) (f n (omega arith))
+  picked-none n f =
+      range-same _++_ (λ k. picked a k p) (λ k. []) (λ i. cond (p (a + i)) ((a + i) ∷ []) []) (λ i. []) refl (λ k. refl) (λ k. refl) n (λ i h. ap (λ b. cond b ((a + i) ∷ []) []) (f i h))
 
   pub picked-length-le : (n : ℕ) → length (picked a n p) ≤ n
   unfolding picked
@@ -202,13 +222,13 @@ module _ (a : ℕ) (p : ℕ → Bool) where
 module _ (a : ℕ) (p q : ℕ → Bool) where
   pub some-cong : (n : ℕ) → ((i : ℕ) → i < n → p (a + i) ≡ q (a + i)) → some a n p ≡ some a n q
   unfolding some
-  some-cong zero f = refl
-  some-cong (suc n) f = ap₂ _||_ (some-cong n (λ i h. f i (omega arith))) (f n (omega arith))
+  some-cong n f = range-same _||_ (λ k. some a k p) (λ k. some a k q) (λ i. p (a + i)) (λ i. q (a + i)) refl (λ k. refl) (λ k. refl) n f
 
   pub picked-cong : (n : ℕ) → ((i : ℕ) → i < n → p (a + i) ≡ q (a + i)) → picked a n p ≡ picked a n q
   unfolding picked
-  picked-cong zero f = refl
-  picked-cong (suc n) f = ap₂ (λ xs b. xs ++ cond b ((a + n) ∷ []) []) (picked-cong n (λ i h. f i (omega arith))) (f n (omega arith))
+  picked-cong n f =
+      range-same _++_ (λ k. picked a k p) (λ k. picked a k q) (λ i. cond (p (a + i)) ((a + i) ∷ []) []) (λ i. cond (q (a + i)) ((a + i) ∷ []) []) refl (λ k. refl) (λ k. refl) n
+      (λ i h. ap (λ b. cond b ((a + i) ∷ []) []) (f i h))
 
 pub every-cong : (a : ℕ) (p q : ℕ → Bool) (n : ℕ) → ((i : ℕ) → i < n → p (a + i) ≡ q (a + i)) → every a n p ≡ every a n q
 every-cong a p q n f = every-not a p n ∙ ap not (some-cong a (λ x. not (p x)) (λ x. not (q x)) n (λ i h. ap not (f i h))) ∙ sym (every-not a q n)
@@ -216,24 +236,25 @@ every-cong a p q n f = every-not a p n ∙ ap not (some-cong a (λ x. not (p x))
 -- the same lists, whatever the numbers they are made of
 pub listed-moved : {A : Type 0} (a b : ℕ) (f g : ℕ → A) (n : ℕ) → ((i : ℕ) → i < n → f (a + i) ≡ g (b + i)) → listed a n f ≡ listed b n g
 unfolding listed
-listed-moved a b f g zero h = refl
-listed-moved a b f g (suc n) h = ap₂ (λ xs x. xs ++ (x ∷ [])) (listed-moved a b f g n (λ i k. h i (omega arith))) (h n (omega arith))
+listed-moved a b f g n h = range-same (λ xs x. xs ++ (x ∷ [])) (λ k. listed a k f) (λ k. listed b k g) (λ i. f (a + i)) (λ i. g (b + i)) refl (λ k. refl) (λ k. refl) n h
 
 pub listed-cong : {A : Type 0} (a : ℕ) (f g : ℕ → A) (n : ℕ) → ((i : ℕ) → i < n → f (a + i) ≡ g (a + i)) → listed a n f ≡ listed a n g
 listed-cong a f g n h = listed-moved a a f g n h
 
 pub blocks-moved : {A : Type 0} (a b : ℕ) (f g : ℕ → List A) (n : ℕ) → ((i : ℕ) → i < n → f (a + i) ≡ g (b + i)) → blocks a n f ≡ blocks b n g
 unfolding blocks
-blocks-moved a b f g zero h = refl
-blocks-moved a b f g (suc n) h = ap₂ _++_ (blocks-moved a b f g n (λ i k. h i (omega arith))) (h n (omega arith))
+blocks-moved a b f g n h = range-same _++_ (λ k. blocks a k f) (λ k. blocks b k g) (λ i. f (a + i)) (λ i. g (b + i)) refl (λ k. refl) (λ k. refl) n h
 
 pub blocks-cong : {A : Type 0} (a : ℕ) (f g : ℕ → List A) (n : ℕ) → ((i : ℕ) → i < n → f (a + i) ≡ g (a + i)) → blocks a n f ≡ blocks a n g
 blocks-cong a f g n h = blocks-moved a a f g n h
 
 pub total-cong : (a : ℕ) (f g : ℕ → ℕ) (n : ℕ) → ((i : ℕ) → i < n → f (a + i) ≡ g (a + i)) → total a n f ≡ total a n g
 unfolding total
-total-cong a f g zero h = refl
-total-cong a f g (suc n) h = ap₂ _+_ (total-cong a f g n (λ i k. h i (omega arith))) (h n (omega arith))
+total-cong a f g n h = range-same _+_ (λ k. total a k f) (λ k. total a k g) (λ i. f (a + i)) (λ i. g (a + i)) refl (λ k. refl) (λ k. refl) n h
+
+-- the same sums of numbers from 1 to n, where the summands up to m agree
+pub total-agree : (f g : ℕ → ℕ) (m n : ℕ) → n ≤ m → ((j : ℕ) → 1 ≤ j → j ≤ m → f j ≡ g j) → total 1 n f ≡ total 1 n g
+total-agree f g m n h k = total-cong 1 f g n (λ i l. k (1 + i) (omega arith) (omega arith))
 
 -- ---- listed
 
@@ -278,11 +299,6 @@ listed-all P a (suc n) g f = All-append P (listed a n g) (g (a + n) ∷ []) (lis
 -- ---- blocks
 
 -- the lists of a range, joined
-joined-last : {A : Type 0} (xs : List (List A)) (x : List A) → joined (xs ++ (x ∷ [])) ≡ joined xs ++ x
-unfolding joined
-joined-last [] x = append-nil x
-joined-last (y ∷ ys) x = ap (λ r. y ++ r) (joined-last ys x) ∙ sym (append-assoc y (joined ys) x)
-
 pub joined-listed : {A : Type 0} (a : ℕ) (g : ℕ → List A) (n : ℕ) → joined (listed a n g) ≡ blocks a n g
 unfolding joined listed blocks
 joined-listed a g zero = refl
@@ -355,6 +371,10 @@ module _ {A : Type 0} (a : ℕ) (g : ℕ → List A) where
   unfolding blocks total
   blocks-length zero = refl
   blocks-length (suc n) = length-append (blocks a n g) (g (a + n)) ∙ ap (λ x. x + length (g (a + n))) (blocks-length n)
+
+  -- the same, where the length of each is known
+  pub blocks-sized : (f : ℕ → ℕ) (n : ℕ) → ((x : ℕ) → length (g x) ≡ f x) → length (blocks a n g) ≡ total a n f
+  blocks-sized f n h = blocks-length n ∙ total-cong a (λ x. length (g x)) f n (λ i k. h (a + i))
 
   -- rows: blocks of w elements each
   pub rows-length : (w n : ℕ) → ((j : ℕ) → j < n → length (g (a + j)) ≡ w) → length (blocks a n g) ≡ w * n
@@ -475,6 +495,13 @@ module _ (a : ℕ) (g : ℕ → ℕ) where
   unfolding total
   total-turn n = rw add-one refl
 
+-- a sum from 1 on, and its last summand
+pub total-last : (g : ℕ → ℕ) (l : ℕ) → 1 ≤ l → total 1 l g ≡ total 1 (l - 1) g + g l
+total-last g l h =
+    let p : l ≡ l - 1 + 1 = omega arith in
+    let q : 1 + (l - 1) ≡ l = omega arith in
+    ap (λ x. total 1 x g) p ∙ total-turn 1 g (l - 1) ∙ ap (λ x. total 1 (l - 1) g + g x) q
+
 -- `for k in 0..n`, which asks a test t of each k and leaves at the first that fails, or at the first that passes
 module _ (p : ℕ → Bool) (n k : ℕ) where
   at-zero : (t b : Bool) → t ≡ p k → t ≡ b → p (0 + k) ≡ b
@@ -511,8 +538,7 @@ someOf-listed p g a (suc n) = someOf-append p (listed a n g) (g (a + n) ∷ []) 
 -- lists over a range that are empty but for a part of it
 pub blocks-empty : {A : Type 0} (a : ℕ) (g : ℕ → List A) (n : ℕ) → ((i : ℕ) → i < n → g (a + i) ≡ []) → blocks a n g ≡ []
 unfolding blocks
-blocks-empty a g zero f = refl
-blocks-empty a g (suc n) f = ap₂ _++_ (blocks-empty a g n (λ i h. f i (omega arith))) (f n (omega arith))
+blocks-empty a g n f = range-same _++_ (λ k. blocks a k g) (λ k. []) (λ i. g (a + i)) (λ i. []) refl (λ k. refl) (λ k. refl) n f
 
 pub blocks-part : {A : Type 0} (g : ℕ → List A) (a k n : ℕ) → a + k ≤ n → ((i : ℕ) → i < a → g i ≡ []) → ((i : ℕ) → a + k ≤ i → i < n → g i ≡ []) → blocks 0 n g ≡ blocks a k g
 blocks-part g a k n h before after =

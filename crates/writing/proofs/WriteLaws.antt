@@ -8,10 +8,10 @@ use lib.Dec.{ltb}
 use lib.ListN.{length, set, take, drop, length-append, length-map}
 use borrow.Author.Tests.{ne-eqb, lt-ltb, le-ltb, not-true, not-false}
 use Rattle.vocabulary.specs.Bytes.{Bytes, over}
-use Rattle.vocabulary.specs.ByteLaws.{over-none, over-more}
+use Rattle.vocabulary.specs.ByteLaws.{over-more}
 use Rattle.vocabulary.specs.Lists.{joined}
 use Rattle.vocabulary.specs.Ranges.{isUpTo, blocks}
-use Rattle.vocabulary.specs.RangeLaws.{upTo-true, listed-length, joined-mapped, blocks-start, at-last}
+use Rattle.vocabulary.specs.RangeLaws.{upTo-true, listed-length, joined-mapped}
 use Rattle.layout.specs.Words.{word, wordAt, bytesOf}
 use Rattle.layout.specs.WordLaws.{length-bytesOf}
 use Rattle.depths.specs.Depths.{four}
@@ -109,9 +109,6 @@ module _ (st : Bytes) (d : ℕ) (b : Bytes) (o : Opened st d b) (held owned reac
   unfolding sentAt
   sent-four x = length-four b (depthPlace d (exportAt st x))
 
-  pub put-start : (out : Bytes) → out ≡ over out 8 (blocks from 0 (sentAt st d b))
-  put-start out = sym (ap (over out 8) (blocks-start from (sentAt st d b)) ∙ over-none out 8)
-
   module _ (t l : ℕ) (h : t < count) (le : l ≡ wordAt st (46 + held + owned + 2 * reached + (from + t))) where
     local-is : exportAt st (from + t) ≡ l
     local-is =
@@ -132,9 +129,6 @@ module _ (st : Bytes) (d : ℕ) (b : Bytes) (o : Opened st d b) (held owned reac
       where
         sent-is : four b (d + 30 + 4 * l) ≡ sentAt st d b (from + t)
         sent-is = ap (λ k. four b (d + 30 + 4 * k)) (sym local-is) ∙ sent-at st d b (from + t)
-
-  pub put-end : (out x : Bytes) (t : ℕ) → t ≤ count → count ≤ t → x ≡ over out 8 (blocks from t (sentAt st d b)) → x ≡ over out 8 (blocks from count (sentAt st d b))
-  put-end out x t g h e = at-last (λ n. x ≡ over out 8 (blocks from n (sentAt st d b))) t count g h e
 
 -- the words first, and the depths behind them
 pub message-put : (b out x y : Bytes) (st : Bytes) (d j count from part round : ℕ) → Opened st d b → count ≡ sentTo (listsIn st) j → 1 ≤ count → 8 + 4 * count ≤ length out

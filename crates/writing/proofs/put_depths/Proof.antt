@@ -4,8 +4,9 @@ use Prim.Native.Nat.{_+_, _-_, _*_, _≤_}
 use lib.ListN.{length}
 use Rattle.vocabulary.specs.Bytes.{over}
 use Rattle.vocabulary.specs.Ranges.{blocks}
+use Rattle.vocabulary.specs.RangeLaws.{stored-start, stored-end}
 use Rattle.parts.specs.Opened.{sentAt}
-use Rattle.writing.proofs.WriteLaws.{put-start, put-room, put-turn, put-end}
+use Rattle.writing.proofs.WriteLaws.{put-room, put-turn}
 use borrow.Author.Needs.{needs}
 use Rattle.writing.proofs.put_depths.Statement.{statement}
 use Rattle.writing.proofs.put_depths.Tie as tie
@@ -26,7 +27,7 @@ put-depths-spec =
     (λ c. search needs)
     (λ c. search needs)
     (λ c. search needs)
-    (λ c. (refl, search needs, search needs, search put-start))
+    (λ c. (refl, search needs, search needs, search stored-start))
     (λ c. search needs)
     (λ c. search needs)
     (λ c κs. search needs)
@@ -40,4 +41,4 @@ put-depths-spec =
     (λ c. search needs)
     (λ c. (search needs, search needs, search needs, put-turn _ _ _ (c .before .before .before .before .before .before .before .before .before .before .pre .0) _ _ _ (c .before .before .before .before .before .before .before .before .before .before .pre .1) _ _ (c .before .before .before .before .before .before .before .before .before .before .pre .2) _ _ (c .before .before .before .before .before .loop-test .taken) (c .before .before .before .before .word-at .ensures .0) _ _ _ (c .before .before .before .before .before .before .before .before .before .before .pre .5) (c .before .before .before .before .before .before .loop .inv .3) (c .before .before .copy .ensures)))
     (λ c. search needs)
-    (λ c. search put-end))
+    (λ c. search stored-end))

@@ -1,5 +1,7 @@
 -- `listing::pieces::list_stencil` meets its contract. Assumes nothing.
-use Rattle.listing.proofs.PieceLaws.{stencil-wrong, stencil-right}
+use mathlib.Core.Bool.{true, false}
+use borrow.Author.Tests.{eq-eqb, ne-eqb}
+use Rattle.listing.proofs.PieceLaws.{stencil-told}
 use borrow.Author.Needs.{needs}
 use Rattle.listing.proofs.pieces.list_stencil.Statement.{statement}
 use Rattle.listing.proofs.pieces.list_stencil.Tie as tie
@@ -11,7 +13,7 @@ list-stencil-spec =
     (λ c. search needs)
     (λ c κs. search needs)
     (λ c. search needs)
-    (λ c. search stencil-wrong)
+    (λ c. stencil-told _ _ _ _ _ _ _ _ false (ne-eqb _ _ (c .before .before .before .before .before .if1 .taken)) (c .before .before .list-pieces .ensures))
     (λ c κs. search needs)
     (λ c. search needs)
-    (λ c. search stencil-right))
+    (λ c. stencil-told _ _ _ _ _ _ _ _ true (eq-eqb _ _ (c .before .before .before .before .if1 .left)) (c .before .before .list-pieces2 .ensures)))

@@ -1,4 +1,5 @@
 -- `range_text::inner::put_dimensions` meets its contract. The invariant: the dimensions before k are put. Assumes nothing.
+use native.Mathlib.Omega.{arith}
 use mathlib.Core.Path.{_≡_, refl}
 use Prim.Native.Nat.{_-_, _≤_}
 use lib.ListN.{length}
@@ -6,7 +7,7 @@ use Rattle.vocabulary.specs.Ranges.{blocks}
 use Rattle.mesh.specs.Mesh.{top}
 use Rattle.text.specs.Printing.{Printed}
 use Rattle.range_text.specs.Lines.{dimensionOf}
-use Rattle.range_text.proofs.PartLaws.{texts-start, dimensions-turn, texts-up-to}
+use Rattle.range_text.proofs.PartLaws.{texts-start, texts-turn, texts-up-to}
 use borrow.Author.Needs.{needs}
 use Rattle.range_text.proofs.inner.put_dimensions.Statement.{statement}
 use Rattle.range_text.proofs.inner.put_dimensions.Tie as tie
@@ -28,6 +29,6 @@ put-dimensions-spec =
     (λ c κs. search needs)
     (λ c. search needs)
     (λ c. search needs)
-    (λ c. (search needs, search needs, search needs, search dimensions-turn))
+    (λ c. (search needs, search needs, search needs, texts-turn _ _ _ _ _ _ _ _ _ _ (c .before .before .before .before .before .loop .inv .3) (c .before .before .put-dimension .ensures) (omega arith)))
     (λ c. search needs)
     (λ c. search texts-up-to))

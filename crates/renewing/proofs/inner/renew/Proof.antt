@@ -4,9 +4,10 @@ use Prim.Native.Nat.{_+_, _-_, _≤_}
 use lib.ListN.{length}
 use Rattle.vocabulary.specs.Bytes.{over}
 use Rattle.vocabulary.specs.Ranges.{blocks}
+use Rattle.vocabulary.specs.RangeLaws.{stored-start, stored-up}
 use Rattle.states.specs.State.{listsIn}
 use Rattle.parts.specs.Calls.{newAt}
-use Rattle.renewing.proofs.RenewLaws.{renew-start, renew-turn, renew-end}
+use Rattle.renewing.proofs.RenewLaws.{renew-turn}
 use borrow.Author.Needs.{needs}
 use Rattle.renewing.proofs.inner.renew.Statement.{statement}
 use Rattle.renewing.proofs.inner.renew.Tie as tie
@@ -24,7 +25,7 @@ renew-spec =
     Inv-loop
     μ-loop
     (λ c. search needs)
-    (λ c. (refl, search needs, search needs, search needs, search renew-start))
+    (λ c. (refl, search needs, search needs, search needs, search stored-start))
     (λ c κs. search needs)
     (λ c. search needs)
     (λ c. search needs)
@@ -33,4 +34,4 @@ renew-spec =
     (λ c. search needs)
     (λ c. (search needs, search needs, search needs, search needs, search renew-turn))
     (λ c. search needs)
-    (λ c. search renew-end))
+    (λ c. search stored-up))

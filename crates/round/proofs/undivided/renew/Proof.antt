@@ -4,8 +4,9 @@ use Prim.Native.Nat.{_-_, _≤_}
 use lib.ListN.{length}
 use Rattle.vocabulary.specs.Bytes.{over}
 use Rattle.vocabulary.specs.Ranges.{blocks}
+use Rattle.vocabulary.specs.RangeLaws.{stored-start, stored-end}
 use Rattle.round.specs.Rows.{rowNew}
-use Rattle.round.proofs.UndividedLaws.{renew-start, renew-turn, renew-end, row-each}
+use Rattle.round.proofs.UndividedLaws.{renew-turn, row-each}
 use borrow.Author.Needs.{needs}
 use Rattle.round.proofs.undivided.renew.Statement.{statement}
 use Rattle.round.proofs.undivided.renew.Tie as tie
@@ -22,7 +23,7 @@ renew-spec =
     (tie.spec
     Inv-loop
     μ-loop
-    (λ c. (search needs, search needs, search renew-start))
+    (λ c. (search needs, search needs, search stored-start))
     (λ c κs. (search needs, search row-each))
     (λ c. search needs)
     (λ c κs. search needs)
@@ -30,4 +31,4 @@ renew-spec =
     (λ c. search needs)
     (λ c. (search needs, search needs, search renew-turn))
     (λ c. search needs)
-    (λ c. search renew-end))
+    (λ c. search stored-end))

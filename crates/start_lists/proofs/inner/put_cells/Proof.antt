@@ -4,8 +4,9 @@ use Prim.Native.Nat.{_+_, _-_, _≤_}
 use lib.ListN.{length}
 use Rattle.vocabulary.specs.Bytes.{over}
 use Rattle.vocabulary.specs.Ranges.{blocks}
+use Rattle.vocabulary.specs.RangeLaws.{stored-start, stored-up}
 use Rattle.start_lists.specs.Starting.{startDepth}
-use Rattle.start_lists.proofs.StartLists.{held-start, held-low, held-room, held-turn, held-end}
+use Rattle.start_lists.proofs.StartLists.{held-low, held-room, held-turn}
 use borrow.Author.Needs.{needs}
 use Rattle.start_lists.proofs.inner.put_cells.Statement.{statement}
 use Rattle.start_lists.proofs.inner.put_cells.Tie as tie
@@ -23,7 +24,7 @@ put-cells-spec =
     Inv-loop
     μ-loop
     (λ c. search needs)
-    (λ c. (refl, search needs, search needs, search needs, search held-start))
+    (λ c. (refl, search needs, search needs, search needs, search stored-start))
     (λ c. search needs)
     (λ c κs. search needs)
     (λ c. search needs)
@@ -37,4 +38,4 @@ put-cells-spec =
     (λ c. search needs)
     (λ c. (search needs, search needs, search needs, search needs, search held-turn))
     (λ c. search needs)
-    (λ c. search held-end))
+    (λ c. search stored-up))

@@ -5,8 +5,8 @@ use Prim.Native.Nat.{_+_, _-_, _≤_}
 use lib.ListN.{length}
 use Rattle.vocabulary.specs.Ranges.{blocks}
 use Rattle.start_lists.specs.Starting.{Put, rowWords}
-use Rattle.start_lists.proofs.PutLaws.{many-start, many-end}
-use Rattle.start_lists.proofs.StartCounts.{rows-room, rows-turn, rows-each}
+use Rattle.start_lists.proofs.PutLaws.{many-start, many-end, many-room, many-turn}
+use Rattle.start_lists.proofs.StartCounts.{row-length, rows-long, rows-each}
 use borrow.Author.Needs.{needs}
 use Rattle.start_lists.proofs.inner.put_rows.Statement.{statement}
 use Rattle.start_lists.proofs.inner.put_rows.Tie as tie
@@ -25,9 +25,12 @@ put-rows-spec =
     μ-loop
     (λ c. search needs)
     (λ c. (refl, search needs, search needs, search needs, search many-start))
-    (λ c κs. (rows-room _ _ _ _ _ _ _ _ _ _ _ (c .before .before .loop .inv .1) (omega (arith, c .before .before .loop .inv .0, c .before .loop-test .taken)) (c .before .before .before .before .before .before .before .pre .0) (c .before .before .before .before .before .before .before .pre .1) (c .before .before .loop .inv .3) (c .before .before .loop .inv .4) .0, rows-room _ _ _ _ _ _ _ _ _ _ _ (c .before .before .loop .inv .1) (omega (arith, c .before .before .loop .inv .0, c .before .loop-test .taken)) (c .before .before .before .before .before .before .before .pre .0) (c .before .before .before .before .before .before .before .pre .1) (c .before .before .loop .inv .3) (c .before .before .loop .inv .4) .1, c .before .before .loop .inv .1, c .before .before .before .before .before .before .before .pre .3, c .before .before .before .before .before .before .before .pre .4, search rows-each))
+    (λ c κs.
+    let w =
+    many-room _ _ _ (rows-long _ _ _ _ _ _) _ (row-length _ _ _ _ _) _ _ _ _ _ (c .before .before .loop .inv .1) (omega (arith, c .before .before .loop .inv .0, c .before .loop-test .taken)) (c .before .before .before .before .before .before .before .pre .0) (c .before .before .before .before .before .before .before .pre .1) (c .before .before .loop .inv .3) (c .before .before .loop .inv .4) in
+    (w .0, w .1, c .before .before .loop .inv .1, c .before .before .before .before .before .before .before .pre .3, c .before .before .before .before .before .before .before .pre .4, search rows-each))
     (λ c. search needs)
     (λ c. search needs)
-    (λ c. (search needs, search needs, search needs, search needs, search rows-turn))
+    (λ c. (search needs, search needs, search needs, search needs, search (many-turn, rows-long)))
     (λ c. search needs)
     (λ c. search many-end))

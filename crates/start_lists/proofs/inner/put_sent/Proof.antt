@@ -4,8 +4,8 @@ use Prim.Native.Nat.{_-_, _≤_}
 use lib.ListN.{length}
 use Rattle.vocabulary.specs.Ranges.{blocks}
 use Rattle.start_lists.specs.Starting.{Put, sentWords}
-use Rattle.start_lists.proofs.PutLaws.{many-start, many-end}
-use Rattle.start_lists.proofs.StartCounts.{sents-room, sents-turn}
+use Rattle.start_lists.proofs.PutLaws.{many-start, many-end, many-room, many-turn}
+use Rattle.start_lists.proofs.StartCounts.{sent-long, all-long}
 use borrow.Author.Needs.{needs}
 use Rattle.start_lists.proofs.inner.put_sent.Statement.{statement}
 use Rattle.start_lists.proofs.inner.put_sent.Tie as tie
@@ -23,10 +23,13 @@ put-sent-spec =
     Inv-loop
     μ-loop
     (λ c. (search needs, search needs, search needs, search needs, search many-start))
-    (λ c κs. (sents-room _ _ _ _ _ _ _ _ _ _ _ _ _ _ (c .before .before .before .loop .inv .0) (c .before .before .loop-test .taken) (c .before .before .before .before .before .before .before .before .before .before .before .pre .0) (c .before .before .before .before .before .before .before .before .before .before .before .pre .1) (c .before .before .before .loop .inv .2) (c .before .before .before .loop .inv .4) .0, sents-room _ _ _ _ _ _ _ _ _ _ _ _ _ _ (c .before .before .before .loop .inv .0) (c .before .before .loop-test .taken) (c .before .before .before .before .before .before .before .before .before .before .before .pre .0) (c .before .before .before .before .before .before .before .before .before .before .before .pre .1) (c .before .before .before .loop .inv .2) (c .before .before .before .loop .inv .4) .1, search needs, c .before .before .before .before .before .before .before .before .before .before .before .pre .2, c .before .before .before .before .before .before .before .before .before .before .before .pre .3, c .before .before .before .before .before .before .before .before .before .before .before .pre .4, c .before .before .before .before .before .before .before .before .before .before .before .pre .5, c .before .before .before .loop .inv .3))
+    (λ c κs.
+    let w =
+    many-room _ 16 _ (all-long _ _ _ _ _ _ _ _ _) _ (sent-long _ _ _ _ _ _ _ _ _) _ _ _ _ _ (c .before .before .before .loop .inv .0) (c .before .before .loop-test .taken) (c .before .before .before .before .before .before .before .before .before .before .before .pre .0) (c .before .before .before .before .before .before .before .before .before .before .before .pre .1) (c .before .before .before .loop .inv .2) (c .before .before .before .loop .inv .4) in
+    (w .0, w .1, search needs, c .before .before .before .before .before .before .before .before .before .before .before .pre .2, c .before .before .before .before .before .before .before .before .before .before .before .pre .3, c .before .before .before .before .before .before .before .before .before .before .before .pre .4, c .before .before .before .before .before .before .before .before .before .before .before .pre .5, c .before .before .before .loop .inv .3))
     (λ c. search needs)
     (λ c. search needs)
-    (λ c. (search needs, search needs, search needs, c .before .before .before .before .put-sent-to .ensures .1, sents-turn _ _ _ _ _ _ _ _ _ _ _ _ _ _ _ _ (c .before .before .before .before .before .before .before .before .loop .inv .0) (c .before .before .before .before .before .before .before .loop-test .taken) (c .before .before .before .before .before .before .before .before .before .before .before .before .before .before .before .before .pre .0) (c .before .before .before .before .before .before .before .before .loop .inv .4) (c .before .before .before .before .put-sent-to .ensures .0)))
+    (λ c. (search needs, search needs, search needs, c .before .before .before .before .put-sent-to .ensures .1, many-turn _ 16 _ (all-long _ _ _ _ _ _ _ _ _) _ _ _ _ _ _ _ (c .before .before .before .before .before .before .before .before .loop .inv .0) (c .before .before .before .before .before .before .before .loop-test .taken) (c .before .before .before .before .before .before .before .before .before .before .before .before .before .before .before .before .pre .0) (c .before .before .before .before .before .before .before .before .loop .inv .4) (c .before .before .before .before .put-sent-to .ensures .0)))
     (λ c. search needs)
     (λ c. search needs)
     (λ c. many-end _ 16 _ _ _ _ _ (c .before .loop .inv .1) (c .loop-test .left) (c .before .loop .inv .4)))
