@@ -1,6 +1,6 @@
 -- The number of a mesh, by the tests that the code makes one after the other. Assumes nothing.
 use mathlib.Core.Path.{_≡_, sym, _∙_}
-use mathlib.Core.Bool.{Bool, true, false, _||_, cond}
+use mathlib.Core.Bool.{Bool, false, _||_}
 use Prim.Native.Nat.{ℕ}
 use native.Mathlib.Omega.{arith}
 use lib.Dec.{ltb}
@@ -11,7 +11,7 @@ use Rattle.vocabulary.specs.Bytes.{Bytes}
 use Rattle.vocabulary.specs.ListLaws.{or-false}
 use Rattle.layout.specs.Answers.{answer}
 use Rattle.layout.specs.declared.Answer.the-variants.{Done, Refused}
-use Rattle.mesh.specs.Mesh.{top, elements, recordCount, cellCount, wrongCount, bad1, bad2, bad3, bad4, bad5, bad6, bad7, meshTests, meshNumber, checkAnswer}
+use Rattle.mesh.specs.Mesh.{top, elements, recordCount, cellCount, wrongCount, bad1, bad2, meshNumber, checkAnswer}
 use Rattle.mesh.specs.Meet.{Sizes}
 
 -- what the tests 1 and 2 leave

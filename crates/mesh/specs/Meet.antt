@@ -1,5 +1,5 @@
 -- How the code finds a number that is met twice: it marks in an array what it has met. No public contract rests on this page; the laws in
--- proofs/ tie it to the definitions. Only `Sizes` is used beyond the tests: `Accepted` has it. Assumes nothing.
+-- proofs/ tie it to the definitions. Beyond the tests only `Sizes` is used, by `Accepted`, and `Under`, by walks. Assumes nothing.
 use mathlib.Core.Bool.{Bool, true, false, not}
 use mathlib.Core.List.{List, [], _∷_}
 use mathlib.Core.Path.{_≡_}

@@ -12,7 +12,7 @@ use Rattle.layout.specs.Words.{bytesOf}
 use Rattle.layout.specs.Answers.{answer}
 use Rattle.layout.specs.AnswerLaws.{refuses}
 use Rattle.layout.specs.declared.Answer.{Answer}
-use Rattle.layout.specs.declared.Answer.the-variants.{Done, Refused}
+use Rattle.layout.specs.declared.Answer.the-variants.{Refused}
 use Rattle.split.specs.Split.{splitOf}
 use Rattle.split.specs.Lists.{splitTests, sizeTests, splitNumber, sizesNumber, others, listOf, listWords, listTests, listNumber, listAnswer, listOut}
 use Rattle.split.proofs.PassedLaws.{tests-numbered, twice, passed-facts}

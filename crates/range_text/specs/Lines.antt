@@ -1,6 +1,6 @@
 -- The lines of a part by the code's names of its lists. No public contract rests on this page. Assumes nothing.
 use mathlib.Core.List.{List, _++_}
-use Prim.Native.Nat.{ℕ, _+_, _-_, _≤_}
+use Prim.Native.Nat.{ℕ, _+_, _≤_}
 use Rattle.vocabulary.specs.Bytes.{Bytes}
 use Rattle.split.specs.Split.{Split, splitOf}
 use Rattle.split.specs.Lists.{listOf}

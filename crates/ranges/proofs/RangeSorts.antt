@@ -1,19 +1,17 @@
 -- Sorts of lower elements as the code tells them. Assumes nothing.
-use mathlib.Core.Path.{_≡_, refl, sym, ap, ap₂, _∙_, subst}
+use mathlib.Core.Path.{_≡_, refl, sym, ap, ap₂, _∙_}
 use mathlib.Core.Bool.{Bool, true, false, not, _||_, cond}
-use mathlib.Core.List.{List, [], _∷_}
+use mathlib.Core.List.{List}
 use Prim.Native.Nat.{ℕ, zero, suc, _+_, _-_, _≤_, _<_}
 use native.Mathlib.Omega.{arith}
 use lib.Dec.{eqb}
-use lib.ListN.{getD, set}
-use borrow.Author.Tests.{eq-eqb, ne-eqb}
+use lib.ListN.{getD}
 use Rattle.vocabulary.specs.Bytes.{Bytes, byteAt}
 use Rattle.vocabulary.specs.Ranges.{some}
 use Rattle.vocabulary.specs.Lists.{someOf}
 use Rattle.links.specs.Links.{trail}
 use Rattle.links.proofs.TrailLaws.{trail-end, trail-more}
-use Rattle.cell_lists.proofs.SortLaws.{add-none, add-one}
-use Rattle.split.specs.Sorting.{ownsAt, heldAt, elsewhereAt, sideAt, someSide, lowerSort, trailSort, trailSorted, Added}
+use Rattle.split.specs.Sorting.{ownsAt, heldAt, elsewhereAt, sideAt, someSide, lowerSort, trailSort}
 
 -- ---- one cell
 

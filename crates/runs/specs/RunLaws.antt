@@ -16,7 +16,7 @@ use Rattle.vocabulary.specs.Bytes.{Bytes, byteAt, over}
 use Rattle.vocabulary.specs.ByteLaws.{Place, below, inside, above, place, over-length, over-in, over-before, over-after}
 use Rattle.vocabulary.specs.Lists.{All, joined}
 use Rattle.vocabulary.specs.ListLaws.{and-intro, All-map, All-getD, map-cong, map-map, getD-map-any}
-use Rattle.vocabulary.specs.Ranges.{isUpTo, every, blocks}
+use Rattle.vocabulary.specs.Ranges.{isUpTo, blocks}
 use Rattle.vocabulary.specs.RangeLaws.{every-in, upTo-intro}
 use Rattle.vocabulary.specs.Tests.{passed, firstOf}
 use Rattle.layout.specs.Words.{word, wordBytes, bytesOf}

@@ -5,13 +5,10 @@ use mathlib.Core.List.{List, [], _∷_, _++_}
 use Prim.Native.Nat.{ℕ, _≤_}
 use native.Mathlib.Omega.{arith}
 use lib.Dec.{T, eqb}
-use lib.ListN.{length, replicate, length-replicate}
-use borrow.Author.Tests.{not-false}
+use lib.ListN.{length}
 use Rattle.vocabulary.specs.Bytes.{Bytes}
 use Rattle.vocabulary.specs.Ranges.{isUpTo}
-use Rattle.vocabulary.specs.RangeLaws.{upTo-true}
-use Rattle.vocabulary.specs.Lists.{everyOf, Zeros}
-use Rattle.vocabulary.specs.ListLaws.{or-false, and-true, zeros-at}
+use Rattle.vocabulary.specs.Lists.{everyOf}
 use Rattle.vocabulary.specs.Tests.{Test, refuse, firstOf, numbered, passed, passed-append}
 use Rattle.mesh.specs.Mesh.{top, cellCount, meshTests, meshNumber}
 use Rattle.mesh.specs.Walks.{bad10}

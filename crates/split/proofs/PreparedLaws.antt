@@ -1,18 +1,18 @@
 -- The prepared tables say what the definitions say. Assumes nothing.
 use mathlib.Core.Path.{_≡_, sym, ap, ap₂, _∙_}
-use mathlib.Core.Bool.{Bool, true, false, not, _||_, cond}
+use mathlib.Core.Bool.{Bool, true, false, cond}
 use mathlib.Core.List.{List, [], map}
 use Prim.Native.Nat.{ℕ, _+_, _-_, _*_, _≤_, _<_}
 use native.Mathlib.Omega.{arith}
 use lib.Dec.{eqb, ltb}
 use lib.ListN.{length, getD}
-use borrow.Author.Tests.{eqb-true, lt-ltb, le-ltb, not-false}
+use borrow.Author.Tests.{lt-ltb, le-ltb}
 use Rattle.split.specs.SplitLaws.{map-facts}
 use Rattle.vocabulary.specs.Bytes.{Bytes, byteAt, over}
 use Rattle.vocabulary.specs.Ranges.{isUpTo, every, total}
-use Rattle.vocabulary.specs.RangeLaws.{every-at, every-intro, upTo-true, upTo-intro}
+use Rattle.vocabulary.specs.RangeLaws.{every-at, every-intro, upTo-intro}
 use Rattle.vocabulary.specs.Lists.{everyOf, Zeros}
-use Rattle.vocabulary.specs.ListLaws.{same-test, or-false, everyOf-at, everyOf-intro, All-intro}
+use Rattle.vocabulary.specs.ListLaws.{same-test, everyOf-at, everyOf-intro, All-intro}
 use Rattle.layout.specs.Words.{wordAt, bytesOf}
 use Rattle.mesh.specs.Mesh.{top, firstCell, cellCount}
 use Rattle.mesh.specs.Walks.{Near, reach, bad10, bad13}

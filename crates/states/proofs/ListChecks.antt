@@ -14,7 +14,7 @@ use Rattle.vocabulary.specs.ScanLaws.{some-start-from, some-stop-from, some-tur
 use Rattle.vocabulary.specs.Tests.{allOf}
 use Rattle.layout.specs.Words.{wordAt}
 use Rattle.rules.specs.Rules.{weightCount, bad11}
-use Rattle.states.specs.State.{LocalNear, partNumber, stepCount, ruleKind, weights, ownedCount, heldCount, importEnd, exportEnd, reachEnd, reachCount, entryAt, exportAt, localReach, globalFine, entryFine, ownFound, exportFine, exportCount, rises, listsTests}
+use Rattle.states.specs.State.{LocalNear, partNumber, stepCount, ruleKind, weights, ownedCount, heldCount, reachEnd, reachCount, entryAt, exportAt, localReach, globalFine, entryFine, ownFound, exportFine, listsTests}
 use Rattle.states.specs.Checks.{Counts, fineAt, ownEntry, headTests, endTests, entryTests}
 use Rattle.vocabulary.specs.RangeLaws.{someOf-listed}
 

@@ -28,7 +28,7 @@ use Rattle.messages.specs.declared.Reading.the-variants.{Message}
 use Rattle.messages.specs.declared.Reading.the-variants as reading
 use Rattle.messages.proofs.Else.{else-bad, else-number}
 use Rattle.messages.proofs.Reading as K
-use Rattle.states.specs.State.{Lists, listsIn, listsOf, dynamic, heldCount, isState, bad20}
+use Rattle.states.specs.State.{Lists, listsIn, listsOf, dynamic, heldCount, isState}
 use Rattle.parts.specs.Calls.{importsFrom, takeTestsIn, takenIn, takeNumber, takeAnswer, takeState}
 use Rattle.parts.specs.CallLaws.{Room, room-of, Taken, taken-facts}
 use Rattle.parts.specs.Opened.{Opened, wrongSender, takeRest}

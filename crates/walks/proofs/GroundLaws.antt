@@ -5,14 +5,13 @@ use mathlib.Core.List.{List}
 use Prim.Native.Nat.{ℕ, _+_, _-_, _≤_, _<_}
 use native.Mathlib.Omega.{arith}
 use lib.Dec.{eqb, leb, ltb}
-use lib.ListN.{length, getD, length-map, replicate, length-replicate}
+use lib.ListN.{length, getD, length-map}
 use borrow.Author.Tests.{eqb-true, eq-eqb, le-leb, lt-ltb, leb-true, ltb-true}
-use Rattle.mesh.specs.Meet.{Under}
 use Rattle.vocabulary.specs.Bytes.{Bytes}
 use Rattle.vocabulary.specs.Ranges.{some, blocks}
 use Rattle.vocabulary.specs.RangeLaws.{some-witness, some-in, blocks-length, blocks-inner, total-cong}
-use Rattle.vocabulary.specs.Lists.{isIn, All, Zeros}
-use Rattle.vocabulary.specs.ListLaws.{and-true, and-intro, same-test, All-map, zeros-at}
+use Rattle.vocabulary.specs.Lists.{isIn, All}
+use Rattle.vocabulary.specs.ListLaws.{and-true, and-intro, same-test, All-map}
 use Rattle.mesh.specs.Mesh.{top, elements, firstCell, cellCount, dimension, elementIn, records, chain, allRecords}
 use Rattle.mesh.specs.Walks.{bad10, steps}
 use Rattle.mesh.specs.Accepted.{Accepted}
