@@ -26,7 +26,7 @@ use Rattle.states.specs.State.{LocalNear, listsIn, listsOf, dynamic, ruleKind, 
 use Rattle.states.specs.StateLaws.{isStateAt, state-at, Whole, whole-is, still-whole, near-whole, Frame, frame-take, frame-dynamic}
 use Rattle.parts.specs.Calls.{depthAt, writtenIn, takenIn, advanceTestsIn, newAt, advancedIn, writeNumber, writeState, takeNumber, takeState, advanceNumber, advanceState}
 use Rattle.parts.specs.CallLaws.{Room, room-of, Taken, taken-facts}
-use Rattle.runs.specs.RunLaws.{take-room, take-flag, take-frame, take-word, take-in, take-below, take-above, advance-frame, advance-word, advance-flag, advance-owned, advance-others}
+use Rattle.parts.specs.EffectLaws.{take-room, take-flag, take-frame, take-word, take-in, take-below, take-above, advance-frame, advance-word, advance-flag, advance-owned, advance-others}
 use Rattle.runs.specs.WorldLaws.{write-part}
 
 -- a depth in range, by its four bytes

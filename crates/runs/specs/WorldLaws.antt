@@ -28,7 +28,8 @@ use Rattle.states.specs.StateLaws.{isStateAt, state-at, whole-is}
 use Rattle.parts.specs.Calls.{exportsTo, messageTo, writeTestsIn, writtenIn, takeTestsIn, takenIn, advanceTestsIn, advancedIn, collectTestsIn, collectedIn, writeNumber, message, writeState, writeOut, takeNumber, takeState, advanceNumber, advanceState, collectNumber, collectOut}
 use Rattle.runs.specs.Run.{Call, write, take-in, advance, collect, World, put, more, step, run, Fair, Honest, Inputs, schemeIn, ownerIn, Right}
 use Rattle.parts.specs.CallLaws.{Room, room-of, taken-facts}
-use Rattle.runs.specs.RunLaws.{Part, Parted, Undivided, Good, RightMessage, write-good, write-right, take-good, advance-taken, advance-good, collect-length, collect-owned, collect-others}
+use Rattle.parts.specs.EffectLaws.{advance-taken, collect-length, collect-owned, collect-others}
+use Rattle.runs.specs.RunLaws.{Part, Parted, Undivided, Good, RightMessage, write-good, write-right, take-good, advance-good}
 
 -- the owner of a cell by its global number
 abbrev pub ownerOf : Inputs → ℕ → ℕ
