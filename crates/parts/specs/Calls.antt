@@ -89,9 +89,13 @@ module _ (L : Lists) (d : ℕ) (b : Bytes) where
   unfoldable pub newAt : ℕ → Bytes
   newAt l = L .new (depthAt d b l) (map (λ e. record { layer = e .layer; depth = depthAt d b (e .local) }) (L .reach l))
 
+  -- those of all owned cells, in local order
+  abbrev pub newDepths : Bytes
+  newDepths = blocks 1 (L .owned) newAt
+
   -- the next round, no flag set ("At each new round nothing is taken and nothing written"), the new depths; imported cells keep theirs
   unfoldable pub advancedIn : Bytes
-  advancedIn = over b d (wordBytes (roundAt b d + 1) ++ (replicate 32 0 ++ blocks 1 (L .owned) newAt))
+  advancedIn = over b d (wordBytes (roundAt b d + 1) ++ (replicate 32 0 ++ newDepths))
 
   -- ---- collect: "puts the owned depths into a field and changes no other byte of it"
 

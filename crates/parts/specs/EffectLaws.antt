@@ -24,7 +24,7 @@ use Rattle.depths.specs.DepthLaws.{length-four, four-set, four-in, four-before,
 use Rattle.messages.specs.Messages.{encode, fromIn, toIn, roundIn, countIn}
 use Rattle.states.specs.State.{Lists, roundAt, takenPlace, depthPlace}
 use Rattle.states.specs.StateLaws.{Frame}
-use Rattle.parts.specs.Calls.{importsFrom, depthAt, messageTo, takenIn, allTaken, advanceTestsIn, newAt, advancedIn, collectedIn}
+use Rattle.parts.specs.Calls.{importsFrom, depthAt, messageTo, takenIn, allTaken, advanceTestsIn, newAt, newDepths, advancedIn, collectedIn}
 use Rattle.parts.specs.CallLaws.{Room, Taken, fours-long}
 
 -- ---- take
@@ -112,21 +112,25 @@ message-depth L d b j t h =
 
 -- what an advance leaves, where every new depth is four bytes
 module _ (L : Lists) (d : ℕ) (b : Bytes) (w : Room L d b) (new4 : (l : ℕ) → length (newAt L d b l) ≡ 4) where
-  abbrev news : Bytes
-  news = blocks 1 (L .owned) (newAt L d b)
+  -- the new depth of local cell l among all of them
+  new-depth : (l : ℕ) → 1 ≤ l → l ≤ L .owned → four (newDepths L d b) (4 * (l - 1)) ≡ newAt L d b l
+  new-depth l h k =
+      let p : 1 + (l - 1) ≡ l = omega arith in
+      fours-at 1 (L .owned) (newAt L d b) (λ j h. new4 (1 + j)) (l - 1) (omega arith)
+      ∙ ap (λ n. newAt L d b n) p
+
+  news-length : length (newDepths L d b) ≡ 4 * L .owned
+  news-length = fours-length 1 (L .owned) (newAt L d b) (λ j h. new4 (1 + j))
 
   abbrev fresh : Bytes
-  fresh = wordBytes (roundAt b d + 1) ++ (replicate 32 0 ++ blocks 1 (L .owned) (newAt L d b))
-
-  news-length : length news ≡ 4 * L .owned
-  news-length = fours-length 1 (L .owned) (newAt L d b) (λ j h. new4 (1 + j))
+  fresh = wordBytes (roundAt b d + 1) ++ (replicate 32 0 ++ newDepths L d b)
 
   pub fresh-length : length fresh ≡ 34 + 4 * L .owned
   fresh-length =
       omega (
         arith,
-        length-append (wordBytes (roundAt b d + 1)) (replicate 32 0 ++ news),
-        length-append (replicate 32 0) news,
+        length-append (wordBytes (roundAt b d + 1)) (replicate 32 0 ++ newDepths L d b),
+        length-append (replicate 32 0) (newDepths L d b),
         length-replicate {A = ℕ} 32 0,
         length-wordBytes (roundAt b d + 1),
         news-length,
@@ -144,7 +148,7 @@ module _ (L : Lists) (d : ℕ) (b : Bytes) (w : Room L d b) (new4 : (l : ℕ) �
   advance-word =
       ap (λ o. word (advancedIn L d b) o) (sym (add-zero d))
       ∙ word-in b d fresh advance-room 0 (omega (arith, fresh-length))
-      ∙ word-left (wordBytes (roundAt b d + 1)) (replicate 32 0 ++ news) 0 (omega (arith, length-wordBytes (roundAt b d + 1)))
+      ∙ word-left (wordBytes (roundAt b d + 1)) (replicate 32 0 ++ newDepths L d b) 0 (omega (arith, length-wordBytes (roundAt b d + 1)))
       ∙ word-back (roundAt b d + 1)
 
   -- no flag is set
@@ -154,8 +158,8 @@ module _ (L : Lists) (d : ℕ) (b : Bytes) (w : Room L d b) (new4 : (l : ℕ) �
       let q : d + 2 + k ≡ d + (2 + k) = omega arith in
       ap (λ n. byteAt (advancedIn L d b) n) q
       ∙ over-in b d fresh advance-room (2 + k) (omega (arith, fresh-length))
-      ∙ getD-append-add (wordBytes (roundAt b d + 1)) (replicate 32 0 ++ news) k 0
-      ∙ List·getD-append (replicate 32 0) news 0 k (omega (arith, length-replicate {A = ℕ} 32 0))
+      ∙ getD-append-add (wordBytes (roundAt b d + 1)) (replicate 32 0 ++ newDepths L d b) k 0
+      ∙ List·getD-append (replicate 32 0) (newDepths L d b) 0 k (omega (arith, length-replicate {A = ℕ} 32 0))
       ∙ getD-replicate 32 k 0 0 h
 
   -- the new depths of the owned cells; the others keep theirs
@@ -163,15 +167,13 @@ module _ (L : Lists) (d : ℕ) (b : Bytes) (w : Room L d b) (new4 : (l : ℕ) �
   unfolding advancedIn wordBytes
   advance-owned l h k =
       let q : depthPlace d l ≡ d + (2 + (32 + 4 * (l - 1))) = omega arith in
-      let p : 1 + (l - 1) ≡ l = omega arith in
       let z : _≡_ {A = ℕ} 32 (length (replicate {A = ℕ} 32 0)) = sym (length-replicate {A = ℕ} 32 0) in
       ap (λ n. four (advancedIn L d b) n) q
       ∙ four-in b d fresh advance-room (2 + (32 + 4 * (l - 1))) (omega (arith, fresh-length))
-      ∙ four-past (wordBytes (roundAt b d + 1)) (replicate 32 0 ++ news) (32 + 4 * (l - 1))
-      ∙ ap (λ n. four (replicate 32 0 ++ news) (n + 4 * (l - 1))) z
-      ∙ four-past (replicate 32 0) news (4 * (l - 1))
-      ∙ fours-at 1 (L .owned) (newAt L d b) (λ j h. new4 (1 + j)) (l - 1) (omega arith)
-      ∙ ap (λ n. newAt L d b n) p
+      ∙ four-past (wordBytes (roundAt b d + 1)) (replicate 32 0 ++ newDepths L d b) (32 + 4 * (l - 1))
+      ∙ ap (λ n. four (replicate 32 0 ++ newDepths L d b) (n + 4 * (l - 1))) z
+      ∙ four-past (replicate 32 0) (newDepths L d b) (4 * (l - 1))
+      ∙ new-depth l h k
 
   pub advance-others : (l : ℕ) → L .owned < l → depthAt d (advancedIn L d b) l ≡ depthAt d b l
   unfolding advancedIn
