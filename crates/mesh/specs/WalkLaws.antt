@@ -1,8 +1,8 @@
--- Laws of reaches: they stay among the cells, a cell is in its own reach at layer 0, and layers are even. Assumes nothing.
-use mathlib.Core.Path.{_≡_, refl, ap, _∙_, subst}
+-- Laws of reaches: they have each cell once and stay among the cells, a cell is in its own reach at layer 0, and layers are even. Assumes nothing.
+use mathlib.Core.Path.{_≡_, refl, sym, ap, _∙_, subst}
 use mathlib.Core.Logic.{⊎-elim}
 use mathlib.Core.Bool.{Bool, true, false, not, cond, _||_}
-use mathlib.Core.List.{List}
+use mathlib.Core.List.{List, map}
 use Prim.Native.Nat.{ℕ, zero, suc, _+_, _%_, _<_, _≤_}
 use native.Mathlib.Nat.{add-zero}
 use native.Mathlib.Omega.{arith}
@@ -11,9 +11,9 @@ use lib.ListN.{length, getD, length-map}
 use borrow.Author.Tests.{eqb-true, eq-eqb, ne-eqb, ltb-true, ltb-false, lt-ltb, not-false}
 use Rattle.vocabulary.specs.Bytes.{Bytes, byteAt}
 use Rattle.vocabulary.specs.Lists.{isIn, someOf, All}
-use Rattle.vocabulary.specs.ListLaws.{or-left, or-false, isIn-at, At, All-of-map, getD-map-any}
+use Rattle.vocabulary.specs.ListLaws.{or-left, or-false, isIn-at, At, All-of-map, getD-map-any, map-map, map-id}
 use Rattle.vocabulary.specs.Ranges.{picked, every}
-use Rattle.vocabulary.specs.RangeLaws.{last-or, every-in, picked-passes, picked-all, picked-at, picked-in, picked-rises}
+use Rattle.vocabulary.specs.RangeLaws.{Rises, last-or, every-in, picked-passes, picked-all, picked-at, picked-in, picked-rises}
 use Rattle.mesh.specs.Mesh.{top, counted, below, firstCell, cellCount}
 use Rattle.mesh.specs.Walks.{Near, incident, reach, layer, steps, rightAt, bad10, stepTo, stepsTo, walked}
 
@@ -23,6 +23,13 @@ module _ (m st : Bytes) (c : ℕ) where
 
   abbrev met : ℕ → Bool
   met x = ltb 0 (length (stepsTo m st c x))
+
+  -- "A cell counts once, whatever the number of walks": the cells of a reach rise
+  pub reach-rises : Rises (map (λ e. e .cell) (reach m st c))
+  unfolding reach
+  reach-rises =
+      let xs : List ℕ = picked (firstCell m) (cellCount m) met in
+      subst Rises (sym (map-map (λ e. e .cell) near xs ∙ map-id xs)) (picked-rises (firstCell m) met (cellCount m))
 
   pub reach-in : All (λ e. (firstCell m ≤ e .cell) × (e .cell < firstCell m + cellCount m)) (reach m st c)
   unfolding reach
