@@ -10,7 +10,10 @@
  * in the low half, 0 where it was refused. Take it apart with jem_refusal and jem_count.
  *
  * A refused call changes no byte. An accepted one changes no byte past its need, so buffers may be longer. A buffer
- * that is changed must not overlap another one of the same call. Calls keep nothing between them: the states are all.
+ * that is changed must not overlap another one of the same call, and nobody else may write to one during the call. Calls
+ * keep nothing between them, the states are all: calls on other buffers may run at the same time in other threads.
+ *
+ * The library is machine code for x86-64 Linux.
  */
 #ifndef JEMLAYOS_H
 #define JEMLAYOS_H
@@ -21,6 +24,15 @@
 #ifdef __cplusplus
 extern "C" {
 #endif
+
+/*
+ * Stack in bytes that calls need at most, as measured (.ci/stack.c does it anew at every test) and rounded up. Calls use
+ * no heap. A thread with less stack than this ends with a fault: nothing in a call tests how much there is.
+ */
+#define JEM_STACK 221184      /* any call: the lists, jem_state_size and jem_start come near it */
+#define JEM_STACK_CHECK 20480 /* jem_check_mesh */
+#define JEM_STACK_ROUND 110592 /* jem_round */
+#define JEM_STACK_STATE 10240 /* jem_write, jem_take, jem_advance, jem_collect */
 
 /* Refusals. A call tries them in rising number, but for JEM_OUTPUT, which comes last of all. */
 enum jem_refusal_number {

@@ -1,4 +1,5 @@
--- What each call on a state leaves: the bytes, flags and depths after a take, a write's message, an advance and a collect. Assumes nothing.
+-- What each call on a state leaves: the bytes, flags and depths after a take, a write's message, an advance and a collect, and that a refused one
+-- leaves all as it was. Assumes nothing.
 use mathlib.Core.Path.{_≡_, refl, sym, ap, _∙_, subst}
 use mathlib.Core.Logic.{_⊎_, inl, ⊎-elim, _≢_}
 use mathlib.Core.Bool.{Bool, true, not, _&&_, _||_}
@@ -9,7 +10,7 @@ use native.Mathlib.Omega.{arith}
 use lib.Dec.{eqb, ltb}
 use lib.ListN.{length, getD, set, take, drop, replicate, length-append, length-drop, length-set, length-replicate, length-map, getD-replicate, List·getD-append}
 use lib.Seq.{getD-set-other, getD-append-add}
-use borrow.Author.Tests.{eqb-true, lt-ltb, not-false}
+use borrow.Author.Tests.{eqb-true, ne-eqb, lt-ltb, not-false}
 use Rattle.vocabulary.specs.Bytes.{Bytes, byteAt, over}
 use Rattle.vocabulary.specs.ByteLaws.{Place, below, inside, above, place, over-length, over-in, over-before, over-after}
 use Rattle.vocabulary.specs.Lists.{joined}
@@ -24,7 +25,7 @@ use Rattle.depths.specs.DepthLaws.{length-four, four-set, four-in, four-before,
 use Rattle.messages.specs.Messages.{encode, fromIn, toIn, roundIn, countIn}
 use Rattle.states.specs.State.{Lists, roundAt, takenPlace, depthPlace}
 use Rattle.states.specs.StateLaws.{Frame}
-use Rattle.parts.specs.Calls.{importsFrom, depthAt, messageTo, takenIn, allTaken, advanceTestsIn, newAt, newDepths, advancedIn, collectedIn}
+use Rattle.parts.specs.Calls.{importsFrom, depthAt, messageTo, takenIn, allTaken, advanceTestsIn, newAt, newDepths, advancedIn, collectedIn, writeNumber, writeState, writeOut, takeNumber, takeState, advanceNumber, advanceState, collectNumber, collectOut}
 use Rattle.parts.specs.CallLaws.{Room, Taken, fours-long}
 
 -- ---- take
@@ -239,3 +240,21 @@ module _ (L : Lists) (d : ℕ) (b out : Bytes) where
           (four-stored (collectedIn L d b n out) (4 * cell (suc n)) (depthAt d b (suc n)) lf (omega (arith, room)) ∙ v (suc n) (omega arith) (omega arith))
       go (above q) ih =
           four-after (collectedIn L d b n out) (4 * cell (suc n)) (depthAt d b (suc n)) room (4 * cell l) (omega (arith, length-four b (depthPlace d (suc n)))) ∙ ih (earlier (omega arith))
+
+-- ---- refused calls
+
+-- "A refusal gives its number and zero for every count; all lent bytes stay."
+pub record Untouched (b : Bytes) : Type 0 where
+  pub by-write : (j : ℕ) (out : Bytes) → writeNumber b j out ≢ 0 → (writeState b j out ≡ b) × (writeOut b j out ≡ out)
+  pub by-take : (x : Bytes) → takeNumber b x ≢ 0 → takeState b x ≡ b
+  pub by-advance : advanceNumber b ≢ 0 → advanceState b ≡ b
+  pub by-collect : (k : ℕ) (f : Bytes) → collectNumber b k f ≢ 0 → collectOut b k f ≡ f
+
+pub refused-stays : (b : Bytes) → Untouched b
+unfolding writeState writeOut takeState advanceState collectOut
+refused-stays b = record {
+  by-write = λ j out h. (rw (ne-eqb _ 0 h) refl, rw (ne-eqb _ 0 h) refl);
+  by-take = λ x h. rw (ne-eqb _ 0 h) refl;
+  by-advance = λ h. rw (ne-eqb _ 0 h) refl;
+  by-collect = λ k f h. rw (ne-eqb _ 0 h) refl;
+}
