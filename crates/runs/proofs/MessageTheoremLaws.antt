@@ -14,7 +14,7 @@ use Rattle.messages.specs.Messages.{encode, reading}
 use Rattle.messages.specs.MessageLaws.{Sound, read-back, read-once}
 use Rattle.states.specs.State.{listsIn, listsOf, dynamic, isState, localExports, exportEnd, exportAt, heldCount, depthPlace}
 use Rattle.states.specs.StateLaws.{state-at, Whole, whole-is}
-use Rattle.parts.specs.Calls.{depthAt, sentMessage, messageTo, message, writeNumber}
+use Rattle.parts.specs.Calls.{depthAt, sentMessage, messageTo, message}
 use Rattle.runs.specs.Run.{MessageTheorem}
 use Rattle.runs.specs.WorldLaws.{on-states, write-part, written-is}
 use Rattle.runs.specs.KeptLaws.{ranged-local}
