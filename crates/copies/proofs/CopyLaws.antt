@@ -17,7 +17,8 @@ use Rattle.vocabulary.specs.Tests.{firstOf}
 use Rattle.mesh.specs.Mesh.{top, counted, below, firstCell, cellCount}
 use Rattle.mesh.specs.Accepted.{Accepted}
 use Rattle.mesh.specs.Walks.{Near, incident, reach, layer, stepsTo, steps, walked, bad10}
-use Rattle.split.specs.Split.{Split, splitOf, owns, owned, reaches, holds, held, imports, locals, localOf, globalOf, cellsAt, holdsLower, touches, another, isCopied, isShared, isExposed, isPrivate, range}
+use Rattle.split.specs.Split.{Split, splitOf, owns, owned, reaches, holds, held, imports, locals, localOf, globalOf}
+use Rattle.split.specs.Split.{cellsAt, holdsLower, touches, another, isCopied, isShared, isExposed, isPrivate, range}
 use Rattle.split.specs.Lists.{splitNumber, listOf, private-range, exposed-range, shared-range, copied-range}
 use Rattle.split.specs.SplitLaws as Laws
 use Rattle.split.specs.SplitLaws.{Cell, import-facts, import-has, order-cells, local-back, own-held, held-has, map-facts, split-reach, split-own, split-owner}
@@ -97,7 +98,7 @@ module _ (m : Bytes) (parts : ℕ) (owners : Bytes) (i : ℕ) (st : Bytes) (A : 
         let c : ℕ = getD (owned S i) (w .0) 0 in
         let p = picked-passes (S .first) (λ c. eqb (S .owner c) i) (S .cells) c (record { place = w .0; place-lt = w .1; place-is = refl }) in
         let r = reaches-walk c x (of-cell c (p .0, p .1)) (w .2) in
-        record { cell = c; owned = eqb-true _ i (p .2); count = r .0; count-high = r .1; walk = r .2 }
+        record { cell = c; owned = eqb-true _ i (p .2); count = r .0; count-high = omega (arith, r .1); walk = r .2 }
 
     reached-holds : (x : ℕ) → isCell m x ≡ true → Reached m st S i x → holds S i x ≡ true
     unfolding holds owned owns
@@ -105,7 +106,7 @@ module _ (m : Bytes) (parts : ℕ) (owners : Bytes) (i : ℕ) (st : Bytes) (A : 
         let c = cell-of (r .cell) (r .walk .from-cell) in
         let a = picked-in (S .first) (λ c. eqb (S .owner c) i) (S .cells) (r .cell) (c .0) (c .1) (eq-eqb _ i (r .owned)) in
         someOf-has (λ c. reaches S c x) (owned S i) 0 (a .place) (a .place-lt)
-        (subst (λ c. reaches S c x ≡ true) (sym (a .place-is)) (walk-reaches (r .cell) x (r .count) h (r .count-high) (r .walk)))
+        (subst (λ c. reaches S c x ≡ true) (sym (a .place-is)) (walk-reaches (r .cell) x (r .count) h (omega (arith, r .count-high)) (r .walk)))
 
     copied-reached : (c j : ℕ) → isIn c (imports S i j) ≡ true → Reached m st S i c × (S .owner c ≢ i)
     copied-reached c j e = let f = import-facts S i j c (isIn-at c _ e) in (holds-reached c (f .3), λ o. f .1 (sym o ∙ f .2))
