@@ -2,4 +2,3 @@ pub mod ChosenLaws
 pub mod GivingLaws
 pub mod ListedLaws
 pub mod CallLaws
-pub mod OrderLaws

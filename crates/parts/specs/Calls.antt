@@ -15,7 +15,7 @@ use Rattle.layout.specs.Words.{wordBytes}
 use Rattle.layout.specs.Answers.{answer}
 use Rattle.layout.specs.declared.Answer.{Answer}
 use Rattle.depths.specs.Depths.{four}
-use Rattle.messages.specs.Messages.{encode, fromIn, toIn, roundIn, countIn, bad15}
+use Rattle.messages.specs.Messages.{Message, encode, fromIn, toIn, roundIn, countIn, bad15}
 use Rattle.states.specs.State.{Lists, listsOf, dynamic, bad20, roundAt, takenPlace, writtenPlace, depthPlace}
 
 -- the part imports from j, exports to j
@@ -32,13 +32,17 @@ depthAt d b l = four b (depthPlace d l)
 -- ---- write: "gives the message to one importer; it may be repeated"
 
 module _ (L : Lists) (d : ℕ) (b : Bytes) where
-  unfoldable pub messageTo : ℕ → Bytes
-  messageTo j = encode (record {
+  -- the message to part j, and its bytes
+  abbrev pub sentTo : ℕ → Message
+  sentTo j = record {
     from = L .part;
     to = j;
     round = roundAt b d;
     depths = map (depthAt d b) (L .exports j);
-  })
+  }
+
+  unfoldable pub messageTo : ℕ → Bytes
+  messageTo j = encode (sentTo j)
 
   -- 27: "Write to a number that isn't a part importing from here."
   unfoldable pub writeTestsIn : ℕ → Bytes → List Test
@@ -117,6 +121,9 @@ module _ (L : Lists) (d : ℕ) (b : Bytes) where
 module _ (b : Bytes) where
   unfoldable pub writeNumber : ℕ → Bytes → ℕ
   writeNumber j out = firstOf (writeTestsIn (listsOf b) (dynamic b) b j out)
+
+  abbrev pub sentMessage : ℕ → Message
+  sentMessage j = sentTo (listsOf b) (dynamic b) b j
 
   unfoldable pub message : ℕ → Bytes
   message j = messageTo (listsOf b) (dynamic b) b j

@@ -12,9 +12,10 @@ use Rattle.vocabulary.specs.Bytes.{Bytes, byteAt}
 use Rattle.depths.specs.Depths.{four}
 use Rattle.mesh.specs.Mesh.{cellCount}
 use Rattle.round.specs.Rounds.{Scheme, schemeOf, undivided}
+use Rattle.messages.specs.Messages.{read, reading}
 use Rattle.split.specs.Split.{Split, splitOf, ownerAt, owned, held, exports, locals, globalOf}
 use Rattle.states.specs.State.{isState}
-use Rattle.parts.specs.Calls.{writeNumber, message, writeState, writeOut, takeNumber, takeState, advanceNumber, advanceState, collectNumber, collectOut}
+use Rattle.parts.specs.Calls.{writeNumber, sentMessage, message, writeState, writeOut, takeNumber, takeState, advanceNumber, advanceState, collectNumber, collectOut}
 use Rattle.starts.specs.Start.{startNumber, startState, sizeNumber, stateSize}
 
 -- "Each call is on one part, and gets that part's state." The first number is the part; a write is lent an output, a take is handed any bytes,
@@ -180,3 +181,11 @@ StateBound =
     → let S : Split = splitOf m parts owners st in
     stateSize m parts owners i st
     ≤ 200 + 40 * (length (held S i) + total 1 (length (owned S i)) (λ l. length (S .reach (globalOf (locals S i) l))) + total 1 parts (λ j. length (exports S i j)))
+
+-- ---- demand 2: "A message written is read back as the same depths, and no other bytes are read as that message."
+
+-- an accepted write on a state b to part j leaves the message in the first bytes of the output
+pub record MessageTheorem : Type 0 where
+  pub read-back : (b out : Bytes) (j : ℕ) → writeNumber b j out ≡ 0 → reading (take (length (message b j)) (writeOut b j out)) ≡ read (sentMessage b j)
+  pub read-once : (b out : Bytes) (j : ℕ) → writeNumber b j out ≡ 0 → (x : Bytes) → All (λ y. y < 256) x → reading x ≡ read (sentMessage b j)
+      → x ≡ take (length (message b j)) (writeOut b j out)

@@ -63,7 +63,7 @@ not-20 : (b : Bytes) → bad20 b ≡ false → isState b ≡ true
 unfolding bad20
 not-20 b e = not-false _ e
 
-on-states : (b : Bytes) → ((j : ℕ) (out : Bytes) → writeNumber b j out ≡ 0 → isState b ≡ true) × ((x : Bytes) → takeNumber b x ≡ 0 → isState b ≡ true)
+pub on-states : (b : Bytes) → ((j : ℕ) (out : Bytes) → writeNumber b j out ≡ 0 → isState b ≡ true) × ((x : Bytes) → takeNumber b x ≡ 0 → isState b ≡ true)
     × (advanceNumber b ≡ 0 → isState b ≡ true) × ((k : ℕ) (f : Bytes) → collectNumber b k f ≡ 0 → isState b ≡ true)
 unfolding writeNumber writeTestsIn takeNumber takeTestsIn advanceNumber advanceTestsIn collectNumber collectTestsIn
 on-states b = (

@@ -1,1 +1,1 @@
-// No code: runs of the calls on the states of all parts, and the run theorem with its laws, stand in specs/.
+// No code: runs of the calls on the states of all parts, the run theorem and the message theorem stand in specs/, with their laws there and in proofs/.

@@ -3,3 +3,4 @@ pub mod HeldLaws
 pub mod PreparedLaws
 pub mod UnitLaws
 pub mod PassedLaws
+pub mod OrderLaws

@@ -156,16 +156,26 @@ module _ (S : Split) where
       (blocks-all 1 (imports S i) (λ c. Cell S c) (S .parts)
       (λ j h. picked-all (S .first) (λ c. not (eqb i (1 + j)) && owns S (1 + j) c && holds S i c) (λ c. Cell S c) (S .cells) (λ k q e. (omega arith, omega arith)))))
 
-  -- an import list has cells that the exporter owns
+  -- a cell that is imported from j belongs to j, which is another part, and is held; and every such cell is imported
+  pub import-facts : (i j c : ℕ) → At c (imports S i j) → Cell S c × (i ≢ j) × (S .owner c ≡ j) × (holds S i c ≡ true)
+  unfolding imports owns
+  import-facts i j c a =
+      let w = picked-passes (S .first) (λ c. not (eqb i j) && eqb (S .owner c) j && holds S i c) (S .cells) c a in
+      let u = and-true (not (eqb i j) && eqb (S .owner c) j) (holds S i c) (w .2) in
+      let v = and-true (not (eqb i j)) (eqb (S .owner c) j) (u .0) in
+      ((w .0, w .1), eqb-false i j (not-true _ (v .0)), eqb-true _ j (v .1), u .1)
+
+  pub import-has : (i j c : ℕ) → Cell S c → i ≢ j → S .owner c ≡ j → holds S i c ≡ true → At c (imports S i j)
+  unfolding imports owns
+  import-has i j c h ne o e =
+      picked-in (S .first) (λ c. not (eqb i j) && eqb (S .owner c) j && holds S i c) (S .cells) c (h .0) (h .1)
+      (and-intro (not (eqb i j) && eqb (S .owner c) j) (holds S i c) (and-intro (not (eqb i j)) (eqb (S .owner c) j) (ap not (ne-eqb i j ne)) (eq-eqb (S .owner c) j o)) e)
+
+  -- so the exporter owns them
   pub import-own : (i j : ℕ) → All (λ c. At c (ownCells S j)) (imports S i j)
-  unfolding imports
   import-own i j =
-      picked-all (S .first) (λ c. not (eqb i j) && owns S j c && holds S i c) (λ c. At c (ownCells S j)) (S .cells)
-      (λ k h e.
-      let c : ℕ = S .first + k in
-      own-has j (S .first + k) (omega arith, omega arith)
-      (unfold owns in (eqb-true (S .owner (S .first + k)) j
-      (and-true (not (eqb i j)) (owns S j (S .first + k)) (and-true (not (eqb i j) && owns S j (S .first + k)) (holds S i (S .first + k)) e .0) .1))))
+      All-intro (λ c. At c (ownCells S j)) (imports S i j) 0
+      (λ t h. let f = import-facts i j (getD (imports S i j) t 0) (record { place = t; place-lt = h; place-is = refl }) in own-has j (getD (imports S i j) t 0) (f .0) (f .2))
 
   -- the t-th cell imported from part j
   pub import-at : (i j t : ℕ) → 1 ≤ j → j ≤ S .parts → t < length (imports S i j)
@@ -216,7 +226,6 @@ module _ (S : Split) where
   module _ (reach-in : (c : ℕ) → Cell S c → All (λ e. Cell S (e .cell)) (S .reach c)) (owner-in : (c : ℕ) → Cell S c → (1 ≤ S .owner c) × (S .owner c ≤ S .parts)) where
     -- what is held stands in the local order
     pub held-has : (i x : ℕ) → Cell S x → holds S i x ≡ true → At x (locals S i)
-    unfolding imports owns
     held-has i x h e = subst (At x) (sym (order-is i)) (go (eqb i (S .owner x)) refl)
       where
         go : (b : Bool) → eqb i (S .owner x) ≡ b → At x (ownCells S i ++ blocks 1 (S .parts) (imports S i))
@@ -224,12 +233,9 @@ module _ (S : Split) where
         go false q =
             let o = owner-in x h in
             let one : 1 + (S .owner x - 1) ≡ S .owner x = omega arith in
-            let a : At x (imports S i (S .owner x)) =
-            picked-in (S .first) (λ c. not (eqb i (S .owner x)) && eqb (S .owner c) (S .owner x) && holds S i c) (S .cells) x (h .0) (h .1)
-            (and-intro (not (eqb i (S .owner x)) && eqb (S .owner x) (S .owner x)) (holds S i x)
-            (and-intro (not (eqb i (S .owner x))) (eqb (S .owner x) (S .owner x)) (ap not q) (eq-eqb (S .owner x) (S .owner x) refl)) e) in
             at-right x (ownCells S i) (blocks 1 (S .parts) (imports S i))
-            (blocks-have 1 (imports S i) (S .parts) (S .owner x - 1) x (omega arith) (subst (λ j. At x (imports S i j)) (sym one) a))
+            (blocks-have 1 (imports S i) (S .parts) (S .owner x - 1) x (omega arith)
+            (subst (λ j. At x (imports S i j)) (sym one) (import-has i (S .owner x) x h (eqb-false i (S .owner x) q) refl e)))
 
     reach-holds : (i c : ℕ) → Cell S c → S .owner c ≡ i → (t : ℕ) → t < length (S .reach c) → holds S i ((getD (S .reach c) t (record { cell = 0; layer = 0 })) .cell) ≡ true
     unfolding holds owned owns reaches

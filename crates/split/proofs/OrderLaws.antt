@@ -1,22 +1,22 @@
 -- The lists of a part hang together: they rise, what one part imports the other exports, and interior, halo and imports are the held cells,
 -- each once, so that local numbers and held cells go one to one. Assumes nothing.
 use mathlib.Core.Path.{_≡_, refl, sym, ap, _∙_, subst}
-use mathlib.Core.Logic.{_⊎_, ⊎-elim, _≢_}
-use mathlib.Core.Bool.{Bool, true, false, not, _&&_}
+use mathlib.Core.Logic.{⊎-elim, _≢_}
+use mathlib.Core.Bool.{Bool, true, false}
 use mathlib.Core.List.{List, []}
 use Prim.Native.Nat.{ℕ, _+_, _-_, _≤_, _<_}
 use native.Mathlib.Omega.{arith}
-use lib.Dec.{eqb, ltb}
+use lib.Dec.{ltb}
 use lib.ListN.{length, getD}
-use borrow.Author.Tests.{eqb-true, eqb-false, eq-eqb, not-true}
+use borrow.Author.Tests.{eq-eqb}
 use Rattle.vocabulary.specs.Bytes.{Bytes}
 use Rattle.vocabulary.specs.Lists.{repeats}
-use Rattle.vocabulary.specs.ListLaws.{At, and-true, repeats-none, repeats-once, cond-has}
+use Rattle.vocabulary.specs.ListLaws.{At, repeats-none, repeats-once, cond-has}
 use Rattle.vocabulary.specs.Ranges.{picked, total}
-use Rattle.vocabulary.specs.RangeLaws.{Rises, picked-rises, picked-passes, rises-once}
+use Rattle.vocabulary.specs.RangeLaws.{Rises, picked-rises, rises-once}
 use Rattle.mesh.specs.Mesh.{top, counted, below}
 use Rattle.split.specs.Split.{Split, owns, owned, reaches, holds, held, imports, exports, interior, halo, locals, localOf, globalOf, range}
-use Rattle.split.specs.SplitLaws.{Cell, own-is, own-number, local-back, local-cases, import-at, own-held}
+use Rattle.split.specs.SplitLaws.{Cell, own-is, own-number, local-back, local-cases, import-facts, import-at, own-held}
 
 -- ---- rising lists
 
@@ -46,16 +46,10 @@ range-rises m k p =
 -- ---- the local order has each cell once
 
 module _ (S : Split) (i : ℕ) where
-  -- a cell that is imported from j belongs to j, which is another part, and is held
-  import-facts : (j t : ℕ) → t < length (imports S i j)
-      → (i ≢ j) × (S .owner (getD (imports S i j) t 0) ≡ j) × (holds S i (getD (imports S i j) t 0) ≡ true)
-  unfolding imports owns
-  import-facts j t h =
-      let x : ℕ = getD (picked (S .first) (S .cells) (λ c. not (eqb i j) && eqb (S .owner c) j && holds S i c)) t 0 in
-      let w = picked-passes (S .first) (λ c. not (eqb i j) && eqb (S .owner c) j && holds S i c) (S .cells) x (record { place = t; place-lt = h; place-is = refl }) in
-      let u = and-true (not (eqb i j) && eqb (S .owner x) j) (holds S i x) (w .2) in
-      let v = and-true (not (eqb i j)) (eqb (S .owner x) j) (u .0) in
-      (eqb-false i j (not-true _ (v .0)), eqb-true _ j (v .1), u .1)
+  -- what the t-th cell imported from j has
+  facts-at : (j t : ℕ) → t < length (imports S i j)
+      → Cell S (getD (imports S i j) t 0) × (i ≢ j) × (S .owner (getD (imports S i j) t 0) ≡ j) × (holds S i (getD (imports S i j) t 0) ≡ true)
+  facts-at j t h = import-facts S i j (getD (imports S i j) t 0) (record { place = t; place-lt = h; place-is = refl })
 
   abbrev Imported : ℕ → Type 0
   Imported l = (j : ℕ) × (1 ≤ j) × (j ≤ S .parts) × ((t : ℕ) × (t < length (imports S i j)) × (l ≡ length (owned S i) + total 1 (j - 1) (λ k. length (imports S i k)) + 1 + t))
@@ -68,8 +62,8 @@ module _ (S : Split) (i : ℕ) where
 
   not-own : (k l : ℕ) → 1 ≤ k → k ≤ length (owned S i) → (v : Imported l) → globalOf (locals S i) k ≡ globalOf (locals S i) l → ⊥
   not-own k l low high v e =
-      let f = import-facts (v .0) (v .3 .0) (v .3 .1) in
-      f .0 (sym (own-is S i k low high .1) ∙ ap (S .owner) (e ∙ imported-is l v) ∙ f .1)
+      let f = facts-at (v .0) (v .3 .0) (v .3 .1) in
+      f .1 (sym (own-is S i k low high .1) ∙ ap (S .owner) (e ∙ imported-is l v) ∙ f .2)
 
   same-import : (j j′ t t′ : ℕ) → j ≡ j′ → t < length (imports S i j) → t′ < length (imports S i j′) → getD (imports S i j) t 0 ≡ getD (imports S i j′) t′ 0 → number j t ≡ number j′ t′
   same-import j j′ t t′ e h h′ f =
@@ -91,7 +85,7 @@ module _ (S : Split) (i : ℕ) where
           ⊎-elim (λ b. absurd (not-own l k ll b u (sym e)))
           (λ (v : Imported l).
           let g : getD (imports S i (u .0)) (u .3 .0) 0 ≡ getD (imports S i (v .0)) (v .3 .0) 0 = sym (imported-is k u) ∙ e ∙ imported-is l v in
-          let o : u .0 ≡ v .0 = sym (import-facts (u .0) (u .3 .0) (u .3 .1) .1) ∙ ap (S .owner) g ∙ import-facts (v .0) (v .3 .0) (v .3 .1) .1 in
+          let o : u .0 ≡ v .0 = sym (facts-at (u .0) (u .3 .0) (u .3 .1) .2) ∙ ap (S .owner) g ∙ facts-at (v .0) (v .3 .0) (v .3 .1) .2 in
           u .3 .2 ∙ same-import (u .0) (v .0) (u .3 .0) (v .3 .0) o (u .3 .1) (v .3 .1) g ∙ sym (v .3 .2)) (local-cases S i l ll lh)
 
   global-at : (k : ℕ) → globalOf (locals S i) (k + 1) ≡ getD (locals S i) k 0
@@ -125,4 +119,4 @@ module _ (S : Split) (i : ℕ) where
             held-own c e = own-held S own-reach i (globalOf (locals S i) l) c e
 
         theirs : Imported l → holds S i (globalOf (locals S i) l) ≡ true
-        theirs v = subst (λ x. holds S i x ≡ true) (sym (imported-is l v)) (import-facts (v .0) (v .3 .0) (v .3 .1) .2)
+        theirs v = subst (λ x. holds S i x ≡ true) (sym (imported-is l v)) (facts-at (v .0) (v .3 .0) (v .3 .1) .3)
