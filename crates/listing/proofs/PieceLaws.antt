@@ -12,7 +12,8 @@ use Rattle.vocabulary.specs.Bytes.{Bytes, byteAt}
 use Rattle.vocabulary.specs.Ranges.{isUpTo, blocks}
 use Rattle.vocabulary.specs.RangeLaws.{upTo-true, upTo-intro}
 use Rattle.vocabulary.specs.Lists.{everyOf, joined}
-use Rattle.vocabulary.specs.Tests.{refuse, firstOf, firstOf-append}
+use Rattle.vocabulary.specs.Tests.{refuse, firstOf}
+use Rattle.vocabulary.specs.TestLaws.{firstOf-append}
 use Rattle.mesh.specs.Mesh.{top, elements, recordCount, cellCount, meshLength, meshTests}
 use Rattle.mesh.specs.Walks.{bad10}
 use Rattle.split.specs.Split.{splitOf}

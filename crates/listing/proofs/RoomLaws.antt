@@ -15,7 +15,8 @@ use Rattle.vocabulary.specs.Ranges.{picked, blocks, total}
 use Rattle.vocabulary.specs.RangeLaws.{picked-all, picked-length-le, blocks-length, total-mono, total-bound}
 use Rattle.vocabulary.specs.Lists.{All, joined}
 use Rattle.vocabulary.specs.ListLaws.{and-true, cond-has}
-use Rattle.vocabulary.specs.Tests.{Test, firstOf, passed, passed-append}
+use Rattle.vocabulary.specs.Tests.{Test, firstOf}
+use Rattle.vocabulary.specs.TestLaws.{passed, passed-append}
 use Rattle.mesh.specs.Mesh.{top, counted, below, firstCell, cellCount, meshTests}
 use Rattle.mesh.specs.WalkLaws.{below-grows}
 use Rattle.mesh.specs.Accepted.{Accepted}

@@ -7,7 +7,8 @@ use lib.Dec.{T, eqb, ltb}
 use lib.ListN.{length}
 use borrow.Author.Tests.{eq-eqb, ne-eqb}
 use Rattle.vocabulary.specs.Bytes.{Bytes, over}
-use Rattle.vocabulary.specs.Tests.{refuse, firstOf, numbered, firstOf-append}
+use Rattle.vocabulary.specs.Tests.{refuse, firstOf}
+use Rattle.vocabulary.specs.TestLaws.{numbered, firstOf-append}
 use Rattle.layout.specs.Words.{bytesOf}
 use Rattle.layout.specs.Answers.{answer}
 use Rattle.layout.specs.AnswerLaws.{refuses}

@@ -12,7 +12,8 @@ use Rattle.vocabulary.specs.Lists.{All}
 use Rattle.vocabulary.specs.ListLaws.{and-true, or-false}
 use Rattle.vocabulary.specs.Ranges.{isUpTo, every}
 use Rattle.vocabulary.specs.RangeLaws.{upTo-true}
-use Rattle.vocabulary.specs.Tests.{passed, firstOf}
+use Rattle.vocabulary.specs.Tests.{firstOf}
+use Rattle.vocabulary.specs.TestLaws.{passed}
 use Rattle.depths.specs.Depths.{rangedAt}
 use Rattle.depths.specs.DepthLaws.{length-four}
 use Rattle.messages.specs.Messages.{fromIn, toIn, roundIn, countIn, bad15}

@@ -33,8 +33,8 @@ depthAt d b l = four b (depthPlace d l)
 
 module _ (L : Lists) (d : ℕ) (b : Bytes) where
   -- the message to part j, and its bytes
-  abbrev pub sentTo : ℕ → Message
-  sentTo j = record {
+  abbrev pub sentMessageIn : ℕ → Message
+  sentMessageIn j = record {
     from = L .part;
     to = j;
     round = roundAt b d;
@@ -42,7 +42,7 @@ module _ (L : Lists) (d : ℕ) (b : Bytes) where
   }
 
   unfoldable pub messageTo : ℕ → Bytes
-  messageTo j = encode (sentTo j)
+  messageTo j = encode (sentMessageIn j)
 
   -- 27: "Write to a number that isn't a part importing from here."
   unfoldable pub writeTestsIn : ℕ → Bytes → List Test
@@ -123,7 +123,7 @@ module _ (b : Bytes) where
   writeNumber j out = firstOf (writeTestsIn (listsOf b) (dynamic b) b j out)
 
   abbrev pub sentMessage : ℕ → Message
-  sentMessage j = sentTo (listsOf b) (dynamic b) b j
+  sentMessage j = sentMessageIn (listsOf b) (dynamic b) b j
 
   unfoldable pub message : ℕ → Bytes
   message j = messageTo (listsOf b) (dynamic b) b j

@@ -17,7 +17,8 @@ use Rattle.vocabulary.specs.Lists.{joined}
 use Rattle.vocabulary.specs.ListLaws.{and-intro, getD-map-any}
 use Rattle.vocabulary.specs.Ranges.{isUpTo, blocks}
 use Rattle.vocabulary.specs.RangeLaws.{every-in, upTo-intro}
-use Rattle.vocabulary.specs.Tests.{passed, firstOf}
+use Rattle.vocabulary.specs.Tests.{firstOf}
+use Rattle.vocabulary.specs.TestLaws.{passed}
 use Rattle.layout.specs.Words.{word, wordBytes, bytesOf}
 use Rattle.layout.specs.WordLaws.{word-same, word-in, word-left, word-back, length-wordBytes, length-bytesOf, wordAt-first}
 use Rattle.depths.specs.Depths.{four}

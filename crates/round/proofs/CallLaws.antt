@@ -9,7 +9,8 @@ use lib.ListN.{length}
 use Rattle.vocabulary.specs.Bytes.{Bytes, over}
 use Rattle.vocabulary.specs.ByteLaws.{over-whole}
 use Rattle.vocabulary.specs.Lists.{All}
-use Rattle.vocabulary.specs.Tests.{Test, refuse, firstOf, passed, passed-append, firstOf-right, none-holds}
+use Rattle.vocabulary.specs.Tests.{Test, refuse, firstOf}
+use Rattle.vocabulary.specs.TestLaws.{passed, passed-append, firstOf-right, none-holds}
 use Rattle.mesh.specs.Mesh.{top, cellCount, meshTests}
 use Rattle.mesh.specs.Walks.{steps, bad10, bad13}
 use Rattle.rules.specs.Rules.{bad11}

@@ -18,7 +18,7 @@ use Rattle.vocabulary.specs.Lists.{All}
 use Rattle.vocabulary.specs.ListLaws.{All-getD, getD-map-any}
 use Rattle.vocabulary.specs.Ranges.{listed, blocks}
 use Rattle.vocabulary.specs.RangeLaws.{listed-back, blocks-moved}
-use Rattle.vocabulary.specs.Tests.{passed, firstOf-left, firstOf-right}
+use Rattle.vocabulary.specs.TestLaws.{passed, firstOf-left, firstOf-right}
 use Rattle.depths.specs.Depths.{four, depthBytes}
 use Rattle.depths.specs.DepthLaws.{length-four, fours-store}
 use Rattle.layout.specs.AnswerLaws.{refuses, accepts}

@@ -13,7 +13,8 @@ use Rattle.vocabulary.specs.Lists.{All, someOf}
 use Rattle.vocabulary.specs.ListLaws.{and-intro, or-false, All-map, All-getD, getD-map-any, someOf-has, At, All-of-map}
 use Rattle.vocabulary.specs.Ranges.{isUpTo, every, some, blocks, total}
 use Rattle.vocabulary.specs.RangeLaws.{every-intro, picked-length-le, blocks-cases, blocks-all, blocks-length, total-start, total-turn, upTo-intro}
-use Rattle.vocabulary.specs.Tests.{allOf, allOf-intro}
+use Rattle.vocabulary.specs.Tests.{allOf}
+use Rattle.vocabulary.specs.TestLaws.{allOf-intro}
 use Rattle.depths.specs.Depths.{four}
 use Rattle.depths.specs.DepthLaws.{depth-four}
 use Rattle.mesh.specs.Mesh.{top, below, elements, recordCount, firstCell, cellCount, bad1, bad2, wrongCount, meshTests}

@@ -6,7 +6,7 @@ use native.Mathlib.Omega.{arith}
 use lib.ListN.{length}
 use Rattle.vocabulary.specs.Bytes.{Bytes, byteAt}
 use Rattle.vocabulary.specs.Ranges.{total}
-use Rattle.vocabulary.specs.Tests.{passed}
+use Rattle.vocabulary.specs.TestLaws.{passed}
 use Rattle.mesh.specs.Mesh.{cellCount, meshTests}
 use Rattle.split.specs.Split.{Split, splitOf, exports}
 use Rattle.split.specs.Lists.{splitTests, sizeTests}

@@ -15,7 +15,7 @@ use Rattle.vocabulary.specs.ByteLaws.{Place, below, inside, above, place, over-
 use Rattle.vocabulary.specs.ListLaws.{cond-has, All-map, All-of-map}
 use Rattle.vocabulary.specs.Ranges.{every}
 use Rattle.vocabulary.specs.RangeLaws.{every-intro}
-use Rattle.vocabulary.specs.Tests.{passed}
+use Rattle.vocabulary.specs.TestLaws.{passed}
 use Rattle.layout.specs.WordLaws.{word-set}
 use Rattle.depths.specs.Depths.{four, depthFrom, depthOf, rangedAt}
 use Rattle.depths.specs.DepthLaws.{length-four, four-set, depth-four, range-intro, ranged-size}

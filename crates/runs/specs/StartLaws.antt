@@ -16,7 +16,7 @@ use Rattle.vocabulary.specs.Lists.{All}
 use Rattle.vocabulary.specs.ListLaws.{All-map, All-getD, map-cong, map-map, getD-map-any, At, All-of-map, map-id}
 use Rattle.vocabulary.specs.Ranges.{blocks, total}
 use Rattle.vocabulary.specs.RangeLaws.{total-last, total-fit}
-use Rattle.vocabulary.specs.Tests.{passed}
+use Rattle.vocabulary.specs.TestLaws.{passed}
 use Rattle.layout.specs.Words.{word}
 use Rattle.layout.specs.WordLaws.{wordAt-first}
 use Rattle.depths.specs.Depths.{four}

@@ -15,7 +15,8 @@ use Rattle.vocabulary.specs.ByteLaws.{Place, below, inside, above, place, over-
 use Rattle.vocabulary.specs.Lists.{All}
 use Rattle.vocabulary.specs.ListLaws.{and-true, cond-has, mem-all}
 use Rattle.vocabulary.specs.Ranges.{isUpTo}
-use Rattle.vocabulary.specs.Tests.{passed, firstOf}
+use Rattle.vocabulary.specs.Tests.{firstOf}
+use Rattle.vocabulary.specs.TestLaws.{passed}
 use Rattle.vocabulary.specs.RangeLaws.{upTo-true}
 use Rattle.depths.specs.Depths.{four}
 use Rattle.mesh.specs.Mesh.{cellCount}

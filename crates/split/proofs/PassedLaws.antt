@@ -9,7 +9,8 @@ use lib.ListN.{length}
 use Rattle.vocabulary.specs.Bytes.{Bytes}
 use Rattle.vocabulary.specs.Ranges.{isUpTo}
 use Rattle.vocabulary.specs.Lists.{everyOf}
-use Rattle.vocabulary.specs.Tests.{Test, refuse, firstOf, numbered, passed, passed-append}
+use Rattle.vocabulary.specs.Tests.{Test, refuse, firstOf}
+use Rattle.vocabulary.specs.TestLaws.{numbered, passed, passed-append}
 use Rattle.mesh.specs.Mesh.{top, cellCount, meshTests, meshNumber}
 use Rattle.mesh.specs.Walks.{bad10}
 use Rattle.mesh.specs.Accepted.{Accepted}

@@ -12,7 +12,8 @@ use Rattle.vocabulary.specs.ByteLaws.{over-more}
 use Rattle.vocabulary.specs.Lists.{All}
 use Rattle.vocabulary.specs.Ranges.{blocks}
 use Rattle.vocabulary.specs.RangeLaws.{blocks-cong}
-use Rattle.vocabulary.specs.Tests.{Test, refuse, firstOf, passed, none-holds, firstOf-left, firstOf-right}
+use Rattle.vocabulary.specs.Tests.{Test, refuse, firstOf}
+use Rattle.vocabulary.specs.TestLaws.{passed, none-holds, firstOf-left, firstOf-right}
 use Rattle.layout.specs.Words.{bytesOf}
 use Rattle.layout.specs.WordLaws.{length-bytesOf}
 use Rattle.depths.specs.Depths.{four}

@@ -15,7 +15,8 @@ use Rattle.vocabulary.specs.Lists.{All}
 use Rattle.vocabulary.specs.Ranges.{isUpTo, every}
 use Rattle.vocabulary.specs.RangeLaws.{last-or, every-in, every-intro, upTo-true, listed-all}
 use Rattle.vocabulary.specs.ListLaws.{and-true, and-intro}
-use Rattle.vocabulary.specs.Tests.{allOf, allOf-true, allOf-intro}
+use Rattle.vocabulary.specs.Tests.{allOf}
+use Rattle.vocabulary.specs.TestLaws.{allOf-true, allOf-intro}
 use Rattle.layout.specs.Words.{wordAt}
 use Rattle.layout.specs.WordLaws.{word-same}
 use Rattle.depths.specs.Depths.{rangedAt}

@@ -1,6 +1,7 @@
 pub mod Ranges
 pub mod Lists
 pub mod Tests
+pub mod TestLaws
 pub mod Bytes
 pub mod ListLaws
 pub mod RangeLaws

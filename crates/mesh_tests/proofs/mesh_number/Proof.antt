@@ -1,5 +1,5 @@
 -- `mesh_tests::mesh_number` meets its contract. Assumes nothing.
-use Rattle.vocabulary.specs.Tests.{told-here, told-later}
+use Rattle.vocabulary.specs.TestLaws.{told-here, told-later}
 use Rattle.mesh.specs.Mesh.{meshTests, meshNumber}
 use Rattle.mesh.proofs.NumberLaws.{sized}
 use mathlib.Core.Path.{sym, _∙_}

@@ -1,5 +1,5 @@
 -- `states::lists::head_fine` meets its contract. Assumes nothing.
-use Rattle.vocabulary.specs.Tests.{fails-here, passes-here}
+use Rattle.vocabulary.specs.TestLaws.{fails-here, passes-here}
 use Rattle.states.proofs.ListChecks.{head-part, steps-odd, steps-many, steps-fine, head-rule, head-held}
 use borrow.Author.Needs.{needs}
 use Rattle.states.proofs.lists.head_fine.Statement.{statement}
