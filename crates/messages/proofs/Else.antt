@@ -1,5 +1,5 @@
 -- What a caller learns in the `else` of `let Reading::Message(h) = r else`: there the reader refused, with 15. Assumes nothing.
-use mathlib.Core.Path.{_≡_, refl, _∙_}
+use mathlib.Core.Path.{_≡_, _∙_}
 use mathlib.Core.Bool.{true}
 use mathlib.Core.List.{[], _∷_}
 use Prim.Native.Nat.{ℕ}
@@ -7,18 +7,18 @@ use native.Mathlib.Omega.{arith}
 use types.Run.{OneOf}
 use denote.Enum.Declared.{tagOf}
 use Rattle.vocabulary.specs.Bytes.{Bytes}
-use Rattle.messages.specs.Messages.{bad15}
-use Rattle.messages.specs.Heads.{headOf, numberOf}
-use Rattle.messages.specs.HeadLaws.{head-bad, head-number}
+use Rattle.messages.specs.Messages.{bad15, reading}
+use Rattle.messages.specs.Heads.{numberOf, meant}
+use Rattle.messages.specs.HeadLaws.{refusal-told}
 use Rattle.messages.specs.declared.Reading.{Reading}
 use Rattle.messages.specs.declared.Reading.the-variants.{Message, Refused}
 use Rattle.messages.proofs.Reading as K
 
 module _ (b : Bytes) where
-  pub else-bad : (r : Reading) → r ≡ headOf b → OneOf (1 ∷ []) (tagOf K.the-type r) → bad15 b ≡ true
+  pub else-bad : (r : Reading) → meant b r ≡ reading b → OneOf (1 ∷ []) (tagOf K.the-type r) → bad15 b ≡ true
   else-bad (Message h) e o = absurd (omega arith)
-  else-bad (Refused n) e o = head-bad b (Refused n) e n refl
+  else-bad (Refused n) e o = refusal-told b n e .0
 
-  pub else-number : (r : Reading) (n : ℕ) → r ≡ headOf b → OneOf (1 ∷ []) (tagOf K.the-type r) → n ≡ numberOf r → n ≡ 15
+  pub else-number : (r : Reading) (n : ℕ) → meant b r ≡ reading b → OneOf (1 ∷ []) (tagOf K.the-type r) → n ≡ numberOf r → n ≡ 15
   else-number (Message h) n e o q = absurd (omega arith)
-  else-number (Refused m) n e o q = q ∙ head-number b (Refused m) e m refl
+  else-number (Refused m) n e o q = q ∙ refusal-told b m e .1

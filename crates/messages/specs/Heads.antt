@@ -1,23 +1,12 @@
--- What the code's reader answers: the words of a message, or 15. Assumes nothing.
-use mathlib.Core.Bool.{cond}
+-- What the answer of the code's reader means: the paper's message, or the number of its refusal. Assumes nothing.
 use Prim.Native.Nat.{ℕ, _+_, _*_}
 use Rattle.vocabulary.specs.Bytes.{Bytes}
 use Rattle.vocabulary.specs.Ranges.{listed}
 use Rattle.depths.specs.Depths.{four}
-use Rattle.messages.specs.Messages.{read, refused, fromIn, toIn, roundIn, countIn, bad15}
+use Rattle.messages.specs.Messages.{read, refused}
 use Rattle.messages.specs.Messages as paper
 use Rattle.messages.specs.declared.Reading.{Reading}
 use Rattle.messages.specs.declared.Reading.the-variants.{Message, Refused}
-
-unfoldable pub headOf : Bytes → Reading
-headOf b =
-    cond (bad15 b) (Refused 15)
-    (Message (record {
-      from = fromIn b;
-      to = toIn b;
-      round = roundIn b;
-      count = countIn b;
-    }))
 
 -- the number of document 01, and 0 where there is a message
 abbrev pub numberOf : Reading → ℕ

@@ -150,13 +150,17 @@ message-back b e a =
     (good-depths b e)
     ∙ take-append-drop 8 b
 
-abbrev isRead : Reading → Bool
+abbrev pub isRead : Reading → Bool
 isRead (read x) = true
 isRead (refused n) = false
 
-abbrev held : Message → Reading → Message
+abbrev pub held : Message → Reading → Message
 held y (read x) = x
 held y (refused n) = y
+
+abbrev pub numbered : Reading → ℕ
+numbered (read x) = 0
+numbered (refused n) = n
 
 pub read-once : (b : Bytes) (x : Message) → All (λ y. y < 256) b → reading b ≡ read x → b ≡ encode x
 unfolding reading

@@ -4,8 +4,8 @@ pub mod inner;
 use depths::inner::depths_in_range;
 use layout::word_at;
 ghost use mathlib.Core.Path.{_≡_};
-ghost use Rattle.messages.specs.Messages.{bad15};
-ghost use Rattle.messages.specs.Heads.{headOf, numberOf};
+ghost use Rattle.messages.specs.Messages.{bad15, reading};
+ghost use Rattle.messages.specs.Heads.{numberOf, meant};
 
 // The words of a message. Its depths stay where they are, `count` of them from byte 8 on.
 pub struct Head {
@@ -37,7 +37,7 @@ fn bad_message(b: &[u8]) -> bool
 
 // Reads a message out of any bytes.
 pub fn read(b: &[u8]) -> Reading
-    ensures { λ r. ⌜ r ≡ headOf (now (b .entry)) ⌝ }
+    ensures { λ r. ⌜ meant (now (b .entry)) r ≡ reading (now (b .entry)) ⌝ }
 {
     if bad_message(b) {
         return Reading::Refused(15);

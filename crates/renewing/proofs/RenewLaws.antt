@@ -21,7 +21,12 @@ use Rattle.layout.specs.Words.{word, wordAt}
 use Rattle.depths.specs.Depths.{four, depthFrom, depthBytes}
 use Rattle.depths.specs.DepthLaws.{length-four, fours-store, ranged-size}
 use Rattle.rules.specs.Rules.{Old, newDepth, bad11, weightCount}
-use Rattle.rules.specs.RuleLaws.{rule-light, rule-first, new-length}
+use Rattle.rules.specs.RuleLaws.{rule-known, rule-light, rule-first, new-length}
+use Rattle.rules.specs.Kinds.{kindNumber, ruleOf}
+use Rattle.rules.specs.declared.Kind.{Kind}
+use Rattle.rules.specs.declared.Rule.{Rule}
+use Rattle.rules.specs.declared.Rule.the-variants.{Known, Unknown}
+use Rattle.rules.proofs.KindLaws.{known-number, unknown-number}
 use Rattle.rules.specs.Update.{entries, oldsAt, Ready}
 use Rattle.rules.specs.Update as update
 use Rattle.rules.specs.UpdateLaws.{weightSum-own}
@@ -164,6 +169,17 @@ module _ (st : Bytes) (d : ℕ) (b new : Bytes) (owned : ℕ) where
       ∙ ap (λ n. over (over new 0 (blocks 1 (l - 1) (newAt (listsIn st) d b))) n (newAt (listsIn st) d b (1 + (l - 1)))) (sym (zero-add (4 * (l - 1))))
       ∙ fours-store 1 (l - 1) (newAt (listsIn st) d b) (λ t c. new-four st d b (1 + t)) new 0 (omega arith)
       ∙ ap (λ n. over new 0 (blocks 1 n (newAt (listsIn st) d b))) j
+
+-- ---- the rule
+
+-- the kind that the number in the lists stands for
+pub kind-is : (st : Bytes) (number : ℕ) (r : Rule) (k : Kind) → number ≡ ruleKind st → r ≡ ruleOf number → r ≡ Known k → kindNumber k ≡ ruleKind st
+kind-is st number r k ne e q = sym (known-number number k (sym e ∙ q)) ∙ ne
+
+-- a state has a known one
+pub kind-known : (st : Bytes) (d : ℕ) (b : Bytes) → Opened st d b → (number : ℕ) (r : Rule) → number ≡ ruleKind st → r ≡ ruleOf number → r ≡ Unknown → ⊥
+kind-known st d b o number r ne e q =
+    omega (arith, unknown-number number (sym e ∙ q), ne, rule-known (ruleKind st) (stepCount st) (weights st) (whole st d b o .rule))
 
 -- the weights, as they are cut out of the lists
 pub weights-cut : (st : Bytes) (kind n count : ℕ) → kind ≡ wordAt st 3 → n ≡ wordAt st 2 → count ≡ weightCount kind n → take (8 + 2 * count - 8) (drop 8 st) ≡ weights st

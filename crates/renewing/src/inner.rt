@@ -1,7 +1,10 @@
 // The new depths of the owned cells, by the lists and the rule of a state.
 use depths::inner::put_depth;
 use layout::word_at;
+use rules::Kind;
+use rules::Rule;
 use rules::inner::new_depth;
+use rules::rule_of;
 use states::inner::between;
 use states::inner::weight_count;
 ghost use mathlib.Core.Path.{_≡_};
@@ -10,6 +13,7 @@ ghost use lib.ListN.{length};
 ghost use Rattle.vocabulary.specs.Bytes.{over};
 ghost use Rattle.vocabulary.specs.Ranges.{blocks};
 ghost use Rattle.depths.specs.Depths.{depthBytes};
+ghost use Rattle.rules.specs.Kinds.{kindNumber};
 ghost use Rattle.states.specs.State.{listsIn, ruleKind, weights, heldCount, ownedCount};
 ghost use Rattle.parts.specs.Opened.{Opened};
 ghost use Rattle.parts.specs.Calls.{newAt};
@@ -20,12 +24,12 @@ fn renew_one(
     v: &[u8],
     b: &[u8],
     d: usize,
-    kind: usize,
+    kind: Kind,
     held: usize,
     owned: usize,
     l: usize,
 ) -> i32
-    requires { ⌜ Opened (now lists) d (now b) × (kind ≡ ruleKind (now lists)) × (now v ≡ weights (now lists)) × (held ≡ heldCount (now lists)) × (owned ≡ ownedCount (now lists)) × (held < 65536) × (owned < 65536) × (1 ≤ l) × (l ≤ owned) ⌝ }
+    requires { ⌜ Opened (now lists) d (now b) × (kindNumber kind ≡ ruleKind (now lists)) × (now v ≡ weights (now lists)) × (held ≡ heldCount (now lists)) × (owned ≡ ownedCount (now lists)) × (held < 65536) × (owned < 65536) × (1 ≤ l) × (l ≤ owned) ⌝ }
     ensures { λ r. ⌜ depthBytes r ≡ newAt (listsIn (now (lists .entry))) d (now (b .entry)) l ⌝ }
 {
     let k = 45 + held + (l - 1);
@@ -39,12 +43,12 @@ fn renew(
     v: &[u8],
     b: &[u8],
     d: usize,
-    kind: usize,
+    kind: Kind,
     held: usize,
     owned: usize,
     new: &mut [u8],
 )
-    requires { ⌜ Opened (now lists) d (now b) × (kind ≡ ruleKind (now lists)) × (now v ≡ weights (now lists)) × (held ≡ heldCount (now lists)) × (owned ≡ ownedCount (now lists)) × (held < 65536) × (owned < 65536) × (4 * owned ≤ length (now new)) ⌝ }
+    requires { ⌜ Opened (now lists) d (now b) × (kindNumber kind ≡ ruleKind (now lists)) × (now v ≡ weights (now lists)) × (held ≡ heldCount (now lists)) × (owned ≡ ownedCount (now lists)) × (held < 65536) × (owned < 65536) × (4 * owned ≤ length (now new)) ⌝ }
     ensures { λ _. ⌜ now (new .exit) ≡ over (now (new .entry)) 0 (blocks 1 owned (newAt (listsIn (now (lists .entry))) d (now (b .entry)))) ⌝ }
 {
     for l in 1..owned + 1 {
@@ -61,5 +65,9 @@ pub fn renew_by(lists: &[u8], b: &[u8], d: usize, owned: usize, new: &mut [u8])
     let kind = word_at(lists, 3);
     let end = 8 + 2 * weight_count(kind, word_at(lists, 2));
     let held = word_at(lists, 27);
-    renew(lists, &lists[8..end], b, d, kind, held, owned, new);
+    match rule_of(kind as u32) {
+        Rule::Known(k) => renew(lists, &lists[8..end], b, d, k, held, owned, new),
+        // no state has such a rule (20)
+        Rule::Unknown => {}
+    }
 }

@@ -31,6 +31,12 @@ use Rattle.reaches.specs.Tables.{Tabled}
 use Rattle.reaches.proofs.SizeLaws.{table-refused}
 use Rattle.reaches.proofs.EntryLaws.{row-fits, row-size, row-cell, row-layer, table-length}
 use Rattle.rules.specs.Rules.{newDepth, bad11}
+use Rattle.rules.specs.Kinds.{kindNumber, ruleOf}
+use Rattle.rules.specs.declared.Kind.{Kind}
+use Rattle.rules.specs.declared.Rule.{Rule}
+use Rattle.rules.specs.declared.Rule.the-variants.{Known, Unknown}
+use Rattle.rules.proofs.KindLaws.{known-number}
+use Rattle.rules.proofs.Refusals.{known-rule, unknown-rule}
 use Rattle.rules.specs.RuleLaws.{new-length}
 use Rattle.round.specs.Rounds.{Scheme, schemeOf, depthIn, newIn, round, bad14, roundTests, roundNumber, roundAnswer, roundOut}
 use Rattle.round.specs.RoundLaws.{field-length, field-ranged, placed, olds-placed}
@@ -160,6 +166,13 @@ module _ (m st : Bytes) (kind : ℕ) (v f out : Bytes) where
   unfolding roundAnswer roundOut
   done = accepts (roundNumber m st kind v f out) (cellCount m) (over out 0 (round (schemeOf m st kind v) f)) out
 
+  -- the call goes on by the kind that the number stands for
+  pub told-kind : (r : Rule) (k : Kind) → r ≡ ruleOf kind → r ≡ Known k → (a : Answer) (x : Bytes)
+      → (a ≡ roundAnswer m st (kindNumber k) v f out) × (x ≡ roundOut m st (kindNumber k) v f out) → Answered a x
+  told-kind r k e q a x g =
+      let n : kindNumber k ≡ kind = sym (known-number kind k (sym e ∙ q)) in
+      (g .0 ∙ ap (λ i. roundAnswer m st i v f out) n, g .1 ∙ ap (λ i. roundOut m st i v f out) n)
+
   mesh-passed : meshNumber m ≡ 0 → All (λ t. t .holds ≡ false) (meshTests m)
   unfolding meshNumber meshTests
   mesh-passed e = passed (meshTests m) tt e
@@ -202,9 +215,12 @@ module _ (m st : Bytes) (kind : ℕ) (v f out : Bytes) where
     told-10 d b p q t = refused 10 (number-10 mesh (ap (λ k. bad10 k st) (sym p) ∙ sym q ∙ t)) (λ z. omega (arith, z))
 
     module _ (ten : bad10 (top m) st ≡ false) where
-      pub told-11 : (b : Bool) → b ≡ bad11 kind (length st - 1) v → b ≡ true → Answered (Refused 11) out
+      pub told-unknown : (r : Rule) → r ≡ ruleOf kind → r ≡ Unknown → Answered (Refused 11) out
+      told-unknown r e q = refused 11 (number-11 mesh ten (sym (unknown-rule v (steps st) kind r e q))) (λ z. omega (arith, z))
+
+      pub told-11 : (r : Rule) (k : Kind) → r ≡ ruleOf kind → r ≡ Known k → (b : Bool) → b ≡ bad11 (kindNumber k) (length st - 1) v → b ≡ true → Answered (Refused 11) out
       unfolding steps
-      told-11 b q t = refused 11 (number-11 mesh ten (sym q ∙ t)) (λ z. omega (arith, z))
+      told-11 r k e q b f t = refused 11 (number-11 mesh ten (sym (known-rule v (length st - 1) kind k r b e q f) ∙ t)) (λ z. omega (arith, z))
 
       module _ (eleven : bad11 kind (steps st) v ≡ false) (before table : Bytes) (ends : List ℕ) (r : ℕ) (made : Tabled m st before table ends r) where
         thirteen : bad13 m st ≡ ltb 8000 r

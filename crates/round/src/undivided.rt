@@ -7,8 +7,11 @@ use mesh::inner::cell_count;
 use mesh::inner::top_of;
 use mesh_tests::mesh_number;
 use reaches::inner::reach_table;
-use rules::bad_rule;
+use rules::Kind;
+use rules::Rule;
 use rules::inner::new_depth;
+use rules::rule_of;
+use rules::wrong_weights;
 use stencils::bad_stencil;
 ghost use mathlib.Core.Path.{_≡_};
 ghost use mathlib.Core.Bool.{false};
@@ -20,13 +23,14 @@ ghost use Rattle.depths.specs.Depths.{depthBytes};
 ghost use Rattle.mesh.specs.Mesh.{top, meshNumber};
 ghost use Rattle.mesh.specs.Walks.{steps, bad10};
 ghost use Rattle.rules.specs.Rules.{bad11};
+ghost use Rattle.rules.specs.Kinds.{kindNumber};
 ghost use Rattle.round.specs.Rounds.{roundAnswer, roundOut};
 ghost use Rattle.round.specs.Rows.{rowNew, Row, Rows};
 
 // The new depth of the cell at place j, from its row of the table.
-fn new_at(kind: usize, v: &[u8], table: &[u8], ends: &[u16], f: &[u8], j: usize) -> i32
-    requires { ⌜ (j ≤ 65535) × Row kind (now v) (now table) (now ends) (now f) j ⌝ }
-    ensures { λ r. ⌜ depthBytes r ≡ rowNew kind (now (v .entry)) (now (table .entry)) (now (ends .entry)) (now (f .entry)) j ⌝ }
+fn new_at(kind: Kind, v: &[u8], table: &[u8], ends: &[u16], f: &[u8], j: usize) -> i32
+    requires { ⌜ (j ≤ 65535) × Row (kindNumber kind) (now v) (now table) (now ends) (now f) j ⌝ }
+    ensures { λ r. ⌜ depthBytes r ≡ rowNew (kindNumber kind) (now (v .entry)) (now (table .entry)) (now (ends .entry)) (now (f .entry)) j ⌝ }
 {
     let from = number_at(ends, j) as usize;
     let to = number_at(ends, j + 1) as usize;
@@ -34,9 +38,9 @@ fn new_at(kind: usize, v: &[u8], table: &[u8], ends: &[u16], f: &[u8], j: usize)
 }
 
 // The new depths of all cells: f is only read and out only written, so every one comes from old ones.
-fn renew(kind: usize, v: &[u8], table: &[u8], ends: &[u16], cells: usize, f: &[u8], out: &mut [u8])
-    requires { ⌜ Rows kind (now v) (now table) (now ends) cells (now f) × (4 * cells ≤ length (now out)) ⌝ }
-    ensures { λ _. ⌜ now (out .exit) ≡ over (now (out .entry)) 0 (blocks 0 cells (rowNew kind (now (v .entry)) (now (table .entry)) (now (ends .entry)) (now (f .entry)))) ⌝ }
+fn renew(kind: Kind, v: &[u8], table: &[u8], ends: &[u16], cells: usize, f: &[u8], out: &mut [u8])
+    requires { ⌜ Rows (kindNumber kind) (now v) (now table) (now ends) cells (now f) × (4 * cells ≤ length (now out)) ⌝ }
+    ensures { λ _. ⌜ now (out .exit) ≡ over (now (out .entry)) 0 (blocks 0 cells (rowNew (kindNumber kind) (now (v .entry)) (now (table .entry)) (now (ends .entry)) (now (f .entry)))) ⌝ }
 {
     for j in 0..cells {
         let z = new_at(kind, v, table, ends, f, j);
@@ -48,15 +52,15 @@ fn renew(kind: usize, v: &[u8], table: &[u8], ends: &[u16], cells: usize, f: &[u
 fn round_by(
     m: &[u8],
     st: &[u8],
-    kind: u32,
+    kind: Kind,
     v: &[u8],
     f: &[u8],
     out: &mut [u8],
     table: &mut [u8],
     ends: &mut [u16],
 ) -> Answer
-    requires { ⌜ (meshNumber (now m) ≡ 0) × (bad10 (top (now m)) (now st) ≡ false) × (bad11 kind (steps (now st)) (now v) ≡ false) × (length (now table) ≡ 32000) × (length (now ends) ≡ 2001) ⌝ }
-    ensures { λ r. ⌜ (r ≡ roundAnswer (now (m .entry)) (now (st .entry)) kind (now (v .entry)) (now (f .entry)) (now (out .entry))) × (now (out .exit) ≡ roundOut (now (m .entry)) (now (st .entry)) kind (now (v .entry)) (now (f .entry)) (now (out .entry))) ⌝ }
+    requires { ⌜ (meshNumber (now m) ≡ 0) × (bad10 (top (now m)) (now st) ≡ false) × (bad11 (kindNumber kind) (steps (now st)) (now v) ≡ false) × (length (now table) ≡ 32000) × (length (now ends) ≡ 2001) ⌝ }
+    ensures { λ r. ⌜ (r ≡ roundAnswer (now (m .entry)) (now (st .entry)) (kindNumber kind) (now (v .entry)) (now (f .entry)) (now (out .entry))) × (now (out .exit) ≡ roundOut (now (m .entry)) (now (st .entry)) (kindNumber kind) (now (v .entry)) (now (f .entry)) (now (out .entry))) ⌝ }
 {
     let t = reach_table(m, st, table, ends);
     if 8000 < t {
@@ -69,14 +73,14 @@ fn round_by(
     if out.len() < 4 * cells {
         return Answer::Refused(16);
     }
-    renew(kind as usize, v, table, ends, cells, f, out);
+    renew(kind, v, table, ends, cells, f, out);
     Answer::Done(cells as u32)
 }
 
 // The round on an accepted mesh, stencil and rule.
-fn round_on(m: &[u8], st: &[u8], kind: u32, v: &[u8], f: &[u8], out: &mut [u8]) -> Answer
-    requires { ⌜ (meshNumber (now m) ≡ 0) × (bad10 (top (now m)) (now st) ≡ false) × (bad11 kind (steps (now st)) (now v) ≡ false) ⌝ }
-    ensures { λ r. ⌜ (r ≡ roundAnswer (now (m .entry)) (now (st .entry)) kind (now (v .entry)) (now (f .entry)) (now (out .entry))) × (now (out .exit) ≡ roundOut (now (m .entry)) (now (st .entry)) kind (now (v .entry)) (now (f .entry)) (now (out .entry))) ⌝ }
+fn round_on(m: &[u8], st: &[u8], kind: Kind, v: &[u8], f: &[u8], out: &mut [u8]) -> Answer
+    requires { ⌜ (meshNumber (now m) ≡ 0) × (bad10 (top (now m)) (now st) ≡ false) × (bad11 (kindNumber kind) (steps (now st)) (now v) ≡ false) ⌝ }
+    ensures { λ r. ⌜ (r ≡ roundAnswer (now (m .entry)) (now (st .entry)) (kindNumber kind) (now (v .entry)) (now (f .entry)) (now (out .entry))) × (now (out .exit) ≡ roundOut (now (m .entry)) (now (st .entry)) (kindNumber kind) (now (v .entry)) (now (f .entry)) (now (out .entry))) ⌝ }
 {
     // the table is written even where the reaches are too many, so it stands in arrays of our own
     let mut table = [0u8; 32000];
@@ -95,8 +99,13 @@ pub fn undivided_round(m: &[u8], st: &[u8], kind: u32, v: &[u8], f: &[u8], out: 
     if bad_stencil(top_of(m), st) {
         return Answer::Refused(10);
     }
-    if bad_rule(kind, st.len() - 1, v) {
-        return Answer::Refused(11);
+    match rule_of(kind) {
+        Rule::Known(k) => {
+            if wrong_weights(k, st.len() - 1, v) {
+                return Answer::Refused(11);
+            }
+            round_on(m, st, k, v, f, out)
+        }
+        Rule::Unknown => Answer::Refused(11),
     }
-    round_on(m, st, kind, v, f, out)
 }

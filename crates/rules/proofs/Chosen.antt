@@ -1,7 +1,7 @@
 -- What each kind of rule answers, by the match on the kind. Assumes nothing.
-use mathlib.Core.Path.{_≡_, refl, sym, ap, _∙_}
+use mathlib.Core.Path.{_≡_, sym, ap, _∙_}
 use mathlib.Core.List.{List}
-use Prim.Native.Nat.{ℕ, zero, suc, _+_, _≤_, _<_}
+use Prim.Native.Nat.{ℕ, _+_, _≤_, _<_}
 use native.Mathlib.Omega.{arith}
 use lib.IntN.{ℤ, natAbs}
 use lib.Signed.{mag}
@@ -11,33 +11,32 @@ use Rattle.vocabulary.specs.Bytes.{Bytes, byteAt}
 use Rattle.depths.specs.Depths.{four, depthFrom, depthBytes}
 use Rattle.depths.specs.DepthLaws.{depth-bytes, depth-four}
 use Rattle.rules.specs.Rules.{Old, depthSum, weightSum, quotient, least, newDepth}
+use Rattle.rules.specs.Kinds.{kindNumber}
+use Rattle.rules.specs.declared.Kind.{Kind}
+use Rattle.rules.specs.declared.Kind.the-variants.{Hold, Mean, Shoalest}
 use Rattle.rules.specs.RuleLaws.{mean-small, least-small}
 use Rattle.rules.specs.Update.{entries, oldsAt, Reached, Weighed, Ready}
 use Rattle.rules.specs.UpdateLaws.{olds-small}
 use Rattle.rules.proofs.Registers.{depth-held}
 
-pub mean-weighed : (kind : ℕ) (v b : Bytes) (at n : ℕ) (f : Bytes) (base own : ℕ) → Ready kind v b at n f base own → kind ≡ 1 → Weighed v b at n f base
-mean-weighed kind v b at n f base own R e = R .weighed e
+pub mean-weighed : (kind : Kind) (v b : Bytes) (at n : ℕ) (f : Bytes) (base own : ℕ) → Ready (kindNumber kind) v b at n f base own → kind ≡ Mean → Weighed v b at n f base
+unfolding kindNumber
+mean-weighed kind v b at n f base own R e = R .weighed (ap kindNumber e)
 
 -- ---- the bytes: z is what a call gave, in its register
 
-module _ (kind : ℕ) (v f : Bytes) (o : ℕ) (os : List Old) (z : ℤ) (h : mag z < 2147483648) where
-  pub holds : ((k : ℕ) → Fits w8 (byteAt f k)) → kind ≡ 0 → z ≡ depthFrom f o → depthBytes (toZ w32 (ofZ w32 z)) ≡ newDepth kind v (four f o) os
-  unfolding newDepth
+module _ (kind : Kind) (v f : Bytes) (o : ℕ) (os : List Old) (z : ℤ) (h : mag z < 2147483648) where
+  pub holds : ((k : ℕ) → Fits w8 (byteAt f k)) → kind ≡ Hold → z ≡ depthFrom f o → depthBytes (toZ w32 (ofZ w32 z)) ≡ newDepth (kindNumber kind) v (four f o) os
+  unfolding newDepth kindNumber
   holds w e q = rw e (ap depthBytes (depth-held z _ h q) ∙ depth-bytes f o (λ k l. omega (arith, w (o + k) .fits)))
 
-  pub means : kind ≡ 1 → z ≡ quotient (depthSum v os) (weightSum v os) → depthBytes (toZ w32 (ofZ w32 z)) ≡ newDepth kind v (four f o) os
-  unfolding newDepth
+  pub means : kind ≡ Mean → z ≡ quotient (depthSum v os) (weightSum v os) → depthBytes (toZ w32 (ofZ w32 z)) ≡ newDepth (kindNumber kind) v (four f o) os
+  unfolding newDepth kindNumber
   means e q = rw e (ap depthBytes (depth-held z _ h q))
 
-  pub shoals : (kind ≡ 0 → ⊥) → (kind ≡ 1 → ⊥) → z ≡ least (depthFrom f o) os → depthBytes (toZ w32 (ofZ w32 z)) ≡ newDepth kind v (four f o) os
-  unfolding newDepth
-  shoals a b q = go kind a b
-    where
-      go : (k : ℕ) → (k ≡ 0 → ⊥) → (k ≡ 1 → ⊥) → depthBytes (toZ w32 (ofZ w32 z)) ≡ newDepth k v (four f o) os
-      go zero a b = absurd (a refl)
-      go (suc zero) a b = absurd (b refl)
-      go (suc (suc k)) a b = ap depthBytes (depth-held z _ h q ∙ ap (λ y. least y os) (sym (depth-four f o)))
+  pub shoals : kind ≡ Shoalest → z ≡ least (depthFrom f o) os → depthBytes (toZ w32 (ofZ w32 z)) ≡ newDepth (kindNumber kind) v (four f o) os
+  unfolding newDepth kindNumber
+  shoals e q = rw e (ap depthBytes (depth-held z _ h q ∙ ap (λ y. least y os) (sym (depth-four f o))))
 
 -- ---- the range
 

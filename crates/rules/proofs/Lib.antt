@@ -1,3 +1,4 @@
+pub mod KindLaws
 pub mod Refusals
 pub mod Registers
 pub mod Reaches

@@ -1,6 +1,5 @@
 -- What the test 11 answers, by the tests that the code makes one after the other. Assumes nothing.
-use mathlib.Core.Path.{_≡_, refl, sym}
-use mathlib.Core.Logic.{_⊎_, inl, inr, ⊎-elim, _≢_}
+use mathlib.Core.Path.{_≡_, refl, sym, ap, _∙_}
 use mathlib.Core.Bool.{Bool, true, false, not, _||_}
 use Prim.Native.Nat.{ℕ, _+_, _*_, _/_, _%_, _≤_, _<_}
 use native.Mathlib.Omega.{arith}
@@ -12,6 +11,12 @@ use Rattle.vocabulary.specs.Ranges.{some}
 use Rattle.vocabulary.specs.RangeLaws.{some-stop, some-turn}
 use Rattle.layout.specs.Words.{wordAt}
 use Rattle.rules.specs.Rules.{weightCount, tooHeavy, bad11}
+use Rattle.rules.specs.Kinds.{kindNumber, ruleOf}
+use Rattle.rules.specs.declared.Kind.{Kind}
+use Rattle.rules.specs.declared.Kind.the-variants.{Hold, Mean, Shoalest}
+use Rattle.rules.specs.declared.Rule.{Rule}
+use Rattle.rules.specs.declared.Rule.the-variants.{Known, Unknown}
+use Rattle.rules.proofs.KindLaws.{known-number, unknown-number}
 
 -- ---- weights, one after the other
 
@@ -56,19 +61,23 @@ module _ (v : Bytes) (n : ℕ) where
   or-nothing true = refl
   or-nothing false = refl
 
-  pub bare-rule : (kind : ℕ) → (kind ≡ 0) ⊎ (kind ≡ 2) → not (eqb (length v) 0) ≡ bad11 kind n v
-  unfolding bad11 weightCount some
-  bare-rule kind =
-      ⊎-elim (λ e. rw e (or-nothing (not (eqb (length v) 0)))) (λ e. rw e (or-nothing (not (eqb (length v) 0))))
+  pub hold-rule : (kind : Kind) → kind ≡ Hold → not (eqb (length v) 0) ≡ bad11 (kindNumber kind) n v
+  unfolding bad11 weightCount some kindNumber
+  hold-rule kind e = rw e (or-nothing (not (eqb (length v) 0)))
 
-  pub mean-rule : (kind : ℕ) (b : Bool) → kind ≡ 1 → b ≡ bad11 1 n v → b ≡ bad11 kind n v
+  pub shoalest-rule : (kind : Kind) → kind ≡ Shoalest → not (eqb (length v) 0) ≡ bad11 (kindNumber kind) n v
+  unfolding bad11 weightCount some kindNumber
+  shoalest-rule kind e = rw e (or-nothing (not (eqb (length v) 0)))
+
+  pub mean-rule : (kind : Kind) (b : Bool) → kind ≡ Mean → b ≡ bad11 1 n v → b ≡ bad11 (kindNumber kind) n v
+  unfolding kindNumber
   mean-rule kind b e f = rw e f
 
-  -- what a range of the match learns is that the kind is none of the numbers before it
-  pub unknown-rule : (kind : ℕ) → ((kind ≡ 0) ⊎ (kind ≡ 2) → ⊥) → (kind ≡ 1 → ⊥) → true ≡ bad11 kind n v
+  -- ---- and by its number
+
+  pub known-rule : (number : ℕ) (kind : Kind) (r : Rule) (b : Bool) → r ≡ ruleOf number → r ≡ Known kind → b ≡ bad11 (kindNumber kind) n v → b ≡ bad11 number n v
+  known-rule number kind r b e q f = f ∙ ap (λ x. bad11 x n v) (sym (known-number number kind (sym e ∙ q)))
+
+  pub unknown-rule : (number : ℕ) (r : Rule) → r ≡ ruleOf number → r ≡ Unknown → true ≡ bad11 number n v
   unfolding bad11
-  unknown-rule kind g h =
-      let p : kind ≢ 0 = λ e. g (inl e) in
-      let q : kind ≢ 2 = λ e. g (inr e) in
-      let r : 2 < kind = omega arith in
-      simp (lt-ltb _ _ r)
+  unknown-rule number r e q = simp (lt-ltb 2 number (unknown-number number (sym e ∙ q)))

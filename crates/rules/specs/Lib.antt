@@ -1,4 +1,5 @@
 pub mod Rules
+pub mod Kinds
 pub mod RuleLaws
 pub mod Update
 pub mod UpdateLaws

@@ -108,7 +108,8 @@ module _ (v : Bytes) (m : ℕ) where
   unfolding newDepth
   new-small zero own os l h a = h
   new-small (suc zero) own os l h a = kept m l (quotient (depthSum v os) (weightSum v os)) (mean-small os a)
-  new-small (suc (suc kind)) own os l h a = kept m l (least (depthOf own) os) (least-small (depthOf own) os h a)
+  new-small (suc (suc zero)) own os l h a = kept m l (least (depthOf own) os) (least-small (depthOf own) os h a)
+  new-small (suc (suc (suc kind))) own os l h a = h
 
 -- ---- a new depth is four bytes
 
@@ -116,14 +117,16 @@ pub new-length : (kind : ℕ) (v own : Bytes) (os : List Old) → length own ≡
 unfolding newDepth
 new-length zero v own os l = l
 new-length (suc zero) v own os l = length-depthBytes (quotient (depthSum v os) (weightSum v os))
-new-length (suc (suc kind)) v own os l = length-depthBytes (least (depthOf own) os)
+new-length (suc (suc zero)) v own os l = length-depthBytes (least (depthOf own) os)
+new-length (suc (suc (suc kind))) v own os l = l
 
 pub new-bytes : (kind : ℕ) (v own : Bytes) (os : List Old) (m : ℕ) → m < 2147483648 → natAbs (depthOf own) ≤ m → All (Small m) os → All (λ x. x < 256) own
     → All (λ x. x < 256) (newDepth kind v own os)
 unfolding newDepth
 new-bytes zero v own os m l h a w = w
 new-bytes (suc zero) v own os m l h a w = depth-small (quotient (depthSum v os) (weightSum v os)) (omega (arith, mean-small v m os a))
-new-bytes (suc (suc kind)) v own os m l h a w = depth-small (least (depthOf own) os) (omega (arith, least-small v m (depthOf own) os h a))
+new-bytes (suc (suc zero)) v own os m l h a w = depth-small (least (depthOf own) os) (omega (arith, least-small v m (depthOf own) os h a))
+new-bytes (suc (suc (suc kind))) v own os m l h a w = w
 
 -- ---- an accepted rule
 

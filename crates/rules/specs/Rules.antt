@@ -60,8 +60,10 @@ unfoldable pub least : ℤ → List Old → ℤ
 least z [] = z
 least z (o ∷ os) = least (lesser (depthOf (o .depth)) z) os
 
--- the new depth of a cell, from its own old depth and those of its reach in rising order of the cells, itself among them
+-- the new depth of a cell, from its own old depth and those of its reach in rising order of the cells, itself among them: 0 hold, 1 mean,
+-- 2 shoalest. 11 refuses every other kind before a depth is made, so what stands for it here is arbitrary.
 unfoldable pub newDepth : ℕ → Bytes → Bytes → List Old → Bytes
 newDepth zero v own os = own
 newDepth (suc zero) v own os = depthBytes (quotient (depthSum v os) (weightSum v os))
-newDepth (suc (suc kind)) v own os = depthBytes (least (depthOf own) os)
+newDepth (suc (suc zero)) v own os = depthBytes (least (depthOf own) os)
+newDepth (suc (suc (suc kind))) v own os = own

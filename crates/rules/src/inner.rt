@@ -1,4 +1,5 @@
 // The new depth of one cell, from a table of its reach and the bytes of a field, where the caller knows both to be there.
+use crate::Kind;
 use depths::inner::depth_in;
 use layout::inner::word_in;
 use layout::word_at;
@@ -9,6 +10,7 @@ ghost use lib.ListN.{length};
 ghost use Rattle.layout.specs.Words.{word, wordAt};
 ghost use Rattle.depths.specs.Depths.{four, depthFrom, depthBytes};
 ghost use Rattle.rules.specs.Rules.{depthSum, weightSum, quotient, lesser, least, newDepth};
+ghost use Rattle.rules.specs.Kinds.{kindNumber};
 ghost use Rattle.rules.specs.Update.{entries, oldsAt, Reached, Weighed, Ready};
 
 // The weight of entry t.
@@ -88,7 +90,7 @@ fn least_of(b: &[u8], at: usize, n: usize, f: &[u8], base: usize, own: usize) ->
 
 // The new depth of the cell at the place `own` of the field that stands at `base` in f. Its reach are the n entries at `at` in b.
 pub fn new_depth(
-    kind: usize,
+    kind: Kind,
     v: &[u8],
     b: &[u8],
     at: usize,
@@ -97,13 +99,12 @@ pub fn new_depth(
     base: usize,
     own: usize,
 ) -> i32
-    requires { ⌜ Ready kind (now v) (now b) at n (now f) base own ⌝ }
-    ensures { λ r. ⌜ (depthBytes r ≡ newDepth kind (now (v .entry)) (four (now (f .entry)) (base + 4 * own)) (oldsAt (now (f .entry)) base (entries (now (b .entry)) at n))) × (natAbs r ≤ 1200000) ⌝ }
+    requires { ⌜ Ready (kindNumber kind) (now v) (now b) at n (now f) base own ⌝ }
+    ensures { λ r. ⌜ (depthBytes r ≡ newDepth (kindNumber kind) (now (v .entry)) (four (now (f .entry)) (base + 4 * own)) (oldsAt (now (f .entry)) base (entries (now (b .entry)) at n))) × (natAbs r ≤ 1200000) ⌝ }
 {
     match kind {
-        0 => depth_of(f, base, own),
-        1 => mean_of(v, b, at, n, f, base),
-        // 2, since a rule above it is refused
-        _ => least_of(b, at, n, f, base, own),
+        Kind::Hold => depth_of(f, base, own),
+        Kind::Mean => mean_of(v, b, at, n, f, base),
+        Kind::Shoalest => least_of(b, at, n, f, base, own),
     }
 }

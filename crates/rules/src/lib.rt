@@ -5,6 +5,32 @@ use layout::word_at;
 ghost use mathlib.Core.Path.{_≡_};
 ghost use Rattle.vocabulary.specs.Ranges.{some};
 ghost use Rattle.rules.specs.Rules.{tooHeavy, bad11};
+ghost use Rattle.rules.specs.Kinds.{kindNumber, ruleOf};
+
+// "The rule kind is 0 hold, 1 mean, 2 shoalest": each chooses another update of a depth.
+pub enum Kind {
+    Hold,
+    Mean,
+    Shoalest,
+}
+
+// What the number of a rule stands for.
+pub enum Rule {
+    Known(Kind),
+    Unknown,
+}
+
+// The kind by its number. Here alone the number is looked at, and every other is refused.
+pub fn rule_of(number: u32) -> Rule
+    ensures { λ r. ⌜ r ≡ ruleOf number ⌝ }
+{
+    match number {
+        0 => Rule::Known(Kind::Hold),
+        1 => Rule::Known(Kind::Mean),
+        2 => Rule::Known(Kind::Shoalest),
+        3..=4294967295 => Rule::Unknown,
+    }
+}
 
 // Whether one of the first `count` weights is above 15.
 fn too_heavy(v: &[u8], count: usize) -> bool
@@ -36,13 +62,23 @@ fn bad_weights(n: usize, v: &[u8]) -> bool
     word_at(v, 0) == 0
 }
 
+// Whether the weights of a rule of this kind are wrong under a stencil of n steps.
+pub fn wrong_weights(kind: Kind, n: usize, v: &[u8]) -> bool
+    ensures { λ r. ⌜ r ≡ bad11 (kindNumber kind) n (now (v .entry)) ⌝ }
+{
+    match kind {
+        Kind::Hold => v.len() != 0,
+        Kind::Mean => bad_weights(n, v),
+        Kind::Shoalest => v.len() != 0,
+    }
+}
+
 // Whether a rule is to be refused, with number 11, under a stencil of n steps.
 pub fn bad_rule(kind: u32, n: usize, v: &[u8]) -> bool
     ensures { λ r. ⌜ r ≡ bad11 kind n (now (v .entry)) ⌝ }
 {
-    match kind {
-        0 | 2 => v.len() != 0,
-        1 => bad_weights(n, v),
-        3..=4294967295 => true,
+    match rule_of(kind) {
+        Rule::Known(k) => wrong_weights(k, n, v),
+        Rule::Unknown => true,
     }
 }

@@ -19,13 +19,13 @@ use Rattle.layout.specs.declared.Answer.{Answer}
 use Rattle.layout.specs.declared.Answer.the-variants.{Done, Refused}
 use types.Run.{OneOf}
 use denote.Enum.Declared.{tagOf}
-use Rattle.messages.specs.Messages.{bad15, fromIn, toIn, roundIn, countIn}
-use Rattle.messages.specs.Heads.{headOf, numberOf}
-use Rattle.messages.specs.HeadLaws.{headIn, head-good, head-is}
+use Rattle.messages.specs.Messages.{bad15, fromIn, toIn, roundIn, countIn, reading}
+use Rattle.messages.specs.Heads.{numberOf, meant}
+use Rattle.messages.specs.HeadLaws.{message-told}
 use Rattle.messages.specs.declared.Head.{Head}
 use Rattle.messages.specs.declared.Reading.{Reading}
 use Rattle.messages.specs.declared.Reading.the-variants.{Message}
-use Rattle.messages.specs.declared.Reading.the-variants as reading
+use Rattle.messages.specs.declared.Reading.the-variants as answers
 use Rattle.messages.proofs.Else.{else-bad, else-number}
 use Rattle.messages.proofs.Reading as K
 use Rattle.states.specs.State.{Lists, listsIn, listsOf, dynamic, heldCount, isState}
@@ -108,14 +108,12 @@ store-told b x y z i at count l f e =
 
 -- ---- the reader's answer is a message
 
-pub message-good : (x : Bytes) (r : Reading) → r ≡ headOf x → OneOf (0 ∷ []) (tagOf K.the-type r) → bad15 x ≡ false
-message-good x (Message h) e o = head-good x (Message h) e h refl
-message-good x (reading.Refused n) e o = absurd (omega arith)
+pub message-good : (x : Bytes) (r : Reading) → meant x r ≡ reading x → OneOf (0 ∷ []) (tagOf K.the-type r) → bad15 x ≡ false
+message-good x (Message h) e o = message-told x h e .0
+message-good x (answers.Refused n) e o = absurd (omega arith)
 
-pub message-head : (x : Bytes) (r : Reading) (h : Head) → r ≡ headOf x → r ≡ Message h → (h .from ≡ fromIn x) × (h .to ≡ toIn x) × (h .round ≡ roundIn x) × (h .count ≡ countIn x)
-message-head x r h e m =
-    let p : h ≡ headIn x = head-is x r e h m in
-    (ap (λ (h : Head). h .from) p, ap (λ (h : Head). h .to) p, ap (λ (h : Head). h .round) p, ap (λ (h : Head). h .count) p)
+pub message-head : (x : Bytes) (r : Reading) (h : Head) → meant x r ≡ reading x → r ≡ Message h → (h .from ≡ fromIn x) × (h .to ≡ toIn x) × (h .round ≡ roundIn x) × (h .count ≡ countIn x)
+message-head x r h e m = let p = message-told x h (sym (ap (meant x) m) ∙ e) in (p .1, p .2, p .3, p .4)
 
 -- ---- the answer
 
@@ -136,12 +134,12 @@ module _ (b x : Bytes) where
   here L d = refl
 
   -- the reader refused
-  pub told-15 : (r : Reading) (n : ℕ) → r ≡ headOf x → OneOf (1 ∷ []) (tagOf K.the-type r) → n ≡ numberOf r → Answered (Refused n) b
+  pub told-15 : (r : Reading) (n : ℕ) → meant x r ≡ reading x → OneOf (1 ∷ []) (tagOf K.the-type r) → n ≡ numberOf r → Answered (Refused n) b
   unfolding takeNumber takeTestsIn
   told-15 r n e o q =
       let z : n ≡ 15 = else-number x r n e o q in refused n (simp (else-bad x r e o) (sym z)) (λ k. omega (arith, k))
 
-  pub told-20 : (r : Reading) (u : Bool) → r ≡ headOf x → OneOf (0 ∷ []) (tagOf K.the-type r) → u ≡ isState b → not u ≡ true → Answered (Refused 20) b
+  pub told-20 : (r : Reading) (u : Bool) → meant x r ≡ reading x → OneOf (0 ∷ []) (tagOf K.the-type r) → u ≡ isState b → not u ≡ true → Answered (Refused 20) b
   unfolding takeNumber takeTestsIn
   told-20 r u e o ue ut = refused 20 (simp (message-good x r e o, not-state b u ue ut)) (λ k. omega (arith, k))
 

@@ -1,5 +1,5 @@
 -- `rules::bad_rule` meets its contract. Assumes nothing.
-use Rattle.rules.proofs.Refusals.{bare-rule, mean-rule, unknown-rule}
+use Rattle.rules.proofs.Refusals.{known-rule, unknown-rule}
 use borrow.Author.Needs.{needs}
 use Rattle.rules.proofs.bad_rule.Statement.{statement}
 use Rattle.rules.proofs.bad_rule.Tie as tie
@@ -9,6 +9,8 @@ bad-rule-spec =
     tie.close
     (tie.spec
     (λ c κs. search needs)
-    (λ c. search bare-rule)
-    (λ c. search mean-rule)
+    (λ c. search needs)
+    (λ c κs. search needs)
+    (λ c. search needs)
+    (λ c. search known-rule)
     (λ c. search unknown-rule))

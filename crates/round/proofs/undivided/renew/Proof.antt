@@ -5,6 +5,7 @@ use lib.ListN.{length}
 use Rattle.vocabulary.specs.Bytes.{over}
 use Rattle.vocabulary.specs.Ranges.{blocks}
 use Rattle.vocabulary.specs.RangeLaws.{stored-start, stored-end}
+use Rattle.rules.specs.Kinds.{kindNumber}
 use Rattle.round.specs.Rows.{rowNew}
 use Rattle.round.proofs.UndividedLaws.{renew-turn, row-each}
 use borrow.Author.Needs.{needs}
@@ -12,7 +13,7 @@ use Rattle.round.proofs.undivided.renew.Statement.{statement}
 use Rattle.round.proofs.undivided.renew.Tie as tie
 
 abbrev Inv-loop : tie.InvT-loop
-Inv-loop kind v table ends cells f out₀ j₀ out j = (j ≤ cells) × (length out ≡ length out₀) × (out ≡ over out₀ 0 (blocks 0 j (rowNew kind v table ends f)))
+Inv-loop kind v table ends cells f out₀ j₀ out j = (j ≤ cells) × (length out ≡ length out₀) × (out ≡ over out₀ 0 (blocks 0 j (rowNew (kindNumber kind) v table ends f)))
 
 abbrev μ-loop : tie.MeasureT-loop
 μ-loop kind v table ends cells f out₀ j₀ out j = cells - j

@@ -8,9 +8,12 @@ pub new-depth-spec : {M : Type 1} → statement M
 new-depth-spec =
     tie.close
     (tie.spec
+    (λ c. search needs)
     (λ c κs. search needs)
+    (λ c. search needs)
     (λ c κs. (search needs, search mean-weighed))
+    (λ c. search needs)
     (λ c κs. search needs)
-    (λ c. (search (holds, c .before .before .shared-slice-known3 .given), search held-ranged))
+    (λ c. (search (holds, c .before .before .before .shared-slice-known3 .given), search held-ranged))
     (λ c. (search means, search mean-ranged))
     (λ c. (search shoals, search least-ranged)))
