@@ -22,7 +22,7 @@ pub record Listed (before after : Bytes) (t : ℕ) (text : Bytes) : Type 0 where
   pub inside : t ≤ length after
   pub whole : textRoom ≤ length before → take t after ≡ text
 
--- ---- the input, piece by piece
+-- ---- the input, piece by piece: as the code goes through it. No public contract rests on what follows.
 
 unfoldable pub piecesNumber : Bytes → ℕ → Bytes → Bytes → ℕ
 piecesNumber m parts owners st = firstOf (splitTests m parts owners [] st ++ sizeTests m parts owners st)

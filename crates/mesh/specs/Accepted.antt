@@ -1,4 +1,5 @@
--- What an accepted mesh gives: the facts that every later crate rests on. Assumes nothing.
+-- What an accepted mesh gives: the facts that every later crate rests on. They are proved of it: no public contract rests on this page. Assumes
+-- nothing.
 use mathlib.Core.Path.{_≡_}
 use mathlib.Core.Bool.{true, false}
 use mathlib.Core.List.{[]}

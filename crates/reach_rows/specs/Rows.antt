@@ -1,4 +1,5 @@
--- Which cells the cells of each row reach, as marks in a matrix: a cell's row is told by a byte, and its column by its place. Assumes nothing.
+-- Which cells the cells of each row reach, as marks in a matrix: a cell's row is told by a byte, and its column by its place. No public contract
+-- rests on this page. Assumes nothing.
 use mathlib.Core.Path.{_≡_}
 use mathlib.Core.Bool.{Bool, not, _&&_, _||_}
 use mathlib.Core.List.{List}

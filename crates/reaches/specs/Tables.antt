@@ -1,5 +1,5 @@
 -- The reaches of all cells as a table of words: for each cell in rising order, each cell of its reach, rising, as its place from 0 and its layer.
--- Assumes nothing.
+-- No public contract rests on this page. Assumes nothing.
 use mathlib.Core.Path.{_≡_}
 use mathlib.Core.Bool.{cond}
 use mathlib.Core.List.{List, [], _∷_, map}

@@ -1,5 +1,5 @@
 -- The new depth of one cell, as the call that makes it finds its reach: a table of entries, and the bytes of a field. And what that call
--- supposes. Assumes nothing.
+-- supposes. No public contract rests on this page. Assumes nothing.
 use mathlib.Core.Path.{_≡_}
 use mathlib.Core.List.{List, map}
 use Prim.Native.Nat.{ℕ, _+_, _*_, _/_, _<_, _≤_}

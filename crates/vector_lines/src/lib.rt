@@ -1,4 +1,5 @@
-// What the programs that run the examples share: how an answer is printed, and the inputs of the five cells.
+// What the programs that run the examples share: how an answer is printed, and the inputs of the five cells. No part of the engine: nothing is
+// promised of these functions but that they end without a fault.
 use layout::Answer;
 use layout::byte_at;
 use layout::word_at;
