@@ -33,22 +33,23 @@ pub gather-end : (st : Bytes) (d : ℕ) (b : Bytes) (f x : Bytes) (l owned : ℕ
 gather-end st d b f x l owned g h e = at-last (λ n. x ≡ collectedIn (listsIn st) d b n f) (l - 1) owned (omega arith) (omega arith) e
 
 module _ (st : Bytes) (d : ℕ) (b : Bytes) (o : Opened st d b) (first owned : ℕ) (fe : first ≡ firstOfMesh st) (oe : owned ≡ ownedCount st) where
-  module _ (l g : ℕ) (h : 1 ≤ l) (k : l < owned + 1) (ge : g ≡ wordAt st (44 + l)) where
+  module _ (l g : ℕ) (h : 1 ≤ l) (k : l < owned + 1) (ge : g ≡ globalAt st l) where
     pub cell-low : first ≤ g
     cell-low = omega (arith, whole st d b o .globals l h (omega (arith, own-few st d b o)) .0)
 
-    pub cell-room : (f₀ : Bytes) (f : Bytes) → 4 * cellsOfMesh st ≤ length f₀ → length f ≡ length f₀ → 4 * (g - first) + 4 ≤ length f
-    cell-room f₀ f r e = let w = whole st d b o .globals l h (omega (arith, own-few st d b o)) in omega (arith, w .0, w .1)
+    pub cell-room : (q : ℕ) → q ≡ g - first → (f₀ : Bytes) (f : Bytes) → 4 * cellsOfMesh st ≤ length f₀ → length f ≡ length f₀ → 4 * q + 4 ≤ length f
+    cell-room q qe f₀ f r e = let w = whole st d b o .globals l h (omega (arith, own-few st d b o)) in omega (arith, w .0, w .1)
 
     pub depth-room : d + 30 + 4 * l + 4 ≤ length b
     depth-room = omega (arith, own-few st d b o, long st d b o)
 
-    pub gather-turn : (f₀ x y : Bytes) → x ≡ collectedIn (listsIn st) d b (l - 1) f₀ → y ≡ over x (4 * (g - first)) (take 4 (drop (d + 30 + 4 * l) b))
+    pub gather-turn : (q : ℕ) → q ≡ g - first → (f₀ x y : Bytes) → x ≡ collectedIn (listsIn st) d b (l - 1) f₀ → y ≡ over x (4 * q) (take 4 (drop (d + 30 + 4 * l) b))
         → y ≡ collectedIn (listsIn st) d b (l + 1 - 1) f₀
-    gather-turn f₀ x y e q =
+    gather-turn q qe f₀ x y e z =
         let p : suc (l - 1) ≡ l + 1 - 1 = omega arith in
         let s : l ≡ suc (l - 1) = omega arith in
-        q
+        z
+        ∙ ap (λ i. over x (4 * i) (take 4 (drop (d + 30 + 4 * l) b))) qe
         ∙ ap₂ (λ (z : Bytes) (w : Bytes). over z (4 * (g - first)) w) e (four-cut b (d + 30 + 4 * l) depth-room)
         ∙ ap (λ c. over (collectedIn (listsIn st) d b (l - 1) f₀) (4 * (g - c)) (four b (d + 30 + 4 * l))) fe
         ∙ ap₂ (λ c i. over (collectedIn (listsIn st) d b (l - 1) f₀) (4 * (c - firstOfMesh st)) (four b (d + 30 + 4 * i))) (ge ∙ ap (globalAt st) s) s

@@ -1,8 +1,11 @@
 // Collect: the owned depths put into a field.
+use cell_numbers::Local;
+use cell_numbers::inner::index_of;
 use layout::Answer;
 use layout::inner::copy;
 use layout::inner::word_in;
 use layout::word_at;
+use states::inner::global_of;
 use states::is_state;
 ghost use mathlib.Core.Path.{_≡_};
 ghost use Prim.Native.Nat.{_*_, _<_, _≤_};
@@ -17,8 +20,8 @@ fn gather(lists: &[u8], b: &[u8], d: usize, first: usize, owned: usize, f: &mut 
     ensures { λ _. ⌜ now (f .exit) ≡ collectedIn (listsIn (now (lists .entry))) d (now (b .entry)) owned (now (f .entry)) ⌝ }
 {
     for l in 1..owned + 1 {
-        let g = word_at(lists, 44 + l);
-        copy(f, 4 * (g - first), b, d + 30 + 4 * l, 4);
+        let c = global_of(lists, Local(l as u16));
+        copy(f, 4 * index_of(c, first), b, d + 30 + 4 * l, 4);
     }
 }
 

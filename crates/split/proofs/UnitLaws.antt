@@ -54,6 +54,6 @@ pub local-is : (order : List ℕ) (n x p : ℕ) → p ≡ placeOf x (take n orde
 unfolding localOf
 local-is order n x p e = ap (λ k. k + 1) e
 
-pub global-is : (order : List ℕ) (n l y : ℕ) → n ≤ length order → 1 ≤ l → l ≤ n → y ≡ getD order (l - 1) 0 → y ≡ globalOf (take n order) l
+pub global-is : (order : List ℕ) (l y : ℕ) → y ≡ getD order (l - 1) 0 → y ≡ globalOf order l
 unfolding globalOf
-global-is order n l y f h k e = e ∙ sym (getD-take n order (l - 1) 0 (omega arith))
+global-is order l y e = e

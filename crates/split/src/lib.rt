@@ -8,5 +8,3 @@ pub use maps::bad_map;
 pub use maps::bad_shares;
 pub use maps::is_part;
 pub use maps::split_number;
-pub use units::Global;
-pub use units::Local;

@@ -1,17 +1,12 @@
-// Global and local cell numbers, which are separate units: one is made from the other only through the part's list, which has the global
-// numbers in local order.
+// A cell's local number from its global one and back, through the part's list, which has the global numbers in local order.
+use cell_numbers::Global;
+use cell_numbers::Local;
 use layout::number_at;
 ghost use mathlib.Core.Path.{_≡_};
 ghost use Prim.Native.Nat.{_≤_, _<_};
 ghost use lib.ListN.{length, take};
 ghost use Rattle.vocabulary.specs.Lists.{placeOf};
 ghost use Rattle.split.specs.Split.{localOf, globalOf};
-
-// A cell's number in the mesh.
-pub struct Global(pub u16);
-
-// A cell's number in a part's local order.
-pub struct Local(pub u16);
 
 // The first place of x among the first n numbers of a list, and n where it does not stand there.
 fn place_of(list: &[u16], n: usize, x: u16) -> usize
@@ -35,9 +30,9 @@ pub fn to_local(order: &[u16], n: usize, c: Global) -> Local
 }
 
 // The cell of a local number.
-pub fn to_global(order: &[u16], n: usize, l: Local) -> Global
-    requires { ⌜ (n ≤ length (now order)) × (1 ≤ l .0) × (l .0 ≤ n) ⌝ }
-    ensures { λ c. ⌜ c .0 ≡ globalOf (take n (now (order .entry))) (l .0) ⌝ }
+pub fn to_global(order: &[u16], l: Local) -> Global
+    requires { ⌜ 1 ≤ l .0 ⌝ }
+    ensures { λ c. ⌜ c .0 ≡ globalOf (now (order .entry)) (l .0) ⌝ }
 {
     Global(number_at(order, l.0 as usize - 1))
 }

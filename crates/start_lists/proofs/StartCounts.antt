@@ -12,16 +12,16 @@ use Rattle.vocabulary.specs.Ranges.{blocks, total}
 use Rattle.vocabulary.specs.RangeLaws.{total-grows, blocks-turn, blocks-sized, rows-length, at-last}
 use Rattle.vocabulary.specs.CountLaws.{total-double}
 use Rattle.layout.specs.Words.{wordAt}
-use Rattle.split.specs.Split.{localOf}
+use Rattle.split.specs.Split.{localOf, globalOf}
 use Rattle.split.specs.Sorting.{cellsOf, Added}
 use Rattle.cell_lists.proofs.SortLaws.{added-take}
 use Rattle.start_lists.proofs.PutLaws.{put-as, put-none, put-both}
 use Rattle.start_lists.specs.Starting.{Put, placeAt, rowSize, partCount, endsOf, Counted, Before, entryWords, rowEnds, rowWords, Row, Rows, sentEnds, sentWords}
 
-module _ (table : Bytes) (ends : List ℕ) (first : ℕ) (order : List ℕ) (l g from to : ℕ) (ge : g ≡ getD order (l - 1) 0) (fe : from ≡ getD ends (g - first) 0) (te : to ≡ getD ends (g - first + 1) 0) where
+module _ (table : Bytes) (ends : List ℕ) (first : ℕ) (order : List ℕ) (l q from to : ℕ) (qe : q ≡ getD order (l - 1) 0 - first) (fe : from ≡ getD ends q 0) (te : to ≡ getD ends (q + 1) 0) where
   size-is : rowSize table ends first order l ≡ to - from
   unfolding rowSize placeAt
-  size-is = ap₂ (λ x y. x - y) (ap (λ x. getD ends (x - first + 1) 0) (sym ge) ∙ sym te) (ap (λ x. getD ends (x - first) 0) (sym ge) ∙ sym fe)
+  size-is = ap₂ (λ x y. x - y) (ap (λ x. getD ends (x + 1) 0) (sym qe) ∙ sym te) (ap (λ x. getD ends x 0) (sym qe) ∙ sym fe)
 
   pub size-none : to < from → 0 ≡ rowSize table ends first order l
   size-none h = (let z : 0 ≡ to - from = omega arith in z) ∙ sym size-is
@@ -95,32 +95,32 @@ two-up (suc (suc k)) a b = omega arith
 
 -- ---- an entry in local numbers
 
-pub entry-put : (a b c : Bytes) (s t u first n x l w : ℕ) (table : Bytes) (order : List ℕ) (e : ℕ) → 2 * (s + 2) ≤ length a → x ≡ wordAt table (2 * e) → l ≡ localOf (take n order) (first + x)
+pub entry-put : (a b c : Bytes) (s t u first n x y l w : ℕ) (table : Bytes) (order : List ℕ) (e : ℕ) → 2 * (s + 2) ≤ length a → x ≡ wordAt table (2 * e) → y ≡ first + x → l ≡ localOf (take n order) y
     → w ≡ wordAt table (2 * e + 1) → Put a b s t (l ∷ []) → Put b c t u (w ∷ []) → Put a c s u (entryWords table first order n e)
 unfolding entryWords
-entry-put a b c s t u first n x l w table order e room xe le we P Q =
-    put-as a c s u (l ∷ w ∷ []) _ (ap₂ (λ y z. y ∷ z ∷ []) (le ∙ ap (λ y. localOf (take n order) (first + y)) xe) we)
+entry-put a b c s t u first n x y l w table order e room xe ye le we P Q =
+    put-as a c s u (l ∷ w ∷ []) _ (ap₂ (λ y z. y ∷ z ∷ []) (le ∙ ap (localOf (take n order)) (ye ∙ ap (λ z. first + z) xe)) we)
     (put-both a b c s t u (l ∷ []) (w ∷ []) P Q (omega (arith, P .count)))
 
 -- ---- the rows, one entry and one cell after the other
 
-module _ (table : Bytes) (ends : List ℕ) (first : ℕ) (order : List ℕ) (l g from to : ℕ) (ge : g ≡ getD order (l - 1) 0) (fe : from ≡ getD ends (g - first) 0) (te : to ≡ getD ends (g - first + 1) 0) where
+module _ (table : Bytes) (ends : List ℕ) (first : ℕ) (order : List ℕ) (l q from to : ℕ) (qe : q ≡ getD order (l - 1) 0 - first) (fe : from ≡ getD ends q 0) (te : to ≡ getD ends (q + 1) 0) where
   from-is : from ≡ getD ends (placeAt table ends first order l) 0
   unfolding placeAt
-  from-is = fe ∙ ap (λ x. getD ends (x - first) 0) ge
+  from-is = fe ∙ ap (λ x. getD ends x 0) qe
 
   to-is : to ≡ getD ends (placeAt table ends first order l + 1) 0
   unfolding placeAt
-  to-is = te ∙ ap (λ x. getD ends (x - first + 1) 0) ge
+  to-is = te ∙ ap (λ x. getD ends (x + 1) 0) qe
 
   pub row-near : (t : ℕ) → Row table ends first order l → from ≤ t → t < to → first + wordAt table (2 * t) < 65536
   row-near t R h k = R .near t (omega (arith, from-is)) (omega (arith, to-is))
 
   row-size : rowSize table ends first order l ≡ to - from
-  row-size = size-is table ends first order l g from to ge fe te
+  row-size = size-is table ends first order l q from to qe fe te
 
   pub row-room : (t s u x y : ℕ) → 2 * (s + 2 * rowSize table ends first order l) ≤ x → y ≡ x → u ≡ s + 2 * (t - from) → from ≤ t → t < to → 2 * (u + 2) ≤ y
-  row-room t s u x y r q e h k = omega (arith, row-size)
+  row-room t s u x y r w e h k = omega (arith, row-size)
 
   pub row-turn : (n : ℕ) (a b c : Bytes) (s u w t : ℕ) → 2 * (s + 2 * rowSize table ends first order l) ≤ length a → from ≤ t → t < to → u ≡ s + 2 * (t - from)
       → Put a b s u (blocks from (t - from) (entryWords table first order n)) → Put b c u w (entryWords table first order n t) → Put a c s w (blocks from (t + 1 - from) (entryWords table first order n))
@@ -133,12 +133,21 @@ module _ (table : Bytes) (ends : List ℕ) (first : ℕ) (order : List ℕ) (l g
 
   pub row-end : (n : ℕ) (a b : Bytes) (s u t : ℕ) → from ≤ t → t ≤ from + (to - from) → to ≤ t → Put a b s u (blocks from (t - from) (entryWords table first order n)) → Put a b s u (rowWords table ends first order n l)
   unfolding rowWords
-  row-end n a b s u t h k q P =
+  row-end n a b s u t h k w P =
       let e : t - from ≡ to - from = omega arith in
       put-as a b s u _ _ (ap (λ k. blocks from k (entryWords table first order n)) (e ∙ sym row-size) ∙ ap (λ x. blocks x (rowSize table ends first order l) (entryWords table first order n)) from-is) P
 
-pub row-cell : (table : Bytes) (ends : List ℕ) (first : ℕ) (order : List ℕ) (l g : ℕ) → g ≡ getD order (l - 1) 0 → Row table ends first order l → first ≤ g
-row-cell table ends first order l g e R = omega (arith, R .cell)
+pub row-cell : (table : Bytes) (ends : List ℕ) (first : ℕ) (order : List ℕ) (l : ℕ) → Row table ends first order l → first ≤ getD order (l - 1) 0
+row-cell table ends first order l R = R .cell
+
+-- the index of a local cell
+pub place-told : (order : List ℕ) (first l c q : ℕ) → c ≡ globalOf order l → q ≡ c - first → q ≡ getD order (l - 1) 0 - first
+unfolding globalOf
+place-told order first l c q e f = f ∙ ap (λ x. x - first) e
+
+pub place-low : (order : List ℕ) (first l c : ℕ) → first ≤ getD order (l - 1) 0 → c ≡ globalOf order l → first ≤ c
+unfolding globalOf
+place-low order first l c h e = omega (arith, e)
 
 -- words of a row
 entry-two : (table : Bytes) (first : ℕ) (order : List ℕ) (n t : ℕ) → length (entryWords table first order n t) ≡ 2

@@ -106,22 +106,23 @@ depth-four : (f : Bytes) (first : ℕ) (order : List ℕ) (l : ℕ) → length (
 unfolding startDepth
 depth-four f first order l = length-four f _
 
-module _ (f : Bytes) (first : ℕ) (order : List ℕ) (n : ℕ) (C : Cells f first order n) (l g : ℕ) (h : 1 ≤ l) (k : l < n + 1) (ge : g ≡ getD order (l - 1) 0) where
-  pub held-low : first ≤ g
+module _ (f : Bytes) (first : ℕ) (order : List ℕ) (n : ℕ) (C : Cells f first order n) (l : ℕ) (h : 1 ≤ l) (k : l < n + 1) where
+  pub held-low : first ≤ getD order (l - 1) 0
   held-low = omega (arith, C .each l h (omega arith) .0)
 
-  pub held-room : 4 * (g - first) + 4 ≤ length f
-  held-room = omega (arith, C .each l h (omega arith) .0, C .each l h (omega arith) .1)
+  module _ (q : ℕ) (qe : q ≡ getD order (l - 1) 0 - first) where
+    pub held-room : 4 * q + 4 ≤ length f
+    held-room = omega (arith, C .each l h (omega arith) .0, C .each l h (omega arith) .1)
 
-  depth-is : four f (4 * (g - first)) ≡ startDepth f first order (1 + (l - 1))
-  unfolding startDepth
-  depth-is = let p : 1 + (l - 1) - 1 ≡ l - 1 = omega arith in ap (λ x. four f (4 * (x - first))) (ge ∙ ap (λ j. getD order j 0) (sym p))
+    depth-is : four f (4 * q) ≡ startDepth f first order (1 + (l - 1))
+    unfolding startDepth
+    depth-is = let p : 1 + (l - 1) - 1 ≡ l - 1 = omega arith in ap (λ x. four f (4 * x)) (qe ∙ ap (λ j. getD order j 0 - first) (sym p))
 
-  pub held-turn : (b x y : Bytes) (at : ℕ) → at + 4 * n ≤ length b → x ≡ over b at (blocks 1 (l - 1) (startDepth f first order)) → y ≡ over x (at + 4 * (l - 1)) (take 4 (drop (4 * (g - first)) f))
-      → y ≡ over b at (blocks 1 (l + 1 - 1) (startDepth f first order))
-  held-turn b x y at room e q =
-      let p : l - 1 + 1 ≡ l + 1 - 1 = omega arith in
-      q
-      ∙ ap₂ (λ (u : Bytes) (w : Bytes). over u (at + 4 * (l - 1)) w) e (four-cut f (4 * (g - first)) held-room ∙ depth-is)
-      ∙ fours-store 1 (l - 1) (startDepth f first order) (λ t c. depth-four f first order (1 + t)) b at (omega arith)
-      ∙ ap (λ m. over b at (blocks 1 m (startDepth f first order))) p
+    pub held-turn : (b x y : Bytes) (at : ℕ) → at + 4 * n ≤ length b → x ≡ over b at (blocks 1 (l - 1) (startDepth f first order)) → y ≡ over x (at + 4 * (l - 1)) (take 4 (drop (4 * q) f))
+        → y ≡ over b at (blocks 1 (l + 1 - 1) (startDepth f first order))
+    held-turn b x y at room e w =
+        let p : l - 1 + 1 ≡ l + 1 - 1 = omega arith in
+        w
+        ∙ ap₂ (λ (u : Bytes) (w : Bytes). over u (at + 4 * (l - 1)) w) e (four-cut f (4 * q) held-room ∙ depth-is)
+        ∙ fours-store 1 (l - 1) (startDepth f first order) (λ t c. depth-four f first order (1 + t)) b at (omega arith)
+        ∙ ap (λ m. over b at (blocks 1 m (startDepth f first order))) p

@@ -1,11 +1,15 @@
 // The lists of a part as the words of its state, from the owners, the table of the reaches with its ends, the matrix of the held cells, and the
 // part's local order.
 use cell_lists::inner::add_cells;
+use cell_numbers::Global;
+use cell_numbers::Local;
+use cell_numbers::inner::cell_at;
+use cell_numbers::inner::index_of;
 use layout::inner::copy;
 use layout::inner::put_word;
 use layout::number_at;
 use layout::word_at;
-use split::Global;
+use split::inner::to_global;
 use split::inner::to_local;
 ghost use mathlib.Core.Path.{_≡_};
 ghost use mathlib.Core.List.{[], _∷_, _++_, map};
@@ -25,6 +29,14 @@ fn put_one(b: &mut [u8], s: usize, w: usize) -> usize
 {
     put_word(b, 2 * s, w);
     s + 1
+}
+
+// Writes a local number.
+fn put_local(b: &mut [u8], s: usize, l: Local) -> usize
+    requires { ⌜ (2 * (s + 1) ≤ length (now b)) × (s < 1000000) ⌝ }
+    ensures { λ t. ⌜ Put (now (b .entry)) (now (b .exit)) s t (l .0 ∷ []) ⌝ }
+{
+    put_one(b, s, l.0 as usize)
 }
 
 // Writes the first n numbers of a list.
@@ -69,12 +81,20 @@ pub fn got_count(
     add_cells(owners, table, ends, held, i, first, cells, j, &mut list, 0)
 }
 
-// How many entries the reach of local cell l has.
-fn row_size(table: &[u8], ends: &[u16], first: usize, order: &[u16], l: usize) -> usize
-    requires { ⌜ (1 ≤ l) × (first ≤ getD (now order) (l - 1) 0) ⌝ }
-    ensures { λ n. ⌜ (n ≡ rowSize (now (table .entry)) (now (ends .entry)) first (now (order .entry)) l) × (n < 65536) ⌝ }
+// The index of local cell l among the mesh's cells.
+fn place_at(order: &[u16], first: usize, l: Local) -> usize
+    requires { ⌜ (1 ≤ l .0) × (first ≤ getD (now order) (l .0 - 1) 0) ⌝ }
+    ensures { λ q. ⌜ (q ≡ getD (now (order .entry)) (l .0 - 1) 0 - first) × (q < 65536) ⌝ }
 {
-    let q = number_at(order, l - 1) as usize - first;
+    index_of(to_global(order, l), first)
+}
+
+// How many entries the reach of local cell l has.
+fn row_size(table: &[u8], ends: &[u16], first: usize, order: &[u16], l: Local) -> usize
+    requires { ⌜ (1 ≤ l .0) × (first ≤ getD (now order) (l .0 - 1) 0) ⌝ }
+    ensures { λ n. ⌜ (n ≡ rowSize (now (table .entry)) (now (ends .entry)) first (now (order .entry)) (l .0)) × (n < 65536) ⌝ }
+{
+    let q = place_at(order, first, l);
     let from = number_at(ends, q) as usize;
     let to = number_at(ends, q + 1) as usize;
     if to < from { 0 } else { to - from }
@@ -99,7 +119,7 @@ fn part_count(
     match which {
         0 => got_count(owners, table, ends, held, i, first, cells, k),
         1 => got_count(owners, table, ends, held, k, first, cells, i),
-        _ => row_size(table, ends, first, order, k),
+        _ => row_size(table, ends, first, order, Local(k as u16)),
     }
 }
 
@@ -219,8 +239,8 @@ fn put_entry(
     requires { ⌜ (2 * (s + 2) ≤ length (now b)) × (s < 500000) × (n ≤ length (now order)) × (n < 65535) × (t < 65536) × (first + wordAt (now table) (2 * t) < 65536) ⌝ }
     ensures { λ u. ⌜ Put (now (b .entry)) (now (b .exit)) s u (entryWords (now (table .entry)) first (now (order .entry)) n t) ⌝ }
 {
-    let l = to_local(order, n, Global((first + word_at(table, 2 * t)) as u16));
-    let u = put_one(b, s, l.0 as usize);
+    let c = cell_at(first, word_at(table, 2 * t));
+    let u = put_local(b, s, to_local(order, n, c));
     put_one(b, u, word_at(table, 2 * t + 1))
 }
 
@@ -233,12 +253,12 @@ fn put_row(
     first: usize,
     order: &[u16],
     n: usize,
-    l: usize,
+    l: Local,
 ) -> usize
-    requires { ⌜ (2 * (s + 2 * rowSize (now table) (now ends) first (now order) l) ≤ length (now b)) × (s < 65536) × (1 ≤ l) × (n ≤ length (now order)) × (n < 65535) × Row (now table) (now ends) first (now order) l ⌝ }
-    ensures { λ u. ⌜ Put (now (b .entry)) (now (b .exit)) s u (rowWords (now (table .entry)) (now (ends .entry)) first (now (order .entry)) n l) ⌝ }
+    requires { ⌜ (2 * (s + 2 * rowSize (now table) (now ends) first (now order) (l .0)) ≤ length (now b)) × (s < 65536) × (1 ≤ l .0) × (n ≤ length (now order)) × (n < 65535) × Row (now table) (now ends) first (now order) (l .0) ⌝ }
+    ensures { λ u. ⌜ Put (now (b .entry)) (now (b .exit)) s u (rowWords (now (table .entry)) (now (ends .entry)) first (now (order .entry)) n (l .0)) ⌝ }
 {
-    let q = number_at(order, l - 1) as usize - first;
+    let q = place_at(order, first, l);
     let from = number_at(ends, q) as usize;
     let to = number_at(ends, q + 1) as usize;
     let mut u = s;
@@ -264,7 +284,7 @@ fn put_rows(
 {
     let mut u = s;
     for l in 1..owned + 1 {
-        u = put_row(b, u, table, ends, first, order, n, l);
+        u = put_row(b, u, table, ends, first, order, n, Local(l as u16));
     }
     u
 }
@@ -277,7 +297,7 @@ fn put_locals(b: &mut [u8], s: usize, list: &[u16], k: usize, order: &[u16], n: 
     let mut u = s;
     for x in 0..k {
         let l = to_local(order, n, Global(number_at(list, x)));
-        u = put_one(b, u, l.0 as usize);
+        u = put_local(b, u, l);
     }
     u
 }
@@ -560,7 +580,7 @@ pub fn put_cells(b: &mut [u8], at: usize, f: &[u8], first: usize, order: &[u16],
     ensures { λ _. ⌜ now (b .exit) ≡ over (now (b .entry)) at (blocks 1 n (startDepth (now (f .entry)) first (now (order .entry)))) ⌝ }
 {
     for l in 1..n + 1 {
-        let q = number_at(order, l - 1) as usize - first;
+        let q = place_at(order, first, Local(l as u16));
         copy(b, at + 4 * (l - 1), f, 4 * q, 4);
     }
 }

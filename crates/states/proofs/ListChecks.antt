@@ -14,7 +14,7 @@ use Rattle.vocabulary.specs.ScanLaws.{some-start-from, some-stop-from, some-tur
 use Rattle.vocabulary.specs.Tests.{allOf}
 use Rattle.layout.specs.Words.{wordAt}
 use Rattle.rules.specs.Rules.{weightCount, bad11}
-use Rattle.states.specs.State.{LocalNear, partNumber, stepCount, ruleKind, weights, ownedCount, heldCount, reachEnd, reachCount, entryAt, exportAt, localReach, globalFine, entryFine, ownFound, exportFine, listsTests}
+use Rattle.states.specs.State.{LocalNear, partNumber, stepCount, ruleKind, weights, ownedCount, heldCount, reachEnd, reachCount, entryAt, exportAt, localReach, globalAt, globalFine, entryFine, ownFound, exportFine, listsTests}
 use Rattle.states.specs.Checks.{Counts, fineAt, ownEntry, headTests, endTests, entryTests}
 use Rattle.vocabulary.specs.RangeLaws.{someOf-listed}
 
@@ -39,12 +39,8 @@ module _ (n x : ℕ) where
 pub rises-told : (b : Bytes) (k x y : ℕ) → x ≡ wordAt b k → y ≡ wordAt b (k + 1) → leb x y ≡ leb (wordAt b k) (wordAt b (k + 1))
 rises-told b k x y e f = ap₂ leb e f
 
-module _ (b : Bytes) (l first g : ℕ) (fe : first ≡ wordAt b 9) (ge : g ≡ wordAt b (44 + l)) where
-  pub global-low : g < first → false ≡ globalFine b l
-  global-low h = simp (sym fe, sym ge, lt-leb _ _ h)
-
-  pub global-rest : (n : ℕ) → first ≤ g → n ≡ wordAt b 10 → ltb g (first + n) ≡ globalFine b l
-  global-rest n h e = simp (sym fe, sym ge, sym e, le-leb _ _ h)
+pub global-told : (b : Bytes) (l c first cells : ℕ) (r : Bool) → c ≡ globalAt b l → first ≡ wordAt b 9 → cells ≡ wordAt b 10 → r ≡ leb first c && ltb c (first + cells) → r ≡ globalFine b l
+global-told b l c first cells r ce fe ke e = e ∙ ap₂ (λ f n. leb f c && ltb c (f + n)) fe ke ∙ ap (λ x. leb (wordAt b 9) x && ltb x (wordAt b 9 + wordAt b 10)) ce
 
 module _ (b : Bytes) (held owned reached : ℕ) (C : Counts b held owned reached) where
   module _ (t l : ℕ) (le : l ≡ wordAt b (46 + held + owned + 2 * t)) where

@@ -1,4 +1,7 @@
 // Whether the lists of a state are as its form asks. `lists` are the bytes before what calls change.
+use cell_numbers::Global;
+use cell_numbers::Local;
+use cell_numbers::inner::is_cell;
 use layout::word_at;
 use rules::bad_rule;
 ghost use mathlib.Core.Path.{_≡_};
@@ -10,7 +13,7 @@ ghost use Rattle.vocabulary.specs.Ranges.{isUpTo, every};
 ghost use Rattle.vocabulary.specs.Tests.{allOf};
 ghost use Rattle.layout.specs.Words.{wordAt};
 ghost use Rattle.rules.specs.Rules.{weightCount, bad11};
-ghost use Rattle.states.specs.State.{globalFine, entryFine, ownFound, exportFine, listsTests};
+ghost use Rattle.states.specs.State.{globalAt, globalFine, entryFine, ownFound, exportFine, listsTests};
 ghost use Rattle.states.specs.Checks.{Counts, fineAt, ownEntry, headTests, endTests, entryTests};
 
 // Whether x is a number from 1 to n.
@@ -41,16 +44,17 @@ pub fn between(lists: &[u8], k: usize) -> usize
     if to < from { 0 } else { to - from }
 }
 
-fn global_fine(lists: &[u8], l: usize) -> bool
-    requires { ⌜ l < 65536 ⌝ }
-    ensures { λ r. ⌜ r ≡ globalFine (now (lists .entry)) l ⌝ }
+// The cell of a local number, through the list of the held cells.
+pub fn global_of(lists: &[u8], l: Local) -> Global
+    ensures { λ c. ⌜ c .0 ≡ globalAt (now (lists .entry)) (l .0) ⌝ }
 {
-    let first = word_at(lists, 9);
-    let g = word_at(lists, 44 + l);
-    if g < first {
-        return false;
-    }
-    g < first + word_at(lists, 10)
+    Global(word_at(lists, 44 + l.0 as usize) as u16)
+}
+
+fn global_fine(lists: &[u8], l: Local) -> bool
+    ensures { λ r. ⌜ r ≡ globalFine (now (lists .entry)) (l .0) ⌝ }
+{
+    is_cell(global_of(lists, l), word_at(lists, 9), word_at(lists, 10))
 }
 
 fn entry_fine(lists: &[u8], held: usize, owned: usize, reached: usize, t: usize) -> bool
@@ -111,7 +115,7 @@ fn fine_at(which: usize, lists: &[u8], held: usize, owned: usize, reached: usize
         0 => rises_at(lists, 11 + x),
         1 => rises_at(lists, 28 + x),
         2 => rises_at(lists, 45 + held + x),
-        3 => global_fine(lists, x),
+        3 => global_fine(lists, Local(x as u16)),
         4 => entry_fine(lists, held, owned, reached, x),
         5 => own_found(lists, held, owned, reached, x),
         _ => export_fine(lists, held, owned, reached, x),

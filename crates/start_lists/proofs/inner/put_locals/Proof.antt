@@ -25,7 +25,6 @@ put-locals-spec =
     (λ c. (search needs, search needs, search needs, search locals-start))
     (λ c κs. search needs)
     (λ c κs. search needs)
-    (λ c. search needs)
     (λ c κs. search needs)
     (λ c. search needs)
     (λ c. search needs)

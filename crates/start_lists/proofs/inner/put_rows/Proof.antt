@@ -25,12 +25,10 @@ put-rows-spec =
     μ-loop
     (λ c. search needs)
     (λ c. (refl, search needs, search needs, search needs, search many-start))
-    (λ c κs.
-    let w =
-    many-room _ _ _ (rows-long _ _ _ _ _ _) _ (row-length _ _ _ _ _) _ _ _ _ _ (c .before .before .loop .inv .1) (omega (arith, c .before .before .loop .inv .0, c .before .loop-test .taken)) (c .before .before .before .before .before .before .before .pre .0) (c .before .before .before .before .before .before .before .pre .1) (c .before .before .loop .inv .3) (c .before .before .loop .inv .4) in
-    (w .0, w .1, c .before .before .loop .inv .1, c .before .before .before .before .before .before .before .pre .3, c .before .before .before .before .before .before .before .pre .4, search rows-each))
+    (λ c. search needs)
+    (λ c κs. let turn = c .before .before in let pre = turn .before .before .before .before .before .pre in let w = many-room _ _ _ (rows-long _ _ _ _ _ _) _ (row-length _ _ _ _ _) _ _ _ _ _ (turn .loop .inv .1) (omega (arith, turn .loop .inv .0, c .before .loop-test .taken)) (pre .0) (pre .1) (turn .loop .inv .3) (turn .loop .inv .4) in (w .0, w .1, turn .loop .inv .1, pre .3, pre .4, search rows-each))
     (λ c. search needs)
     (λ c. search needs)
-    (λ c. (search needs, search needs, search needs, search needs, search (many-turn, rows-long)))
+    (λ c. let went = c .before .before in let turn = went .before .before .before in (search needs, search needs, search needs, search needs, many-turn _ _ _ (rows-long _ _ _ _ _ _) _ _ _ _ _ _ _ (turn .loop .inv .1) (omega (arith, turn .loop .inv .0, went .before .before .loop-test .taken)) (turn .before .before .before .before .before .pre .0) (turn .loop .inv .4) (went .put-row .ensures)))
     (λ c. search needs)
     (λ c. search many-end))

@@ -17,6 +17,7 @@ fine-at-spec =
     (λ c. search needs)
     (λ c. search needs)
     (λ c κs. search needs)
+    (λ c. search needs)
     (λ c κs. search needs)
     (λ c κs. search needs)
     (λ c κs. (search needs, c .before .before .pre .2 (c .match .keys6), search needs))

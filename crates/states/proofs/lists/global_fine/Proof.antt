@@ -1,5 +1,5 @@
 -- `states::lists::global_fine` meets its contract. Assumes nothing.
-use Rattle.states.proofs.ListChecks.{global-low, global-rest}
+use Rattle.states.proofs.ListChecks.{global-told}
 use borrow.Author.Needs.{needs}
 use Rattle.states.proofs.lists.global_fine.Statement.{statement}
 use Rattle.states.proofs.lists.global_fine.Tie as tie
@@ -9,9 +9,7 @@ global-fine-spec =
     tie.close
     (tie.spec
     (λ c κs. search needs)
-    (λ c. search needs)
     (λ c κs. search needs)
-    (λ c. search global-low)
     (λ c κs. search needs)
-    (λ c. search needs)
-    (λ c. search global-rest))
+    (λ c κs. search needs)
+    (λ c. search global-told))
