@@ -62,11 +62,12 @@ pub fn renew_by(lists: &[u8], b: &[u8], d: usize, owned: usize, new: &mut [u8])
     requires { ⌜ Opened (now lists) d (now b) × (owned ≡ ownedCount (now lists)) × (owned < 65536) × (4 * owned ≤ length (now new)) ⌝ }
     ensures { λ _. ⌜ now (new .exit) ≡ over (now (new .entry)) 0 (blocks 1 owned (newAt (listsIn (now (lists .entry))) d (now (b .entry)))) ⌝ }
 {
-    let kind = word_at(lists, 3);
-    let end = 8 + 2 * weight_count(kind, word_at(lists, 2));
     let held = word_at(lists, 27);
-    match rule_of(kind as u32) {
-        Rule::Known(k) => renew(lists, &lists[8..end], b, d, k, held, owned, new),
+    match rule_of(word_at(lists, 3) as u32) {
+        Rule::Known(k) => {
+            let end = 8 + 2 * weight_count(k, word_at(lists, 2));
+            renew(lists, &lists[8..end], b, d, k, held, owned, new)
+        }
         // no state has such a rule (20)
         Rule::Unknown => {}
     }

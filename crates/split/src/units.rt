@@ -18,8 +18,8 @@ pub fn to_global(order: &[u16], l: Local) -> Global
     Global(number_at(order, l.0 as usize - 1))
 }
 
-// Turns the n cells of the part's list round: at each cell's number its local number is stored. The last one comes first, so that the first
-// place of a cell decides, as in the definition.
+// Turns the n cells of the part's list round: at each cell's number its local number is stored. It goes from the last cell to the first, so
+// that the first place of a cell decides, as in the definition.
 pub fn number_cells(order: &[u16], n: usize, local: &mut [u16])
     requires { ⌜ (n ≤ length (now order)) × (n < 65536) ⌝ }
     ensures { λ _. ⌜ now (local .exit) ≡ numbering 0 (take n (now (order .entry))) (now (local .entry)) ⌝ }

@@ -14,6 +14,13 @@ use Rattle.vocabulary.specs.ScanLaws.{some-start-from, some-stop-from, some-tur
 use Rattle.vocabulary.specs.Tests.{allOf}
 use Rattle.layout.specs.Words.{wordAt}
 use Rattle.rules.specs.Rules.{weightCount, bad11}
+use Rattle.rules.specs.Kinds.{kindNumber, ruleOf}
+use Rattle.rules.specs.declared.Kind.{Kind}
+use Rattle.rules.specs.declared.Kind.the-variants.{Hold, Mean, Shoalest}
+use Rattle.rules.specs.declared.Rule.{Rule}
+use Rattle.rules.specs.declared.Rule.the-variants.{Known, Unknown}
+use Rattle.rules.proofs.KindLaws.{known-number}
+use Rattle.rules.proofs.Refusals.{unknown-rule}
 use Rattle.states.specs.State.{LocalNear, partNumber, stepCount, ruleKind, weights, ownedCount, heldCount, reachEnd, reachCount, entryAt, exportAt, localReach, globalAt, globalFine, entryFine, ownFound, exportFine, listsTests}
 use Rattle.states.specs.Checks.{Counts, fineAt, ownEntry, headTests, endTests, entryTests}
 use Rattle.vocabulary.specs.RangeLaws.{someOf-listed}
@@ -137,18 +144,29 @@ fine-6 b (suc (suc (suc (suc (suc (suc k)))))) x r a c d e f g q = q
 
 -- ---- the rule and the head
 
-pub weights-mean : (kind n : ℕ) → kind ≡ 1 → n / 2 + 1 ≡ weightCount kind n
-unfolding weightCount
-weights-mean kind n e = simp (eq-eqb _ _ e)
+module _ (kind : Kind) (n : ℕ) where
+  pub weights-hold : kind ≡ Hold → 0 ≡ weightCount (kindNumber kind) n
+  unfolding weightCount kindNumber
+  weights-hold e = rw e refl
 
-pub weights-none : (kind n : ℕ) → (kind ≡ 1 → ⊥) → 0 ≡ weightCount kind n
-unfolding weightCount
-weights-none kind n e = simp (ne-eqb _ _ e)
+  pub weights-mean : kind ≡ Mean → n / 2 + 1 ≡ weightCount (kindNumber kind) n
+  unfolding weightCount kindNumber
+  weights-mean e = rw e refl
 
-pub rule-told : (b : Bytes) (kind n count : ℕ) (r : Bool) → count ≡ weightCount kind n → r ≡ bad11 kind n (take (8 + 2 * count - 8) (drop 8 b))
-    → not r ≡ not (bad11 kind n (take (2 * weightCount kind n) (drop 8 b)))
-rule-told b kind n count r e q =
-    let p : 8 + 2 * count - 8 ≡ 2 * weightCount kind n = omega (arith, e) in ap not (q ∙ ap (λ k. bad11 kind n (take k (drop 8 b))) p)
+  pub weights-shoalest : kind ≡ Shoalest → 0 ≡ weightCount (kindNumber kind) n
+  unfolding weightCount kindNumber
+  weights-shoalest e = rw e refl
+
+module _ (b : Bytes) (number n : ℕ) (r : Rule) (re : r ≡ ruleOf number) where
+  pub rule-told : (k : Kind) → r ≡ Known k → (count : ℕ) → count ≡ weightCount (kindNumber k) n → (w : Bool) → w ≡ bad11 (kindNumber k) n (take (8 + 2 * count - 8) (drop 8 b))
+      → not w ≡ not (bad11 number n (take (2 * weightCount number n) (drop 8 b)))
+  rule-told k q count ce w we =
+      let p : 8 + 2 * count - 8 ≡ 2 * weightCount (kindNumber k) n = omega (arith, ce) in
+      ap not (we ∙ ap (λ x. bad11 (kindNumber k) n (take x (drop 8 b))) p)
+      ∙ ap (λ x. not (bad11 x n (take (2 * weightCount x n) (drop 8 b)))) (sym (known-number number k (sym re ∙ q)))
+
+  pub rule-unknown : r ≡ Unknown → false ≡ not (bad11 number n (take (2 * weightCount number n) (drop 8 b)))
+  rule-unknown q = ap not (unknown-rule (take (2 * weightCount number n) (drop 8 b)) n number r re q)
 
 module _ (b : Bytes) where
   pub head-part : (part : ℕ) (u : Bool) → part ≡ wordAt b 1 → u ≡ isUpTo 16 part → u ≡ isUpTo 16 (partNumber b)

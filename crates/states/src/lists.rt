@@ -3,7 +3,10 @@ use cell_numbers::Global;
 use cell_numbers::Local;
 use cell_numbers::inner::is_cell;
 use layout::word_at;
-use rules::bad_rule;
+use rules::Kind;
+use rules::Rule;
+use rules::rule_of;
+use rules::wrong_weights;
 ghost use mathlib.Core.Path.{_≡_};
 ghost use mathlib.Core.Bool.{not};
 ghost use Prim.Native.Nat.{_+_, _-_, _*_, _<_, _≤_};
@@ -13,6 +16,7 @@ ghost use Rattle.vocabulary.specs.Ranges.{isUpTo, every};
 ghost use Rattle.vocabulary.specs.Tests.{allOf};
 ghost use Rattle.layout.specs.Words.{wordAt};
 ghost use Rattle.rules.specs.Rules.{weightCount, bad11};
+ghost use Rattle.rules.specs.Kinds.{kindNumber};
 ghost use Rattle.states.specs.State.{globalAt, globalFine, entryFine, ownFound, exportFine, listsTests};
 ghost use Rattle.states.specs.Checks.{Counts, fineAt, ownEntry, headTests, endTests, entryTests};
 
@@ -143,12 +147,16 @@ fn all_fine(
     true
 }
 
-// How many weights a rule has under a stencil of n steps.
-pub fn weight_count(kind: usize, n: usize) -> usize
+// How many weights a rule of this kind has under a stencil of n steps.
+pub fn weight_count(kind: Kind, n: usize) -> usize
     requires { ⌜ n ≤ 8 ⌝ }
-    ensures { λ r. ⌜ (r ≡ weightCount kind n) × (r ≤ 5) ⌝ }
+    ensures { λ r. ⌜ (r ≡ weightCount (kindNumber kind) n) × (r ≤ 5) ⌝ }
 {
-    if kind == 1 { n / 2 + 1 } else { 0 }
+    match kind {
+        Kind::Hold => 0,
+        Kind::Mean => n / 2 + 1,
+        Kind::Shoalest => 0,
+    }
 }
 
 // Whether the rule in the lists is one.
@@ -156,8 +164,13 @@ fn rule_fine(lists: &[u8], kind: usize, n: usize) -> bool
     requires { ⌜ (18 ≤ length (now lists)) × (n ≤ 8) × (kind < 65536) ⌝ }
     ensures { λ r. ⌜ r ≡ not (bad11 kind n (take (2 * weightCount kind n) (drop 8 (now (lists .entry))))) ⌝ }
 {
-    let end = 8 + 2 * weight_count(kind, n);
-    !bad_rule(kind as u32, n, &lists[8..end])
+    match rule_of(kind as u32) {
+        Rule::Known(k) => {
+            let end = 8 + 2 * weight_count(k, n);
+            !wrong_weights(k, n, &lists[8..end])
+        }
+        Rule::Unknown => false,
+    }
 }
 
 // The part's number, the stencil's steps, the rule and the count of held cells.

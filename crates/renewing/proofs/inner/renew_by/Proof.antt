@@ -12,30 +12,36 @@ renew-by-spec =
     (tie.spec
     (λ c κs. search needs)
     (λ c κs. search needs)
-    (λ c κs. omega (arith, whole _ _ _ (c .before .before .before .before .before .pre .0) .steps-few, c .word-at2 .ensures .0))
-    (λ c. search needs)
     (λ c. search needs)
     (λ c κs. search needs)
     (λ c. search needs)
     (λ c κs. search needs)
+    (λ c κs. let pre = c .before .before .before .before .before .before .before .before .before .before .pre in omega (arith, whole _ _ _ (pre .0) .steps-few, c .word-at3 .ensures .0))
+    (λ c. search needs)
     (λ c. search needs)
     (λ c. search needs)
     (λ c. search needs)
     (λ c.
-    let counted = c .before .before .before .before .before in
-    let pre = counted .before .before .before .before .before .before .pre in
-    omega (arith, lists-length _ _ _ (pre .0), whole _ _ _ (pre .0) .lists-fit, counted .weight-count .ensures .1))
+    let pre = c .before .before .before .before .before .before .before .before .before .before .before .pre in omega (
+      arith,
+      lists-length _ _ _ (pre .0),
+      whole _ _ _ (pre .0) .lists-fit,
+      c .weight-count .ensures .1,
+    ))
     (λ c κs.
-    let rule = c .before .before .before .before .before in
-    let counted = rule .before .before in
-    let kind = counted .before .before in
-    let pre = kind .before .before .before .before .pre in (
+    let counted = c .before .before in
+    let known = counted .before .before .before in
+    let rule = known .before .before in
+    let number = rule .before in
+    let held = number .before in
+    let pre = held .before .before .before .before .pre in
+    let kind = kind-is _ _ _ _ (number .word-at2 .ensures .0) (rule .rule-of .ensures) (known .k .given .1) in (
       pre .0,
-      kind-is _ _ _ _ (kind .word-at .ensures .0) (rule .rule-of .ensures) (c .before .before .before .k .given .1),
-      weights-cut _ _ _ _ (kind .word-at .ensures .0) (counted .before .word-at2 .ensures .0) (counted .weight-count .ensures .0),
-      rule .before .word-at3 .ensures .0,
+      kind,
+      weights-cut _ _ _ _ kind (counted .before .word-at3 .ensures .0) (counted .weight-count .ensures .0),
+      held .word-at .ensures .0,
       pre .1,
-      rule .before .word-at3 .ensures .1,
+      held .word-at .ensures .1,
       pre .2,
       pre .3,
     ))
@@ -44,5 +50,6 @@ renew-by-spec =
     (λ c. search needs)
     (λ c.
     let rule = c .before .before in
-    let kind = rule .before .before .before .before in
-    absurd (kind-known _ _ _ (kind .before .before .before .before .pre .0) _ _ (kind .word-at .ensures .0) (rule .rule-of .ensures) (c .enum-told .given .1))))
+    let number = rule .before in
+    let pre = number .before .before .before .before .before .pre in
+    absurd (kind-known _ _ _ (pre .0) _ _ (number .word-at2 .ensures .0) (rule .rule-of .ensures) (c .enum-told .given .1))))

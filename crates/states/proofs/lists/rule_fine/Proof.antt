@@ -1,5 +1,5 @@
 -- `states::lists::rule_fine` meets its contract. Assumes nothing.
-use Rattle.states.proofs.ListChecks.{rule-told}
+use Rattle.states.proofs.ListChecks.{rule-told, rule-unknown}
 use borrow.Author.Needs.{needs}
 use Rattle.states.proofs.lists.rule_fine.Statement.{statement}
 use Rattle.states.proofs.lists.rule_fine.Tie as tie
@@ -8,12 +8,16 @@ pub rule-fine-spec : {M : Type 1} → statement M
 rule-fine-spec =
     tie.close
     (tie.spec
+    (λ c. search needs)
+    (λ c κs. search needs)
+    (λ c. search needs)
     (λ c κs. search needs)
     (λ c. search needs)
     (λ c. search needs)
     (λ c. search needs)
     (λ c. search needs)
     (λ c. search needs)
-    (λ c. search needs)
     (λ c κs. search needs)
-    (λ c. search rule-told))
+    (λ c. search needs)
+    (λ c. search rule-told)
+    (λ c. search rule-unknown))

@@ -1,5 +1,5 @@
 -- `states::lists::weight_count` meets its contract. Assumes nothing.
-use Rattle.states.proofs.ListChecks.{weights-mean, weights-none}
+use Rattle.states.proofs.ListChecks.{weights-hold, weights-mean, weights-shoalest}
 use borrow.Author.Needs.{needs}
 use Rattle.states.proofs.lists.weight_count.Statement.{statement}
 use Rattle.states.proofs.lists.weight_count.Tie as tie
@@ -9,5 +9,9 @@ weight-count-spec =
     tie.close
     (tie.spec
     (λ c. search needs)
+    (λ c. search needs)
+    (λ c. search needs)
+    (λ c. search needs)
+    (λ c. (search weights-hold, search needs))
     (λ c. (search weights-mean, search needs))
-    (λ c. (search weights-none, search needs)))
+    (λ c. (search weights-shoalest, search needs)))
