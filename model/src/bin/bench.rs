@@ -3,7 +3,7 @@
 use std::hint::black_box;
 use std::time::{Duration, Instant};
 
-use jemlayos_model::calls::{under_test, Calls, List, Model};
+use jemlayos_model::calls::{engine, Calls, List, Model};
 use jemlayos_model::generate::random::Random;
 use jemlayos_model::generate::scenarios::{stencil_through, Deal, Scenario};
 use jemlayos_model::generate::shapes::Shape;
@@ -32,7 +32,7 @@ fn main() {
 /// One table: a line for each call, and the growth of its time beside that of the records and of the reaches.
 fn family(name: &str, shapes: &[Shape; 3], stencil: &[u8]) {
     let cases = shapes.each_ref().map(|shape| Case::over(shape, stencil));
-    let tested = under_test();
+    let tested: &dyn Calls = engine().unwrap_or(&Model);
     println!("{name}; medians in microseconds");
     let cells_and_records = |case: &Case| format!("{} cells, {} records,", case.scenario.cells, case.records);
     let reached = |case: &Case| format!("{} reached", case.reached);
