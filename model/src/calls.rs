@@ -110,8 +110,6 @@ impl Calls for Model {
     }
 }
 
-static TUNED: LazyLock<Tuned> = LazyLock::new(Tuned::default);
-
 /// The engine where it is linked.
 pub fn engine() -> Option<&'static (dyn Calls + Sync)> {
     #[cfg(engine)]
@@ -120,9 +118,15 @@ pub fn engine() -> Option<&'static (dyn Calls + Sync)> {
     return None;
 }
 
+/// The tuned calls, with one work space for all who ask.
+pub fn tuned() -> &'static (dyn Calls + Sync) {
+    static TUNED: LazyLock<Tuned> = LazyLock::new(Tuned::default);
+    &*TUNED
+}
+
 /// What is compared with the model: the engine where it is linked, and the tuned calls.
 pub fn others() -> Vec<&'static (dyn Calls + Sync)> {
-    engine().into_iter().chain([&*TUNED as _]).collect()
+    engine().into_iter().chain([tuned()]).collect()
 }
 
 /// What the tests are run on: the model and the others at once, which all have to give and leave the same.

@@ -30,7 +30,6 @@ impl<T> Rows<T> {
 
 impl Rows<usize> {
     /// For each number below `count` the given rows that have it, in the order given.
-    #[inline]
     pub fn turned(&self, rows: impl Iterator<Item = usize> + Clone, count: usize) -> Rows<usize> {
         let mut ends = vec![0; count + 1];
         for &item in rows.clone().flat_map(|i| self.row(i)) {
