@@ -52,7 +52,8 @@ impl Walks {
         }
     }
 
-    /// Finds the reaches of all cells; false where they are too many.
+    /// Finds the reaches of all cells; false where they are too many. One copy for all calls, which keeps it warm.
+    #[inline(never)]
     pub fn find(&mut self, mesh: &mut Mesh, stencil: &[u8]) -> bool {
         through(stencil).for_each(|dimension| mesh.link(dimension));
         let mixed = through(stencil).zip(through(stencil).skip(1)).any(|(a, b)| a != b);
