@@ -19,9 +19,11 @@ use jemlayos_model::walks::{Reaches, Stencil};
 
 const PARTS: [u32; 3] = [1, 4, 16];
 
-/// How long a call is tried on one input, and how often at least. After a block of calls it is the next one's turn.
-const TRIED: Duration = Duration::from_millis(150);
-const LEAST_BLOCKS: usize = 5;
+/// How long a call is tried on one input in each pass, and how often at least. After a block of calls it is the next
+/// one's turn.
+const PASSES: usize = 3;
+const TRIED: Duration = Duration::from_millis(50);
+const LEAST_BLOCKS: usize = 2;
 const BLOCK: usize = 5;
 const LONGEST_BLOCK: Duration = Duration::from_millis(2);
 
@@ -51,9 +53,22 @@ fn main() {
         return;
     }
     let mut counts = counted_instructions().map(Vec::into_iter);
-    let tables = tables(&families, |call, case| {
+    // Whatever else the machine does for a while spoils one pass at most.
+    let mut passes = [(); PASSES].map(|()| {
+        let mut times = Vec::new();
+        tables(&families, |call, case| {
+            times.push(least_times(call, case, implementations));
+            Cost::default()
+        });
+        times.into_iter()
+    });
+    let tables = tables(&families, |_, _| {
+        let times = passes.each_mut().map(|times| times.next().expect("a time for each call"));
         let mut next = || counts.as_mut().map(|counts| counts.next().expect("a count for each call"));
-        Cost { times: least_times(call, case, implementations), instructions: implementations.map(|_| next()) }
+        Cost {
+            times: [ENGINE, PLAIN, TUNED].map(|which| times.iter().map(|pass| pass[which]).fold(f64::MAX, f64::min)),
+            instructions: implementations.map(|_| next()),
+        }
     });
     print_worst(&tables);
     tables.iter().for_each(print_table);
