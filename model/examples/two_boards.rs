@@ -2,11 +2,11 @@
 //! field that they collect after each. On the engine where JEMLAYOS_LIB names its library, else on the model.
 
 use jemlayos_model::bytes::{depths, read_depths, words};
-use jemlayos_model::calls::{under_test, PartInput, RuleInput};
+use jemlayos_model::calls::{engine, Model, PartInput, RuleInput};
 use jemlayos_model::refusal::Refusal;
 
 fn main() -> Result<(), Refusal> {
-    let engine = under_test();
+    let engine = engine().unwrap_or(&Model);
     let mesh = include_bytes!("../../examples/five-cells.mesh");
     let rule = RuleInput { kind: 1, weights: &words(&[2, 1]) };
     let start_field = depths(&[100, 200, 300, 400, 500]);

@@ -1,7 +1,11 @@
 //! The public calls as one trait, so that the engine and the model can stand in each other's place.
 
+use std::sync::LazyLock;
+
+use crate::compare::Compared;
 use crate::refusal::Answer;
 use crate::split::Range;
+use crate::tuned::Tuned;
 use crate::{mesh, parts, rounds, split};
 
 /// The inputs that name a part: those of its lists, of its state's size and of its start.
@@ -106,10 +110,31 @@ impl Calls for Model {
     }
 }
 
-/// What the programs compare with the model: the engine where it is linked, else the model itself.
-pub fn under_test() -> &'static dyn Calls {
+/// The engine where it is linked.
+pub fn engine() -> Option<&'static (dyn Calls + Sync)> {
     #[cfg(engine)]
-    return &crate::engine::Engine;
+    return Some(&crate::engine::Engine);
     #[cfg(not(engine))]
-    return &Model;
+    return None;
+}
+
+/// The tuned calls, with one work space for all who ask.
+pub fn tuned() -> &'static (dyn Calls + Sync) {
+    static TUNED: LazyLock<Tuned> = LazyLock::new(Tuned::default);
+    &*TUNED
+}
+
+/// What is compared with the model: the engine where it is linked, and the tuned calls.
+pub fn others() -> Vec<&'static (dyn Calls + Sync)> {
+    engine().into_iter().chain([tuned()]).collect()
+}
+
+/// What the tests are run on: the model and the others at once, which all have to give and leave the same.
+pub fn under_test() -> &'static dyn Calls {
+    type Told = fn(&'static str, Answer, &[String]);
+    static ALL: LazyLock<Compared<Told>> = LazyLock::new(|| Compared {
+        others: others(),
+        told: |_, _, differences| assert!(differences.is_empty(), "{differences:?}"),
+    });
+    &*ALL
 }

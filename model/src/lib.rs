@@ -7,11 +7,14 @@
 //! | `refusal` | the numbers of the refusals, in the specification's words |
 //! | `mesh`, `walks`, `rounds`, `split`, `messages`, `state`, `parts`, `listing` | the model, one module for each of the specification's subjects |
 //! | `calls` | the public calls as a trait, and the model behind it |
+//! | `tuned` | the same calls once more, as fast as safe Rust makes them |
 //! | `engine` | the static library behind the same trait |
+//! | `compare` | each call on all of these at once |
 //! | `generate` | random, extreme and damaged inputs |
 
 pub mod bytes;
 pub mod calls;
+pub mod compare;
 #[cfg(engine)]
 pub mod engine;
 pub mod generate;
@@ -24,4 +27,5 @@ pub mod rounds;
 mod rows;
 pub mod split;
 pub mod state;
+pub mod tuned;
 pub mod walks;

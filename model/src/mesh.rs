@@ -18,7 +18,7 @@ pub fn check_mesh(bytes: &[u8]) -> Answer {
 /// What the six words at the front of a mesh say.
 pub struct Head {
     /// d, the dimension of the cells.
-    top: usize,
+    pub top: usize,
     counts: [usize; 4],
     records: usize,
 }
@@ -40,6 +40,15 @@ impl Head {
     /// N, the count of elements.
     fn elements(&self) -> usize {
         self.counts.iter().sum()
+    }
+
+    /// At k, the count of elements of dimensions below k.
+    pub fn below(&self) -> [usize; 5] {
+        let mut below = [0; 5];
+        for k in 0..4 {
+            below[k + 1] = below[k] + self.counts[k];
+        }
+        below
     }
 
     /// The length in bytes of a mesh with this head.
@@ -65,10 +74,7 @@ impl Mesh {
         if bytes.len() != head.length() {
             return Err(Refusal::MeshLength);
         }
-        let mut below = [0; 5];
-        for k in 0..4 {
-            below[k + 1] = below[k] + head.counts[k];
-        }
+        let below = head.below();
         let chains = follow_chains(bytes, &head)?;
         let cells = below[head.top] + 1..below[head.top + 1] + 1;
         check_elements(&chains, &below)?;

@@ -1,4 +1,5 @@
-//! Lists of different lengths in one vector: chains, incident cells and reaches.
+//! Lists of different lengths in one vector: chains, incident cells and reaches. The hints to inline keep the model as
+//! fast wherever the compiler puts the modules that use them: it is a measure for the engine.
 
 pub struct Rows<T> {
     items: Vec<T>,
@@ -10,11 +11,13 @@ impl<T> Rows<T> {
         Rows { items: Vec::new(), ends: vec![0] }
     }
 
+    #[inline]
     pub fn push(&mut self, row: impl IntoIterator<Item = T>) {
         self.items.extend(row);
         self.ends.push(self.items.len());
     }
 
+    #[inline]
     pub fn row(&self, i: usize) -> &[T] {
         &self.items[self.ends[i]..self.ends[i + 1]]
     }

@@ -28,21 +28,30 @@ pub fn list(input: PartInput, list: List, out: &mut [u8]) -> Answer {
 pub struct PartSet(u32);
 
 impl PartSet {
-    fn only(part: usize) -> Self {
+    pub fn only(part: usize) -> Self {
         PartSet(1 << part)
     }
 
-    fn has(self, part: usize) -> bool {
+    pub fn has(self, part: usize) -> bool {
         self.0 & 1 << part != 0
     }
 
-    fn len(self) -> usize {
+    pub(crate) fn len(self) -> usize {
         self.0.count_ones() as usize
     }
 
     /// All that are in one of the sets.
-    fn union(sets: impl Iterator<Item = PartSet>) -> PartSet {
+    pub fn union(sets: impl Iterator<Item = PartSet>) -> PartSet {
         sets.fold(PartSet::default(), PartSet::bitor)
+    }
+
+    /// The parts of the set, rising.
+    pub fn parts(mut self) -> impl Iterator<Item = usize> {
+        std::iter::from_fn(move || {
+            let least = (self.0 > 0).then(|| self.0.trailing_zeros() as usize)?;
+            self.0 &= self.0 - 1;
+            Some(least)
+        })
     }
 }
 
@@ -108,6 +117,22 @@ impl Range {
             Range::Exposed => "exposed",
             Range::Shared => "shared",
             Range::Copied => "copied",
+        }
+    }
+
+    /// The range for a part of a lower element, if the part holds it, by the parts that the element touches and those
+    /// that hold it.
+    pub fn of(part: usize, touched: PartSet, holders: PartSet) -> Option<Range> {
+        if !holders.has(part) {
+            None
+        } else if !touched.has(part) {
+            Some(Range::Copied)
+        } else if touched.len() > 1 {
+            Some(Range::Shared)
+        } else if holders.len() > 1 {
+            Some(Range::Exposed)
+        } else {
+            Some(Range::Private)
         }
     }
 }
@@ -187,17 +212,7 @@ impl Split {
         let cells = self.mesh.cells_at(element).iter();
         let touched = PartSet::union(cells.clone().map(|&c| PartSet::only(self.map.owners[c])));
         let holders = PartSet::union(cells.map(|&c| self.holders[c]));
-        if !holders.has(part) {
-            None
-        } else if !touched.has(part) {
-            Some(Range::Copied)
-        } else if touched.len() > 1 {
-            Some(Range::Shared)
-        } else if holders.len() > 1 {
-            Some(Range::Exposed)
-        } else {
-            Some(Range::Private)
-        }
+        Range::of(part, touched, holders)
     }
 
     fn cells(&self, wanted: impl Fn(usize) -> bool) -> Vec<usize> {

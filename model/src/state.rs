@@ -25,12 +25,14 @@ pub struct Sizes {
     pub exports: usize,
 }
 
-const IMPORT_ENDS: usize = 11;
-const EXPORT_ENDS: usize = 28;
+// Places of the first lists, as words.
+pub const IMPORT_ENDS: usize = 11;
+pub const EXPORT_ENDS: usize = 28;
+pub const GLOBALS: usize = 45;
 
 impl Sizes {
     /// Word 0: the length of the lists in words.
-    fn words(&self) -> usize {
+    pub fn words(&self) -> usize {
         46 + self.held + self.owned + 2 * self.entries + self.exports
     }
 
@@ -41,14 +43,14 @@ impl Sizes {
     // Places of words.
 
     fn global(&self, local: Local) -> usize {
-        44 + local.0
+        GLOBALS + local.0 - 1
     }
 
-    fn reach_ends(&self) -> usize {
-        45 + self.held
+    pub fn reach_ends(&self) -> usize {
+        GLOBALS + self.held
     }
 
-    fn entry(&self, t: usize) -> usize {
+    pub fn entry(&self, t: usize) -> usize {
         46 + self.held + self.owned + 2 * t
     }
 
@@ -210,7 +212,7 @@ fn between_ends(bytes: &[u8], ends: usize, j: usize) -> Range<usize> {
     word(bytes, ends + j - 1)..word(bytes, ends + j)
 }
 
-fn part_range(bytes: &[u8], ends: usize, part: usize) -> Range<usize> {
+pub fn part_range(bytes: &[u8], ends: usize, part: usize) -> Range<usize> {
     if (1..=MOST_PARTS).contains(&part) {
         between_ends(bytes, ends, part)
     } else {

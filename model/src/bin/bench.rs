@@ -1,9 +1,14 @@
-//! Times of every call at growing sizes, engine and model side by side: medians in microseconds.
+//! Every call on the engine, the model and the tuned calls in turns, at growing sizes and for 1, 4 and 16 parts. Prints the
+//! tables of docs/BENCHMARKS.md: least times, and instructions where valgrind is there. Where JEMLAYOS_STACK names the
+//! program of .ci/stack.c, the bytes of stack that it measures stand in the first table.
 
+use std::collections::BTreeMap;
 use std::hint::black_box;
+use std::process::Command;
 use std::time::{Duration, Instant};
+use std::{env, fs};
 
-use jemlayos_model::calls::{under_test, Calls, List, Model};
+use jemlayos_model::calls::{engine, tuned, Calls, List, Model};
 use jemlayos_model::generate::random::Random;
 use jemlayos_model::generate::scenarios::{stencil_through, Deal, Scenario};
 use jemlayos_model::generate::shapes::Shape;
@@ -12,66 +17,299 @@ use jemlayos_model::refusal::Answer;
 use jemlayos_model::split::Range;
 use jemlayos_model::walks::{Reaches, Stencil};
 
-/// Enough repetitions for a steady median, and no more time than this for one.
-const REPETITIONS: usize = 301;
-const LONGEST: Duration = Duration::from_millis(200);
+const PARTS: [u32; 3] = [1, 4, 16];
 
-const PARTS: u32 = 4;
-/// The part whose calls are timed: a middle one, which imports and exports.
-const PART: u32 = 2;
+/// How long a call is tried on one input in each pass, and how often at least. After a block of calls it is the next
+/// one's turn.
+const PASSES: usize = 3;
+const TRIED: Duration = Duration::from_millis(50);
+const LEAST_BLOCKS: usize = 2;
+const BLOCK: usize = 5;
+const LONGEST_BLOCK: Duration = Duration::from_millis(2);
+
+/// With this argument the program makes each call once, for valgrind to count.
+const COUNT: &str = "count";
+
+/// One for each implementation.
+type Three<T> = [T; 3];
+const ENGINE: usize = 0;
+const PLAIN: usize = 1;
+const TUNED: usize = 2;
 
 fn main() {
-    let rows = [100, 450, 900].map(|cells| Shape::row(cells, 0));
-    family("cells in a row, stencil 1 0 1 0 1 0 1", &rows, &stencil_through(1, &[0; 3]));
-    let squares = [[5, 5], [10, 10], [15, 18]].map(|sides| Shape::grid(&sides));
-    family("triangles in a grid, stencil 2 1 2 1 2", &squares, &stencil_through(2, &[1; 2]));
-    let cubes = [2, 3, 4].map(|side| Shape::grid(&[side; 3]));
-    family("tetrahedra in a grid, stencil 3 2 3 2 3", &cubes, &stencil_through(3, &[2; 2]));
-}
-
-/// One table: a line for each call, and the growth of its time beside that of the records and of the reaches.
-fn family(name: &str, shapes: &[Shape; 3], stencil: &[u8]) {
-    let cases = shapes.each_ref().map(|shape| Case::over(shape, stencil));
-    let tested = under_test();
-    println!("{name}; medians in microseconds");
-    let cells_and_records = |case: &Case| format!("{} cells, {} records,", case.scenario.cells, case.records);
-    let reached = |case: &Case| format!("{} reached", case.reached);
-    size_line(&cases, cells_and_records, ("records", |case| case.records));
-    size_line(&cases, reached, ("reached", |case| case.reached));
-    print!("{:<16}", "");
-    for _ in &cases {
-        print!("{:>13}{:>10}{:>10}", tested.name(), "model", "ratio");
+    // Without the engine the model stands in its place.
+    let implementations: Three<&dyn Calls> = [engine().unwrap_or(&Model), &Model, tuned()];
+    let families = families();
+    if env::args().nth(1).as_deref() == Some(COUNT) {
+        // A call that nothing counts goes first, since it pays for what the allocator has to tidy up.
+        let (call, case) = (&CALLS[0], &families[0].cases[0][0]);
+        let _ = (call.make)(case, &Model, &mut (call.lend)(case));
+        tables(&families, |call, case| {
+            for calls in implementations {
+                made(call, case, calls, &mut (call.lend)(case));
+            }
+            Cost::default()
+        });
+        return;
     }
-    println!("{:>12}{:>10}", tested.name(), "model");
-    for (call, time) in CALLS {
-        let times = cases.each_ref().map(|case| [tested, &Model].map(|calls| time(case, calls)));
-        print!("{call:<16}");
-        for [tested, model] in times {
-            print!("{tested:>13.1}{model:>10.1}{:>10.2}", tested / model);
+    let mut counts = counted_instructions().map(Vec::into_iter);
+    // Whatever else the machine does for a while spoils one pass at most.
+    let mut passes = [(); PASSES].map(|()| {
+        let mut times = Vec::new();
+        tables(&families, |call, case| {
+            times.push(least_times(call, case, implementations));
+            Cost::default()
+        });
+        times.into_iter()
+    });
+    let tables = tables(&families, |_, _| {
+        let times = passes.each_mut().map(|times| times.next().expect("a time for each call"));
+        let mut next = || counts.as_mut().map(|counts| counts.next().expect("a count for each call"));
+        Cost {
+            times: [ENGINE, PLAIN, TUNED].map(|which| times.iter().map(|pass| pass[which]).fold(f64::MAX, f64::min)),
+            instructions: implementations.map(|_| next()),
         }
-        let growth = [0, 1].map(|which| format!("×{:.1}", times[2][which] / times[0][which]));
-        println!("{:>12}{:>10}", growth[0], growth[1]);
-    }
-    println!();
+    });
+    print_worst(&tables);
+    tables.iter().for_each(print_table);
 }
 
-/// A heading that says how large each case is, and how much the largest has of something beside the smallest.
-fn size_line(cases: &[Case; 3], size: impl Fn(&Case) -> String, growing: (&str, fn(&Case) -> usize)) {
-    print!("{:<16}", "");
-    for case in cases {
-        print!("{:>33}", size(case));
-    }
-    let (what, count) = growing;
-    let growth = count(&cases[2]) as f64 / count(&cases[0]) as f64;
-    println!("{:>22}", format!("{what} ×{growth:.1}"));
+/// What a call on one input costs: microseconds, and instructions if they are counted.
+#[derive(Default)]
+struct Cost {
+    times: Three<f64>,
+    instructions: Three<Option<f64>>,
 }
 
-/// The inputs of every call at one size.
+impl Cost {
+    fn time_ratio(&self, to: usize) -> Option<f64> {
+        Some(self.times[ENGINE] / self.times[to])
+    }
+
+    fn instruction_ratio(&self, to: usize) -> Option<f64> {
+        Some(self.instructions[ENGINE]? / self.instructions[to]?)
+    }
+}
+
+/// The engine's cost divided by another's.
+type Ratio = fn(&Cost) -> Option<f64>;
+
+const RATIOS: [(&str, Ratio); 4] = [
+    ("time : plain", |cost| cost.time_ratio(PLAIN)),
+    ("time : tuned", |cost| cost.time_ratio(TUNED)),
+    ("instructions : plain", |cost| cost.instruction_ratio(PLAIN)),
+    ("instructions : tuned", |cost| cost.instruction_ratio(TUNED)),
+];
+
+/// The costs on the inputs of a family for one number of parts.
+struct Table<'a> {
+    family: &'a Family,
+    cases: &'a [Case],
+    lines: Vec<Line>,
+}
+
+struct Line {
+    call: &'static Call,
+    /// At each size.
+    costs: Vec<Cost>,
+    /// The power of the work by which the engine's cost grows at the last step of a growing family.
+    growth: Option<f64>,
+}
+
+fn tables(families: &[Family], mut find: impl FnMut(&Call, &Case) -> Cost) -> Vec<Table<'_>> {
+    let mut tables = Vec::new();
+    for family in families {
+        for cases in &family.cases {
+            // One part alone writes and takes nothing.
+            let accepted = |call: &&Call| (call.make)(&cases[0], tuned(), &mut (call.lend)(&cases[0])).is_ok();
+            let mut line = |call: &'static Call| {
+                let costs: Vec<Cost> = cases.iter().map(|case| find(call, case)).collect();
+                let growth = family.grows.then(|| growth(call, cases, &costs));
+                Line { call, costs, growth }
+            };
+            tables.push(Table { family, cases, lines: CALLS.iter().filter(accepted).map(&mut line).collect() });
+        }
+    }
+    tables
+}
+
+fn growth(call: &Call, cases: &[Case], costs: &[Cost]) -> f64 {
+    let cost = |cost: &Cost| cost.instructions[ENGINE].unwrap_or(cost.times[ENGINE]);
+    let last_step = |numbers: &[f64]| (numbers[numbers.len() - 1] / numbers[numbers.len() - 2]).ln();
+    let costs: Vec<f64> = costs.iter().map(cost).collect();
+    let work: Vec<f64> = cases.iter().map(|case| (call.work)(case) as f64).collect();
+    last_step(&costs) / last_step(&work)
+}
+
+/// One accepted call, which is what valgrind counts.
+#[inline(never)]
+fn made(call: &Call, case: &Case, calls: &dyn Calls, lent: &mut [u8]) {
+    black_box((call.make)(case, calls, lent)).expect("an accepted call");
+}
+
+/// The least times of a call in microseconds, each time over a fresh copy of the lent bytes.
+fn least_times(call: &Call, case: &Case, implementations: Three<&dyn Calls>) -> Three<f64> {
+    let left = implementations.map(|calls| {
+        let mut lent = (call.lend)(case);
+        made(call, case, calls, &mut lent);
+        lent
+    });
+    assert!(left.iter().all(|lent| *lent == left[PLAIN]), "{} leaves other bytes", call.name);
+    let clock = (0..1_000).map(|_| Instant::now().elapsed()).min().unwrap_or_default();
+    let mut least = [Duration::MAX; 3];
+    let began = Instant::now();
+    let mut blocks = 0;
+    while blocks < LEAST_BLOCKS || began.elapsed() < TRIED {
+        blocks += 1;
+        for (calls, least) in implementations.into_iter().zip(&mut least) {
+            let block_began = Instant::now();
+            for _ in 0..BLOCK {
+                let mut lent = (call.lend)(case);
+                let call_began = Instant::now();
+                made(call, case, calls, black_box(&mut lent));
+                *least = call_began.elapsed().min(*least);
+                if block_began.elapsed() > LONGEST_BLOCK {
+                    break;
+                }
+            }
+        }
+    }
+    least.map(|time| (time - clock).as_secs_f64() * 1e6)
+}
+
+/// The instructions of each call in the order in which they are made, if there is a valgrind to count them. It writes a
+/// file for each.
+fn counted_instructions() -> Option<Vec<f64>> {
+    let folder = env::temp_dir().join(format!("jemlayos-bench-{}", std::process::id()));
+    fs::create_dir(&folder).expect("a folder for the counts");
+    let counting = Command::new("valgrind")
+        // A pattern serves one option alone, so there are two for the same function.
+        .args([
+            "--tool=callgrind",
+            "--collect-atstart=no",
+            "--toggle-collect=bench::made*",
+            "--dump-after=*bench::made",
+        ])
+        // Else memset and memcpy are instructions that valgrind counts once for each byte.
+        .env(
+            "GLIBC_TUNABLES",
+            "glibc.cpu.x86_rep_stosb_threshold=100000000:glibc.cpu.x86_rep_movsb_threshold=100000000",
+        )
+        .arg(format!("--callgrind-out-file={}/count", folder.display()))
+        .arg(env::current_exe().expect("this program"))
+        .arg(COUNT)
+        .output();
+    let counts = (1..).map_while(|number| {
+        let dump = fs::read_to_string(folder.join(format!("count.{number}"))).ok()?;
+        dump.lines().find_map(|line| line.strip_prefix("totals: ")?.trim().parse().ok())
+    });
+    let counts = counts.collect();
+    fs::remove_dir_all(&folder).expect("the folder of the counts");
+    counting.is_ok_and(|output| output.status.success()).then_some(counts)
+}
+
+/// The first table: the worst of each call over the growing families.
+fn print_worst(tables: &[Table]) {
+    let stack = measured_stack();
+    let worst = |numbers: &mut dyn Iterator<Item = f64>| shown(numbers.reduce(f64::max));
+    print_heads(["call"].into_iter().chain(RATIOS.map(|(name, _)| name)).chain(["growth", "stack, bytes"]));
+    for call in &CALLS {
+        let growing = tables.iter().filter(|table| table.family.grows).flat_map(|table| &table.lines);
+        let lines: Vec<&Line> = growing.filter(|line| line.call.name == call.name).collect();
+        let costs = || lines.iter().flat_map(|line| &line.costs);
+        let mut row = vec![call.name.to_string()];
+        row.extend(RATIOS.map(|(_, ratio)| worst(&mut costs().filter_map(ratio))));
+        row.push(worst(&mut lines.iter().filter_map(|line| line.growth)));
+        row.push(stack.get(call.c_name).map_or("–".to_string(), String::clone));
+        print_row(row);
+    }
+}
+
+fn print_table(table: &Table) {
+    let sizes = |size: fn(&Case) -> usize| joined(table.cases.iter().map(|case| size(case).to_string()));
+    let (cells, records, reached) = (sizes(|c| c.scenario.cells), sizes(|c| c.records), sizes(|c| c.reached));
+    let parts = table.cases[0].scenario.parts;
+    println!("\n{}; P = {parts}; {cells} cells, {records} records, {reached} reached\n", table.family.name);
+    print_heads(["call", "engine, µs"].into_iter().chain(RATIOS.map(|(name, _)| name)).chain(["growth"]));
+    for line in &table.lines {
+        let each = |number: &dyn Fn(&Cost) -> String| joined(line.costs.iter().map(number));
+        let mut row = vec![line.call.name.to_string(), each(&|cost| format!("{:.1}", cost.times[ENGINE]))];
+        row.extend(RATIOS.map(|(_, ratio)| each(&|cost| shown(ratio(cost)))));
+        row.push(shown(line.growth));
+        print_row(row);
+    }
+}
+
+fn print_heads<'a>(heads: impl Iterator<Item = &'a str> + Clone) {
+    print_row(heads.clone().map(str::to_string));
+    print_row(heads.map(|_| "---".to_string()));
+}
+
+fn print_row(row: impl IntoIterator<Item = String>) {
+    println!("| {} |", row.into_iter().collect::<Vec<_>>().join(" | "));
+}
+
+fn joined(numbers: impl Iterator<Item = String>) -> String {
+    numbers.collect::<Vec<_>>().join(" / ")
+}
+
+fn shown(number: Option<f64>) -> String {
+    number.map_or("–".to_string(), |number| format!("{number:.2}"))
+}
+
+/// The bytes of stack of each function of the header, if the program that measures them is named.
+fn measured_stack() -> BTreeMap<String, String> {
+    let Some(program) = env::var_os("JEMLAYOS_STACK") else { return BTreeMap::new() };
+    let printed = Command::new(program).output().expect("the program that measures the stack runs").stdout;
+    let printed = String::from_utf8(printed).expect("text");
+    let name_and_bytes = |line: &str| {
+        let mut words = line.split_whitespace().map(str::to_string);
+        Some((words.next()?, words.next()?))
+    };
+    printed.lines().filter_map(name_and_bytes).collect()
+}
+
+/// Inputs of one kind.
+struct Family {
+    name: &'static str,
+    /// Whether the inputs are the same at growing sizes.
+    grows: bool,
+    /// For each number of parts.
+    cases: [Vec<Case>; 3],
+}
+
+fn families() -> [Family; 4] {
+    let family = |name, grows, stencil: &[u8], shapes: &[Shape]| {
+        let cases = PARTS.map(|parts| shapes.iter().map(|shape| Case::over(shape, stencil, parts)).collect());
+        Family { name, grows, cases }
+    };
+    let rows = [100, 450, 900].map(|cells| Shape::row(cells, 0));
+    let triangles = [[5, 5], [10, 10], [15, 18]].map(|sides| Shape::grid(&sides));
+    let tetrahedra = [2, 3, 4].map(|side| Shape::grid(&[side; 3]));
+    let worst = [Shape::star(89), Shape::dense(150, 80)];
+    [
+        family("Cells in a row, stencil 1 0 1 0 1 0 1", true, &stencil_through(1, &[0; 3]), &rows),
+        family("Triangles in a grid, stencil 2 1 2 1 2", true, &stencil_through(2, &[1; 2]), &triangles),
+        family("Tetrahedra in a grid, stencil 3 2 3 2 3", true, &stencil_through(3, &[2; 2]), &tetrahedra),
+        family(
+            "A star, and cells on the same points, stencil 1 0 1 0 1 0 1 0 1",
+            false,
+            &stencil_through(1, &[0; 4]),
+            &worst,
+        ),
+    ]
+}
+
+/// The inputs of every call at one size, for one number of parts, as the tuned calls make them.
 struct Case {
     scenario: Scenario,
     records: usize,
     /// The sizes of all cells' reaches together.
     reached: usize,
+    /// The part whose calls are measured: a middle one, which imports and exports if there are others.
+    part: u32,
+    /// The sizes of the reaches of the part's own cells together.
+    entries: usize,
     /// The part's state as start left it.
     state: Vec<u8>,
     sender: u32,
@@ -82,81 +320,139 @@ struct Case {
 }
 
 impl Case {
-    fn over(shape: &Shape, stencil: &[u8]) -> Case {
-        let mut scenario = Scenario::over(&mut Random::new(1), shape, PARTS as usize, Deal::Blocks, stencil.to_vec());
+    fn over(shape: &Shape, stencil: &[u8], parts: u32) -> Case {
+        let mut scenario = Scenario::over(&mut Random::new(1), shape, parts as usize, Deal::Blocks, stencil.to_vec());
         scenario.kind = 1;
         scenario.weights = [0, 1].repeat(stencil.len() / 2 + 1);
         let start = |part: u32| {
-            let length = Model.state_size(scenario.part(part)).expect("an accepted size");
+            let length = tuned().state_size(scenario.part(part)).expect("an accepted size");
             let mut state = vec![0; length as usize];
-            Model.start(scenario.part(part), scenario.rule(), &scenario.field, &mut state).expect("a start");
+            tuned().start(scenario.part(part), scenario.rule(), &scenario.field, &mut state).expect("a start");
             state
         };
-        let state = start(PART);
+        let part = parts.div_ceil(2);
+        let state = start(part);
         let mut ready = state.clone();
         let mut last = (0, Vec::new());
-        for other in (1..=PARTS).filter(|&other| other != PART) {
+        for other in (1..=parts).filter(|&other| other != part) {
             let mut message = vec![0; 8 + 4 * scenario.cells];
             // Parts that share nothing have no messages.
-            let _ = Model.write(&mut ready, other, &mut message);
-            if let Ok(length) = Model.write(&mut start(other), PART, &mut message) {
+            let _ = tuned().write(&mut ready, other, &mut message);
+            if let Ok(length) = tuned().write(&mut start(other), part, &mut message) {
                 message.truncate(length as usize);
-                Model.take(&mut ready, &message).expect("a fitting message");
+                tuned().take(&mut ready, &message).expect("a fitting message");
                 last = (other, message);
             }
         }
         let (sender, message) = last;
-        Case { records: shape.records(), reached: reached(&scenario), state, sender, message, ready, scenario }
+        let (records, reached, entries) =
+            (shape.records(), reached(&scenario, |_| true), reached(&scenario, |owner| owner == part));
+        Case { records, reached, entries, part, state, sender, message, ready, scenario }
     }
 
-    fn list(&self, calls: &dyn Calls, list: List) -> f64 {
-        let out = vec![0; self.scenario.mesh.len()];
-        median(&out, |out| calls.list(self.scenario.part(PART), list, out))
+    fn list(&self, calls: &dyn Calls, list: List, out: &mut [u8]) -> Answer {
+        calls.list(self.scenario.part(self.part), list, out)
     }
 }
 
-fn reached(scenario: &Scenario) -> usize {
+/// The sizes of the reaches of some owners' cells together.
+fn reached(scenario: &Scenario, wanted: impl Fn(u32) -> bool) -> usize {
     let mesh = Mesh::read(&scenario.mesh).expect("a mesh");
     let stencil = Stencil::read(&scenario.stencil, mesh.top()).expect("a stencil");
     let reaches = Reaches::find(&mesh, &stencil).expect("reaches within the limit");
-    mesh.cells().map(|cell| reaches.of(cell).len()).sum()
+    let cells = mesh.cells().zip(&scenario.owners).filter(|&(_, &owner)| wanted(owner.into()));
+    cells.map(|(cell, _)| reaches.of(cell).len()).sum()
 }
 
-type Timed = fn(&Case, &dyn Calls) -> f64;
+struct Call {
+    name: &'static str,
+    /// Its name in the header.
+    c_name: &'static str,
+    /// What its cost may grow with.
+    work: fn(&Case) -> usize,
+    /// The bytes that it may change.
+    lend: fn(&Case) -> Vec<u8>,
+    make: fn(&Case, &dyn Calls, &mut [u8]) -> Answer,
+}
 
-const CALLS: [(&str, Timed); 10] = [
-    ("check mesh", |case, calls| median(&[], |_| calls.check_mesh(&case.scenario.mesh))),
-    ("local order", |case, calls| case.list(calls, List::Locals)),
-    ("exposed points", |case, calls| case.list(calls, List::Range(Range::Exposed, 0))),
-    ("undivided round", |case, calls| {
-        let Scenario { mesh, stencil, field, .. } = &case.scenario;
-        median(field, |out| calls.round(mesh, stencil, case.scenario.rule(), field, out))
-    }),
-    ("state size", |case, calls| median(&[], |_| calls.state_size(case.scenario.part(PART)))),
-    ("start", |case, calls| {
-        let Scenario { field, .. } = &case.scenario;
-        median(&case.state, |state| calls.start(case.scenario.part(PART), case.scenario.rule(), field, state))
-    }),
-    ("write", |case, calls| {
-        let out = &mut vec![0; case.message.len() + 4 * case.scenario.cells];
-        median(&case.state, |state| calls.write(state, case.sender, out))
-    }),
-    ("take", |case, calls| median(&case.state, |state| calls.take(state, &case.message))),
-    ("advance", |case, calls| median(&case.ready, |state| calls.advance(state))),
-    ("collect", |case, calls| median(&case.scenario.field, |field| calls.collect(&case.state, 0, field))),
+const CALLS: [Call; 10] = [
+    Call {
+        name: "check mesh",
+        c_name: "jem_check_mesh",
+        work: |case| case.records,
+        lend: |_| Vec::new(),
+        make: |case, calls, _| calls.check_mesh(&case.scenario.mesh),
+    },
+    Call {
+        name: "local order",
+        c_name: "jem_locals",
+        work: |case| case.reached,
+        lend: |case| vec![0; case.scenario.mesh.len()],
+        make: |case, calls, out| case.list(calls, List::Locals, out),
+    },
+    Call {
+        name: "exposed points",
+        c_name: "jem_exposed",
+        work: |case| case.reached,
+        lend: |case| vec![0; case.scenario.mesh.len()],
+        make: |case, calls, out| case.list(calls, List::Range(Range::Exposed, 0), out),
+    },
+    Call {
+        name: "undivided round",
+        c_name: "jem_round",
+        work: |case| case.reached,
+        lend: |case| case.scenario.field.clone(),
+        make: |case, calls, out| {
+            let Scenario { mesh, stencil, field, .. } = &case.scenario;
+            calls.round(mesh, stencil, case.scenario.rule(), field, out)
+        },
+    },
+    Call {
+        name: "state size",
+        c_name: "jem_state_size",
+        work: |case| case.reached,
+        lend: |_| Vec::new(),
+        make: |case, calls, _| calls.state_size(case.scenario.part(case.part)),
+    },
+    Call {
+        name: "start",
+        c_name: "jem_start",
+        work: |case| case.reached,
+        lend: |case| vec![0; case.state.len()],
+        make: |case, calls, state| {
+            calls.start(case.scenario.part(case.part), case.scenario.rule(), &case.scenario.field, state)
+        },
+    },
+    Call {
+        name: "write",
+        c_name: "jem_write",
+        work: |case| case.entries,
+        // The state, and behind it the room for a message.
+        lend: |case| [&case.state[..], &vec![0; 8 + 4 * case.scenario.cells]].concat(),
+        make: |case, calls, lent| {
+            let (state, out) = lent.split_at_mut(case.state.len());
+            calls.write(state, case.sender, out)
+        },
+    },
+    Call {
+        name: "take",
+        c_name: "jem_take",
+        work: |case| case.entries,
+        lend: |case| case.state.clone(),
+        make: |case, calls, state| calls.take(state, &case.message),
+    },
+    Call {
+        name: "advance",
+        c_name: "jem_advance",
+        work: |case| case.entries,
+        lend: |case| case.ready.clone(),
+        make: |_, calls, state| calls.advance(state),
+    },
+    Call {
+        name: "collect",
+        c_name: "jem_collect",
+        work: |case| case.entries,
+        lend: |case| case.scenario.field.clone(),
+        make: |case, calls, field| calls.collect(&case.state, 0, field),
+    },
 ];
-
-/// The median time of an accepted call in microseconds, each time over a fresh copy of the lent bytes.
-fn median(lent: &[u8], mut call: impl FnMut(&mut [u8]) -> Answer) -> f64 {
-    let mut times = Vec::new();
-    let began = Instant::now();
-    while times.len() < REPETITIONS && (times.len() < 5 || began.elapsed() < LONGEST) {
-        let mut lent = lent.to_vec();
-        let call_began = Instant::now();
-        let answer = black_box(call(black_box(&mut lent)));
-        times.push(call_began.elapsed());
-        answer.expect("an accepted call");
-    }
-    times.sort_unstable();
-    times[times.len() / 2].as_secs_f64() * 1e6
-}

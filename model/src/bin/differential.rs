@@ -1,4 +1,4 @@
-//! Compares the engine with the model, call by call: answers and every lent byte.
+//! Compares the engine and the tuned calls with the model, call by call: answers and every lent byte.
 //!
 //! `differential [seed [cases]]`; without a seed it takes one from the clock. Where JEMLAYOS_LIST names a list program,
 //! what that prints is compared too. Exits with 1 on a difference, or where a call was never refused with one of the
@@ -11,7 +11,8 @@ use std::io::Write;
 use std::process::{Command, ExitCode, Stdio};
 use std::time::{Instant, SystemTime, UNIX_EPOCH};
 
-use jemlayos_model::calls::{under_test, Calls, List, Model, PartInput, RuleInput};
+use jemlayos_model::calls::{others, Calls, List};
+use jemlayos_model::compare::Compared;
 use jemlayos_model::generate::damage::{damaged_byte, damaged_bytes, damaged_mesh, long_meshes};
 use jemlayos_model::generate::random::Random;
 use jemlayos_model::generate::scenarios::Scenario;
@@ -26,35 +27,44 @@ fn main() -> ExitCode {
     let clock = || SystemTime::now().duration_since(UNIX_EPOCH).map_or(0, |time| time.as_secs());
     let seed = arguments.next().unwrap_or_else(clock);
     let cases = arguments.next().unwrap_or(2_000);
-    let both =
-        Both { tested: under_test(), list_program: std::env::var_os("JEMLAYOS_LIST"), tally: RefCell::default() };
-    println!("{} against model, seed {seed}, {cases} cases", both.tested.name());
+    let tally = RefCell::<Tally>::default();
+    let told = |call: &'static str, answer: Answer, differences: &[String]| {
+        let mut tally = tally.borrow_mut();
+        tally.count(call, answer.err().map_or(0, Refusal::number));
+        differences.iter().for_each(|difference| tally.differ(difference));
+    };
+    let all = Compared { others: others(), told };
+    let list_program = ListProgram { path: std::env::var_os("JEMLAYOS_LIST"), tally: &tally };
+    for other in &all.others {
+        print!("{} against model, ", other.name());
+    }
+    println!("seed {seed}, {cases} cases");
 
     let began = Instant::now();
     let random = &mut Random::new(seed);
     for (mesh, _) in long_meshes() {
-        let _ = both.check_mesh(&mesh);
+        let _ = all.check_mesh(&mesh);
     }
     for (_, scenario) in Scenario::extremes(random) {
-        try_inputs(&both, random, &scenario);
-        both.compare_listing(&scenario.listing_input());
-        try_run(&both, random, &scenario, 30);
+        try_inputs(&all, random, &scenario);
+        list_program.compare(&scenario.listing_input());
+        try_run(&all, random, &scenario, 30);
     }
     for case in 1..=cases {
-        both.tally.borrow_mut().case = case;
+        tally.borrow_mut().case = case;
         let mesh = damaged_mesh(random, 1 + (case % 7) as u32);
-        let _ = both.check_mesh(&mesh);
+        let _ = all.check_mesh(&mesh);
         let mut scenario = if case % 50 == 0 { Scenario::large(random) } else { Scenario::random(random) };
         if case % 4 > 0 {
-            try_run(&both, random, &scenario, 60);
+            try_run(&all, random, &scenario, 60);
             scenario.damage(random);
         }
-        try_inputs(&both, random, &scenario);
-        try_listing(&both, random, &scenario);
+        try_inputs(&all, random, &scenario);
+        try_listing(&list_program, random, &scenario);
         let forged = traffic::forged_state(random);
-        try_state(&both, random, &forged);
+        try_state(&all, random, &forged);
     }
-    both.tally.into_inner().report(began.elapsed().as_secs_f64())
+    tally.into_inner().report(began.elapsed().as_secs_f64())
 }
 
 const MOST_SHOWN: u64 = 20;
@@ -124,46 +134,16 @@ impl Tally {
     }
 }
 
-/// Makes each call on the tested one and on the model, over buffers of their own, and leaves what the model left.
-struct Both<'a> {
-    tested: &'a dyn Calls,
-    list_program: Option<OsString>,
-    tally: RefCell<Tally>,
+/// The list program, if one is named.
+struct ListProgram<'a> {
+    path: Option<OsString>,
+    tally: &'a RefCell<Tally>,
 }
 
-impl Both<'_> {
-    /// `lent` are the buffers that the call may change.
-    fn compare<const N: usize>(
-        &self,
-        call: &'static str,
-        lent: [&mut [u8]; N],
-        make: impl Fn(&dyn Calls, [&mut [u8]; N]) -> Answer,
-    ) -> Answer {
-        let before = lent.each_ref().map(|buffer| buffer.to_vec());
-        let mut found = before.clone();
-        let tested = make(self.tested, found.each_mut().map(Vec::as_mut_slice));
-        let mut expected = before.clone();
-        let answer = make(&Model, expected.each_mut().map(Vec::as_mut_slice));
-
-        let mut tally = self.tally.borrow_mut();
-        tally.count(call, answer.err().map_or(0, Refusal::number));
-        if answer.is_err() {
-            assert_eq!(expected, before, "the model's refusal of {call} changed a byte");
-        }
-        if tested != answer || found != expected {
-            let first = |a: &Vec<u8>, b: &Vec<u8>| a.iter().zip(b).position(|(a, b)| a != b);
-            let bytes: Vec<_> = found.iter().zip(&expected).map(|(a, b)| first(a, b)).collect();
-            tally.differ(&format!("{call}: {tested:?} for {answer:?}, first different bytes {bytes:?}"));
-        }
-        for (buffer, expected) in lent.into_iter().zip(expected) {
-            buffer.copy_from_slice(&expected);
-        }
-        answer
-    }
-
+impl ListProgram<'_> {
     /// What the list program prints; a program that stops reading early is no difference.
-    fn compare_listing(&self, input: &[u8]) {
-        let Some(program) = &self.list_program else {
+    fn compare(&self, input: &[u8]) {
+        let Some(program) = &self.path else {
             return;
         };
         let mut child =
@@ -177,48 +157,6 @@ impl Both<'_> {
         if found != expected.as_bytes() {
             tally.differ(&format!("list program: {:?} for {expected:?}", String::from_utf8_lossy(&found)));
         }
-    }
-}
-
-impl Calls for Both<'_> {
-    fn name(&self) -> &'static str {
-        "both"
-    }
-
-    fn check_mesh(&self, mesh: &[u8]) -> Answer {
-        self.compare("check mesh", [], |calls, []| calls.check_mesh(mesh))
-    }
-
-    fn list(&self, input: PartInput, list: List, out: &mut [u8]) -> Answer {
-        self.compare(list.name(), [out], |calls, [out]| calls.list(input, list, out))
-    }
-
-    fn round(&self, mesh: &[u8], stencil: &[u8], rule: RuleInput, field: &[u8], out: &mut [u8]) -> Answer {
-        self.compare("round", [out], |calls, [out]| calls.round(mesh, stencil, rule, field, out))
-    }
-
-    fn state_size(&self, input: PartInput) -> Answer {
-        self.compare("state size", [], |calls, []| calls.state_size(input))
-    }
-
-    fn start(&self, input: PartInput, rule: RuleInput, field: &[u8], state: &mut [u8]) -> Answer {
-        self.compare("start", [state], |calls, [state]| calls.start(input, rule, field, state))
-    }
-
-    fn write(&self, state: &mut [u8], to: u32, out: &mut [u8]) -> Answer {
-        self.compare("write", [state, out], |calls, [state, out]| calls.write(state, to, out))
-    }
-
-    fn take(&self, state: &mut [u8], message: &[u8]) -> Answer {
-        self.compare("take", [state], |calls, [state]| calls.take(state, message))
-    }
-
-    fn advance(&self, state: &mut [u8]) -> Answer {
-        self.compare("advance", [state], |calls, [state]| calls.advance(state))
-    }
-
-    fn collect(&self, state: &[u8], round: u32, field: &mut [u8]) -> Answer {
-        self.compare("collect", [field], |calls, [field]| calls.collect(state, round, field))
     }
 }
 
@@ -266,7 +204,7 @@ fn try_inputs(calls: &dyn Calls, random: &mut Random, scenario: &Scenario) {
 }
 
 /// The list program's input as it is, cut, damaged, or as long as it may be and longer.
-fn try_listing(both: &Both, random: &mut Random, scenario: &Scenario) {
+fn try_listing(list_program: &ListProgram, random: &mut Random, scenario: &Scenario) {
     let mut input = scenario.listing_input();
     match random.below(6) {
         0 => input.truncate(random.below(input.len())),
@@ -274,7 +212,7 @@ fn try_listing(both: &Both, random: &mut Random, scenario: &Scenario) {
         2 => input.resize(listing::LONGEST_INPUT + random.below(2), 0),
         _ => {}
     }
-    both.compare_listing(&input);
+    list_program.compare(&input);
 }
 
 /// Random calls on the parts of a run, whose rounds a full exchange brings on now and then.

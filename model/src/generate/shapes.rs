@@ -50,6 +50,13 @@ impl Shape {
         Shape::of_simplices(&(1..=cells).map(|i| vec![0, i]).collect::<Vec<_>>())
     }
 
+    /// Cells that all have the same points.
+    pub fn dense(points: usize, cells: usize) -> Shape {
+        let mut chains = vec![Vec::new(); points];
+        chains.resize(points + cells, (1..=points).collect());
+        Shape { top: 1, counts: [points, cells, 0, 0], chains }
+    }
+
     /// A grid of squares or cubes, each cut into simplices along its diagonal: two triangles or six tetrahedra.
     pub fn grid(sides: &[usize]) -> Shape {
         let orders: &[&[usize]] = match sides.len() {

@@ -1,0 +1,218 @@
+//! The calls over a state. The test for its form (number 20) goes over each list once.
+
+use super::rule::{depths_fit, Rule};
+use crate::bytes::{needed, put_word, word};
+use crate::calls::RuleInput;
+use crate::mesh::MOST_ELEMENTS;
+use crate::refusal::{Answer, Refusal};
+use crate::split::MOST_PARTS;
+use crate::state::{part_range, Local, Sizes, EXPORT_ENDS, GLOBALS, IMPORT_ENDS, LAST_ROUND};
+use crate::walks::MOST_STEPS;
+
+/// What an accepted state says of itself.
+struct State {
+    part: usize,
+    rule: Rule,
+    first_cell: u16,
+    cells: usize,
+    round: usize,
+    sizes: Sizes,
+}
+
+/// The lists of a state, cut out of its bytes.
+struct Lists<'a> {
+    import_ends: &'a [[u8; 2]],
+    export_ends: &'a [[u8; 2]],
+    globals: &'a [[u8; 2]],
+    reach_ends: &'a [[u8; 2]],
+    /// A local number and a layer each.
+    entries: &'a [[u8; 4]],
+    exports: &'a [[u8; 2]],
+    flags: &'a [u8],
+    depths: &'a [[u8; 4]],
+}
+
+fn number(word: [u8; 2]) -> usize {
+    u16::from_be_bytes(word).into()
+}
+
+impl<'a> Lists<'a> {
+    fn of(bytes: &'a [u8], sizes: &Sizes) -> Self {
+        let (lists, rest) = bytes[..sizes.length()].split_at(2 * sizes.words());
+        let (front, lists) = lists.split_at(2 * sizes.entry(0));
+        let (entries, exports) = lists.split_at(4 * sizes.entries);
+        let front = front.as_chunks().0;
+        Lists {
+            import_ends: &front[IMPORT_ENDS..EXPORT_ENDS],
+            export_ends: &front[EXPORT_ENDS..GLOBALS],
+            globals: &front[GLOBALS..sizes.reach_ends()],
+            reach_ends: &front[sizes.reach_ends()..],
+            entries: entries.as_chunks().0,
+            exports: exports.as_chunks().0,
+            flags: &rest[2..2 + 2 * MOST_PARTS],
+            depths: rest[2 + 2 * MOST_PARTS..].as_chunks().0,
+        }
+    }
+
+    /// The entries of each owned cell's reach; none for one whose ends do not fit.
+    fn reaches(&self) -> impl Iterator<Item = Option<&'a [[u8; 4]]>> + '_ {
+        self.reach_ends.windows(2).map(|ends| self.entries.get(number(ends[0])..number(ends[1])))
+    }
+
+    fn depth(&self, local: usize) -> [u8; 4] {
+        self.depths[local - 1]
+    }
+}
+
+impl State {
+    fn read(bytes: &[u8]) -> Answer<(State, Lists<'_>)> {
+        State::accepted(bytes).ok_or(Refusal::State)
+    }
+
+    fn accepted(bytes: &[u8]) -> Option<(State, Lists<'_>)> {
+        let (owned, held) = (word(bytes, IMPORT_ENDS), word(bytes, IMPORT_ENDS + MOST_PARTS));
+        let mut sizes = Sizes { owned, held, entries: 0, exports: word(bytes, EXPORT_ENDS + MOST_PARTS) };
+        sizes.entries = word(bytes, sizes.reach_ends() + owned);
+        let fits = word(bytes, 0) == sizes.words() && bytes.len() >= sizes.length() && held <= MOST_ELEMENTS;
+        let steps = word(bytes, 2);
+        if !fits || !steps.is_multiple_of(2) || steps > MOST_STEPS {
+            return None;
+        }
+        let kind = word(bytes, 3) as u32;
+        let weights = if kind == 1 { &bytes[8..8 + steps + 2] } else { &[] };
+        let state = State {
+            part: word(bytes, 1),
+            rule: Rule::read(RuleInput { kind, weights }, steps).ok()?,
+            first_cell: word(bytes, 9) as u16,
+            cells: word(bytes, 10),
+            round: word(bytes, sizes.round()),
+            sizes,
+        };
+        let lists = Lists::of(bytes, &state.sizes);
+        let whole = (1..=MOST_PARTS).contains(&state.part)
+            && rises(lists.import_ends)
+            && rises(lists.export_ends)
+            && number(lists.export_ends[0]) == 0
+            && all_below(lists.globals, state.first_cell, state.cells)
+            && state.has_reaches(&lists, steps)
+            && all_below(lists.exports, 1, state.sizes.owned)
+            && state.round <= LAST_ROUND
+            && lists.flags.iter().fold(true, |all, &flag| all & (flag <= 1))
+            && depths_fit(lists.depths);
+        whole.then_some((state, lists))
+    }
+
+    /// The reaches follow each other and have all entries, so one pass tests these and finds each cell's own.
+    fn has_reaches(&self, lists: &Lists, steps: usize) -> bool {
+        let (held, steps) = (self.sizes.held as u32, steps as u32);
+        number(lists.reach_ends[0]) == 0
+            && (1..).zip(lists.reaches()).all(|(local, reach)| {
+                let (mut fits, mut has_own) = (reach.is_some(), false);
+                for &entry in reach.unwrap_or_default() {
+                    let entry = u32::from_be_bytes(entry);
+                    let (cell, layer) = (entry >> 16, entry & 0xffff);
+                    fits &= (cell.wrapping_sub(1) < held) & (layer % 2 == 0) & (layer <= steps);
+                    has_own |= entry == local << 16;
+                }
+                fits & has_own
+            })
+    }
+}
+
+fn rises(ends: &[[u8; 2]]) -> bool {
+    ends.iter().zip(&ends[1..]).fold(true, |all, (&a, &b)| all & (number(a) <= number(b)))
+}
+
+/// Whether all words are among the `count` numbers from `first` on.
+fn all_below(words: &[[u8; 2]], first: u16, count: usize) -> bool {
+    words.iter().fold(true, |all, &word| all & (number(word).wrapping_sub(first.into()) < count))
+}
+
+/// The message to a part that imports from here; its length in bytes.
+pub fn write(bytes: &mut [u8], to: u32, out: &mut [u8]) -> Answer {
+    let (state, lists) = State::read(bytes)?;
+    let to = to as usize;
+    let exports = &lists.exports[part_range(bytes, EXPORT_ENDS, to)];
+    if exports.is_empty() {
+        return Err(Refusal::Receiver);
+    }
+    let out = needed(out, 8 + 4 * exports.len())?;
+    for (i, number) in [state.part, to, state.round, exports.len()].into_iter().enumerate() {
+        put_word(out, i, number);
+    }
+    for (depth, &local) in out[8..].as_chunks_mut().0.iter_mut().zip(exports) {
+        *depth = lists.depth(number(local));
+    }
+    bytes[state.sizes.written(to)] = 1;
+    Ok(out.len() as u32)
+}
+
+/// Takes a message into the imports from its sender.
+pub fn take(bytes: &mut [u8], message: &[u8]) -> Answer {
+    let (_, body) = message.split_at_checked(8).ok_or(Refusal::Message)?;
+    let (depths, []) = body.as_chunks() else { return Err(Refusal::Message) };
+    if depths.len() != word(message, 3) || !depths_fit(depths) {
+        return Err(Refusal::Message);
+    }
+    let (state, _) = State::read(bytes)?;
+    let from = word(message, 0);
+    let imports = part_range(bytes, IMPORT_ENDS, from);
+    if word(message, 1) != state.part || imports.is_empty() || imports.len() != depths.len() {
+        return Err(Refusal::Sender);
+    }
+    if word(message, 2) != state.round {
+        return Err(Refusal::MessageRound);
+    }
+    let taken = state.sizes.taken(from);
+    if bytes[taken] == 1 {
+        return Err(Refusal::AlreadyTaken);
+    }
+    bytes[taken] = 1;
+    let first = state.sizes.depth(Local(imports.start + 1));
+    bytes[first..first + body.len()].copy_from_slice(body);
+    Ok(0)
+}
+
+/// Makes a round of the owned cells; `new` is room for their depths.
+pub fn advance(bytes: &mut [u8], new: &mut Vec<[u8; 4]>) -> Answer {
+    let (state, lists) = State::read(bytes)?;
+    let all_done = |ends: &[[u8; 2]], flags: &[u8]| {
+        ends.windows(2).zip(flags).all(|(ends, &flag)| ends[0] == ends[1] || flag == 1)
+    };
+    let (taken, written) = lists.flags.split_at(MOST_PARTS);
+    if !all_done(lists.import_ends, taken) {
+        return Err(Refusal::NotTaken);
+    }
+    if !all_done(lists.export_ends, written) {
+        return Err(Refusal::NotWritten);
+    }
+    if state.round == LAST_ROUND {
+        return Err(Refusal::LastRound);
+    }
+    let depth = |local: usize| i32::from_be_bytes(lists.depth(local));
+    new.clear();
+    new.extend((1..).zip(lists.reaches().flatten()).map(|(local, reach)| {
+        let entries = reach.iter().map(|&entry| u32::from_be_bytes(entry));
+        let reach = entries.map(|entry| (entry as u16, depth((entry >> 16) as usize)));
+        state.rule.new_depth(depth(local), reach).to_be_bytes()
+    }));
+    let (first, new) = (state.sizes.depth(Local(1)), new.as_flattened());
+    bytes[first..first + new.len()].copy_from_slice(new);
+    put_word(bytes, state.sizes.round(), state.round + 1);
+    bytes[state.sizes.flags()].fill(0);
+    Ok(0)
+}
+
+/// Puts the owned depths into a field; their count.
+pub fn collect(bytes: &[u8], round: u32, field: &mut [u8]) -> Answer {
+    let (state, lists) = State::read(bytes)?;
+    if round as usize != state.round {
+        return Err(Refusal::OtherRound);
+    }
+    let field = needed(field, 4 * state.cells)?.as_chunks_mut().0;
+    let first = usize::from(state.first_cell);
+    for (&global, &depth) in lists.globals[..state.sizes.owned].iter().zip(lists.depths) {
+        field[number(global) - first] = depth;
+    }
+    Ok(state.sizes.owned as u32)
+}
