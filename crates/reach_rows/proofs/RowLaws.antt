@@ -13,12 +13,13 @@ use borrow.Author.Tests.{eqb-true, eqb-false, eq-eqb, ne-eqb, lt-ltb}
 use Rattle.vocabulary.specs.Bytes.{Bytes, byteAt}
 use Rattle.vocabulary.specs.Ranges.{isUpTo, every, some, picked}
 use Rattle.vocabulary.specs.RangeLaws.{upTo-true, every-at, some-cong, some-has, some-in, some-witness, picked-all, picked-in, picked-passes, picked-yes, picked-no, some-next, picked-some, some-swap, at-last}
-use Rattle.vocabulary.specs.Lists.{isIn, someOf}
+use Rattle.vocabulary.specs.Lists.{isIn, someOf, All}
 use Rattle.vocabulary.specs.ListLaws.{same-test, and-true, and-intro, or-nothing, or-assoc, or-always, and-right, All-intro, isIn-at, at-isIn, someOf-has, someOf-witness, someOf-cong, isIn-some}
 use Rattle.mesh.specs.Mesh.{counted, below, firstCell, cellCount}
 use Rattle.mesh.specs.Walks.{incident, steps, stepTo, stepsTo, walked}
 use Rattle.mesh.specs.Accepted.{Cell}
-use Rattle.walks.specs.Walking.{firstMark, layerMark, walkedFrom, Cells, Walk}
+use Rattle.walks.specs.Walking.{Ground, firstMark, layerMark, walkedFrom, Cells, Walk}
+use Rattle.walks.proofs.WalkLaws.{cell-layer}
 use Rattle.reach_rows.specs.Rows.{walkedTo, reachMark, rowMarks, Marks, layerAt, layersAt, layerOf, rowCells, Rowed, rowReach, Site, Space, Swept}
 use Rattle.walks.proofs.GroundLaws.{steps-is}
 use Rattle.mesh.proofs.MeetLaws.{under-none}
@@ -152,15 +153,17 @@ module _ (m st : Bytes) (cs : List ℕ) where
   walked-some zero z = isIn-some z cs
   walked-some (suc k) z = step-some (byteAt st (suc k)) (walkedFrom m st cs k) (λ c. walked m st c k) (walked-some k) z
 
-  -- by some number of steps
-  reach-some : (n z : ℕ) → n ≡ steps st → not (eqb (layerMark m st cs n z) 0) ≡ someOf cs (λ c. walkedTo m st c z)
-  unfolding layerMark walkedTo stepsTo
-  reach-some n z e =
-      marked-by (picked 0 (n + 1) (λ j. isIn z (walkedFrom m st cs j)))
+  -- a cell is reached by some number of steps
+  reach-some : (cell prev last : List ℕ) (n z : ℕ) → Ground m st cell prev last → All (Cell m) cs → Cell m z → n + 1 ≡ length st
+      → not (eqb (layerMark m st cs n z) 0) ≡ someOf cs (λ c. walkedTo m st c z)
+  unfolding walkedTo stepsTo
+  reach-some cell prev last n z G C c ne =
+      ap (λ x. not (eqb x 0)) (cell-layer m st cell prev last cs n z G C (omega (arith, ne)) c)
+      ∙ marked-by (picked 0 (n + 1) (λ j. isIn z (walkedFrom m st cs j)))
       ∙ picked-some 0 (λ j. isIn z (walkedFrom m st cs j)) (n + 1)
       ∙ some-cong 0 (λ j. isIn z (walkedFrom m st cs j)) (λ j. someOf cs (λ c. isIn z (walked m st c j))) (n + 1) (λ i h. walked-some (0 + i) z)
       ∙ some-swap 0 (n + 1) cs (λ j c. isIn z (walked m st c j))
-      ∙ someOf-cong _ _ cs (All-intro _ cs 0 (λ l h. sym (picked-some 0 (λ j. isIn z (walked m st (getD cs l 0) j)) (n + 1)) ∙ ap (λ x. ltb 0 (length (picked 0 (x + 1) (λ j. isIn z (walked m st (getD cs l 0) j))))) e))
+      ∙ someOf-cong _ _ cs (All-intro _ cs 0 (λ l h. sym (picked-some 0 (λ j. isIn z (walked m st (getD cs l 0) j)) (n + 1)) ∙ ap (λ x. ltb 0 (length (picked 0 (x + 1) (λ j. isIn z (walked m st (getD cs l 0) j))))) (steps-is st n ne)))
 
 -- ---- a row's reach
 
@@ -191,16 +194,16 @@ module _ (m st : Bytes) (cell prev last : List ℕ) (e r first cells n : ℕ) (S
         row : take s from ≡ rowCells (firstCell m) rows i (cellCount m)
         row = R .cells ∙ ap₂ (λ x y. rowCells x rows i y) (S .first-is) (S .cells-is)
 
-        each : (z q : ℕ) → layerAt layers first (2000 * i) z q ≡ eqb (2000 * i + q) z && someOf (rowCells (firstCell m) rows i (cellCount m)) (λ c. walkedTo m st c (firstCell m + q))
-        each z q =
+        each : (z q : ℕ) → q < cellCount m → layerAt layers first (2000 * i) z q ≡ eqb (2000 * i + q) z && someOf (rowCells (firstCell m) rows i (cellCount m)) (λ c. walkedTo m st c (firstCell m + q))
+        each z q h =
             unfold layerAt in ap (λ x. eqb (2000 * i + q) z && x)
             (ap (λ x. not (eqb (getD layers (x + q) 0) 0)) (S .first-is) ∙ ap (λ x. not (eqb x 0)) (W .layered (firstCell m + q))
-            ∙ reach-some m st (take s from) n (firstCell m + q) (steps-is st n (S .n-is)) ∙ ap (λ cs. someOf cs (λ c. walkedTo m st c (firstCell m + q))) row)
+            ∙ reach-some m st (take s from) cell prev last n (firstCell m + q) (S .ground) (row-starts i s from R .each) (record { low = omega arith; high = omega arith }) (S .n-is) ∙ ap (λ cs. someOf cs (λ c. walkedTo m st c (firstCell m + q))) row)
 
         same : (z : ℕ) → layersAt layers first (2000 * i) cells z ≡ rowReach m st rows i z
         same z =
             unfold layersAt rowReach in ap (λ k. some 0 k (layerAt layers first (2000 * i) z)) (S .cells-is)
-            ∙ some-cong 0 (layerAt layers first (2000 * i) z) (λ q. eqb (2000 * i + q) z && someOf (rowCells (firstCell m) rows i (cellCount m)) (λ c. walkedTo m st c (firstCell m + q))) (cellCount m) (λ q h. each z (0 + q))
+            ∙ some-cong 0 (layerAt layers first (2000 * i) z) (λ q. eqb (2000 * i + q) z && someOf (rowCells (firstCell m) rows i (cellCount m)) (λ c. walkedTo m st c (firstCell m + q))) (cellCount m) (λ q h. each z (0 + q) (omega arith))
 
     -- ---- all rows
 

@@ -6,19 +6,21 @@ use Prim.Native.Nat.{ℕ, zero, suc, _+_, _-_, _*_, _/_, _≤_, _<_}
 use native.Mathlib.Nat.{zero-add}
 use native.Mathlib.Omega.{arith}
 use lib.Dec.{eqb, leb, ltb}
-use borrow.Author.Tests.{eqb-true, eqb-false, eq-eqb, ne-eqb, lt-ltb, leb-true, leb-false}
+use borrow.Author.Tests.{eqb-true, eqb-false, eq-eqb, ne-eqb, lt-ltb, leb-true, leb-false, ltb-true, ltb-false}
 use lib.Seq.{getD-set-same, getD-set-other, take-suc-set}
 use lib.ListN.{length, getD, set, take, length-append}
 use Rattle.vocabulary.specs.Bytes.{Bytes, byteAt}
 use Rattle.vocabulary.specs.Ranges.{picked, blocks, total}
 use Rattle.vocabulary.specs.RangeLaws.{blocks-turn, total-grows, picked-cong, blocks-part}
-use Rattle.vocabulary.specs.Lists.{isIn, joined}
+use Rattle.vocabulary.specs.Lists.{isIn, joined, Zeros}
 use Rattle.vocabulary.specs.ListLaws.{map-append}
 use Rattle.mesh.specs.Mesh.{firstCell, cellCount}
 use Rattle.mesh.specs.Walks.{Near, steps, stepsTo, layer, reach, stepTo, walked}
-use Rattle.walks.specs.Walking.{firstMark, layerMark, walkedFrom, Walk, Within, Cells}
+use Rattle.walks.specs.Walking.{Ground, firstMark, layerMark, walkedFrom, Walk, Within, Cells}
+use Rattle.walks.proofs.WalkLaws.{cell-layer}
+use Rattle.walks.proofs.GroundLaws.{steps-is}
 use Rattle.mesh.specs.Accepted.{Accepted, Cell}
-use Rattle.reaches.specs.Tables.{placed, cellWords, tableWords, entryCount, capped, row, Emitted, Ends, Tabled}
+use Rattle.reaches.specs.Tables.{placed, cellWords, tableWords, entryCount, capped, row, Cleared, Emitted, Ends, Tabled}
 use Rattle.reaches.proofs.TableLaws.{capped-low, capped-high, capped-few, emit-none, emit-both}
 
 pub joined-append : {A : Type 0} (xs ys : List (List A)) → joined (xs ++ ys) ≡ joined xs ++ joined ys
@@ -26,7 +28,7 @@ unfolding joined
 joined-append [] ys = refl
 joined-append (x ∷ xs) ys = ap (λ r. x ++ r) (joined-append xs ys) ∙ sym (append-assoc x (joined xs) (joined ys))
 
-module _ (m st : Bytes) (c first : ℕ) (layers : List ℕ) (marked : (z : ℕ) → getD layers z 0 ≡ firstMark (stepsTo m st c z)) where
+module _ (m st : Bytes) (c first : ℕ) (layers : List ℕ) (cells : ℕ) (marked : (j : ℕ) → j < cells → getD layers (first + j) 0 ≡ firstMark (stepsTo m st c (first + j))) where
   abbrev near : ℕ → Near
   near x = record { cell = x; layer = layer m st c x }
 
@@ -43,10 +45,10 @@ module _ (m st : Bytes) (c first : ℕ) (layers : List ℕ) (marked : (z : ℕ) 
       ap (λ b. cond b [] (j ∷ (k + 1 - 1) ∷ [])) (ne-eqb (k + 1) 0 (omega arith)) ∙ ap (λ x. j ∷ x ∷ []) (q ∙ e)
       ∙ sym (ap (λ b. cond b (j ∷ l ∷ []) []) (lt-ltb 0 (suc (length ks)) (omega arith)))
 
-  one-row : (j : ℕ) → row layers first j ≡ joined (map (placed first) (map near (cond (reached (first + j)) ((first + j) ∷ []) [])))
+  one-row : (j : ℕ) → j < cells → row layers first j ≡ joined (map (placed first) (map near (cond (reached (first + j)) ((first + j) ∷ []) [])))
   unfolding row layer joined placed
-  one-row j =
-      ap (λ x. cond (eqb x 0) [] (j ∷ (x - 1) ∷ [])) (marked (first + j))
+  one-row j h =
+      ap (λ x. cond (eqb x 0) [] (j ∷ (x - 1) ∷ [])) (marked j h)
       ∙ by-steps j (layer m st c (first + j)) (stepsTo m st c (first + j)) refl
       ∙ go (reached (first + j))
     where
@@ -57,11 +59,11 @@ module _ (m st : Bytes) (c first : ℕ) (layers : List ℕ) (marked : (z : ℕ) 
       go true = ap (λ x. x ∷ layer m st c (first + j) ∷ []) (sym p)
       go false = refl
 
-  rows-are : (j : ℕ) → blocks 0 j (row layers first) ≡ joined (map (placed first) (map near (picked first j reached)))
+  rows-are : (j : ℕ) → j ≤ cells → blocks 0 j (row layers first) ≡ joined (map (placed first) (map near (picked first j reached)))
   unfolding blocks picked joined
-  rows-are zero = refl
-  rows-are (suc j) =
-      ap₂ _++_ (rows-are j) (ap (row layers first) (zero-add j) ∙ one-row j)
+  rows-are zero h = refl
+  rows-are (suc j) h =
+      ap₂ _++_ (rows-are j (omega arith)) (ap (row layers first) (zero-add j) ∙ one-row j (omega arith))
       ∙ sym (joined-append (map (placed first) (map near (picked first j reached))) (map (placed first) (map near (cond (reached (first + j)) ((first + j) ∷ []) []))))
       ∙ ap joined (sym (ap (map (placed first)) (map-append near (picked first j reached) _) ∙ map-append (placed first) (map near (picked first j reached)) _))
 
@@ -78,18 +80,20 @@ pub one-cell : (m : Bytes) (from after : List ℕ) (c : ℕ) → Cell m c → le
 one-cell m from after c C r f = record { each = rw (front from after c r f) (C, tt); count = ap length (front from after c r f) }
 
 -- a cell's walks done, its words are written
-module _ (m st : Bytes) (c n v k low high first : ℕ) (cs marks from layers : List ℕ) (W : Walk m st cs n v marks from layers k) (one : cs ≡ c ∷ [])
-    (I : Within m layers low high) (ne : n ≡ steps st) (fe : first ≡ firstCell m) where
-  mark : (z : ℕ) → getD layers z 0 ≡ firstMark (stepsTo m st c z)
-  mark z =
+module _ (m st : Bytes) (cell prev last : List ℕ) (c n v k low high first : ℕ) (cs marks from layers : List ℕ) (G : Ground m st cell prev last) (C : Cell m c) (W : Walk m st cs n v marks from layers k)
+    (one : cs ≡ c ∷ []) (I : Within m layers low high) (h : n + 1 ≡ length st) (fe : first ≡ firstCell m) where
+  mark : (j : ℕ) → j < cellCount m → getD layers (first + j) 0 ≡ firstMark (stepsTo m st c (first + j))
+  mark j l =
+      let z : ℕ = first + j in
       W .layered z ∙ ap (λ cs. layerMark m st cs n z) one
-      ∙ (unfold layerMark stepsTo in ap firstMark (picked-cong 0 _ _ (n + 1) (λ j h. ap (isIn z) (one-start m st c (0 + j))) ∙ ap (λ x. picked 0 (x + 1) (λ j. isIn z (walked m st c j))) ne))
+      ∙ cell-layer m st cell prev last (c ∷ []) n z G (C, tt) (omega arith) (record { low = omega arith; high = omega arith })
+      ∙ (unfold stepsTo in ap firstMark (picked-cong 0 _ _ (n + 1) (λ j h. ap (isIn z) (one-start m st c (0 + j))) ∙ ap (λ x. picked 0 (x + 1) (λ j. isIn z (walked m st c j))) (steps-is st n h)))
 
   words-are : blocks (low - first) (high - low) (row layers first) ≡ cellWords m st c
   unfolding cellWords reach
   words-are =
-      sym (blocks-part (row layers first) (low - first) (high - low) (cellCount m) fits (λ i h. bare i (I .before (first + i) (omega arith) (omega (arith, I .starts)))) (λ i h l. bare i (I .after (first + i) (omega arith) (omega (arith, I .starts)))))
-      ∙ rows-are m st c first layers mark (cellCount m)
+      sym (blocks-part (row layers first) (low - first) (high - low) (cellCount m) fits (λ i h. bare i (I .before (first + i) (omega (arith, I .starts)))) (λ i h l. bare i (I .after (first + i) (omega (arith, I .starts)))))
+      ∙ rows-are m st c first layers (cellCount m) mark (cellCount m) (omega arith)
       ∙ ap (λ a. joined (map (placed a) (map (λ x. record { cell = x; layer = layer m st c x }) (picked a (cellCount m) (λ x. ltb 0 (length (stepsTo m st c x))))))) fe
     where
       fits : low - first + (high - low) ≤ cellCount m
@@ -100,6 +104,15 @@ module _ (m st : Bytes) (c n v k low high first : ℕ) (cs marks from layers : L
 
   pub emitted-cell : (s t : ℕ) (before after : Bytes) → Emitted before after s t (blocks (low - first) (high - low) (row layers first)) → Emitted before after s t (cellWords m st c)
   emitted-cell s t before after E = subst (Emitted before after s t) words-are E
+
+-- and its layers are cleared
+pub all-clear : (m : Bytes) (low high : ℕ) (layers after : List ℕ) → length layers ≡ 2001 → Within m layers low high → Cleared low high layers after → Zeros 2001 after
+all-clear m low high layers after r I C = record { size = C .size ∙ r; each = λ z. go z (ltb z low) refl (ltb z high) refl }
+  where
+    go : (z : ℕ) (a : Bool) → ltb z low ≡ a → (b : Bool) → ltb z high ≡ b → getD after z 0 ≡ 0
+    go z true p b q = let l : z < low = ltb-true z low p in C .lower z l ∙ I .before z l
+    go z false p true q = C .inside z (ltb-false z low p) (ltb-true z high q)
+    go z false p false q = let l : high ≤ z = ltb-false z high q in C .upper z l ∙ I .after z l
 
 words-length : (first : ℕ) (es : List Near) → length (joined (map (placed first) es)) ≡ 2 * length es
 unfolding joined placed
@@ -120,7 +133,7 @@ table-count m st (suc n) = omega (arith, length-append (blocks (firstCell m) n (
 pub first-small : (m : Bytes) (first : ℕ) → Accepted m → first ≡ firstCell m → first < 65536
 first-small m first A e = omega (arith, A .cells-in, A .sizes .n-high)
 
-pub high-small : (m : Bytes) (layers : List ℕ) (low high : ℕ) → Accepted m → Within m layers low high → high < 65536
+pub high-small : (m : Bytes) (layers : List ℕ) (low high : ℕ) → Accepted m → Within m layers low high → high ≤ 2001
 high-small m layers low high A I = omega (arith, I .stops, A .cells-in, A .sizes .n-high)
 
 -- ---- the loop over the cells

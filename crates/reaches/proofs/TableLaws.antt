@@ -4,16 +4,17 @@ use mathlib.Core.Bool.{Bool, true, false, cond}
 use mathlib.Core.List.{List, [], _∷_, _++_}
 use Prim.Native.Nat.{ℕ, _+_, _-_, _*_, _/_, _≤_, _<_}
 use native.Mathlib.Omega.{arith}
-use lib.Dec.{leb}
-use lib.ListN.{length, getD, length-append}
-use borrow.Author.Tests.{eq-eqb, ne-eqb, le-leb, lt-leb, leb-true, leb-false}
+use lib.Dec.{eqb, leb, ltb}
+use lib.ListN.{length, getD, set, length-append, length-set}
+use lib.Seq.{getD-set-same, getD-set-other}
+use borrow.Author.Tests.{eqb-true, eqb-false, eq-eqb, ne-eqb, le-leb, lt-leb, leb-true, leb-false, ltb-true, ltb-false}
 use Rattle.vocabulary.specs.Bytes.{Bytes, over}
 use Rattle.vocabulary.specs.ByteLaws.{over-none, over-more, over-length}
 use Rattle.vocabulary.specs.Ranges.{blocks}
 use Rattle.vocabulary.specs.RangeLaws.{blocks-turn, at-last}
 use Rattle.layout.specs.Words.{wordBytes, bytesOf}
 use Rattle.layout.specs.WordLaws.{length-bytesOf, bytesOf-append}
-use Rattle.reaches.specs.Tables.{capped, row, Emitted}
+use Rattle.reaches.specs.Tables.{capped, row, Cleared, Emitted}
 
 pub entry-stored : (b x y : Bytes) (o p l : ℕ) → o + 4 ≤ length b → x ≡ over b o (wordBytes p) → y ≡ over x (o + 2) (wordBytes l) → y ≡ over b o (bytesOf (p ∷ l ∷ []))
 unfolding wordBytes bytesOf
@@ -113,19 +114,60 @@ module _ (layers : List ℕ) (first q x t : ℕ) (b : Bytes) (e : x ≡ getD lay
       text = λ l. f;
     })
 
+-- ---- the layers that were read are cleared
+
+pub cleared-start : (low : ℕ) (layers : List ℕ) → Cleared low low layers layers
+cleared-start low layers = record { size = refl; inside = λ z h l. let n : ⊥ = omega arith in absurd n; lower = λ z h. refl; upper = λ z h. refl }
+
+pub cleared-turn : (first low high x : ℕ) (l₀ l₁ l₂ : List ℕ) → first ≤ low → low ≤ x → x < high → high ≤ 2001 → length l₀ ≡ 2001 → Cleared low x l₀ l₁ → l₂ ≡ set l₁ (first + (x - first)) 0
+    → Cleared low (x + 1) l₀ l₂
+cleared-turn first low high x l₀ l₁ l₂ h l k w r C e = record {
+  size = ap length f ∙ length-set l₁ x 0 ∙ C .size;
+  inside = λ z a b. at z ∙ in-here z a b (eqb z x) refl;
+  lower = λ z a. at z ∙ getD-set-other l₁ x z 0 0 (omega arith) ∙ C .lower z a;
+  upper = λ z a. at z ∙ getD-set-other l₁ x z 0 0 (omega arith) ∙ C .upper z (omega arith);
+}
+  where
+    f : l₂ ≡ set l₁ x 0
+    f = let q : first + (x - first) ≡ x = omega arith in e ∙ ap (λ i. set l₁ i 0) q
+
+    at : (z : ℕ) → getD l₂ z 0 ≡ getD (set l₁ x 0) z 0
+    at z = ap (λ (l : List ℕ). getD l z 0) f
+
+    in-here : (z : ℕ) → low ≤ z → z < x + 1 → (b : Bool) → eqb z x ≡ b → getD (set l₁ x 0) z 0 ≡ 0
+    in-here z a b true q = ap (λ i. getD (set l₁ x 0) i 0) (eqb-true z x q) ∙ getD-set-same l₁ x 0 0 (omega (arith, C .size))
+    in-here z a b false q = let n : z ≡ x → ⊥ = eqb-false z x q in getD-set-other l₁ x z 0 0 n ∙ C .inside z a (omega arith)
+
+pub cleared-end : (low high x : ℕ) (l₀ l₁ : List ℕ) → low ≤ x → x - low ≤ high - low → high ≤ x → Cleared low x l₀ l₁ → Cleared low high l₀ l₁
+cleared-end low high x l₀ l₁ l g h C = record {
+  size = C .size;
+  inside = λ z a b. C .inside z a (omega arith);
+  lower = C .lower;
+  upper = λ z a. past z a (ltb z x) refl;
+}
+  where
+    past : (z : ℕ) → high ≤ z → (b : Bool) → ltb z x ≡ b → getD l₁ z 0 ≡ getD l₀ z 0
+    past z a true q = let k : z < x = ltb-true z x q in C .lower z (omega arith)
+    past z a false q = C .upper z (ltb-false z x q)
+
+-- a layer that is not cleared yet is the one before
+row-kept : (first low x : ℕ) (l₀ l₁ : List ℕ) → first ≤ low → low ≤ x → Cleared low x l₀ l₁ → row l₁ first (x - first) ≡ row l₀ first (x - first)
+unfolding row
+row-kept first low x l₀ l₁ h l C = ap (λ y. cond (eqb y 0) [] ((x - first) ∷ (y - 1) ∷ [])) (C .upper (first + (x - first)) (omega arith))
+
 -- ---- the loop over the places
 
 module _ (first low : ℕ) (layers : List ℕ) where
   pub emit-start : (b : Bytes) (t : ℕ) → t ≤ 8001 → Emitted b b t t (blocks (low - first) (low - low) (row layers first))
   emit-start b t h = let z : low - low ≡ 0 = omega arith in subst (λ k. Emitted b b t t (blocks (low - first) k (row layers first))) (sym z) (unfold blocks in emit-none b t h)
 
-  pub emit-turn : (a b c : Bytes) (s t u x : ℕ) → length a ≡ 32000 → first ≤ low → low ≤ x → Emitted a b s t (blocks (low - first) (x - low) (row layers first)) → Emitted b c t u (row layers first (x - first))
-      → Emitted a c s u (blocks (low - first) (x + 1 - low) (row layers first))
-  emit-turn a b c s t u x room h l X Y =
+  pub emit-turn : (a b c : Bytes) (s t u x : ℕ) (now : List ℕ) → length a ≡ 32000 → first ≤ low → low ≤ x → Cleared low x layers now → Emitted a b s t (blocks (low - first) (x - low) (row layers first))
+      → Emitted b c t u (row now first (x - first)) → Emitted a c s u (blocks (low - first) (x + 1 - low) (row layers first))
+  emit-turn a b c s t u x now room h l C X Y =
       let p : x + 1 - low ≡ x - low + 1 = omega arith in
       let q : x - first ≡ low - first + (x - low) = omega arith in
       subst (λ k. Emitted a c s u (blocks (low - first) k (row layers first))) (sym p)
-      (subst (Emitted a c s u) (sym (blocks-turn (low - first) (row layers first) (x - low))) (emit-both a b c s t u _ _ room X (subst (λ i. Emitted b c t u (row layers first i)) q Y)))
+      (subst (Emitted a c s u) (sym (blocks-turn (low - first) (row layers first) (x - low))) (emit-both a b c s t u _ _ room X (subst (λ i. Emitted b c t u (row layers first i)) q (subst (Emitted b c t u) (row-kept first low x layers now h l C) Y))))
 
   pub emit-end : (a b : Bytes) (s t x high : ℕ) → x - low ≤ high - low → high ≤ x → Emitted a b s t (blocks (low - first) (x - low) (row layers first))
       → Emitted a b s t (blocks (low - first) (high - low) (row layers first))

@@ -3,7 +3,7 @@
 use mathlib.Core.Path.{_≡_}
 use mathlib.Core.Bool.{cond}
 use mathlib.Core.List.{List, [], _∷_, map}
-use Prim.Native.Nat.{ℕ, _+_, _-_, _*_, _/_, _%_, _≤_}
+use Prim.Native.Nat.{ℕ, _+_, _-_, _*_, _/_, _%_, _≤_, _<_}
 use lib.Dec.{eqb, leb}
 use lib.ListN.{length, getD}
 use Rattle.vocabulary.specs.Bytes.{Bytes, over}
@@ -37,6 +37,13 @@ capped n = cond (leb n 8000) n 8001
 -- the words at place q, by the layers' marks
 unfoldable pub row : List ℕ → ℕ → ℕ → List ℕ
 row layers first q = cond (eqb (getD layers (first + q) 0) 0) [] (q ∷ (getD layers (first + q) 0 - 1) ∷ [])
+
+-- the numbers from `low` on and before `high` were set to 0, and no other
+pub record Cleared (low high : ℕ) (before after : List ℕ) : Type 0 where
+  pub size : length after ≡ length before
+  pub inside : (z : ℕ) → low ≤ z → z < high → getD after z 0 ≡ 0
+  pub lower : (z : ℕ) → z < low → getD after z 0 ≡ getD before z 0
+  pub upper : (z : ℕ) → high ≤ z → getD after z 0 ≡ getD before z 0
 
 -- the words ws were written after the first s entries, which makes t of them; both counts are capped, and nothing is said of too many
 pub record Emitted (before after : Bytes) (s t : ℕ) (ws : List ℕ) : Type 0 where

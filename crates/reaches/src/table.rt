@@ -12,12 +12,13 @@ ghost use mathlib.Core.Path.{_≡_};
 ghost use mathlib.Core.Bool.{false};
 ghost use mathlib.Core.List.{[], _∷_};
 ghost use Prim.Native.Nat.{ℕ, _+_, _-_, _*_, _<_, _≤_};
-ghost use lib.ListN.{length};
+ghost use lib.ListN.{length, set};
 ghost use Rattle.mesh.specs.Meet.{Under};
 ghost use Rattle.vocabulary.specs.Bytes.{over};
+ghost use Rattle.vocabulary.specs.Lists.{Zeros};
 ghost use Rattle.vocabulary.specs.Ranges.{blocks};
 ghost use Rattle.layout.specs.Words.{bytesOf};
-ghost use Rattle.reaches.specs.Tables.{row, Emitted, cellWords, Tabled};
+ghost use Rattle.reaches.specs.Tables.{row, Cleared, Emitted, cellWords, Tabled};
 ghost use Rattle.walks.specs.Walking.{Ground};
 ghost use Rattle.mesh.specs.Mesh.{top, elements, recordCount, firstCell, cellCount};
 ghost use Rattle.mesh.specs.Walks.{bad10};
@@ -32,12 +33,13 @@ fn put_entry(table: &mut [u8], t: usize, place: usize, layer: usize)
     put_word(table, 4 * t + 2, layer);
 }
 
-// The entry at place q, if that cell has a layer; 8,001 where there is no room.
-fn emit_one(layers: &[u16], first: usize, q: usize, table: &mut [u8], t: usize) -> usize
+// The entry at place q, if that cell has a layer; 8,001 where there is no room. The layer is cleared.
+fn emit_one(layers: &mut [u16], first: usize, q: usize, table: &mut [u8], t: usize) -> usize
     requires { ⌜ (first < 65536) × (q < 65536) × (t ≤ 8001) × (length (now table) ≡ 32000) ⌝ }
-    ensures { λ s. ⌜ Emitted (now (table .entry)) (now (table .exit)) t s (row (now (layers .entry)) first q) × (s ≤ 8001) ⌝ }
+    ensures { λ s. ⌜ Emitted (now (table .entry)) (now (table .exit)) t s (row (now (layers .entry)) first q) × (s ≤ 8001) × (now (layers .exit) ≡ set (now (layers .entry)) (first + q) 0) ⌝ }
 {
     let x = entry(layers, first + q);
+    put_number_at(layers, first + q, 0);
     if x < 1 {
         return t;
     }
@@ -48,10 +50,17 @@ fn emit_one(layers: &[u16], first: usize, q: usize, table: &mut [u8], t: usize) 
     t + 1
 }
 
-// The entries of a cell's reach, from the layers of the cells from `low` up to but without `high`.
-fn emit(layers: &[u16], first: usize, low: usize, high: usize, table: &mut [u8], t: usize) -> usize
-    requires { ⌜ (first ≤ low) × (high < 65536) × (t ≤ 8001) × (length (now table) ≡ 32000) ⌝ }
-    ensures { λ s. ⌜ Emitted (now (table .entry)) (now (table .exit)) t s (blocks (low - first) (high - low) (row (now (layers .entry)) first)) × (s ≤ 8001) ⌝ }
+// The entries of a cell's reach, from the layers of the cells from `low` up to but without `high`, which are cleared.
+fn emit(
+    layers: &mut [u16],
+    first: usize,
+    low: usize,
+    high: usize,
+    table: &mut [u8],
+    t: usize,
+) -> usize
+    requires { ⌜ (first ≤ low) × (high ≤ 2001) × (length (now layers) ≡ 2001) × (t ≤ 8001) × (length (now table) ≡ 32000) ⌝ }
+    ensures { λ s. ⌜ Emitted (now (table .entry)) (now (table .exit)) t s (blocks (low - first) (high - low) (row (now (layers .entry)) first)) × (s ≤ 8001) × Cleared low high (now (layers .entry)) (now (layers .exit)) ⌝ }
 {
     let mut s = t;
     for x in low..high {
@@ -76,13 +85,13 @@ fn reach_of(
     marks: &mut [u16],
     from: &mut [u16],
     found: &mut [u16],
+    layers: &mut [u16],
     table: &mut [u8],
     t: usize,
 ) -> usize
-    requires { ⌜ Ground (now m) (now st) (now cell) (now prev) (now last) × (e ≡ elements (now m)) × (r ≡ recordCount (now m)) × (first ≡ firstCell (now m)) × Cell (now m) c × (n + 1 ≡ length (now st)) × (n ≤ 8) × (v ≤ 60000) × Under v (now marks) × (length (now from) ≡ 2001) × (length (now found) ≡ 2001) × (length (now table) ≡ 32000) × (t ≤ 8001) ⌝ }
-    ensures { λ s. ⌜ Emitted (now (table .entry)) (now (table .exit)) t s (cellWords (now (m .entry)) (now (st .entry)) c) × (s ≤ 8001) × Under (v + n) (now (marks .exit)) × (length (now (from .exit)) ≡ 2001) × (length (now (found .exit)) ≡ 2001) ⌝ }
+    requires { ⌜ Ground (now m) (now st) (now cell) (now prev) (now last) × (e ≡ elements (now m)) × (r ≡ recordCount (now m)) × (first ≡ firstCell (now m)) × Cell (now m) c × (n + 1 ≡ length (now st)) × (n ≤ 8) × (v ≤ 60000) × Under v (now marks) × (length (now from) ≡ 2001) × (length (now found) ≡ 2001) × Zeros 2001 (now layers) × (length (now table) ≡ 32000) × (t ≤ 8001) ⌝ }
+    ensures { λ s. ⌜ Emitted (now (table .entry)) (now (table .exit)) t s (cellWords (now (m .entry)) (now (st .entry)) c) × (s ≤ 8001) × Under (v + n) (now (marks .exit)) × (length (now (from .exit)) ≡ 2001) × (length (now (found .exit)) ≡ 2001) × Zeros 2001 (now (layers .exit)) ⌝ }
 {
-    let mut layers = [0u16; 2001];
     put_number_at(from, 0, c as u16);
     let w = walk(
         m,
@@ -98,9 +107,9 @@ fn reach_of(
         marks,
         from,
         found,
-        &mut layers,
+        layers,
     );
-    emit(&layers, first, w.low, w.high, table, t)
+    emit(layers, first, w.low, w.high, table, t)
 }
 
 // The reaches of all cells, from the chains turned round.
@@ -124,6 +133,7 @@ fn reach_all(
     let mut marks = [0u16; 2001];
     let mut from = [0u16; 2001];
     let mut found = [0u16; 2001];
+    let mut layers = [0u16; 2001];
     let mut t = 0;
     let mut v = 1;
     put_number_at(ends, 0, 0);
@@ -143,6 +153,7 @@ fn reach_all(
             &mut marks,
             &mut from,
             &mut found,
+            &mut layers,
             table,
             t,
         );

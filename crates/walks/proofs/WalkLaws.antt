@@ -8,13 +8,13 @@ use native.Mathlib.Omega.{arith}
 use lib.Dec.{eqb}
 use lib.ListN.{length, getD, set, take, length-take}
 use lib.Seq.{take-suc, take-suc-set}
-use borrow.Author.Tests.{eqb-true, eqb-false, ne-eqb}
+use borrow.Author.Tests.{eqb-true, eqb-false, eq-eqb, ne-eqb}
 use Rattle.mesh.specs.Meet.{Under}
 use Rattle.vocabulary.specs.Bytes.{Bytes, byteAt}
 use Rattle.vocabulary.specs.Ranges.{picked}
 use Rattle.vocabulary.specs.RangeLaws.{picked-passes, picked-cong, at-last}
 use Rattle.vocabulary.specs.Lists.{isIn, All, Zeros}
-use Rattle.vocabulary.specs.ListLaws.{or-nothing, All-map, All-append, All-split, isIn-at, at-isIn, at-all, All-intro}
+use Rattle.vocabulary.specs.ListLaws.{or-nothing, and-true, and-right, All-map, All-append, All-split, isIn-at, at-isIn, at-all, All-intro}
 use Rattle.mesh.specs.Mesh.{top, elements, counted, below, firstCell, cellCount}
 use Rattle.mesh.specs.Walks.{bad10, stepTo}
 use Rattle.mesh.specs.WalkLaws.{stencil-odd, stencil-even}
@@ -23,7 +23,7 @@ use Rattle.mesh.proofs.DimensionLaws.{below-more}
 use Rattle.mesh.specs.WalkLaws.{below-grows}
 use Rattle.walks.proofs.StepLaws.{someOf-like}
 use Rattle.visits.specs.Visits.{Gathered, Toward}
-use Rattle.walks.specs.Walking.{Ground, Cells, Lowers, Sided, stepped, firstMark, layerMark, noted, Noted, among, walkedFrom, Walk, Within, Widened, Departed, Arrived}
+use Rattle.walks.specs.Walking.{Ground, Cells, Lowers, Sided, stepped, firstMark, layerMark, noted, Noted, among, cellsAmong, walkedFrom, Walk, Within, Widened, Departed, Arrived}
 
 -- ---- the copy
 
@@ -100,10 +100,11 @@ unfolding firstMark
 mark-append [] ys = refl
 mark-append (x ∷ xs) ys = sym (ap (λ b. cond b (firstMark ys) (x + 1)) (ne-eqb (x + 1) 0 (omega arith)))
 
-layer-more : (m st : Bytes) (cs : List ℕ) (k z : ℕ) → layerMark m st cs (suc k) z ≡ noted (suc k) (isIn z (walkedFrom m st cs (suc k))) (layerMark m st cs k z)
+layer-more : (m st : Bytes) (cs : List ℕ) (k z : ℕ)
+    → layerMark m st cs (suc k) z ≡ noted (suc k) (eqb (suc k % 2) 0 && isIn z (walkedFrom m st cs (suc k))) (layerMark m st cs k z)
 unfolding layerMark noted
 layer-more m st cs k z =
-    let p : ℕ → Bool = λ j. isIn z (walkedFrom m st cs j) in
+    let p : ℕ → Bool = λ j. eqb (j % 2) 0 && isIn z (walkedFrom m st cs j) in
     let q : suc k + 1 ≡ suc (k + 1) = omega arith in
     let r : 0 + (k + 1) ≡ suc k = omega arith in
     ap (λ n. firstMark (picked 0 n p)) q
@@ -122,6 +123,20 @@ layer-more m st cs k z =
         zero-or : (c : Bool) → eqb x 0 ≡ c → cond c (firstMark []) x ≡ x
         zero-or true e = unfold firstMark in sym (eqb-true x 0 e)
         zero-or false e = refl
+
+-- a cell is walked to by even numbers of steps only, so its layer goes by all of them
+pub cell-layer : (m st : Bytes) (cell prev last cs : List ℕ) (n z : ℕ) → Ground m st cell prev last → All (Cell m) cs → n < length st → Cell m z
+    → layerMark m st cs n z ≡ firstMark (picked 0 (n + 1) (λ j. isIn z (walkedFrom m st cs j)))
+unfolding layerMark
+cell-layer m st cell prev last cs n z G C h c = ap firstMark (picked-cong 0 _ _ (n + 1) (λ j l. go (0 + j) (omega arith) (isIn z (walkedFrom m st cs (0 + j))) refl))
+  where
+    go : (j : ℕ) → j < length st → (b : Bool) → isIn z (walkedFrom m st cs j) ≡ b → eqb (j % 2) 0 && b ≡ b
+    go j l true q = ap (λ b. b && true) (eq-eqb (j % 2) 0 (even (eqb (j % 2) 1) refl))
+      where
+        even : (b : Bool) → eqb (j % 2) 1 ≡ b → j % 2 ≡ 0
+        even true o = let w = walked-odd m st (G .mesh) (G .stencil) cs C j z l (eqb-true (j % 2) 1 o) q in let n : ⊥ = omega (arith, w .1, c .low) in absurd n
+        even false o = let n : j % 2 ≡ 1 → ⊥ = eqb-false (j % 2) 1 o in omega arith
+    go j l false q = and-right (eqb (j % 2) 0) false refl
 
 -- ---- no step, and one step more
 
@@ -151,8 +166,8 @@ step-like m a xs ys like = picked-cong (below m a + 1) _ _ (counted m a) (λ i h
 -- one step more, at a count that is not 0
 more : (m st : Bytes) (cs : List ℕ) (j v n s : ℕ) (marks marks′ from from′ found layers layers′ : List ℕ) → Walk m st cs j (v + j) marks from layers n
     → Gathered (v + j) marks′ found s → Toward found s [] (stepped m (byteAt st (suc j)) from n) → s ≤ 2000 → take s from′ ≡ take s found → length from′ ≡ length from
-    → Noted (suc j) layers layers′ (among from′ s) → Walk m st cs (suc j) (v + suc j) marks′ from′ layers′ s
-unfolding walkedFrom stepped among isIn
+    → Noted (suc j) layers layers′ (cellsAmong (suc j) from′ s) → Walk m st cs (suc j) (v + suc j) marks′ from′ layers′ s
+unfolding walkedFrom stepped cellsAmong isIn
 more m st cs j v n s marks marks′ from from′ found layers layers′ W G t few e r N = record {
   fresh = record { size = G .size; each = λ y. omega (arith, G .top y) };
   room = r ∙ W .room;
@@ -160,7 +175,7 @@ more m st cs j v n s marks marks′ from from′ found layers layers′ W G t fe
   few = few;
   ends = ends;
   size = N .size ∙ W .size;
-  layered = λ z. N .each z ∙ ap₂ (noted (suc j)) (ends z) (W .layered z) ∙ sym (layer-more m st cs j z);
+  layered = λ z. N .each z ∙ ap₂ (λ b x. noted (suc j) (eqb (suc j % 2) 0 && b) x) (ends z) (W .layered z) ∙ sym (layer-more m st cs j z);
 }
   where
     ends : (z : ℕ) → isIn z (take s from′) ≡ isIn z (stepTo m (byteAt st (suc j)) (walkedFrom m st cs j))
@@ -168,7 +183,7 @@ more m st cs j v n s marks marks′ from from′ found layers layers′ W G t fe
 
 walk-more : (m st : Bytes) (cs : List ℕ) (k v n s : ℕ) (marks marks′ from from′ found layers layers′ : List ℕ) → (k ≡ 0 → ⊥) → Walk m st cs (k - 1) (v + (k - 1)) marks from layers n
     → Gathered (v + (k - 1)) marks′ found s → Toward found s [] (stepped m (byteAt st k) from n) → s ≤ 2000 → take s from′ ≡ take s found → length from′ ≡ length from
-    → Noted k layers layers′ (among from′ s) → Walk m st cs k (v + k) marks′ from′ layers′ s
+    → Noted k layers layers′ (cellsAmong k from′ s) → Walk m st cs k (v + k) marks′ from′ layers′ s
 walk-more m st cs zero v n s marks marks′ from from′ found layers layers′ z W G t few e r N = absurd (z refl)
 walk-more m st cs (suc j) v n s marks marks′ from from′ found layers layers′ z W G t few e r N =
     let q : suc j - 1 ≡ j = omega arith in
@@ -215,56 +230,46 @@ pub widen-end : (low high low′ high′ j n : ℕ) (list : List ℕ) → j ≤ 
 widen-end low high low′ high′ j n list g h U = at-last (λ i. Widened low high low′ high′ (take i list)) j n g h U
 
 -- an element that is not noted keeps its layer
-kept : (k n z : ℕ) (from layers layers′ : List ℕ) → Noted k layers layers′ (among from n) → (isIn z (take n from) ≡ true → ⊥) → getD layers′ z 0 ≡ getD layers z 0
-kept k n z from layers layers′ N out = N .each z ∙ go (among from n z) refl
+kept : (k z : ℕ) (p : ℕ → Bool) (layers layers′ : List ℕ) → Noted k layers layers′ p → (p z ≡ true → ⊥) → getD layers′ z 0 ≡ getD layers z 0
+kept k z p layers layers′ N out = N .each z ∙ go (p z) refl
   where
-    go : (b : Bool) → among from n z ≡ b → noted k b (getD layers z 0) ≡ getD layers z 0
-    go true q = absurd (out (unfold among in q))
+    go : (b : Bool) → p z ≡ b → noted k b (getD layers z 0) ≡ getD layers z 0
+    go true q = absurd (out q)
     go false q = unfold noted in refl
 
 outside : (P : ℕ → Type 0) (z : ℕ) (xs : List ℕ) → All P xs → (P z → ⊥) → isIn z xs ≡ true → ⊥
 outside P z xs a n e = n (at-all P z xs a (isIn-at z xs e))
 
-module _ (m : Bytes) (k n low high : ℕ) (from layers layers′ : List ℕ) (N : Noted k layers layers′ (among from n)) (W : Within m layers low high) where
-  within-cells : (low′ high′ : ℕ) → All (Cell m) (take n from) → Widened low high low′ high′ (take n from) → Within m layers′ low′ high′
-  within-cells low′ high′ C U = record {
-    starts = bounds .0;
-    ends = omega (arith, U .down, W .ends);
-    stops = bounds .1;
-    before = λ z h l. kept k n z from layers layers′ N (outside (λ y. (low′ ≤ y) × (y < high′)) z (take n from) (U .each) (λ q. let o : ⊥ = omega (arith, q .0) in o)) ∙ W .before z h (omega (arith, U .down));
-    after = λ z h l. kept k n z from layers layers′ N (outside (λ y. (low′ ≤ y) × (y < high′)) z (take n from) (U .each) (λ q. let o : ⊥ = omega (arith, q .1) in o)) ∙ W .after z h (omega (arith, U .up));
-  }
-    where
-      bounds : (firstCell m ≤ low′) × (high′ ≤ firstCell m + cellCount m)
-      bounds = U .least (firstCell m) (firstCell m + cellCount m) (W .starts) (W .stops) (All-map (take n from) (λ y h. (h .low, h .high)) C)
+-- cells are noted, and the bounds widened by them
+within-cells : (m : Bytes) (k n low high low′ high′ : ℕ) (p : ℕ → Bool) (from layers layers′ : List ℕ) → Noted k layers layers′ p
+    → ((z : ℕ) → p z ≡ true → isIn z (take n from) ≡ true) → Within m layers low high → All (Cell m) (take n from) → Widened low high low′ high′ (take n from) → Within m layers′ low′ high′
+within-cells m k n low high low′ high′ p from layers layers′ N of W C U = record {
+  starts = bounds .0;
+  ends = omega (arith, U .down, W .ends);
+  stops = bounds .1;
+  before = λ z l. same z (λ q. let o : ⊥ = omega (arith, q .0) in o) ∙ W .before z (omega (arith, U .down));
+  after = λ z l. same z (λ q. let o : ⊥ = omega (arith, q .1) in o) ∙ W .after z (omega (arith, U .up));
+}
+  where
+    bounds : (firstCell m ≤ low′) × (high′ ≤ firstCell m + cellCount m)
+    bounds = U .least (firstCell m) (firstCell m + cellCount m) (W .starts) (W .stops) (All-map (take n from) (λ y h. (h .low, h .high)) C)
 
-  within-lowers : All (λ x. (1 ≤ x) × (x ≤ below m (top m))) (take n from) → Within m layers′ low high
-  within-lowers C = record {
-    starts = W .starts;
-    ends = W .ends;
-    stops = W .stops;
-    before = λ z h l. kept k n z from layers layers′ N (out z h) ∙ W .before z h l;
-    after = λ z h l. kept k n z from layers layers′ N (out z h) ∙ W .after z h l;
-  }
-    where
-      out : (z : ℕ) → firstCell m ≤ z → isIn z (take n from) ≡ true → ⊥
-      out z h = outside _ z (take n from) C (λ q. let l : below m (top m) + 1 ≤ z = h in let o : ⊥ = omega (arith, q .1, l) in o)
+    same : (z : ℕ) → ((low′ ≤ z) × (z < high′) → ⊥) → getD layers′ z 0 ≡ getD layers z 0
+    same z not-in = kept k z p layers layers′ N (λ q. outside (λ y. (low′ ≤ y) × (y < high′)) z (take n from) (U .each) not-in (of z q))
 
 within-none : (m st : Bytes) (cell prev last : List ℕ) (e s low high : ℕ) (from layers layers′ : List ℕ) → Ground m st cell prev last → e ≡ elements m → Cells m from s → Zeros 2001 layers
     → Noted 0 layers layers′ (among from s) → Widened (e + 1) 0 low high (take s from) → Within m layers′ low high
 within-none m st cell prev last e s low high from layers layers′ G ee C K N U =
-    within-cells m 0 s (e + 1) 0 from layers layers′ N
-    (record { starts = omega (arith, G .mesh .cells-in); ends = omega (arith, G .mesh .cells-in); stops = omega arith; before = λ z h l. K .each z; after = λ z h l. K .each z })
-    low high (C .each) U
+    within-cells m 0 s (e + 1) 0 low high (among from s) from layers layers′ N (λ z q. unfold among in q)
+    (record { starts = omega (arith, G .mesh .cells-in); ends = omega (arith, G .mesh .cells-in); stops = omega arith; before = λ z l. K .each z; after = λ z l. K .each z })
+    (C .each) U
 
-module _ (m st : Bytes) (cell prev last cs : List ℕ) (k v n low high : ℕ) (marks from layers layers′ : List ℕ) (G : Ground m st cell prev last) (C : All (Cell m) cs) (h : k < length st)
-    (W : Walk m st cs k v marks from layers′ n) (N : Noted k layers layers′ (among from n)) (I : Within m layers low high) where
-  within-odd : k % 2 ≡ 1 → Within m layers′ low high
-  within-odd o = within-lowers m k n low high from layers layers′ N I (each-of m st (G .mesh) (G .stencil) cs C _ k n from (W .ends) (λ z e. walked-odd m st (G .mesh) (G .stencil) cs C k z h o e))
-
-  within-even : (k % 2 ≡ 1 → ⊥) → (low′ high′ : ℕ) → Widened low high low′ high′ (take n from) → Within m layers′ low′ high′
-  within-even o low′ high′ U =
-      within-cells m k n low high from layers layers′ N I low′ high′ (each-of m st (G .mesh) (G .stencil) cs C _ k n from (W .ends) (λ z e. walked-even m st (G .mesh) (G .stencil) cs C k z h (omega arith) e)) U
+within-even : (m st : Bytes) (cell prev last cs : List ℕ) (k v n low high low′ high′ : ℕ) (marks from layers layers′ : List ℕ) → Ground m st cell prev last → All (Cell m) cs → k < length st
+    → Walk m st cs k v marks from layers′ n → Noted k layers layers′ (cellsAmong k from n) → Within m layers low high → (k % 2 ≡ 1 → ⊥) → Widened low high low′ high′ (take n from)
+    → Within m layers′ low′ high′
+within-even m st cell prev last cs k v n low high low′ high′ marks from layers layers′ G C h W N I o U =
+    within-cells m k n low high low′ high′ (cellsAmong k from n) from layers layers′ N (λ z q. unfold cellsAmong in and-true (eqb (k % 2) 0) (isIn z (take n from)) q .1) I
+    (each-of m st (G .mesh) (G .stencil) cs C _ k n from (W .ends) (λ z e. walked-even m st (G .mesh) (G .stencil) cs C k z h (omega arith) e)) U
 
 -- ---- what a walk answers
 
@@ -294,12 +299,11 @@ ends-more m st cell prev last cs k v n f s n′ low high low′ high′ marks ma
 
     inside : (b : Bool) → eqb (k % 2) 1 ≡ b → Within m layers′ low′ high′
     inside true q =
-        let o = eqb-true (k % 2) 1 q in
-        let e = A .odd o in
-        rw (e .0, e .1) (within-odd m st cell prev last cs k (v + k) s low high marks′ from′ layers layers′ G C h here (A .notes) (W .2) o)
+        let e = A .odd (eqb-true (k % 2) 1 q) in
+        rw (e .0, e .1, e .2) (W .2)
     inside false q =
         let o = eqb-false (k % 2) 1 q in
-        within-even m st cell prev last cs k (v + k) s low high marks′ from′ layers layers′ G C h here (A .notes) (W .2) o low′ high′ (A .even o)
+        within-even m st cell prev last cs k (v + k) s low high low′ high′ marks′ from′ layers layers′ G C h here (A .notes) (W .2) o (A .even o)
 
 -- ---- what is found and moved to `from`
 
@@ -310,10 +314,26 @@ pub notes-moved : (k n l : ℕ) (found from′ : List ℕ) → k ≤ 8 → lengt
     → (k < 65535) × (length (take n from′) ≡ n) × All (λ y. y < l) (take n from′)
 notes-moved k n l found from′ h c a e = (omega arith, ap length e ∙ c, rw e a)
 
-module _ (k : ℕ) (found : List ℕ) (n : ℕ) (from from′ layers layers′ : List ℕ) (low high : ℕ) (M : (take n from′ ≡ take n found) × (length from′ ≡ length from))
-    (N : Noted k layers layers′ (among from′ n)) where
-  pub arrived-odd : k % 2 ≡ 1 → Arrived k found n from from′ layers layers′ low high n low high
-  arrived-odd o = record { count = refl; size = M .1; moved = M .0; notes = N; odd = λ _. (refl, refl); even = λ x. absurd (x o) }
+module _ (k : ℕ) (found : List ℕ) (n : ℕ) (from from′ layers : List ℕ) (low high : ℕ) (M : (take n from′ ≡ take n found) × (length from′ ≡ length from)) where
+  pub arrived-odd : k % 2 ≡ 1 → Arrived k found n from from′ layers layers low high n low high
+  unfolding noted cellsAmong
+  arrived-odd o = record {
+    count = refl;
+    size = M .1;
+    moved = M .0;
+    notes = record { size = refl; each = λ z. sym (ap (λ b. noted k (b && isIn z (take n from′)) (getD layers z 0)) (ne-eqb (k % 2) 0 (omega arith))) };
+    odd = λ _. (refl, refl, refl);
+    even = λ x. absurd (x o);
+  }
 
-  pub arrived-even : (k % 2 ≡ 1 → ⊥) → (n′ low′ high′ : ℕ) → (n′ ≡ n) × Widened low high low′ high′ (take n from′) → Arrived k found n from from′ layers layers′ low high n′ low′ high′
-  arrived-even o n′ low′ high′ U = record { count = U .0; size = M .1; moved = M .0; notes = N; odd = λ x. absurd (o x); even = λ _. U .1 }
+  pub arrived-even : (k % 2 ≡ 1 → ⊥) → (layers′ : List ℕ) (n′ low′ high′ : ℕ) → Noted k layers layers′ (among from′ n) → (n′ ≡ n) × Widened low high low′ high′ (take n from′)
+      → Arrived k found n from from′ layers layers′ low high n′ low′ high′
+  unfolding among cellsAmong
+  arrived-even o layers′ n′ low′ high′ N U = record {
+    count = U .0;
+    size = M .1;
+    moved = M .0;
+    notes = record { size = N .size; each = λ z. N .each z ∙ sym (ap (λ b. noted k (b && isIn z (take n from′)) (getD layers z 0)) (eq-eqb (k % 2) 0 (omega arith))) };
+    odd = λ x. absurd (o x);
+    even = λ _. U .1;
+  }

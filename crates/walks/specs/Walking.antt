@@ -42,15 +42,15 @@ unfoldable pub walkedFrom : Bytes → Bytes → List ℕ → ℕ → List ℕ
 walkedFrom m st cs zero = cs
 walkedFrom m st cs (suc k) = stepTo m (byteAt st (suc k)) (walkedFrom m st cs k)
 
--- ---- layers: one more than the layer of what was walked to, 0 for the rest
+-- ---- layers: one more than the layer of a cell that was walked to, 0 for the rest
 
 unfoldable pub firstMark : List ℕ → ℕ
 firstMark [] = 0
 firstMark (x ∷ xs) = x + 1
 
--- by walks of at most k steps
+-- by walks of at most k steps; only those of an even number of steps end at cells
 unfoldable pub layerMark : Bytes → Bytes → List ℕ → ℕ → ℕ → ℕ
-layerMark m st cs k z = firstMark (picked 0 (k + 1) (λ j. isIn z (walkedFrom m st cs j)))
+layerMark m st cs k z = firstMark (picked 0 (k + 1) (λ j. eqb (j % 2) 0 && isIn z (walkedFrom m st cs j)))
 
 -- the mark x, or that of step k where there is none and the element is reached
 unfoldable pub noted : ℕ → Bool → ℕ → ℕ
@@ -64,6 +64,10 @@ pub record Noted (k : ℕ) (before after : List ℕ) (p : ℕ → Bool) : Type 0
 unfoldable pub among : List ℕ → ℕ → ℕ → Bool
 among from n z = isIn z (take n from)
 
+-- the cells among them, where they are what step k found
+unfoldable pub cellsAmong : ℕ → List ℕ → ℕ → ℕ → Bool
+cellsAmong k from n z = eqb (k % 2) 0 && isIn z (take n from)
+
 -- after k steps from the cells cs: where the walks end, the layers, and marks below v
 pub record Walk (m st : Bytes) (cs : List ℕ) (k v : ℕ) (marks from layers : List ℕ) (n : ℕ) : Type 0 where
   pub fresh : Under v marks
@@ -74,13 +78,13 @@ pub record Walk (m st : Bytes) (cs : List ℕ) (k v : ℕ) (marks from layers : 
   pub size : length layers ≡ 2001
   pub layered : (z : ℕ) → getD layers z 0 ≡ layerMark m st cs k z
 
--- the cells that have a layer stand from `low` on and before `high`
+-- what has a layer stands from `low` on and before `high`, among the cells
 pub record Within (m : Bytes) (layers : List ℕ) (low high : ℕ) : Type 0 where
   pub starts : firstCell m ≤ low
   pub ends : low ≤ firstCell m + cellCount m
   pub stops : high ≤ firstCell m + cellCount m
-  pub before : (z : ℕ) → firstCell m ≤ z → z < low → getD layers z 0 ≡ 0
-  pub after : (z : ℕ) → firstCell m ≤ z → high ≤ z → getD layers z 0 ≡ 0
+  pub before : (z : ℕ) → z < low → getD layers z 0 ≡ 0
+  pub after : (z : ℕ) → high ≤ z → getD layers z 0 ≡ 0
 
 -- bounds that hold the numbers ys as well, and no more than they have to
 pub record Widened (low high low′ high′ : ℕ) (ys : List ℕ) : Type 0 where
@@ -95,13 +99,13 @@ pub record Departed (e : ℕ) (from : List ℕ) (s : ℕ) (layers layers′ : Li
   pub notes : Noted 0 layers layers′ (among from s)
   pub bounds : Widened (e + 1) 0 low high (take s from)
 
--- what step k leaves of the n elements found: they stand in `from`, with the layer k unless they had one; cells widen the bounds
+-- what step k leaves of the n elements found: they stand in `from`; cells have the layer k unless they had one, and widen the bounds
 pub record Arrived (k : ℕ) (found : List ℕ) (n : ℕ) (from from′ layers layers′ : List ℕ) (low high n′ low′ high′ : ℕ) : Type 0 where
   pub count : n′ ≡ n
   pub size : length from′ ≡ length from
   pub moved : take n from′ ≡ take n found
-  pub notes : Noted k layers layers′ (among from′ n)
-  pub odd : k % 2 ≡ 1 → (low′ ≡ low) × (high′ ≡ high)
+  pub notes : Noted k layers layers′ (cellsAmong k from′ n)
+  pub odd : k % 2 ≡ 1 → (low′ ≡ low) × (high′ ≡ high) × (layers′ ≡ layers)
   pub even : (k % 2 ≡ 1 → ⊥) → Widened low high low′ high′ (take n from′)
 
 -- before step k: cells where it goes down, lower elements where it goes up

@@ -175,13 +175,12 @@ fn depart(e: usize, from: &[u16], s: usize, layers: &mut [u16]) -> Ends
     )
 }
 
-// After step k the n elements that it found stand in `from`, bear the layer k unless they have one, and widen the bounds where they are cells.
+// After step k the n elements that it found stand in `from`; cells bear the layer k unless they have one, and widen the bounds.
 fn arrive(k: usize, found: &[u16], n: usize, w: Ends, from: &mut [u16], layers: &mut [u16]) -> Ends
     requires { ⌜ (k ≤ 8) × (length (take n (now found)) ≡ n) × (length (now from) ≡ length (now found)) × All (λ y. y < length (now layers)) (take n (now found)) ⌝ }
     ensures { λ r. ⌜ Arrived k (now (found .entry)) n (now (from .entry)) (now (from .exit)) (now (layers .entry)) (now (layers .exit)) (w .low) (w .high) (r .count) (r .low) (r .high) ⌝ }
 {
     copy_list(found, n, from);
-    note_all(k as u16, from, n, layers);
     let met = Ends {
         count: n,
         low: w.low,
@@ -190,10 +189,11 @@ fn arrive(k: usize, found: &[u16], n: usize, w: Ends, from: &mut [u16], layers: 
     if k % 2 == 1 {
         return met;
     }
+    note_all(k as u16, from, n, layers);
     widen(from, n, met)
 }
 
-// Where the walks of k steps from the first s cells of `from` end: a walk of k - 1 steps, and one step more. Each element met bears its layer.
+// Where the walks of k steps from the first s cells of `from` end: a walk of k - 1 steps, and one step more. Each cell met bears its layer.
 pub fn walk(
     m: &[u8],
     e: usize,
