@@ -7,6 +7,7 @@ use mesh::inner::elements_of;
 use mesh::inner::first_cell;
 use mesh::inner::record_count;
 use visits::inner::entry;
+use walks::inner::through_one;
 use walks::inner::walk;
 ghost use mathlib.Core.Path.{_≡_};
 ghost use mathlib.Core.Bool.{true, false};
@@ -17,6 +18,7 @@ ghost use Rattle.vocabulary.specs.Ranges.{isUpTo, every};
 ghost use Rattle.mesh.specs.Mesh.{top, cellCount};
 ghost use Rattle.mesh.specs.Walks.{bad10};
 ghost use Rattle.mesh.specs.Accepted.{Accepted};
+ghost use Rattle.walks.specs.Walking.{throughOne};
 ghost use Rattle.reach_rows.specs.Rows.{rowMarks, rowReach, Rowed, Marks, layerOf, layersAt, Site, Space};
 
 // Sets the byte at `at` to 1, where there is one.
@@ -79,6 +81,7 @@ fn mark_reach(
     r: usize,
     st: &[u8],
     n: usize,
+    single: bool,
     cell: &[u16],
     prev: &[u16],
     last: &[u16],
@@ -92,8 +95,8 @@ fn mark_reach(
     found: &mut [u16],
     held: &mut [u8],
 )
-    requires { ⌜ Site (now m) (now st) (now cell) (now prev) (now last) e r first cells n × (i ≤ 16) × (v ≤ 60000) × Space v (now marks) (now from) (now found) ⌝ }
-    ensures { λ _. ⌜ Marks (now (held .entry)) (now (held .exit)) (rowReach (now (m .entry)) (now (st .entry)) (now (rows .entry)) i) × Space (v + n) (now (marks .exit)) (now (from .exit)) (now (found .exit)) ⌝ }
+    requires { ⌜ Site (now m) (now st) (now cell) (now prev) (now last) e r first cells n × (single ≡ throughOne (now st)) × (i ≤ 16) × (v ≤ 60000) × Space v (now marks) (now from) (now found) ⌝ }
+    ensures { λ _. ⌜ Marks (now (held .entry)) (now (held .exit)) (rowReach (now (m .entry)) (now (st .entry)) (now (rows .entry)) i) × Space (v + (n + 1)) (now (marks .exit)) (now (from .exit)) (now (found .exit)) ⌝ }
 {
     let s = row_cells(rows, i, first, cells, from);
     let mut layers = [0u16; 2001];
@@ -102,6 +105,7 @@ fn mark_reach(
         e,
         r,
         st,
+        single,
         cell,
         prev,
         last,
@@ -135,6 +139,7 @@ fn mark_all(
     requires { ⌜ Site (now m) (now st) (now cell) (now prev) (now last) e r first cells n × (count ≤ 16) × (every 0 (cellCount (now m)) (λ k. isUpTo count (byteAt (now rows) k)) ≡ true) ⌝ }
     ensures { λ _. ⌜ Marks (now (held .entry)) (now (held .exit)) (rowMarks (now (m .entry)) (now (st .entry)) (now (rows .entry)) (cellCount (now (m .entry)))) ⌝ }
 {
+    let single = through_one(st);
     let mut marks = [0u16; 2001];
     let mut from = [0u16; 2001];
     let mut found = [0u16; 2001];
@@ -146,6 +151,7 @@ fn mark_all(
             r,
             st,
             n,
+            single,
             cell,
             prev,
             last,
@@ -159,7 +165,7 @@ fn mark_all(
             &mut found,
             held,
         );
-        v += n;
+        v += n + 1;
     }
 }
 

@@ -80,7 +80,7 @@ pub one-cell : (m : Bytes) (from after : List ℕ) (c : ℕ) → Cell m c → le
 one-cell m from after c C r f = record { each = rw (front from after c r f) (C, tt); count = ap length (front from after c r f) }
 
 -- a cell's walks done, its words are written
-module _ (m st : Bytes) (cell prev last : List ℕ) (c n v k low high first : ℕ) (cs marks from layers : List ℕ) (G : Ground m st cell prev last) (C : Cell m c) (W : Walk m st cs n v marks from layers k)
+module _ (m st : Bytes) (cell prev last : List ℕ) (c n v k low high first : ℕ) (single : Bool) (met : ℕ) (cs marks from found layers : List ℕ) (G : Ground m st cell prev last) (C : Cell m c) (W : Walk m st single cs n v marks from found layers k met)
     (one : cs ≡ c ∷ []) (I : Within m layers low high) (h : n + 1 ≡ length st) (fe : first ≡ firstCell m) where
   mark : (j : ℕ) → j < cellCount m → getD layers (first + j) 0 ≡ firstMark (stepsTo m st c (first + j))
   mark j l =

@@ -7,6 +7,7 @@ use mesh::inner::elements_of;
 use mesh::inner::first_cell;
 use mesh::inner::record_count;
 use visits::inner::entry;
+use walks::inner::through_one;
 use walks::inner::walk;
 ghost use mathlib.Core.Path.{_≡_};
 ghost use mathlib.Core.Bool.{false};
@@ -19,7 +20,7 @@ ghost use Rattle.vocabulary.specs.Lists.{Zeros};
 ghost use Rattle.vocabulary.specs.Ranges.{blocks};
 ghost use Rattle.layout.specs.Words.{bytesOf};
 ghost use Rattle.reaches.specs.Tables.{row, Cleared, Emitted, cellWords, Tabled};
-ghost use Rattle.walks.specs.Walking.{Ground};
+ghost use Rattle.walks.specs.Walking.{Ground, throughOne};
 ghost use Rattle.mesh.specs.Mesh.{top, elements, recordCount, firstCell, cellCount};
 ghost use Rattle.mesh.specs.Walks.{bad10};
 ghost use Rattle.mesh.specs.Accepted.{Accepted, Cell};
@@ -76,6 +77,7 @@ fn reach_of(
     r: usize,
     st: &[u8],
     n: usize,
+    single: bool,
     cell: &[u16],
     prev: &[u16],
     last: &[u16],
@@ -89,8 +91,8 @@ fn reach_of(
     table: &mut [u8],
     t: usize,
 ) -> usize
-    requires { ⌜ Ground (now m) (now st) (now cell) (now prev) (now last) × (e ≡ elements (now m)) × (r ≡ recordCount (now m)) × (first ≡ firstCell (now m)) × Cell (now m) c × (n + 1 ≡ length (now st)) × (n ≤ 8) × (v ≤ 60000) × Under v (now marks) × (length (now from) ≡ 2001) × (length (now found) ≡ 2001) × Zeros 2001 (now layers) × (length (now table) ≡ 32000) × (t ≤ 8001) ⌝ }
-    ensures { λ s. ⌜ Emitted (now (table .entry)) (now (table .exit)) t s (cellWords (now (m .entry)) (now (st .entry)) c) × (s ≤ 8001) × Under (v + n) (now (marks .exit)) × (length (now (from .exit)) ≡ 2001) × (length (now (found .exit)) ≡ 2001) × Zeros 2001 (now (layers .exit)) ⌝ }
+    requires { ⌜ Ground (now m) (now st) (now cell) (now prev) (now last) × (e ≡ elements (now m)) × (r ≡ recordCount (now m)) × (first ≡ firstCell (now m)) × Cell (now m) c × (n + 1 ≡ length (now st)) × (single ≡ throughOne (now st)) × (n ≤ 8) × (v ≤ 60000) × Under v (now marks) × (length (now from) ≡ 2001) × (length (now found) ≡ 2001) × Zeros 2001 (now layers) × (length (now table) ≡ 32000) × (t ≤ 8001) ⌝ }
+    ensures { λ s. ⌜ Emitted (now (table .entry)) (now (table .exit)) t s (cellWords (now (m .entry)) (now (st .entry)) c) × (s ≤ 8001) × Under (v + (n + 1)) (now (marks .exit)) × (length (now (from .exit)) ≡ 2001) × (length (now (found .exit)) ≡ 2001) × Zeros 2001 (now (layers .exit)) ⌝ }
 {
     put_number_at(from, 0, c as u16);
     let w = walk(
@@ -98,6 +100,7 @@ fn reach_of(
         e,
         r,
         st,
+        single,
         cell,
         prev,
         last,
@@ -130,6 +133,7 @@ fn reach_all(
     requires { ⌜ Ground (now m) (now st) (now cell) (now prev) (now last) × (e ≡ elements (now m)) × (r ≡ recordCount (now m)) × (first ≡ firstCell (now m)) × (cells ≡ cellCount (now m)) × (n + 1 ≡ length (now st)) × (n ≤ 8) × (length (now table) ≡ 32000) × (length (now ends) ≡ 2001) ⌝ }
     ensures { λ s. ⌜ Tabled (now (m .entry)) (now (st .entry)) (now (table .entry)) (now (table .exit)) (now (ends .exit)) s ⌝ }
 {
+    let single = through_one(st);
     let mut marks = [0u16; 2001];
     let mut from = [0u16; 2001];
     let mut found = [0u16; 2001];
@@ -144,6 +148,7 @@ fn reach_all(
             r,
             st,
             n,
+            single,
             cell,
             prev,
             last,
@@ -160,7 +165,7 @@ fn reach_all(
         if 8000 < t {
             return t;
         }
-        v += n;
+        v += n + 1;
         put_number_at(ends, x + 1 - first, t as u16);
     }
     t
