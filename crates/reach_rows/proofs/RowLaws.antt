@@ -143,7 +143,8 @@ module _ (m st : Bytes) (cs : List ℕ) where
       ∙ picked-some 0 (λ j. isIn z (walkedFrom m st cs j)) (n + 1)
       ∙ some-cong 0 (λ j. isIn z (walkedFrom m st cs j)) (λ j. someOf cs (λ c. isIn z (walked m st c j))) (n + 1) (λ i h. walked-some (0 + i) z)
       ∙ some-swap 0 (n + 1) cs (λ j c. isIn z (walked m st c j))
-      ∙ someOf-cong _ _ cs (All-intro _ cs 0 (λ l h. sym (picked-some 0 (λ j. isIn z (walked m st (getD cs l 0) j)) (n + 1)) ∙ ap (λ x. ltb 0 (length (picked 0 (x + 1) (λ j. isIn z (walked m st (getD cs l 0) j))))) (steps-is st n ne)))
+      ∙ someOf-cong _ _ cs (All-intro _ cs 0 (λ l h. sym (picked-some 0 (λ j. isIn z (walked m st (getD cs l 0) j)) (n + 1))
+      ∙ ap (λ x. ltb 0 (length (picked 0 (x + 1) (λ j. isIn z (walked m st (getD cs l 0) j))))) (steps-is st n ne)))
 
 -- ---- a row's reach
 
@@ -179,12 +180,14 @@ module _ (m st : Bytes) (cell prev last : List ℕ) (e r first cells n : ℕ) (S
         each z q h =
             unfold layerAt in ap (λ x. eqb (2000 * i + q) z && x)
             (ap (λ x. not (eqb (getD layers (x + q) 0) 0)) (S .first-is) ∙ ap (λ x. not (eqb x 0)) (W .layered (firstCell m + q))
-            ∙ reach-some m st (take s from) cell prev last n (firstCell m + q) (S .ground) (row-starts i s from R .each) (record { low = omega arith; high = omega arith }) (S .n-is) ∙ ap (λ cs. someOf cs (λ c. walkedTo m st c (firstCell m + q))) row)
+            ∙ reach-some m st (take s from) cell prev last n (firstCell m + q) (S .ground) (row-starts i s from R .each) (record { low = omega arith; high = omega arith }) (S .n-is)
+            ∙ ap (λ cs. someOf cs (λ c. walkedTo m st c (firstCell m + q))) row)
 
         same : (z : ℕ) → layersAt layers first (2000 * i) cells z ≡ rowReach m st rows i z
         same z =
             unfold layersAt rowReach in ap (λ k. some 0 k (layerAt layers first (2000 * i) z)) (S .cells-is)
-            ∙ some-cong 0 (layerAt layers first (2000 * i) z) (λ q. eqb (2000 * i + q) z && someOf (rowCells (firstCell m) rows i (cellCount m)) (λ c. walkedTo m st c (firstCell m + q))) (cellCount m) (λ q h. each z (0 + q) (omega arith))
+            ∙ some-cong 0 (layerAt layers first (2000 * i) z) (λ q. eqb (2000 * i + q) z && someOf (rowCells (firstCell m) rows i (cellCount m)) (λ c. walkedTo m st c (firstCell m + q)))
+            (cellCount m) (λ q h. each z (0 + q) (omega arith))
 
     -- ---- all rows
 

@@ -15,7 +15,8 @@ use Rattle.vocabulary.specs.Bytes.{Bytes, byteAt}
 use Rattle.vocabulary.specs.Ranges.{picked, some}
 use Rattle.vocabulary.specs.RangeLaws.{picked-cong, picked-some, some-in, some-witness, every-at, at-last}
 use Rattle.vocabulary.specs.Lists.{isIn, repeats, All, Zeros}
-use Rattle.vocabulary.specs.ListLaws.{or-nothing, and-true, and-intro, and-right, and-all, not-both, same-test, isIn-append, repeats-once, All-map, All-append, All-split, isIn-at, at-isIn, at-all, All-intro}
+use Rattle.vocabulary.specs.ListLaws.{or-nothing, and-true, and-intro, and-right, and-all, not-both, same-test, isIn-append}
+use Rattle.vocabulary.specs.ListLaws.{repeats-once, All-map, All-append, All-split, isIn-at, at-isIn, at-all, All-intro}
 use Rattle.mesh.specs.Mesh.{top, elements, counted, below, firstCell, cellCount}
 use Rattle.mesh.specs.Walks.{bad10, incident, stepTo}
 use Rattle.mesh.specs.WalkLaws.{stencil-parts, stencil-odd, stencil-even}
@@ -25,7 +26,8 @@ use Rattle.mesh.specs.WalkLaws.{below-grows}
 use Rattle.walks.proofs.StepLaws.{someOf-like, step-from, step-to}
 use Rattle.walks.proofs.NoteLaws.{begin}
 use Rattle.visits.specs.Visits.{Gathered, Toward, Grown}
-use Rattle.walks.specs.Walking.{Ground, Cells, Lowers, Sided, stepped, alike, throughOne, metBefore, newly, markAt, startsAmong, orAmong, firstMark, layerMark, noted, Noted, among, cellsAmong, walkedFrom}
+use Rattle.walks.specs.Walking.{Ground, Cells, Lowers, Sided, stepped, alike, throughOne, metBefore, newly}
+use Rattle.walks.specs.Walking.{markAt, startsAmong, orAmong, firstMark, layerMark, noted, Noted, among, cellsAmong, walkedFrom}
 use Rattle.walks.specs.Walking.{Walk, Within, Widened, Departed, Arrived}
 
 -- ---- the copy
@@ -357,7 +359,8 @@ module _ (m st : Bytes) (cell prev last cs : List ℕ) (single : Bool) (j v n ba
   layers-are z true true true p q r =
       let c : Cell m z = walked-even m st (G .mesh) (G .stencil) cs C (suc j) z h (eqb-true (suc j % 2) 0 p) q in
       let o = met-layer m st cell prev last cs j z G C (omega arith) c r in
-      unfold noted in ap (λ b. cond (not (single && true) && b) (suc j + 1) (layerMark m st cs j z)) o ∙ ap (λ b. cond b (suc j + 1) (layerMark m st cs j z)) (and-right (not (single && true)) false refl ∙ sym o)
+      unfold noted in ap (λ b. cond (not (single && true) && b) (suc j + 1) (layerMark m st cs j z)) o
+      ∙ ap (λ b. cond b (suc j + 1) (layerMark m st cs j z)) (and-right (not (single && true)) false refl ∙ sym o)
   layers-are z true true false p q r = ap (λ b. noted (suc j) (not b) (layerMark m st cs j z)) (and-right single false refl)
   layers-are z true false c p q r = refl
   layers-are z false b c p q r = refl

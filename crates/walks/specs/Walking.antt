@@ -8,11 +8,12 @@ use lib.ListN.{length, getD, take, drop}
 use Rattle.vocabulary.specs.Bytes.{Bytes, byteAt}
 use Rattle.vocabulary.specs.Ranges.{picked, some, every}
 use Rattle.vocabulary.specs.Lists.{isIn, All}
-use Rattle.mesh.specs.Mesh.{top, below, firstCell, cellCount, chain}
+use Rattle.mesh.specs.Mesh.{top, below, elements, recordCount, firstCell, cellCount, chain}
 use Rattle.mesh.specs.Walks.{bad10, stepTo}
 use Rattle.mesh.specs.Accepted.{Accepted, Cell}
 use Rattle.links.specs.Links.{trail}
 use Rattle.visits.specs.Visits.{Gathered}
+use Rattle.walks.specs.declared.steps.MeshSizes.{MeshSizes}
 
 -- y is a cell
 unfoldable pub isCell : Bytes → ℕ → Bool
@@ -23,6 +24,13 @@ pub record Ground (m st : Bytes) (cell prev last : List ℕ) : Type 0 where
   pub mesh : Accepted m
   pub stencil : bad10 (top m) st ≡ false
   pub told : (x y : ℕ) → x ≤ 2000 → isIn y (trail cell prev 12001 (getD last x 0)) ≡ isCell m y && isIn x (chain m y)
+
+-- the sizes of a mesh, counted once
+pub record Sized (m : Bytes) (s : MeshSizes) : Type 0 where
+  pub elements-is : s .elements ≡ elements m
+  pub records-is : s .records ≡ recordCount m
+  pub first-is : s .first ≡ firstCell m
+  pub cells-is : s .cells ≡ cellCount m
 
 -- the first n numbers of `from` are all cells, or all lower elements
 pub record Cells (m : Bytes) (from : List ℕ) (n : ℕ) : Type 0 where

@@ -16,16 +16,23 @@ ghost use lib.ListN.{length, take, drop};
 ghost use Rattle.mesh.specs.Meet.{Under};
 ghost use Rattle.vocabulary.specs.Bytes.{byteAt};
 ghost use Rattle.vocabulary.specs.Lists.{All, Zeros};
-ghost use Rattle.mesh.specs.Mesh.{top, elements, recordCount};
+ghost use Rattle.mesh.specs.Mesh.{top};
 ghost use Rattle.mesh.specs.Accepted.{Accepted};
 ghost use Rattle.visits.specs.Visits.{Gathered, Toward, Grown};
-ghost use Rattle.walks.specs.Walking.{Ground, Cells, Lowers, Sided, stepped, alike, throughOne, markAt, startsAmong, orAmong, Noted, among, Walk, Within, Widened, Departed, Arrived};
+ghost use Rattle.walks.specs.Walking.{Ground, Sized, Cells, Lowers, Sided, stepped, alike, throughOne, markAt, startsAmong, orAmong, Noted, among, Walk, Within, Widened, Departed, Arrived};
+
+// The sizes of a mesh: how many elements, records and cells it has, and its first cell.
+pub struct MeshSizes {
+    pub elements: usize,
+    pub records: usize,
+    pub first: usize,
+    pub cells: usize,
+}
 
 // Down from the first n cells of `from` to the elements of dimension a.
 pub fn walk_down(
     m: &[u8],
-    e: usize,
-    r: usize,
+    sizes: MeshSizes,
     a: usize,
     from: &[u16],
     n: usize,
@@ -34,12 +41,26 @@ pub fn walk_down(
     found: &mut [u16],
     base: usize,
 ) -> usize
-    requires { ⌜ Accepted (now m) × (e ≡ elements (now m)) × (r ≡ recordCount (now m)) × (a < top (now m)) × Cells (now m) (now from) n × Gathered v (now marks) (now found) base × (base ≤ 2000) ⌝ }
-    ensures { λ s. ⌜ Gathered v (now (marks .exit)) (now (found .exit)) s × Toward (now (found .exit)) s [] (orAmong (now (found .entry)) base (stepped (now (m .entry)) a (now (from .entry)) n)) × (s ≤ 2000) × Grown (now (found .entry)) base (now (found .exit)) s ⌝ }
+    requires { ⌜ Accepted (now m) × Sized (now m) sizes × (a < top (now m)) × Cells (now m) (now from) n × Gathered v (now marks) (now found) base × (base ≤ 2000) ⌝ }
+    ensures { λ s. ⌜ Gathered v (now (marks .exit)) (now (found .exit)) s
+        × Toward (now (found .exit)) s [] (orAmong (now (found .entry)) base (stepped (now (m .entry)) a (now (from .entry)) n)) × (s ≤ 2000)
+        × Grown (now (found .entry)) base (now (found .exit)) s ⌝ }
 {
     let lo = below_of(m, a);
     let hi = below_of(m, a + 1);
-    step_down(m, e, r, from, n, lo, hi, v, marks, found, base)
+    step_down(
+        m,
+        sizes.elements,
+        sizes.records,
+        from,
+        n,
+        lo,
+        hi,
+        v,
+        marks,
+        found,
+        base,
+    )
 }
 
 // Up from the first n lower elements of `from` to their cells.
@@ -57,7 +78,9 @@ pub fn walk_up(
     base: usize,
 ) -> usize
     requires { ⌜ Ground (now m) (now st) (now cell) (now prev) (now last) × Lowers (now m) (now from) n × Gathered v (now marks) (now found) base × (base ≤ 2000) ⌝ }
-    ensures { λ s. ⌜ Gathered v (now (marks .exit)) (now (found .exit)) s × Toward (now (found .exit)) s [] (orAmong (now (found .entry)) base (stepped (now (m .entry)) (top (now (m .entry))) (now (from .entry)) n)) × (s ≤ 2000) × Grown (now (found .entry)) base (now (found .exit)) s ⌝ }
+    ensures { λ s. ⌜ Gathered v (now (marks .exit)) (now (found .exit)) s
+        × Toward (now (found .exit)) s [] (orAmong (now (found .entry)) base (stepped (now (m .entry)) (top (now (m .entry))) (now (from .entry)) n)) × (s ≤ 2000)
+        × Grown (now (found .entry)) base (now (found .exit)) s ⌝ }
 {
     step_up(cell, prev, last, from, n, v, marks, found, base)
 }
@@ -85,8 +108,7 @@ pub fn note_all(k: u16, from: &[u16], n: usize, layers: &mut [u16])
 // Step k of a walk: down where k is odd, and up where it is even. What it finds comes after the first `base` numbers of `found`.
 fn step(
     m: &[u8],
-    e: usize,
-    r: usize,
+    sizes: MeshSizes,
     st: &[u8],
     cell: &[u16],
     prev: &[u16],
@@ -99,12 +121,15 @@ fn step(
     found: &mut [u16],
     base: usize,
 ) -> usize
-    requires { ⌜ Ground (now m) (now st) (now cell) (now prev) (now last) × (e ≡ elements (now m)) × (r ≡ recordCount (now m)) × (k < length (now st)) × Sided (now m) k (now from) n × Gathered v (now marks) (now found) base × (base ≤ 2000) ⌝ }
-    ensures { λ s. ⌜ Gathered v (now (marks .exit)) (now (found .exit)) s × Toward (now (found .exit)) s [] (orAmong (now (found .entry)) base (stepped (now (m .entry)) (byteAt (now (st .entry)) k) (now (from .entry)) n)) × (s ≤ 2000) × Grown (now (found .entry)) base (now (found .exit)) s ⌝ }
+    requires { ⌜ Ground (now m) (now st) (now cell) (now prev) (now last) × Sized (now m) sizes × (k < length (now st)) × Sided (now m) k (now from) n
+        × Gathered v (now marks) (now found) base × (base ≤ 2000) ⌝ }
+    ensures { λ s. ⌜ Gathered v (now (marks .exit)) (now (found .exit)) s
+        × Toward (now (found .exit)) s [] (orAmong (now (found .entry)) base (stepped (now (m .entry)) (byteAt (now (st .entry)) k) (now (from .entry)) n)) × (s ≤ 2000)
+        × Grown (now (found .entry)) base (now (found .exit)) s ⌝ }
 {
     if k % 2 == 1 {
         let a = byte_at(st, k) as usize;
-        return walk_down(m, e, r, a, from, n, v, marks, found, base);
+        return walk_down(m, sizes, a, from, n, v, marks, found, base);
     }
     walk_up(m, st, cell, prev, last, from, n, v, marks, found, base)
 }
@@ -249,7 +274,8 @@ fn arrive(
     layers: &mut [u16],
 ) -> Ends
     requires { ⌜ (k ≤ 8) × (w .met ≤ n) × (length (take n (now found)) ≡ n) × (length (now found) ≡ 2001) × (length (now from) ≡ 2001) × All (λ y. y < length (now layers)) (take n (now found)) ⌝ }
-    ensures { λ r. ⌜ Arrived k single (now (found .entry)) (w .met) n (now (from .entry)) (now (from .exit)) (now (layers .entry)) (now (layers .exit)) (w .low) (w .high) (r .count) (r .low) (r .high) (r .met) ⌝ }
+    ensures { λ r. ⌜ Arrived k single (now (found .entry)) (w .met) n (now (from .entry)) (now (from .exit)) (now (layers .entry)) (now (layers .exit)) (w .low) (w .high) (r .count)
+        (r .low) (r .high) (r .met) ⌝ }
 {
     let count = n - w.met;
     copy_part(found, w.met, count, from);
@@ -270,8 +296,7 @@ fn arrive(
 // stencil goes through one dimension, which `single` tells, no step goes on from what an earlier one has met: it would find nothing new.
 pub fn walk(
     m: &[u8],
-    e: usize,
-    r: usize,
+    sizes: MeshSizes,
     st: &[u8],
     single: bool,
     cell: &[u16],
@@ -285,17 +310,18 @@ pub fn walk(
     found: &mut [u16],
     layers: &mut [u16],
 ) -> Ends
-    requires { ⌜ Ground (now m) (now st) (now cell) (now prev) (now last) × (e ≡ elements (now m)) × (r ≡ recordCount (now m)) × (single ≡ throughOne (now st)) × Cells (now m) (now from) s × (k < length (now st)) × (k ≤ 8) × (v ≤ 60000) × Under v (now marks) × (length (now from) ≡ 2001) × (length (now found) ≡ 2001) × Zeros 2001 (now layers) ⌝ }
-    ensures { λ w. ⌜ Walk (now (m .entry)) (now (st .entry)) single (take s (now (from .entry))) k v (now (marks .exit)) (now (from .exit)) (now (found .exit)) (now (layers .exit)) (w .count) (w .met) × Within (now (m .entry)) (now (layers .exit)) (w .low) (w .high) ⌝ }
+    requires { ⌜ Ground (now m) (now st) (now cell) (now prev) (now last) × Sized (now m) sizes × (single ≡ throughOne (now st))
+        × Cells (now m) (now from) s × (k < length (now st)) × (k ≤ 8) × (v ≤ 60000) × Under v (now marks) × (length (now from) ≡ 2001) × (length (now found) ≡ 2001) × Zeros 2001 (now layers) ⌝ }
+    ensures { λ w. ⌜ Walk (now (m .entry)) (now (st .entry)) single (take s (now (from .entry))) k v (now (marks .exit)) (now (from .exit)) (now (found .exit)) (now (layers .exit))
+        (w .count) (w .met) × Within (now (m .entry)) (now (layers .exit)) (w .low) (w .high) ⌝ }
 {
     if k == 0 {
         let met = set_out(single, from, s, v as u16, marks, found);
-        return depart(e, from, s, met, layers);
+        return depart(sizes.elements, from, s, met, layers);
     }
     let w = walk(
         m,
-        e,
-        r,
+        sizes,
         st,
         single,
         cell,
@@ -311,8 +337,7 @@ pub fn walk(
     );
     let n = step(
         m,
-        e,
-        r,
+        sizes,
         st,
         cell,
         prev,

@@ -10,11 +10,11 @@ use Rattle.reach_rows.proofs.inner.mark_all.Statement.{statement}
 use Rattle.reach_rows.proofs.inner.mark_all.Tie as tie
 
 abbrev Inv-loop : tie.InvT-loop
-Inv-loop m e r st n cell prev last first cells rows count held₀ single marks₀ from₀ found₀ v₀ i₀ held marks from found v i =
+Inv-loop m e r st n cell prev last first cells rows count held₀ single sizes marks₀ from₀ found₀ v₀ i₀ held marks from found v i =
     (i ≤ count) × (length held ≡ length held₀) × Swept m st rows i v marks from found held₀ held
 
 abbrev μ-loop : tie.MeasureT-loop
-μ-loop m e r st n cell prev last first cells rows count held₀ single marks₀ from₀ found₀ v₀ i₀ held marks from found v i = count - i
+μ-loop m e r st n cell prev last first cells rows count held₀ single sizes marks₀ from₀ found₀ v₀ i₀ held marks from found v i = count - i
 
 pub mark-all-spec : {M : Type 1} → statement M
 mark-all-spec =

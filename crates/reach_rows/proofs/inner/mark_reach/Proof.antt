@@ -18,12 +18,10 @@ mark-reach-spec =
     let at-row-cells = c .before .before .before .before .before .before in
     let start = at-row-cells .before .before .before .before .before .before .before .before .before .before .before .before in (
       start .pre .0 .ground,
-      start .pre .0 .e-is,
-      start .pre .0 .r-is,
+      record { elements-is = start .pre .0 .e-is; records-is = start .pre .0 .r-is; first-is = start .pre .0 .first-is; cells-is = start .pre .0 .cells-is },
       start .pre .1,
       row-starts _ _ _ _ _ _ _ _ _ _ (start .pre .0) _ _ _ _ (at-row-cells .row-cells .ensures),
-      omega
-          (arith, start .pre .0 .n-is),
+      omega (arith, start .pre .0 .n-is),
       start .pre .0 .n-few,
       start .pre .3,
       start .pre .4 .fresh,

@@ -15,12 +15,12 @@ use Rattle.mesh.proofs.AcceptedLaws.{cells-few}
 use Rattle.mesh.proofs.MeetLaws.{under-none}
 
 abbrev Inv-loop : tie.InvT-loop
-Inv-loop m e r st n cell prev last first cells table₀ ends₀ single marks₀ from₀ found₀ layers₀ t₀ v₀ x₀ x-end table ends marks from found layers t v x =
+Inv-loop m e r st n cell prev last first cells table₀ ends₀ single sizes marks₀ from₀ found₀ layers₀ t₀ v₀ x₀ x-end table ends marks from found layers t v x =
     (first ≤ x) × (x ≤ first + cells) × (x-end ≡ first + cells) × (t ≤ 8000) × (v ≤ 1 + 9 * (x - first)) × Under v marks × (length from ≡ 2001) × (length found ≡ 2001) × Zeros 2001 layers
     × (length table ≡ 32000) × (length ends ≡ 2001) × Emitted table₀ table 0 t (tableWords m st (x - first)) × Ends m st ends (x - first)
 
 abbrev μ-loop : tie.MeasureT-loop
-μ-loop m e r st n cell prev last first cells table₀ ends₀ single marks₀ from₀ found₀ layers₀ t₀ v₀ x₀ x-end table ends marks from found layers t v x = x-end - x
+μ-loop m e r st n cell prev last first cells table₀ ends₀ single sizes marks₀ from₀ found₀ layers₀ t₀ v₀ x₀ x-end table ends marks from found layers t v x = x-end - x
 
 pub reach-all-spec : {M : Type 1} → statement M
 reach-all-spec =
@@ -63,20 +63,14 @@ reach-all-spec =
     let at-through-one = at-loop .before .before .before .before .before in
     let start = at-through-one .before .before .before .before .before .before .before .before in (
       start .pre .0,
-      start .pre .1,
-      start .pre .2,
-      start .pre .3,
-      cell-is _ _ _ _ (start .pre .3) (start .pre .4) (at-loop .loop .inv .0) (at-loop-test .loop-test .taken),
+      record { elements-is = start .pre .1; records-is = start .pre .2; first-is = start .pre .3; cells-is = start .pre .4 },
+      cell-is _ _ _ _ (start .pre .3)
+          (start .pre .4) (at-loop .loop .inv .0) (at-loop-test .loop-test .taken),
       start .pre .5,
       at-through-one .through-one .ensures,
       start .pre .6,
-      omega (
-        arith,
-        at-loop .loop .inv .4,
-        at-loop-test .loop-test .taken,
-        cells-few _ _ (start .pre .0 .mesh)
-            (start .pre .4),
-      ),
+      omega
+          (arith, at-loop .loop .inv .4, at-loop-test .loop-test .taken, cells-few _ _ (start .pre .0 .mesh) (start .pre .4)),
       at-loop .loop .inv .5,
       at-loop .loop .inv .6,
       at-loop .loop .inv .7,

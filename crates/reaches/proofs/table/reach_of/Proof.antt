@@ -17,25 +17,25 @@ reach-of-spec =
     let start = at-put-number-at .before .before .before .before .before .before .before .before .before .before .before .before in (
       start .pre .0,
       start .pre .1,
-      start .pre .2,
+      start .pre .4,
+      one-cell _ (start .args .from .now) _ _ (start .pre .2) (start .pre .8) (at-put-number-at .put-number-at .ensures),
+      omega
+          (arith, start .pre .3),
+      start .pre .5,
       start .pre .6,
-      one-cell _ (start .args .from .now) _ _ (start .pre .4) (start .pre .10) (at-put-number-at .put-number-at .ensures),
-      omega (arith, start .pre .5),
       start .pre .7,
-      start .pre .8,
-      start .pre .9,
       search needs,
-      start .pre .11,
-      start .pre .12,
+      start .pre .9,
+      start .pre .10,
     ))
     (λ c κs.
     let at-walk = c .before .before .before .before .before .before .before .before .before .before in
     let start = at-walk .before .before .before .before .before .before .before .before .before .before .before .before .before .before .before .before .before .before .before in (
-      omega (arith, start .pre .3, at-walk .walk .ensures .1 .starts),
+      omega (arith, start .pre .1 .first-is, at-walk .walk .ensures .1 .starts),
       high-small _ _ _ _ (start .pre .0 .mesh) (at-walk .walk .ensures .1),
       at-walk .walk .ensures .0 .size,
-      start .pre .14,
-      start .pre .13,
+      start .pre .12,
+      start .pre .11,
     ))
     (λ c. search needs)
     (λ c. search needs)
@@ -47,8 +47,8 @@ reach-of-spec =
     let at-walk = at-emit .before .before .before .before .before .before .before .before .before .before .before in
     let at-put-number-at = at-walk .before .before .before .before .before .before .before in
     let start = at-put-number-at .before .before .before .before .before .before .before .before .before .before .before .before in (
-      emitted-cell _ _ _ _ _ _ _ _ _ _ _ _ _ _ _ _ _ _ _ (start .pre .0) (start .pre .4) (at-walk .walk .ensures .0)
-          (front (start .args .from .now) _ _ (start .pre .10) (at-put-number-at .put-number-at .ensures)) (at-walk .walk .ensures .1) (start .pre .5) (start .pre .3) _ _ _ _
+      emitted-cell _ _ _ _ _ _ _ _ _ _ _ _ _ _ _ _ _ _ _ (start .pre .0) (start .pre .2) (at-walk .walk .ensures .0)
+          (front (start .args .from .now) _ _ (start .pre .8) (at-put-number-at .put-number-at .ensures)) (at-walk .walk .ensures .1) (start .pre .3) (start .pre .1 .first-is) _ _ _ _
           (at-emit .emit .ensures .0),
       at-emit .emit .ensures .1,
       walk-fresh _ _ _ _ _ _ _ _ _ _ _ _ (at-walk .walk .ensures .0),

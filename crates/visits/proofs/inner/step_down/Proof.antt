@@ -11,7 +11,8 @@ use Rattle.visits.proofs.inner.step_down.Statement.{statement}
 use Rattle.visits.proofs.inner.step_down.Tie as tie
 
 abbrev Inv-loop : tie.InvT-loop
-Inv-loop m e r from n lo hi v marks₀ found₀ base s₀ j₀ marks found s j = (j ≤ n) × (s ≤ 2000) × (length marks ≡ length marks₀) × (length found ≡ length found₀) × Grown found₀ base found s × Gathered v marks found s × Toward found s [] (with found₀ base (blocks 0 j (down m lo hi from)))
+Inv-loop m e r from n lo hi v marks₀ found₀ base s₀ j₀ marks found s j = (j ≤ n) × (s ≤ 2000) × (length marks ≡ length marks₀) × (length found ≡ length found₀) × Grown found₀ base found s
+    × Gathered v marks found s × Toward found s [] (with found₀ base (blocks 0 j (down m lo hi from)))
 
 abbrev μ-loop : tie.MeasureT-loop
 μ-loop m e r from n lo hi v marks₀ found₀ base s₀ j₀ marks found s j = n - j
@@ -28,7 +29,19 @@ step-down-spec =
     (λ c κs. search needs)
     (λ c. search needs)
     (λ c. search needs)
-    (λ c. (search needs, search needs, search needs, search needs, search grown-both, search needs, step-turn _ _ _ _ _ _ _ _ _ (c .before .before .before .before .before .before .before .before .before .before .loop .inv .6) (down-is _ _ _ _ _ _ _ _ (c .before .before .before .before .before .before .before .before .before .before .before .before .before .before .before .pre .2) (c .before .before .before .before .before .before .before .before .entry .ensures .0) (c .before .before .before .before .before .before .before .head-of .ensures .0)) (c .before .before .before .before .visit-chain .ensures .1)))
+    (λ c. (
+      search needs,
+      search needs,
+      search needs,
+      search needs,
+      search grown-both,
+      search needs,
+      step-turn _ _ _ _ _ _ _ _ _
+          (c .before .before .before .before .before .before .before .before .before .before .loop .inv .6)
+          (down-is _ _ _ _ _ _ _ _ (c .before .before .before .before .before .before .before .before .before .before .before .before .before .before .before .pre .2)
+          (c .before .before .before .before .before .before .before .before .entry .ensures .0) (c .before .before .before .before .before .before .before .head-of .ensures .0))
+          (c .before .before .before .before .visit-chain .ensures .1),
+    ))
     (λ c. search needs)
     (λ c. search needs)
     (λ c. (search needs, search step-end, search needs, search needs)))

@@ -12,7 +12,9 @@ use Rattle.visits.proofs.inner.visit_chain.Statement.{statement}
 use Rattle.visits.proofs.inner.visit_chain.Tie as tie
 
 abbrev Inv-loop : tie.InvT-loop
-Inv-loop m e r h lo hi v marks₀ found₀ n i₀ s₀ -k₀ -k-end marks found i s -k = (-k-end ≡ r + 1) × (i < 65536) × (s ≤ 2000) × (length marks ≡ length marks₀) × (length found ≡ length found₀) × Grown found₀ n found s × Gathered v marks found s × Toward found s (between lo hi (map (elementIn m) (follow m (-k-end - -k) i))) (with found₀ n (between lo hi (map (elementIn m) (follow m (r + 1) h))))
+Inv-loop m e r h lo hi v marks₀ found₀ n i₀ s₀ -k₀ -k-end marks found i s -k = (-k-end ≡ r + 1) × (i < 65536) × (s ≤ 2000) × (length marks ≡ length marks₀) × (length found ≡ length found₀)
+    × Grown found₀ n found s × Gathered v marks found s × Toward found s (between lo hi (map (elementIn m) (follow m (-k-end - -k) i)))
+    (with found₀ n (between lo hi (map (elementIn m) (follow m (r + 1) h))))
 
 abbrev μ-loop : tie.MeasureT-loop
 μ-loop m e r h lo hi v marks₀ found₀ n i₀ s₀ -k₀ -k-end marks found i s -k = -k-end - -k

@@ -12,7 +12,9 @@ use Rattle.visits.proofs.inner.visit_trail.Statement.{statement}
 use Rattle.visits.proofs.inner.visit_trail.Tie as tie
 
 abbrev Inv-loop : tie.InvT-loop
-Inv-loop cell prev t v marks₀ found₀ n i₀ s₀ -k₀ marks found i s -k = (s ≤ 2000) × (length marks ≡ length marks₀) × (length found ≡ length found₀) × All (λ y. (1 ≤ y) × (y ≤ 2000)) (trail cell prev (12001 - -k) i) × Grown found₀ n found s × Gathered v marks found s × Toward found s (trail cell prev (12001 - -k) i) (with found₀ n (trail cell prev 12001 t))
+Inv-loop cell prev t v marks₀ found₀ n i₀ s₀ -k₀ marks found i s -k = (s ≤ 2000) × (length marks ≡ length marks₀) × (length found ≡ length found₀)
+    × All (λ y. (1 ≤ y) × (y ≤ 2000)) (trail cell prev (12001 - -k) i) × Grown found₀ n found s × Gathered v marks found s
+    × Toward found s (trail cell prev (12001 - -k) i) (with found₀ n (trail cell prev 12001 t))
 
 abbrev μ-loop : tie.MeasureT-loop
 μ-loop cell prev t v marks₀ found₀ n i₀ s₀ -k₀ marks found i s -k = 12001 - -k

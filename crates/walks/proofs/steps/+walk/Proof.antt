@@ -19,7 +19,7 @@ use Rattle.walks.proofs.steps.+walk.{statement}
 use Rattle.walks.proofs.steps.+walk.Tie.{close}
 
 abbrev μ-walk : Measures 9 walk-kinds.ps ℕ
-μ-walk κs a = a .1 .1 .1 .1 .1 .1 .1 .1 .1 .0
+μ-walk κs a = a .1 .1 .1 .1 .1 .1 .1 .1 .0
 
 abbrev walk-at : ℕ → In 9 walk-kinds.ps
 walk-at t = and 9 walk-kinds.ps (is 9 walk-kinds.ps μ-walk t) walk.Pre
@@ -47,10 +47,10 @@ pub +walk-spec : {M : Type 1} → statement M
     (λ c. search needs)
     (λ c κs.
     let start = c .before .before .before .before .before .before .before .before .before .before .before .before .before in
-    (start .pre .1 .4 .count, cells-small _ _ _ _ _ _ _ (start .pre .1 .0) (start .pre .1 .4), start .pre .1 .8, start .pre .1 .10))
+    (start .pre .1 .3 .count, cells-small _ _ _ _ _ _ _ (start .pre .1 .0) (start .pre .1 .3), start .pre .1 .7, start .pre .1 .9))
     (λ c κs.
     let start = c .before .before .before .before .before .before .before .before .before .before .before .before .before .before .before .before .before .before .before .before in
-    (search needs, start .pre .1 .4 .count, cells-fit _ _ _ _ _ _ _ (start .pre .1 .0) (start .pre .1 .4) _ (start .pre .1 .11)))
+    (search needs, start .pre .1 .3 .count, cells-fit _ _ _ _ _ _ _ (start .pre .1 .0) (start .pre .1 .3) _ (start .pre .1 .10)))
     (λ c. search needs)
     (λ c. search needs)
     (λ c. search needs)
@@ -60,7 +60,7 @@ pub +walk-spec : {M : Type 1} → statement M
     let at-set-out = at-depart .before .before .before .before .before .before .before in
     let at-if1 = at-set-out .before .before .before .before in
     let start = at-if1 .before .before .before .before .before .before .before .before .before .before in
-    ends-none _ _ _ _ _ _ _ _ _ _ _ _ _ _ _ _ _ _ _ _ (start .pre .1 .0) (start .pre .1 .1) (start .pre .1 .4) (start .pre .1 .9) (start .pre .1 .11) (at-if1 .if1 .taken)
+    ends-none _ _ _ _ _ _ _ _ _ _ _ _ _ _ _ _ _ _ _ _ (start .pre .1 .0) (start .pre .1 .1 .elements-is) (start .pre .1 .3) (start .pre .1 .8) (start .pre .1 .10) (at-if1 .if1 .taken)
     (at-set-out .set-out .ensures) (at-depart .depart .ensures))
     (λ c. search needs)
     (λ c κs.
@@ -72,21 +72,20 @@ pub +walk-spec : {M : Type 1} → statement M
         start .pre .1 .1,
         start .pre .1 .2,
         start .pre .1 .3,
-        start .pre .1 .4,
         search needs,
         search needs,
+        start .pre .1 .6,
         start .pre .1 .7,
         start .pre .1 .8,
         start .pre .1 .9,
         start .pre .1 .10,
-        start .pre .1 .11,
       ),
     ))
     (λ c. search needs)
     (λ c κs.
     let midway = c .before .before .before .before .before .before .before .before .before .before .before .before in
     let start = midway .before .before .before .before .before .before .before .before .before .before .before .before in
-    (start .pre .1 .7, omega (arith, start .pre .1 .6)))
+    (start .pre .1 .6, omega (arith, start .pre .1 .5)))
     (λ c. search needs)
     (λ c κs.
     let at-mark-at = c .before .before in
@@ -95,19 +94,17 @@ pub +walk-spec : {M : Type 1} → statement M
     let start = at-if1 .before .before .before .before .before .before .before .before .before .before in (
       start .pre .1 .0,
       start .pre .1 .1,
-      start .pre .1 .2,
-      start .pre .1 .5,
-      walk-sides _ _ _ _ _ _ _ _ _ _ _ _ _ _ _ (start .pre .1 .0) (start .pre .1 .4 .each) (at-if1 .if1 .left)
-          (start .pre .1 .5) (at-walk .walk .ensures .0),
+      start .pre .1 .4,
+      walk-sides _ _ _ _ _ _ _ _ _ _ _ _ _ _ _ (start .pre .1 .0) (start .pre .1 .3 .each) (at-if1 .if1 .left) (start .pre .1 .4)
+          (at-walk .walk .ensures .0),
       gathered-as _ _ _ _ _ (at-mark-at .mark-at .ensures .0) (at-walk .walk .ensures .0 .gathered),
-      few _ _ _ _
-          (at-walk .walk .ensures .0 .gathered),
+      few _ _ _ _ (at-walk .walk .ensures .0 .gathered),
     ))
     (λ c κs.
     let at-step = c .before .before .before .before .before .before .before in
     let at-walk = at-step .before .before .before .before .before .before .before .before .before .before .before .before .before in
     let start = at-walk .before .before .before .before .before .before .before .before .before .before .before .before .before .before .before in (
-      start .pre .1 .6,
+      start .pre .1 .5,
       at-step .step .ensures .3 .more,
       at-step .step .ensures .0 .count,
       at-step .step .ensures .0 .room,
@@ -126,7 +123,7 @@ pub +walk-spec : {M : Type 1} → statement M
     let at-walk = at-mark-at .before .before .before .before .before .before .before .before .before .before in
     let at-if1 = at-walk .before .before .before .before .before in
     let start = at-if1 .before .before .before .before .before .before .before .before .before .before in
-    ends-more _ _ _ _ _ _ _ _ _ _ _ _ _ _ _ _ _ _ _ _ _ _ _ _ _ _ (start .pre .1 .0) (start .pre .1 .4 .each) (start .pre .1 .3) (start .pre .1 .5) (at-if1 .if1 .left)
+    ends-more _ _ _ _ _ _ _ _ _ _ _ _ _ _ _ _ _ _ _ _ _ _ _ _ _ _ (start .pre .1 .0) (start .pre .1 .3 .each) (start .pre .1 .2) (start .pre .1 .4) (at-if1 .if1 .left)
     (at-walk .walk .ensures) (
       gathered-as _ _ _ _ _ (sym (at-mark-at .mark-at .ensures .0)) (at-step .step .ensures .0),
       at-step .step .ensures .1,

@@ -10,7 +10,7 @@ step-spec =
     (tie.spec
     (λ c κs. search needs)
     (λ c. search needs)
-    (λ c κs. (search needs, search needs, search needs, search dimension-down, search side-odd, search needs, search needs))
+    (λ c κs. (search needs, search needs, search dimension-down, search side-odd, search needs, search needs))
     (λ c. search needs)
     (λ c. search needs)
     (λ c. (search needs, search stepped-down, search needs, search needs))

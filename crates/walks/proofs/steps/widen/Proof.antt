@@ -25,5 +25,12 @@ widen-spec =
     (λ c κs. search needs)
     (λ c. search needs)
     (λ c. search needs)
-    (λ c. (search needs, c .widened .ensures .0 ∙ c .before .before .before .loop .inv .1, c .widened .ensures .1 ∙ c .before .before .before .loop .inv .2, widen-turn _ _ _ _ _ _ _ _ _ _ (c .before .before .before .before .before .pre) (c .before .before .loop-test .taken) (c .before .entry .ensures .0) (c .before .before .before .loop .inv .3) (c .widened .ensures .2)))
+    (λ c. (
+      search needs,
+      c .widened .ensures .0 ∙ c .before .before .before .loop .inv .1,
+      c .widened .ensures .1
+          ∙ c .before .before .before .loop .inv .2,
+      widen-turn _ _ _ _ _ _ _ _ _ _ (c .before .before .before .before .before .pre) (c .before .before .loop-test .taken)
+          (c .before .entry .ensures .0) (c .before .before .before .loop .inv .3) (c .widened .ensures .2),
+    ))
     (λ c. (c .before .loop .inv .1, c .before .loop .inv .2, widen-end _ _ _ _ _ _ _ (c .before .loop .inv .0) (c .loop-test .left) (c .before .loop .inv .3))))
