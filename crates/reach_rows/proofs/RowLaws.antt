@@ -19,7 +19,8 @@ use Rattle.mesh.specs.Mesh.{counted, below, firstCell, cellCount}
 use Rattle.mesh.specs.Walks.{incident, steps, stepTo, stepsTo, walked}
 use Rattle.mesh.specs.Accepted.{Cell}
 use Rattle.walks.specs.Walking.{Ground, firstMark, layerMark, walkedFrom, Cells, Walk}
-use Rattle.walks.proofs.WalkLaws.{cell-layer}
+use Rattle.walks.proofs.WalkLaws.{marked-by, cell-layer, walk-fresh}
+use Rattle.walks.proofs.StepLaws.{step-from, step-to}
 use Rattle.reach_rows.specs.Rows.{walkedTo, reachMark, rowMarks, Marks, layerAt, layersAt, layerOf, rowCells, Rowed, rowReach, Site, Space, Swept}
 use Rattle.walks.proofs.GroundLaws.{steps-is}
 use Rattle.mesh.proofs.MeetLaws.{under-none}
@@ -110,43 +111,22 @@ module _ (first : ℕ) (rows : Bytes) (i : ℕ) where
 
 -- ---- what walks from several cells reach: what the walks from one of them do
 
-marked-by : (ks : List ℕ) → not (eqb (firstMark ks) 0) ≡ ltb 0 (length ks)
-unfolding firstMark
-marked-by [] = refl
-marked-by (k ∷ ks) = ap not (ne-eqb (k + 1) 0 (omega arith)) ∙ sym (lt-ltb 0 (suc (length ks)) (omega arith))
-
 module _ (m st : Bytes) (cs : List ℕ) where
-  step-in : (a z : ℕ) (es : List ℕ) → isIn z (stepTo m a es) ≡ true → (below m a + 1 ≤ z) × (z < below m a + 1 + counted m a) × (someOf es (λ e. incident m e z) ≡ true)
-  unfolding stepTo
-  step-in a z es e = picked-passes (below m a + 1) (λ x. someOf es (λ e. incident m e x)) (counted m a) z (isIn-at z _ e)
-
-  step-has : (a z : ℕ) (es : List ℕ) → below m a + 1 ≤ z → z < below m a + 1 + counted m a → someOf es (λ e. incident m e z) ≡ true → isIn z (stepTo m a es) ≡ true
-  unfolding stepTo
-  step-has a z es l h e = at-isIn z _ (picked-in (below m a + 1) (λ x. someOf es (λ e. incident m e x)) (counted m a) z l h e)
-
   -- one step more
   step-some : (a : ℕ) (es : List ℕ) (f : ℕ → List ℕ) → ((y : ℕ) → isIn y es ≡ someOf cs (λ c. isIn y (f c))) → (z : ℕ) → isIn z (stepTo m a es) ≡ someOf cs (λ c. isIn z (stepTo m a (f c)))
   step-some a es f like z = same-test (isIn z (stepTo m a es)) (someOf cs (λ c. isIn z (stepTo m a (f c)))) there back
     where
       there : isIn z (stepTo m a es) ≡ true → someOf cs (λ c. isIn z (stepTo m a (f c))) ≡ true
       there e =
-          let w = step-in a z es e in
-          let u = someOf-witness (λ e. incident m e z) es 0 (w .2) in
-          let x : ℕ = getD es (u .0) 0 in
-          let g = someOf-witness (λ c. isIn x (f c)) cs 0 (sym (like x) ∙ at-isIn x es (record { place = u .0; place-lt = u .1; place-is = refl })) in
-          let t = isIn-at x (f (getD cs (g .0) 0)) (g .2) in
-          someOf-has (λ c. isIn z (stepTo m a (f c))) cs 0 (g .0) (g .1)
-          (step-has a z (f (getD cs (g .0) 0)) (w .0) (w .1) (someOf-has (λ e. incident m e z) (f (getD cs (g .0) 0)) 0 (t .place) (t .place-lt) (ap (λ e. incident m e z) (t .place-is) ∙ u .2)))
+          let w = step-from m a z es e in
+          let g = someOf-witness (λ c. isIn (w .0) (f c)) cs 0 (sym (like (w .0)) ∙ w .1) in
+          someOf-has (λ c. isIn z (stepTo m a (f c))) cs 0 (g .0) (g .1) (step-to m a z (f (getD cs (g .0) 0)) (w .0) (g .2) (w .2) (w .3) (w .4))
 
       back : someOf cs (λ c. isIn z (stepTo m a (f c))) ≡ true → isIn z (stepTo m a es) ≡ true
       back e =
           let g = someOf-witness (λ c. isIn z (stepTo m a (f c))) cs 0 e in
-          let w = step-in a z (f (getD cs (g .0) 0)) (g .2) in
-          let u = someOf-witness (λ e. incident m e z) (f (getD cs (g .0) 0)) 0 (w .2) in
-          let x : ℕ = getD (f (getD cs (g .0) 0)) (u .0) 0 in
-          let i : isIn x (f (getD cs (g .0) 0)) ≡ true = at-isIn x (f (getD cs (g .0) 0)) (record { place = u .0; place-lt = u .1; place-is = refl }) in
-          let t = isIn-at x es (like x ∙ someOf-has (λ c. isIn x (f c)) cs 0 (g .0) (g .1) i) in
-          step-has a z es (w .0) (w .1) (someOf-has (λ e. incident m e z) es 0 (t .place) (t .place-lt) (ap (λ e. incident m e z) (t .place-is) ∙ u .2))
+          let w = step-from m a z (f (getD cs (g .0) 0)) (g .2) in
+          step-to m a z es (w .0) (like (w .0) ∙ someOf-has (λ c. isIn (w .0) (f c)) cs 0 (g .0) (g .1) (w .1)) (w .2) (w .3) (w .4)
 
   walked-some : (k z : ℕ) → isIn z (walkedFrom m st cs k) ≡ someOf cs (λ c. isIn z (walked m st c k))
   unfolding walkedFrom walked
@@ -163,7 +143,8 @@ module _ (m st : Bytes) (cs : List ℕ) where
       ∙ picked-some 0 (λ j. isIn z (walkedFrom m st cs j)) (n + 1)
       ∙ some-cong 0 (λ j. isIn z (walkedFrom m st cs j)) (λ j. someOf cs (λ c. isIn z (walked m st c j))) (n + 1) (λ i h. walked-some (0 + i) z)
       ∙ some-swap 0 (n + 1) cs (λ j c. isIn z (walked m st c j))
-      ∙ someOf-cong _ _ cs (All-intro _ cs 0 (λ l h. sym (picked-some 0 (λ j. isIn z (walked m st (getD cs l 0) j)) (n + 1)) ∙ ap (λ x. ltb 0 (length (picked 0 (x + 1) (λ j. isIn z (walked m st (getD cs l 0) j))))) (steps-is st n ne)))
+      ∙ someOf-cong _ _ cs (All-intro _ cs 0 (λ l h. sym (picked-some 0 (λ j. isIn z (walked m st (getD cs l 0) j)) (n + 1))
+      ∙ ap (λ x. ltb 0 (length (picked 0 (x + 1) (λ j. isIn z (walked m st (getD cs l 0) j))))) (steps-is st n ne)))
 
 -- ---- a row's reach
 
@@ -177,8 +158,8 @@ module _ (m st : Bytes) (cell prev last : List ℕ) (e r first cells n : ℕ) (S
   pub site-last : first + cells ≤ 2001
   site-last = omega (arith, S .first-is, S .cells-is, S .ground .mesh .cells-in, S .ground .mesh .sizes .n-high)
 
-  pub space-after : (cs : List ℕ) (v k : ℕ) (marks from found layers : List ℕ) → Walk m st cs n (v + n) marks from layers k → length found ≡ 2001 → Space (v + n) marks from found
-  space-after cs v k marks from found layers W l = record { fresh = W .fresh; from-long = W .room; found-long = l }
+  pub space-after : (single : Bool) (cs : List ℕ) (v k met : ℕ) (marks from found layers : List ℕ) → Walk m st single cs n v marks from found layers k met → Space (v + (n + 1)) marks from found
+  space-after single cs v k met marks from found layers W = record { fresh = walk-fresh m st cs single n v k met marks from found layers W; from-long = W .room; found-long = W .gathered .room }
 
   module _ (rows : Bytes) where
     pub row-starts : (i s : ℕ) (from : List ℕ) → Rowed first rows i cells s from → Cells m from s
@@ -187,9 +168,10 @@ module _ (m st : Bytes) (cell prev last : List ℕ) (e r first cells n : ℕ) (S
       count = omega (arith, length-take s from, R .room, R .few, site-cells);
     }
 
-    pub reach-marked : (i v k s : ℕ) (marks from from′ layers : List ℕ) (a b : Bytes) → Rowed first rows i cells s from → Walk m st (take s from) n v marks from′ layers k
+    pub reach-marked : (single : Bool) (i v k s met : ℕ) (marks from from′ found layers : List ℕ) (a b : Bytes) → Rowed first rows i cells s from
+        → Walk m st single (take s from) n v marks from′ found layers k met
         → Marks a b (layersAt layers first (2000 * i) cells) → Marks a b (rowReach m st rows i)
-    reach-marked i v k s marks from from′ layers a b R W P = marks-as a b (layersAt layers first (2000 * i) cells) (rowReach m st rows i) same P
+    reach-marked single i v k s met marks from from′ found layers a b R W P = marks-as a b (layersAt layers first (2000 * i) cells) (rowReach m st rows i) same P
       where
         row : take s from ≡ rowCells (firstCell m) rows i (cellCount m)
         row = R .cells ∙ ap₂ (λ x y. rowCells x rows i y) (S .first-is) (S .cells-is)
@@ -198,17 +180,19 @@ module _ (m st : Bytes) (cell prev last : List ℕ) (e r first cells n : ℕ) (S
         each z q h =
             unfold layerAt in ap (λ x. eqb (2000 * i + q) z && x)
             (ap (λ x. not (eqb (getD layers (x + q) 0) 0)) (S .first-is) ∙ ap (λ x. not (eqb x 0)) (W .layered (firstCell m + q))
-            ∙ reach-some m st (take s from) cell prev last n (firstCell m + q) (S .ground) (row-starts i s from R .each) (record { low = omega arith; high = omega arith }) (S .n-is) ∙ ap (λ cs. someOf cs (λ c. walkedTo m st c (firstCell m + q))) row)
+            ∙ reach-some m st (take s from) cell prev last n (firstCell m + q) (S .ground) (row-starts i s from R .each) (record { low = omega arith; high = omega arith }) (S .n-is)
+            ∙ ap (λ cs. someOf cs (λ c. walkedTo m st c (firstCell m + q))) row)
 
         same : (z : ℕ) → layersAt layers first (2000 * i) cells z ≡ rowReach m st rows i z
         same z =
             unfold layersAt rowReach in ap (λ k. some 0 k (layerAt layers first (2000 * i) z)) (S .cells-is)
-            ∙ some-cong 0 (layerAt layers first (2000 * i) z) (λ q. eqb (2000 * i + q) z && someOf (rowCells (firstCell m) rows i (cellCount m)) (λ c. walkedTo m st c (firstCell m + q))) (cellCount m) (λ q h. each z (0 + q) (omega arith))
+            ∙ some-cong 0 (layerAt layers first (2000 * i) z) (λ q. eqb (2000 * i + q) z && someOf (rowCells (firstCell m) rows i (cellCount m)) (λ c. walkedTo m st c (firstCell m + q)))
+            (cellCount m) (λ q h. each z (0 + q) (omega arith))
 
     -- ---- all rows
 
     pub sweep-turn : (i v : ℕ) (marks from found marks′ from′ found′ : List ℕ) (a b c : Bytes) → Swept m st rows i v marks from found a b
-        → Marks b c (rowReach m st rows (i + 1)) → Space (v + n) marks′ from′ found′ → Swept m st rows (i + 1) (v + n) marks′ from′ found′ a c
+        → Marks b c (rowReach m st rows (i + 1)) → Space (v + (n + 1)) marks′ from′ found′ → Swept m st rows (i + 1) (v + (n + 1)) marks′ from′ found′ a c
     sweep-turn i v marks from found marks′ from′ found′ a b c W Q s = record {
       turns = omega (arith, W .turns, S .n-few);
       space = s;

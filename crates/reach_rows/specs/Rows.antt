@@ -76,6 +76,6 @@ pub record Space (v : ℕ) (marks from found : List ℕ) : Type 0 where
 
 -- the first n rows are marked
 pub record Swept (m st rows : Bytes) (n v : ℕ) (marks from found : List ℕ) (before after : Bytes) : Type 0 where
-  pub turns : v ≤ 1 + 8 * n
+  pub turns : v ≤ 1 + 9 * n
   pub space : Space v marks from found
   pub marked : Marks before after (λ z. some 1 n (λ i. rowReach m st rows i z))

@@ -7,6 +7,8 @@ use mesh::inner::elements_of;
 use mesh::inner::first_cell;
 use mesh::inner::record_count;
 use visits::inner::entry;
+use walks::inner::MeshSizes;
+use walks::inner::through_one;
 use walks::inner::walk;
 ghost use mathlib.Core.Path.{_≡_};
 ghost use mathlib.Core.Bool.{true, false};
@@ -17,7 +19,17 @@ ghost use Rattle.vocabulary.specs.Ranges.{isUpTo, every};
 ghost use Rattle.mesh.specs.Mesh.{top, cellCount};
 ghost use Rattle.mesh.specs.Walks.{bad10};
 ghost use Rattle.mesh.specs.Accepted.{Accepted};
+ghost use Rattle.walks.specs.Walking.{throughOne};
 ghost use Rattle.reach_rows.specs.Rows.{rowMarks, rowReach, Rowed, Marks, layerOf, layersAt, Site, Space};
+
+// The room for a number of each element; none is numbered 0.
+const NUMBERS: usize = 2001;
+
+// The room for an entry of each record of the cells' chains; none is numbered 0.
+const ENTRIES: usize = 12001;
+
+// The places in a row.
+const PLACES: usize = 2000;
 
 // Sets the byte at `at` to 1, where there is one.
 fn mark(held: &mut [u8], at: usize)
@@ -75,15 +87,13 @@ fn row_cells(rows: &[u8], i: usize, first: usize, cells: usize, list: &mut [u16]
 // Marks in row i the cells that the cells of row i reach, by walks from all of them at once.
 fn mark_reach(
     m: &[u8],
-    e: usize,
-    r: usize,
+    sizes: MeshSizes,
     st: &[u8],
     n: usize,
+    single: bool,
     cell: &[u16],
     prev: &[u16],
     last: &[u16],
-    first: usize,
-    cells: usize,
     rows: &[u8],
     i: usize,
     v: usize,
@@ -92,16 +102,18 @@ fn mark_reach(
     found: &mut [u16],
     held: &mut [u8],
 )
-    requires { ⌜ Site (now m) (now st) (now cell) (now prev) (now last) e r first cells n × (i ≤ 16) × (v ≤ 60000) × Space v (now marks) (now from) (now found) ⌝ }
-    ensures { λ _. ⌜ Marks (now (held .entry)) (now (held .exit)) (rowReach (now (m .entry)) (now (st .entry)) (now (rows .entry)) i) × Space (v + n) (now (marks .exit)) (now (from .exit)) (now (found .exit)) ⌝ }
+    requires { ⌜ Site (now m) (now st) (now cell) (now prev) (now last) (sizes .elements) (sizes .records) (sizes .first) (sizes .cells) n × (single ≡ throughOne (now st)) × (i ≤ 16)
+        × (v ≤ 60000) × Space v (now marks) (now from) (now found) ⌝ }
+    ensures { λ _. ⌜ Marks (now (held .entry)) (now (held .exit)) (rowReach (now (m .entry)) (now (st .entry)) (now (rows .entry)) i)
+        × Space (v + (n + 1)) (now (marks .exit)) (now (from .exit)) (now (found .exit)) ⌝ }
 {
-    let s = row_cells(rows, i, first, cells, from);
-    let mut layers = [0u16; 2001];
+    let s = row_cells(rows, i, sizes.first, sizes.cells, from);
+    let mut layers = [0u16; NUMBERS];
     walk(
         m,
-        e,
-        r,
+        sizes,
         st,
+        single,
         cell,
         prev,
         last,
@@ -113,7 +125,7 @@ fn mark_reach(
         found,
         &mut layers,
     );
-    mark_row(&layers, first, cells, 2000 * i, held);
+    mark_row(&layers, sizes.first, sizes.cells, PLACES * i, held);
 }
 
 // Marks in the rows from 1 on, as many as `count`, what their cells reach.
@@ -135,22 +147,27 @@ fn mark_all(
     requires { ⌜ Site (now m) (now st) (now cell) (now prev) (now last) e r first cells n × (count ≤ 16) × (every 0 (cellCount (now m)) (λ k. isUpTo count (byteAt (now rows) k)) ≡ true) ⌝ }
     ensures { λ _. ⌜ Marks (now (held .entry)) (now (held .exit)) (rowMarks (now (m .entry)) (now (st .entry)) (now (rows .entry)) (cellCount (now (m .entry)))) ⌝ }
 {
-    let mut marks = [0u16; 2001];
-    let mut from = [0u16; 2001];
-    let mut found = [0u16; 2001];
+    let single = through_one(st);
+    let sizes = MeshSizes {
+        elements: e,
+        records: r,
+        first,
+        cells,
+    };
+    let mut marks = [0u16; NUMBERS];
+    let mut from = [0u16; NUMBERS];
+    let mut found = [0u16; NUMBERS];
     let mut v = 1;
     for i in 0..count {
         mark_reach(
             m,
-            e,
-            r,
+            sizes,
             st,
             n,
+            single,
             cell,
             prev,
             last,
-            first,
-            cells,
             rows,
             i + 1,
             v,
@@ -159,7 +176,7 @@ fn mark_all(
             &mut found,
             held,
         );
-        v += n;
+        v += n + 1;
     }
 }
 
@@ -174,9 +191,9 @@ pub fn mark_reaches(m: &[u8], st: &[u8], rows: &[u8], count: usize, held: &mut [
     let first = first_cell(m);
     let cells = cell_count(m);
     let n = st.len() - 1;
-    let mut cell = [0u16; 12001];
-    let mut prev = [0u16; 12001];
-    let mut last = [0u16; 2001];
+    let mut cell = [0u16; ENTRIES];
+    let mut prev = [0u16; ENTRIES];
+    let mut last = [0u16; NUMBERS];
     invert(m, e, r, first, cells, &mut cell, &mut prev, &mut last);
     mark_all(
         m,

@@ -80,7 +80,8 @@ pub one-cell : (m : Bytes) (from after : List ℕ) (c : ℕ) → Cell m c → le
 one-cell m from after c C r f = record { each = rw (front from after c r f) (C, tt); count = ap length (front from after c r f) }
 
 -- a cell's walks done, its words are written
-module _ (m st : Bytes) (cell prev last : List ℕ) (c n v k low high first : ℕ) (cs marks from layers : List ℕ) (G : Ground m st cell prev last) (C : Cell m c) (W : Walk m st cs n v marks from layers k)
+module _ (m st : Bytes) (cell prev last : List ℕ) (c n v k low high first : ℕ) (single : Bool) (met : ℕ) (cs marks from found layers : List ℕ) (G : Ground m st cell prev last)
+    (C : Cell m c) (W : Walk m st single cs n v marks from found layers k met)
     (one : cs ≡ c ∷ []) (I : Within m layers low high) (h : n + 1 ≡ length st) (fe : first ≡ firstCell m) where
   mark : (j : ℕ) → j < cellCount m → getD layers (first + j) 0 ≡ firstMark (stepsTo m st c (first + j))
   mark j l =
@@ -92,7 +93,8 @@ module _ (m st : Bytes) (cell prev last : List ℕ) (c n v k low high first : �
   words-are : blocks (low - first) (high - low) (row layers first) ≡ cellWords m st c
   unfolding cellWords reach
   words-are =
-      sym (blocks-part (row layers first) (low - first) (high - low) (cellCount m) fits (λ i h. bare i (I .before (first + i) (omega (arith, I .starts)))) (λ i h l. bare i (I .after (first + i) (omega (arith, I .starts)))))
+      sym (blocks-part (row layers first) (low - first) (high - low) (cellCount m) fits (λ i h. bare i (I .before (first + i) (omega (arith, I .starts))))
+      (λ i h l. bare i (I .after (first + i) (omega (arith, I .starts)))))
       ∙ rows-are m st c first layers (cellCount m) mark (cellCount m) (omega arith)
       ∙ ap (λ a. joined (map (placed a) (map (λ x. record { cell = x; layer = layer m st c x }) (picked a (cellCount m) (λ x. ltb 0 (length (stepsTo m st c x))))))) fe
     where

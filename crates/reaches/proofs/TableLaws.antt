@@ -161,13 +161,15 @@ module _ (first low : ℕ) (layers : List ℕ) where
   pub emit-start : (b : Bytes) (t : ℕ) → t ≤ 8001 → Emitted b b t t (blocks (low - first) (low - low) (row layers first))
   emit-start b t h = let z : low - low ≡ 0 = omega arith in subst (λ k. Emitted b b t t (blocks (low - first) k (row layers first))) (sym z) (unfold blocks in emit-none b t h)
 
-  pub emit-turn : (a b c : Bytes) (s t u x : ℕ) (now : List ℕ) → length a ≡ 32000 → first ≤ low → low ≤ x → Cleared low x layers now → Emitted a b s t (blocks (low - first) (x - low) (row layers first))
+  pub emit-turn : (a b c : Bytes) (s t u x : ℕ) (now : List ℕ) → length a ≡ 32000 → first ≤ low → low ≤ x → Cleared low x layers now
+      → Emitted a b s t (blocks (low - first) (x - low) (row layers first))
       → Emitted b c t u (row now first (x - first)) → Emitted a c s u (blocks (low - first) (x + 1 - low) (row layers first))
   emit-turn a b c s t u x now room h l C X Y =
       let p : x + 1 - low ≡ x - low + 1 = omega arith in
       let q : x - first ≡ low - first + (x - low) = omega arith in
       subst (λ k. Emitted a c s u (blocks (low - first) k (row layers first))) (sym p)
-      (subst (Emitted a c s u) (sym (blocks-turn (low - first) (row layers first) (x - low))) (emit-both a b c s t u _ _ room X (subst (λ i. Emitted b c t u (row layers first i)) q (subst (Emitted b c t u) (row-kept first low x layers now h l C) Y))))
+      (subst (Emitted a c s u) (sym (blocks-turn (low - first) (row layers first) (x - low))) (emit-both a b c s t u _ _ room X
+      (subst (λ i. Emitted b c t u (row layers first i)) q (subst (Emitted b c t u) (row-kept first low x layers now h l C) Y))))
 
   pub emit-end : (a b : Bytes) (s t x high : ℕ) → x - low ≤ high - low → high ≤ x → Emitted a b s t (blocks (low - first) (x - low) (row layers first))
       → Emitted a b s t (blocks (low - first) (high - low) (row layers first))

@@ -7,6 +7,8 @@ use mesh::inner::elements_of;
 use mesh::inner::first_cell;
 use mesh::inner::record_count;
 use visits::inner::entry;
+use walks::inner::MeshSizes;
+use walks::inner::through_one;
 use walks::inner::walk;
 ghost use mathlib.Core.Path.{_≡_};
 ghost use mathlib.Core.Bool.{false};
@@ -19,10 +21,22 @@ ghost use Rattle.vocabulary.specs.Lists.{Zeros};
 ghost use Rattle.vocabulary.specs.Ranges.{blocks};
 ghost use Rattle.layout.specs.Words.{bytesOf};
 ghost use Rattle.reaches.specs.Tables.{row, Cleared, Emitted, cellWords, Tabled};
-ghost use Rattle.walks.specs.Walking.{Ground};
+ghost use Rattle.walks.specs.Walking.{Ground, Sized, throughOne};
 ghost use Rattle.mesh.specs.Mesh.{top, elements, recordCount, firstCell, cellCount};
 ghost use Rattle.mesh.specs.Walks.{bad10};
 ghost use Rattle.mesh.specs.Accepted.{Accepted, Cell};
+
+// The most entries that a table has room for.
+const MOST: usize = 8000;
+
+// What stands for all counts above that.
+const TOO_MANY: usize = 8001;
+
+// The room for a number of each element; none is numbered 0.
+const NUMBERS: usize = 2001;
+
+// The room for an entry of each record of the cells' chains; none is numbered 0.
+const ENTRIES: usize = 12001;
 
 // Writes entry t.
 fn put_entry(table: &mut [u8], t: usize, place: usize, layer: usize)
@@ -43,8 +57,8 @@ fn emit_one(layers: &mut [u16], first: usize, q: usize, table: &mut [u8], t: usi
     if x < 1 {
         return t;
     }
-    if 8000 <= t {
-        return 8001;
+    if MOST <= t {
+        return TOO_MANY;
     }
     put_entry(table, t, q, x - 1);
     t + 1
@@ -60,7 +74,8 @@ fn emit(
     t: usize,
 ) -> usize
     requires { ⌜ (first ≤ low) × (high ≤ 2001) × (length (now layers) ≡ 2001) × (t ≤ 8001) × (length (now table) ≡ 32000) ⌝ }
-    ensures { λ s. ⌜ Emitted (now (table .entry)) (now (table .exit)) t s (blocks (low - first) (high - low) (row (now (layers .entry)) first)) × (s ≤ 8001) × Cleared low high (now (layers .entry)) (now (layers .exit)) ⌝ }
+    ensures { λ s. ⌜ Emitted (now (table .entry)) (now (table .exit)) t s (blocks (low - first) (high - low) (row (now (layers .entry)) first)) × (s ≤ 8001)
+        × Cleared low high (now (layers .entry)) (now (layers .exit)) ⌝ }
 {
     let mut s = t;
     for x in low..high {
@@ -72,14 +87,13 @@ fn emit(
 // The entries of the reach of cell c, for a stencil of n steps.
 fn reach_of(
     m: &[u8],
-    e: usize,
-    r: usize,
+    sizes: MeshSizes,
     st: &[u8],
     n: usize,
+    single: bool,
     cell: &[u16],
     prev: &[u16],
     last: &[u16],
-    first: usize,
     c: usize,
     v: usize,
     marks: &mut [u16],
@@ -89,15 +103,17 @@ fn reach_of(
     table: &mut [u8],
     t: usize,
 ) -> usize
-    requires { ⌜ Ground (now m) (now st) (now cell) (now prev) (now last) × (e ≡ elements (now m)) × (r ≡ recordCount (now m)) × (first ≡ firstCell (now m)) × Cell (now m) c × (n + 1 ≡ length (now st)) × (n ≤ 8) × (v ≤ 60000) × Under v (now marks) × (length (now from) ≡ 2001) × (length (now found) ≡ 2001) × Zeros 2001 (now layers) × (length (now table) ≡ 32000) × (t ≤ 8001) ⌝ }
-    ensures { λ s. ⌜ Emitted (now (table .entry)) (now (table .exit)) t s (cellWords (now (m .entry)) (now (st .entry)) c) × (s ≤ 8001) × Under (v + n) (now (marks .exit)) × (length (now (from .exit)) ≡ 2001) × (length (now (found .exit)) ≡ 2001) × Zeros 2001 (now (layers .exit)) ⌝ }
+    requires { ⌜ Ground (now m) (now st) (now cell) (now prev) (now last) × Sized (now m) sizes × Cell (now m) c × (n + 1 ≡ length (now st)) × (single ≡ throughOne (now st)) × (n ≤ 8)
+        × (v ≤ 60000) × Under v (now marks) × (length (now from) ≡ 2001) × (length (now found) ≡ 2001) × Zeros 2001 (now layers) × (length (now table) ≡ 32000) × (t ≤ 8001) ⌝ }
+    ensures { λ s. ⌜ Emitted (now (table .entry)) (now (table .exit)) t s (cellWords (now (m .entry)) (now (st .entry)) c) × (s ≤ 8001) × Under (v + (n + 1)) (now (marks .exit))
+        × (length (now (from .exit)) ≡ 2001) × (length (now (found .exit)) ≡ 2001) × Zeros 2001 (now (layers .exit)) ⌝ }
 {
     put_number_at(from, 0, c as u16);
     let w = walk(
         m,
-        e,
-        r,
+        sizes,
         st,
+        single,
         cell,
         prev,
         last,
@@ -109,7 +125,7 @@ fn reach_of(
         found,
         layers,
     );
-    emit(layers, first, w.low, w.high, table, t)
+    emit(layers, sizes.first, w.low, w.high, table, t)
 }
 
 // The reaches of all cells, from the chains turned round.
@@ -130,24 +146,30 @@ fn reach_all(
     requires { ⌜ Ground (now m) (now st) (now cell) (now prev) (now last) × (e ≡ elements (now m)) × (r ≡ recordCount (now m)) × (first ≡ firstCell (now m)) × (cells ≡ cellCount (now m)) × (n + 1 ≡ length (now st)) × (n ≤ 8) × (length (now table) ≡ 32000) × (length (now ends) ≡ 2001) ⌝ }
     ensures { λ s. ⌜ Tabled (now (m .entry)) (now (st .entry)) (now (table .entry)) (now (table .exit)) (now (ends .exit)) s ⌝ }
 {
-    let mut marks = [0u16; 2001];
-    let mut from = [0u16; 2001];
-    let mut found = [0u16; 2001];
-    let mut layers = [0u16; 2001];
+    let single = through_one(st);
+    let sizes = MeshSizes {
+        elements: e,
+        records: r,
+        first,
+        cells,
+    };
+    let mut marks = [0u16; NUMBERS];
+    let mut from = [0u16; NUMBERS];
+    let mut found = [0u16; NUMBERS];
+    let mut layers = [0u16; NUMBERS];
     let mut t = 0;
     let mut v = 1;
     put_number_at(ends, 0, 0);
     for x in first..first + cells {
         t = reach_of(
             m,
-            e,
-            r,
+            sizes,
             st,
             n,
+            single,
             cell,
             prev,
             last,
-            first,
             x,
             v,
             &mut marks,
@@ -157,10 +179,10 @@ fn reach_all(
             table,
             t,
         );
-        if 8000 < t {
+        if MOST < t {
             return t;
         }
-        v += n;
+        v += n + 1;
         put_number_at(ends, x + 1 - first, t as u16);
     }
     t
@@ -177,9 +199,9 @@ pub fn reach_table(m: &[u8], st: &[u8], table: &mut [u8], ends: &mut [u16]) -> u
     let first = first_cell(m);
     let cells = cell_count(m);
     let n = st.len() - 1;
-    let mut cell = [0u16; 12001];
-    let mut prev = [0u16; 12001];
-    let mut last = [0u16; 2001];
+    let mut cell = [0u16; ENTRIES];
+    let mut prev = [0u16; ENTRIES];
+    let mut last = [0u16; NUMBERS];
     invert(m, e, r, first, cells, &mut cell, &mut prev, &mut last);
     reach_all(
         m,

@@ -7,19 +7,33 @@ use native.Mathlib.Nat.{zero-add}
 use native.Mathlib.Numerals.{add-one}
 use native.Mathlib.Omega.{arith}
 use lib.Dec.{eqb, ltb, leb}
-use lib.ListN.{length, getD, set, take, length-set, length-append}
-use lib.Seq.{getD-set-same, getD-set-other, take-suc-set}
+use lib.ListN.{length, getD, set, take, length-set, length-take, length-append}
+use lib.Seq.{getD-set-same, getD-set-other, getD-take, take-suc, take-suc-set, take-set-le, take-take}
 use borrow.Author.Tests.{eqb-true, eqb-false, eq-eqb, ne-eqb, lt-ltb, le-ltb, le-leb, lt-leb}
 use Rattle.vocabulary.specs.Lists.{isIn, All}
-use Rattle.vocabulary.specs.ListLaws.{or-nothing, or-always, or-assoc, and-right, once-few, All-append, isIn-append, repeats-snoc}
+use Rattle.vocabulary.specs.ListLaws.{or-nothing, or-always, or-assoc, and-right, once-few, All-append, All-getD, isIn-append, repeats-snoc}
 use Rattle.vocabulary.specs.Bytes.{Bytes}
 use Rattle.vocabulary.specs.Ranges.{blocks}
 use Rattle.vocabulary.specs.RangeLaws.{blocks-turn, at-last}
 use Rattle.mesh.specs.Mesh.{recordCount, headOf, elementIn, nextOf, follow, records, chain}
 use Rattle.mesh.proofs.FollowLaws.{chain-ended, chain-spent, chain-more}
-use Rattle.visits.specs.Visits.{Gathered, Toward, with, between, down, up, Upward}
+use Rattle.visits.specs.Visits.{Gathered, Toward, with, between, down, up, Grown, Upward}
 use Rattle.links.specs.Links.{trail}
 use Rattle.links.proofs.TrailLaws.{trail-end, trail-more}
+
+-- ---- what was gathered before stays in front
+
+pub grown-none : (found : List ℕ) (n : ℕ) → Grown found n found n
+grown-none found n = record { more = omega arith; front = refl }
+
+pub grown-new : (found found′ : List ℕ) (n y : ℕ) → found′ ≡ set found n y → Grown found n found′ (n + 1)
+grown-new found found′ n y e = record { more = omega arith; front = ap (take n) e ∙ take-set-le n found n y (omega arith) }
+
+pub grown-both : (a b c : List ℕ) (n s t : ℕ) → Grown a n b s → Grown b s c t → Grown a n c t
+grown-both a b c n s t X Y = record {
+  more = omega (arith, X .more, Y .more);
+  front = sym (take-take n s c (X .more)) ∙ ap (take n) (Y .front) ∙ take-take n s b (X .more) ∙ X .front;
+}
 
 -- how many there can be
 pub few : (v n : ℕ) (marks found : List ℕ) → Gathered v marks found n → n ≤ 2000
@@ -181,25 +195,24 @@ module _ (cell prev : List ℕ) (n k i : ℕ) where
 
 -- ---- the loops over a list of elements
 
-pub step-start : (found : List ℕ) (g : ℕ → List ℕ) → Toward found 0 [] (with found 0 (blocks 0 0 g))
+pub step-start : (found : List ℕ) (n : ℕ) (g : ℕ → List ℕ) → Toward found n [] (with found n (blocks 0 0 g))
 unfolding with isIn blocks
-step-start found g = record { each = λ z. refl }
+step-start found n g = record { each = λ z. refl }
 
 -- the next element's were gathered after those before it
-pub step-turn : (found₀ found found′ : List ℕ) (n n′ j : ℕ) (g : ℕ → List ℕ) (xs : List ℕ) → Toward found n [] (with found₀ 0 (blocks 0 j g)) → xs ≡ g j
-    → Toward found′ n′ [] (with found n xs) → Toward found′ n′ [] (with found₀ 0 (blocks 0 (j + 1) g))
+pub step-turn : (found₀ found found′ : List ℕ) (base n n′ j : ℕ) (g : ℕ → List ℕ) (xs : List ℕ) → Toward found n [] (with found₀ base (blocks 0 j g)) → xs ≡ g j
+    → Toward found′ n′ [] (with found n xs) → Toward found′ n′ [] (with found₀ base (blocks 0 (j + 1) g))
 unfolding with isIn
-step-turn found₀ found found′ n n′ j g xs t e u = record {
+step-turn found₀ found found′ base n n′ j g xs t e u = record {
   each = λ z.
       u .each z
       ∙ ap (λ b. b || isIn z xs) (sym (or-nothing (isIn z (take n found))) ∙ t .each z)
-      ∙ sym (isIn-append z (blocks 0 j g) xs)
-      ∙ ap (λ (l : List ℕ). isIn z (blocks 0 j g ++ l)) e
-      ∙ ap (isIn z) (sym (rw zero-add at (blocks-turn 0 g j)));
+      ∙ or-assoc (isIn z (take base found₀)) (isIn z (blocks 0 j g)) (isIn z xs)
+      ∙ ap (λ b. isIn z (take base found₀) || b) (sym (isIn-append z (blocks 0 j g) xs) ∙ ap (λ (l : List ℕ). isIn z (blocks 0 j g ++ l)) e ∙ ap (isIn z) (sym (rw zero-add at (blocks-turn 0 g j))));
 }
 
-pub step-end : (found₀ found : List ℕ) (n j s : ℕ) (g : ℕ → List ℕ) → j ≤ n → n ≤ j → Toward found s [] (with found₀ 0 (blocks 0 j g)) → Toward found s [] (with found₀ 0 (blocks 0 n g))
-step-end found₀ found n j s g a b t = at-last (λ x. Toward found s [] (with found₀ 0 (blocks 0 x g))) j n a b t
+pub step-end : (found₀ found : List ℕ) (base n j s : ℕ) (g : ℕ → List ℕ) → j ≤ n → n ≤ j → Toward found s [] (with found₀ base (blocks 0 j g)) → Toward found s [] (with found₀ base (blocks 0 n g))
+step-end found₀ found base n j s g a b t = at-last (λ x. Toward found s [] (with found₀ base (blocks 0 x g))) j n a b t
 
 pub down-is : (m : Bytes) (r lo hi h x j : ℕ) (from : List ℕ) → r ≡ recordCount m → x ≡ getD from j 0 → h ≡ headOf m x
     → between lo hi (map (elementIn m) (follow m (r + 1) h)) ≡ down m lo hi from j
@@ -213,3 +226,32 @@ up-is cell prev last from x u j xe ue = rw (ue, xe)
 pub up-fits : (cell prev last from : List ℕ) (n x u j : ℕ) → Upward cell prev last from n → j < n → x ≡ getD from j 0 → u ≡ getD last x 0
     → All (λ y. (1 ≤ y) × (y ≤ 2000)) (trail cell prev 12001 u)
 up-fits cell prev last from n x u j U h xe ue = rw (up-is cell prev last from x u j xe ue) (U .each j h)
+
+-- ---- the loop over a list that is gathered itself
+
+module _ (from : List ℕ) (j n : ℕ) (len : length (take n from) ≡ n) (h : j < n) where
+  pub list-turn : (found₀ found found′ : List ℕ) (s s′ y : ℕ) → y ≡ getD from j 0 → Toward found s [] (with found₀ 0 (take j from)) → Toward found′ s′ [] (with found s (y ∷ []))
+      → Toward found′ s′ [] (with found₀ 0 (take (j + 1) from))
+  unfolding with isIn
+  list-turn found₀ found found′ s s′ y e t u = record {
+    each = λ z.
+        u .each z
+        ∙ ap (λ b. b || isIn z (y ∷ [])) (sym (or-nothing (isIn z (take s found))) ∙ t .each z)
+        ∙ sym (isIn-append z (take j from) (y ∷ []))
+        ∙ ap (isIn z) (sym longer);
+  }
+    where
+      longer : take (j + 1) from ≡ take j from ++ (y ∷ [])
+      longer = rw (add-one j, e) (take-suc from j 0 (omega (arith, len, length-take n from)))
+
+  list-fits : (y : ℕ) → All (λ y. (1 ≤ y) × (y ≤ 2000)) (take n from) → y ≡ getD from j 0 → (1 ≤ y) × (y ≤ 2000)
+  list-fits y A e = rw (e, ← getD-take n from j 0 h) (All-getD (λ y. (1 ≤ y) × (y ≤ 2000)) (take n from) j 0 A (omega arith))
+
+  pub list-low : (y : ℕ) → All (λ y. (1 ≤ y) × (y ≤ 2000)) (take n from) → y ≡ getD from j 0 → 1 ≤ y
+  list-low y A e = list-fits y A e .0
+
+  pub list-high : (y : ℕ) → All (λ y. (1 ≤ y) × (y ≤ 2000)) (take n from) → y ≡ getD from j 0 → y ≤ 2000
+  list-high y A e = list-fits y A e .1
+
+pub list-end : (from found₀ found : List ℕ) (n j s : ℕ) → j ≤ n → n ≤ j → Toward found s [] (with found₀ 0 (take j from)) → Toward found s [] (with found₀ 0 (take n from))
+list-end from found₀ found n j s a b t = at-last (λ x. Toward found s [] (with found₀ 0 (take x from))) j n a b t

@@ -33,6 +33,11 @@ pub record Toward (found : List ℕ) (n : ℕ) (rest : List ℕ) (p : ℕ → Bo
 unfoldable pub with : List ℕ → ℕ → List ℕ → ℕ → Bool
 with found n ys z = isIn z (take n found) || isIn z ys
 
+-- the first n numbers of a list still stand at its front, and there are s of them now
+pub record Grown (before : List ℕ) (n : ℕ) (after : List ℕ) (s : ℕ) : Type 0 where
+  pub more : n ≤ s
+  pub front : take n after ≡ take n before
+
 -- what a step down gathers from the j-th of the cells in `from`: the elements of its chain after lo and up to hi
 unfoldable pub down : Bytes → ℕ → ℕ → List ℕ → ℕ → List ℕ
 down m lo hi from j = between lo hi (chain m (getD from j 0))

@@ -4,10 +4,10 @@ use layout::put_number_at;
 use mesh::inner::head_of;
 use mesh::inner::read_record;
 ghost use mathlib.Core.Path.{_≡_};
-ghost use lib.ListN.{getD};
+ghost use lib.ListN.{length, getD, take};
 ghost use mathlib.Core.List.{[], _∷_, map};
 ghost use Prim.Native.Nat.{ℕ, _+_, _<_, _≤_};
-ghost use Rattle.visits.specs.Visits.{Gathered, Toward, with, between, down, up, Upward};
+ghost use Rattle.visits.specs.Visits.{Gathered, Toward, with, between, down, up, Grown, Upward};
 ghost use Rattle.links.specs.Links.{trail};
 ghost use Rattle.vocabulary.specs.Lists.{All};
 ghost use Rattle.vocabulary.specs.Ranges.{blocks};
@@ -26,7 +26,8 @@ pub fn entry(list: &[u16], i: usize) -> usize
 // Gathers y, unless it bears the mark v.
 pub fn visit(v: u16, y: usize, marks: &mut [u16], found: &mut [u16], n: usize) -> usize
     requires { ⌜ Gathered v (now marks) (now found) n × (n ≤ 2000) × (1 ≤ y) × (y ≤ 2000) ⌝ }
-    ensures { λ r. ⌜ Gathered v (now (marks .exit)) (now (found .exit)) r × Toward (now (found .exit)) r [] (with (now (found .entry)) n (y ∷ [])) × (r ≤ 2000) ⌝ }
+    ensures { λ r. ⌜ Gathered v (now (marks .exit)) (now (found .exit)) r × Toward (now (found .exit)) r [] (with (now (found .entry)) n (y ∷ [])) × (r ≤ 2000)
+        × Grown (now (found .entry)) n (now (found .exit)) r ⌝ }
 {
     if number_at(marks, y) == v {
         return n;
@@ -47,7 +48,8 @@ fn visit_between(
     n: usize,
 ) -> usize
     requires { ⌜ (hi ≤ 2000) × Gathered v (now marks) (now found) n × (n ≤ 2000) ⌝ }
-    ensures { λ s. ⌜ Gathered v (now (marks .exit)) (now (found .exit)) s × Toward (now (found .exit)) s [] (with (now (found .entry)) n (between lo hi (y ∷ []))) × (s ≤ 2000) ⌝ }
+    ensures { λ s. ⌜ Gathered v (now (marks .exit)) (now (found .exit)) s × Toward (now (found .exit)) s [] (with (now (found .entry)) n (between lo hi (y ∷ []))) × (s ≤ 2000)
+        × Grown (now (found .entry)) n (now (found .exit)) s ⌝ }
 {
     if y <= lo {
         return n;
@@ -72,7 +74,9 @@ pub fn visit_chain(
     n: usize,
 ) -> usize
     requires { ⌜ (e ≡ elements (now m)) × (e ≤ 2000) × (r ≤ 12000) × (h < 65536) × (hi ≤ 2000) × Gathered v (now marks) (now found) n × (n ≤ 2000) ⌝ }
-    ensures { λ s. ⌜ Gathered v (now (marks .exit)) (now (found .exit)) s × Toward (now (found .exit)) s [] (with (now (found .entry)) n (between lo hi (map (elementIn (now (m .entry))) (follow (now (m .entry)) (r + 1) h)))) × (s ≤ 2000) ⌝ }
+    ensures { λ s. ⌜ Gathered v (now (marks .exit)) (now (found .exit)) s
+        × Toward (now (found .exit)) s [] (with (now (found .entry)) n (between lo hi (map (elementIn (now (m .entry))) (follow (now (m .entry)) (r + 1) h)))) × (s ≤ 2000)
+        × Grown (now (found .entry)) n (now (found .exit)) s ⌝ }
 {
     let mut i = h;
     let mut s = n;
@@ -98,7 +102,9 @@ pub fn visit_trail(
     n: usize,
 ) -> usize
     requires { ⌜ All (λ y. (1 ≤ y) × (y ≤ 2000)) (trail (now cell) (now prev) 12001 t) × Gathered v (now marks) (now found) n × (n ≤ 2000) ⌝ }
-    ensures { λ s. ⌜ Gathered v (now (marks .exit)) (now (found .exit)) s × Toward (now (found .exit)) s [] (with (now (found .entry)) n (trail (now (cell .entry)) (now (prev .entry)) 12001 t)) × (s ≤ 2000) ⌝ }
+    ensures { λ s. ⌜ Gathered v (now (marks .exit)) (now (found .exit)) s
+        × Toward (now (found .exit)) s [] (with (now (found .entry)) n (trail (now (cell .entry)) (now (prev .entry)) 12001 t)) × (s ≤ 2000)
+        × Grown (now (found .entry)) n (now (found .exit)) s ⌝ }
 {
     let mut i = t;
     let mut s = n;
@@ -112,7 +118,7 @@ pub fn visit_trail(
     s
 }
 
-// From the first n cells of `from` to the elements after lo and up to hi in their chains.
+// From the first n cells of `from` to the elements after lo and up to hi in their chains, after those gathered before.
 pub fn step_down(
     m: &[u8],
     e: usize,
@@ -124,11 +130,14 @@ pub fn step_down(
     v: u16,
     marks: &mut [u16],
     found: &mut [u16],
+    base: usize,
 ) -> usize
-    requires { ⌜ (e ≡ elements (now m)) × (e ≤ 2000) × (r ≡ recordCount (now m)) × (r ≤ 12000) × (hi ≤ 2000) × Gathered v (now marks) (now found) 0 ⌝ }
-    ensures { λ s. ⌜ Gathered v (now (marks .exit)) (now (found .exit)) s × Toward (now (found .exit)) s [] (with (now (found .entry)) 0 (blocks 0 n (down (now (m .entry)) lo hi (now (from .entry))))) × (s ≤ 2000) ⌝ }
+    requires { ⌜ (e ≡ elements (now m)) × (e ≤ 2000) × (r ≡ recordCount (now m)) × (r ≤ 12000) × (hi ≤ 2000) × Gathered v (now marks) (now found) base × (base ≤ 2000) ⌝ }
+    ensures { λ s. ⌜ Gathered v (now (marks .exit)) (now (found .exit)) s
+        × Toward (now (found .exit)) s [] (with (now (found .entry)) base (blocks 0 n (down (now (m .entry)) lo hi (now (from .entry))))) × (s ≤ 2000)
+        × Grown (now (found .entry)) base (now (found .exit)) s ⌝ }
 {
-    let mut s = 0;
+    let mut s = base;
     for j in 0..n {
         let h = head_of(m, entry(from, j));
         s = visit_chain(m, e, r, h, lo, hi, v, marks, found, s);
@@ -136,7 +145,19 @@ pub fn step_down(
     s
 }
 
-// From the first n elements of `from` to their cells.
+// Gathers the first n numbers of `from`.
+pub fn visit_all(from: &[u16], n: usize, v: u16, marks: &mut [u16], found: &mut [u16]) -> usize
+    requires { ⌜ (length (take n (now from)) ≡ n) × All (λ y. (1 ≤ y) × (y ≤ 2000)) (take n (now from)) × Gathered v (now marks) (now found) 0 ⌝ }
+    ensures { λ s. ⌜ Gathered v (now (marks .exit)) (now (found .exit)) s × Toward (now (found .exit)) s [] (with (now (found .entry)) 0 (take n (now (from .entry)))) × (s ≤ 2000) ⌝ }
+{
+    let mut s = 0;
+    for j in 0..n {
+        s = visit(v, entry(from, j), marks, found, s);
+    }
+    s
+}
+
+// From the first n elements of `from` to their cells, after those gathered before.
 pub fn step_up(
     cell: &[u16],
     prev: &[u16],
@@ -146,11 +167,14 @@ pub fn step_up(
     v: u16,
     marks: &mut [u16],
     found: &mut [u16],
+    base: usize,
 ) -> usize
-    requires { ⌜ Upward (now cell) (now prev) (now last) (now from) n × Gathered v (now marks) (now found) 0 ⌝ }
-    ensures { λ s. ⌜ Gathered v (now (marks .exit)) (now (found .exit)) s × Toward (now (found .exit)) s [] (with (now (found .entry)) 0 (blocks 0 n (up (now (cell .entry)) (now (prev .entry)) (now (last .entry)) (now (from .entry))))) × (s ≤ 2000) ⌝ }
+    requires { ⌜ Upward (now cell) (now prev) (now last) (now from) n × Gathered v (now marks) (now found) base × (base ≤ 2000) ⌝ }
+    ensures { λ s. ⌜ Gathered v (now (marks .exit)) (now (found .exit)) s
+        × Toward (now (found .exit)) s [] (with (now (found .entry)) base (blocks 0 n (up (now (cell .entry)) (now (prev .entry)) (now (last .entry)) (now (from .entry))))) × (s ≤ 2000)
+        × Grown (now (found .entry)) base (now (found .exit)) s ⌝ }
 {
-    let mut s = 0;
+    let mut s = base;
     for j in 0..n {
         let t = entry(last, entry(from, j));
         s = visit_trail(cell, prev, t, v, marks, found, s);

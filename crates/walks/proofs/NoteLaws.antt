@@ -1,6 +1,6 @@
 -- Steps and layers as the code makes them. Assumes nothing.
 use mathlib.Core.Path.{_≡_, refl, sym, ap, _∙_}
-use mathlib.Core.Bool.{Bool, true, false, _||_, _&&_, cond}
+use mathlib.Core.Bool.{Bool, true, false, not, _||_, _&&_, cond}
 use mathlib.Core.List.{List, [], _∷_, _++_}
 use Prim.Native.Nat.{ℕ, _+_, _≤_, _<_}
 use native.Mathlib.Numerals.{add-one}
@@ -8,7 +8,7 @@ use native.Mathlib.Omega.{arith}
 use lib.Dec.{eqb}
 use lib.ListN.{length, getD, set, take, length-set, length-take}
 use lib.Seq.{getD-set-same, getD-set-other, take-suc, getD-take}
-use borrow.Author.Tests.{eqb-true, eqb-false, eq-eqb, ne-eqb}
+use borrow.Author.Tests.{eqb-true, eqb-false, eq-eqb, ne-eqb, not-true, not-false}
 use Rattle.mesh.specs.Meet.{Under}
 use Rattle.vocabulary.specs.Bytes.{Bytes}
 use Rattle.vocabulary.specs.Ranges.{blocks}
@@ -17,7 +17,7 @@ use Rattle.vocabulary.specs.ListLaws.{or-nothing, eqb-swap, isIn-append, All-ge
 use Rattle.mesh.specs.Mesh.{top, below}
 use Rattle.mesh.specs.Accepted.{Accepted}
 use Rattle.visits.specs.Visits.{Gathered, Toward, with, down, up, Upward}
-use Rattle.walks.specs.Walking.{Ground, Cells, Lowers, stepped, noted, Noted, among}
+use Rattle.walks.specs.Walking.{Ground, Cells, Lowers, stepped, startsAmong, orAmong, noted, Noted, among}
 use Rattle.walks.proofs.StepLaws.{down-told, up-told, upward}
 use Rattle.mesh.specs.WalkLaws.{below-grows}
 use Rattle.vocabulary.specs.RangeLaws.{at-last}
@@ -38,15 +38,25 @@ begin v marks found F r = record {
 toward-as : (found : List ℕ) (s : ℕ) (p q : ℕ → Bool) → ((z : ℕ) → p z ≡ q z) → Toward found s [] p → Toward found s [] q
 toward-as found s p q f t = record { each = λ z. t .each z ∙ f z }
 
-pub gone-down : (m : Bytes) (a lo hi n s : ℕ) (from found found′ : List ℕ) → Accepted m → a < top m → lo ≡ below m a → hi ≡ below m (a + 1) → Cells m from n
-    → Toward found′ s [] (with found 0 (blocks 0 n (down m lo hi from))) → Toward found′ s [] (stepped m a from n)
-unfolding with isIn
-gone-down m a lo hi n s from found found′ A h le he C t = toward-as found′ s _ _ (λ z. down-told m A a lo hi n from h le he C z) t
+pub gone-down : (m : Bytes) (a lo hi base n s : ℕ) (from found found′ : List ℕ) → Accepted m → a < top m → lo ≡ below m a → hi ≡ below m (a + 1) → Cells m from n
+    → Toward found′ s [] (with found base (blocks 0 n (down m lo hi from))) → Toward found′ s [] (orAmong found base (stepped m a from n))
+unfolding with orAmong
+gone-down m a lo hi base n s from found found′ A h le he C t = toward-as found′ s _ _ (λ z. ap (λ b. isIn z (take base found) || b) (down-told m A a lo hi n from h le he C z)) t
 
-pub gone-up : (m st : Bytes) (cell prev last from found found′ : List ℕ) (n s : ℕ) → Ground m st cell prev last → Lowers m from n
-    → Toward found′ s [] (with found 0 (blocks 0 n (up cell prev last from))) → Toward found′ s [] (stepped m (top m) from n)
-unfolding with isIn
-gone-up m st cell prev last from found found′ n s G L t = toward-as found′ s _ _ (λ z. up-told m (G .mesh) st cell prev last from n G L z) t
+pub gone-up : (m st : Bytes) (cell prev last from found found′ : List ℕ) (base n s : ℕ) → Ground m st cell prev last → Lowers m from n
+    → Toward found′ s [] (with found base (blocks 0 n (up cell prev last from))) → Toward found′ s [] (orAmong found base (stepped m (top m) from n))
+unfolding with orAmong
+gone-up m st cell prev last from found found′ base n s G L t = toward-as found′ s _ _ (λ z. ap (λ b. isIn z (take base found) || b) (up-told m (G .mesh) st cell prev last from n G L z)) t
+
+-- ---- before the first step
+
+pub starts-none : (single : Bool) (from found : List ℕ) (n : ℕ) → not single ≡ true → Toward found 0 [] (startsAmong single from n)
+unfolding startsAmong isIn
+starts-none single from found n e = record { each = λ z. sym (ap (λ b. b && isIn z (take n from)) (not-true single e)) }
+
+pub starts-all : (single : Bool) (from found found′ : List ℕ) (n s : ℕ) → not single ≡ false → Toward found′ s [] (with found 0 (take n from)) → Toward found′ s [] (startsAmong single from n)
+unfolding startsAmong with isIn
+starts-all single from found found′ n s e t = toward-as found′ s _ _ (λ z. sym (ap (λ b. b && isIn z (take n from)) (not-false single e))) t
 
 -- ---- layers
 

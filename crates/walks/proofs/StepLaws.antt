@@ -93,6 +93,23 @@ some-and : (b : Bool) (n : ℕ) (q : ℕ → Bool) → some 0 n (λ j. b && q j)
 some-and true n q = refl
 some-and false n q = some-none 0 (λ j. false) n (λ i h. refl)
 
+-- ---- a step leads from an element to an incident one, of its dimension
+
+module _ (m : Bytes) (a z : ℕ) (es : List ℕ) where
+  pub step-from : isIn z (stepTo m a es) ≡ true → (x : ℕ) × (isIn x es ≡ true) × (incident m x z ≡ true) × (below m a + 1 ≤ z) × (z < below m a + 1 + counted m a)
+  unfolding stepTo
+  step-from e =
+      let w = picked-passes (below m a + 1) (λ x. someOf es (λ e. incident m e x)) (counted m a) z (isIn-at z _ e) in
+      let u = someOf-witness (λ e. incident m e z) es 0 (w .2) in
+      (getD es (u .0) 0, at-isIn _ es (record { place = u .0; place-lt = u .1; place-is = refl }), u .2, w .0, w .1)
+
+  pub step-to : (x : ℕ) → isIn x es ≡ true → incident m x z ≡ true → below m a + 1 ≤ z → z < below m a + 1 + counted m a → isIn z (stepTo m a es) ≡ true
+  unfolding stepTo
+  step-to x i e l h =
+      let t = isIn-at x es i in
+      at-isIn z _ (picked-in (below m a + 1) (λ x. someOf es (λ e. incident m e x)) (counted m a) z l h
+      (someOf-has (λ e. incident m e z) es 0 (t .place) (t .place-lt) (ap (λ y. incident m y z) (t .place-is) ∙ e)))
+
 -- ---- a cell and a lower element
 
 module _ (m : Bytes) (A : Accepted m) where

@@ -1,49 +1,69 @@
 -- A walk of k steps is a walk of k - 1 steps and one step more, as the code makes it. Assumes nothing.
-use mathlib.Core.Path.{_≡_, refl, sym, ap, ap₂, _∙_, subst}
-use mathlib.Core.Bool.{Bool, true, false, _&&_, cond}
+use mathlib.Core.Path.{_≡_, refl, sym, ap, ap₂, _∙_, subst, subst₂}
+use mathlib.Core.Bool.{Bool, true, false, not, _&&_, _||_, cond}
 use mathlib.Core.List.{List, [], _∷_, _++_}
-use Prim.Native.Nat.{ℕ, zero, suc, _+_, _-_, _%_, _≤_, _<_}
+use Prim.Native.Nat.{ℕ, zero, suc, _+_, _-_, _*_, _/_, _%_, _≤_, _<_}
+use native.Mathlib.Nat.{zero-add, add-zero}
 use native.Mathlib.Numerals.{add-one}
 use native.Mathlib.Omega.{arith}
-use lib.Dec.{eqb}
-use lib.ListN.{length, getD, set, take, length-take}
-use lib.Seq.{take-suc, take-suc-set}
-use borrow.Author.Tests.{eqb-true, eqb-false, eq-eqb, ne-eqb}
+use lib.Dec.{eqb, ltb}
+use lib.ListN.{length, getD, set, take, drop, length-take, length-drop, length-append, List·getD-append}
+use lib.Seq.{take-suc, take-suc-set, take-add, getD-drop, getD-append-add}
+use borrow.Author.Tests.{eqb-true, eqb-false, eq-eqb, ne-eqb, lt-ltb, not-true}
 use Rattle.mesh.specs.Meet.{Under}
 use Rattle.vocabulary.specs.Bytes.{Bytes, byteAt}
-use Rattle.vocabulary.specs.Ranges.{picked}
-use Rattle.vocabulary.specs.RangeLaws.{picked-passes, picked-cong, at-last}
-use Rattle.vocabulary.specs.Lists.{isIn, All, Zeros}
-use Rattle.vocabulary.specs.ListLaws.{or-nothing, and-true, and-right, All-map, All-append, All-split, isIn-at, at-isIn, at-all, All-intro}
+use Rattle.vocabulary.specs.Ranges.{picked, some}
+use Rattle.vocabulary.specs.RangeLaws.{picked-cong, picked-some, some-in, some-witness, every-at, at-last}
+use Rattle.vocabulary.specs.Lists.{isIn, repeats, All, Zeros}
+use Rattle.vocabulary.specs.ListLaws.{or-nothing, and-true, and-intro, and-right, and-all, not-both, same-test, isIn-append}
+use Rattle.vocabulary.specs.ListLaws.{repeats-once, All-map, All-append, All-split, isIn-at, at-isIn, at-all, All-intro}
 use Rattle.mesh.specs.Mesh.{top, elements, counted, below, firstCell, cellCount}
-use Rattle.mesh.specs.Walks.{bad10, stepTo}
-use Rattle.mesh.specs.WalkLaws.{stencil-odd, stencil-even}
+use Rattle.mesh.specs.Walks.{bad10, incident, stepTo}
+use Rattle.mesh.specs.WalkLaws.{stencil-parts, stencil-odd, stencil-even}
 use Rattle.mesh.specs.Accepted.{Accepted, Cell}
 use Rattle.mesh.proofs.DimensionLaws.{below-more}
 use Rattle.mesh.specs.WalkLaws.{below-grows}
-use Rattle.walks.proofs.StepLaws.{someOf-like}
-use Rattle.visits.specs.Visits.{Gathered, Toward}
-use Rattle.walks.specs.Walking.{Ground, Cells, Lowers, Sided, stepped, firstMark, layerMark, noted, Noted, among, cellsAmong, walkedFrom, Walk, Within, Widened, Departed, Arrived}
+use Rattle.walks.proofs.StepLaws.{someOf-like, step-from, step-to}
+use Rattle.walks.proofs.NoteLaws.{begin}
+use Rattle.visits.specs.Visits.{Gathered, Toward, Grown}
+use Rattle.walks.specs.Walking.{Ground, Cells, Lowers, Sided, stepped, alike, throughOne, metBefore, newly}
+use Rattle.walks.specs.Walking.{markAt, startsAmong, orAmong, firstMark, layerMark, noted, Noted, among, cellsAmong, walkedFrom}
+use Rattle.walks.specs.Walking.{Walk, Within, Widened, Departed, Arrived}
 
 -- ---- the copy
 
-pub copy-turn : (src dst : List ℕ) (j n : ℕ) → j < n → n ≤ length src → j < length dst → take j dst ≡ take j src → take (j + 1) (set dst j (getD src j 0)) ≡ take (j + 1) src
-copy-turn src dst j n h a b e = rw (add-one j) (take-suc-set dst j (getD src j 0) b ∙ ap (λ l. l ++ (getD src j 0 ∷ [])) e ∙ sym (take-suc src j 0 (omega arith)))
+pub copy-turn : (src dst : List ℕ) (at j n : ℕ) → j < n → at + n ≤ length src → j < length dst → take j dst ≡ take j (drop at src)
+    → take (j + 1) (set dst j (getD src (at + j) 0)) ≡ take (j + 1) (drop at src)
+copy-turn src dst at j n h a b e =
+    rw (add-one j) (take-suc-set dst j (getD src (at + j) 0) b ∙ ap₂ (λ l x. l ++ (x ∷ [])) e (sym (getD-drop at src j 0)) ∙ sym (take-suc (drop at src) j 0 (omega (arith, length-drop at src))))
 
-pub copy-end : (src dst : List ℕ) (j n : ℕ) → j ≤ n → n ≤ j → take j dst ≡ take j src → take n dst ≡ take n src
-copy-end src dst j n g h e = at-last (λ i. take i dst ≡ take i src) j n g h e
+pub copy-end : (src dst : List ℕ) (at j n : ℕ) → j ≤ n → n ≤ j → take j dst ≡ take j (drop at src) → take n dst ≡ take n (drop at src)
+copy-end src dst at j n g h e = at-last (λ i. take i dst ≡ take i (drop at src)) j n g h e
 
 -- ---- the stencil
+
+pub alike-told : (st : Bytes) (j a b : ℕ) → a ≡ byteAt st (2 * j + 1) → b ≡ byteAt st 1 → eqb a b ≡ alike st j
+unfolding alike
+alike-told st j a b e f = rw (e, f)
+
+pub mark-whole : (single : Bool) (v k : ℕ) → single ≡ true → v ≡ markAt single v k
+unfolding markAt
+mark-whole single v k e = sym (ap (λ b. cond b v (v + k)) e)
+
+pub mark-step : (single : Bool) (v k : ℕ) → single ≡ false → v + k ≡ markAt single v k
+unfolding markAt
+mark-step single v k e = sym (ap (λ b. cond b v (v + k)) e)
 
 pub dimension-down : (m st : Bytes) (cell prev last : List ℕ) (k a : ℕ) → Ground m st cell prev last → k < length st → k % 2 ≡ 1 → a ≡ byteAt st k → a < top m
 dimension-down m st cell prev last k a G h o e = omega (arith, stencil-odd (top m) st (G .stencil) k h o)
 
-pub stepped-up : (m st : Bytes) (cell prev last from found : List ℕ) (k n s : ℕ) → Ground m st cell prev last → k < length st → (k % 2 ≡ 1 → ⊥)
-    → Toward found s [] (stepped m (top m) from n) → Toward found s [] (stepped m (byteAt st k) from n)
-stepped-up m st cell prev last from found k n s G h o t = rw (stencil-even (top m) st (G .stencil) k h o) t
+pub stepped-up : (m st : Bytes) (cell prev last from found found′ : List ℕ) (base k n s : ℕ) → Ground m st cell prev last → k < length st → (k % 2 ≡ 1 → ⊥)
+    → Toward found′ s [] (orAmong found base (stepped m (top m) from n)) → Toward found′ s [] (orAmong found base (stepped m (byteAt st k) from n))
+stepped-up m st cell prev last from found found′ base k n s G h o t = rw (stencil-even (top m) st (G .stencil) k h o) t
 
-pub stepped-down : (m st : Bytes) (from found : List ℕ) (k a n s : ℕ) → a ≡ byteAt st k → Toward found s [] (stepped m a from n) → Toward found s [] (stepped m (byteAt st k) from n)
-stepped-down m st from found k a n s e t = rw e at t
+pub stepped-down : (m st : Bytes) (from found found′ : List ℕ) (base k a n s : ℕ) → a ≡ byteAt st k → Toward found′ s [] (orAmong found base (stepped m a from n))
+    → Toward found′ s [] (orAmong found base (stepped m (byteAt st k) from n))
+stepped-down m st from found found′ base k a n s e t = rw e at t
 
 pub side-odd : (m : Bytes) (k : ℕ) (from : List ℕ) (n : ℕ) → Sided m k from n → k % 2 ≡ 1 → Cells m from n
 side-odd m k from n S o = S .odd o
@@ -54,19 +74,15 @@ side-even m k from n S o = S .even o
 -- ---- what walks reach: cells after an even number of steps, lower elements after an odd one
 
 module _ (m st : Bytes) (A : Accepted m) (bad : bad10 (top m) st ≡ false) (cs : List ℕ) (C : All (Cell m) cs) where
-  range : (a z : ℕ) (es : List ℕ) → isIn z (stepTo m a es) ≡ true → (below m a + 1 ≤ z) × (z < below m a + 1 + counted m a)
-  unfolding stepTo
-  range a z es e = let w = picked-passes (below m a + 1) _ (counted m a) z (isIn-at z _ e) in (w .0, w .1)
-
   walked-even : (k z : ℕ) → k < length st → k % 2 ≡ 0 → isIn z (walkedFrom m st cs k) ≡ true → Cell m z
   unfolding walkedFrom
   walked-even zero z h o e = at-all (Cell m) z cs C (isIn-at z cs e)
   walked-even (suc k) z h o e =
       let d : byteAt st (suc k) ≡ top m = stencil-even (top m) st bad (suc k) h (omega arith) in
-      let w = range (byteAt st (suc k)) z (walkedFrom m st cs k) e in
+      let w = step-from m (byteAt st (suc k)) z (walkedFrom m st cs k) e in
       record {
-        low = subst (λ a. below m a + 1 ≤ z) d (w .0);
-        high = subst (λ a. z < below m a + 1 + counted m a) d (w .1);
+        low = subst (λ a. below m a + 1 ≤ z) d (w .3);
+        high = subst (λ a. z < below m a + 1 + counted m a) d (w .4);
       }
 
   walked-odd : (k z : ℕ) → k < length st → k % 2 ≡ 1 → isIn z (walkedFrom m st cs k) ≡ true → (1 ≤ z) × (z ≤ below m (top m))
@@ -74,24 +90,93 @@ module _ (m st : Bytes) (A : Accepted m) (bad : bad10 (top m) st ≡ false) (cs 
   walked-odd zero z h o e = let n : ⊥ = omega arith in absurd n
   walked-odd (suc k) z h o e =
       let d : byteAt st (suc k) < top m = stencil-odd (top m) st bad (suc k) h o in
-      let w = range (byteAt st (suc k)) z (walkedFrom m st cs k) e in
-      (omega (arith, w .0), omega (arith, w .1, below-more m (byteAt st (suc k)), below-grows m (suc (byteAt st (suc k))) (top m) (omega arith)))
+      let w = step-from m (byteAt st (suc k)) z (walkedFrom m st cs k) e in
+      (omega (arith, w .3), omega (arith, w .4, below-more m (byteAt st (suc k)), below-grows m (suc (byteAt st (suc k))) (top m) (omega arith)))
+
+  -- walks that end at one element have even numbers of steps, or odd ones
+  one-side : (j k z : ℕ) → j < length st → k < length st → isIn z (walkedFrom m st cs j) ≡ true → isIn z (walkedFrom m st cs k) ≡ true → j % 2 ≡ k % 2
+  one-side j k z h l e f = go (eqb (j % 2) 1) refl (eqb (k % 2) 1) refl
+    where
+      go : (a : Bool) → eqb (j % 2) 1 ≡ a → (b : Bool) → eqb (k % 2) 1 ≡ b → j % 2 ≡ k % 2
+      go true p true q = eqb-true (j % 2) 1 p ∙ sym (eqb-true (k % 2) 1 q)
+      go true p false q =
+          let o : k % 2 ≡ 1 → ⊥ = eqb-false (k % 2) 1 q in
+          let n : ⊥ = omega (arith, walked-odd j z h (eqb-true (j % 2) 1 p) e .1, walked-even k z l (omega arith) f .low) in absurd n
+      go false p true q =
+          let o : j % 2 ≡ 1 → ⊥ = eqb-false (j % 2) 1 p in
+          let n : ⊥ = omega (arith, walked-odd k z l (eqb-true (k % 2) 1 q) f .1, walked-even j z h (omega arith) e .low) in absurd n
+      go false p false q =
+          let o : j % 2 ≡ 1 → ⊥ = eqb-false (j % 2) 1 p in
+          let u : k % 2 ≡ 1 → ⊥ = eqb-false (k % 2) 1 q in omega arith
 
   -- each of the first n numbers is where a walk ends
-  each-of : (P : ℕ → Type 0) (k n : ℕ) (from : List ℕ) → ((z : ℕ) → isIn z (take n from) ≡ isIn z (walkedFrom m st cs k)) → ((z : ℕ) → isIn z (walkedFrom m st cs k) ≡ true → P z)
+  each-of : (P : ℕ → Type 0) (single : Bool) (k n : ℕ) (from : List ℕ) → ((z : ℕ) → isIn z (take n from) ≡ newly single m st cs k z) → ((z : ℕ) → isIn z (walkedFrom m st cs k) ≡ true → P z)
       → All P (take n from)
-  each-of P k n from like f =
-      All-intro P (take n from) 0 (λ l h. f (getD (take n from) l 0) (sym (like _) ∙ at-isIn _ (take n from) (record { place = l; place-lt = h; place-is = refl })))
+  unfolding newly
+  each-of P single k n from like f =
+      All-intro P (take n from) 0 (λ l h.
+      let z : ℕ = getD (take n from) l 0 in
+      f z (and-true (isIn z (walkedFrom m st cs k)) _ (sym (like z) ∙ at-isIn z (take n from) (record { place = l; place-lt = h; place-is = refl })) .0))
 
-  sides : (k v n : ℕ) (marks from layers : List ℕ) → 1 ≤ k → k < length st → Walk m st cs (k - 1) v marks from layers n → Sided m k from n
-  sides k v n marks from layers l h W = record {
-    odd = λ o. record { each = each-of (Cell m) (k - 1) n from (W .ends) (λ z e. walked-even (k - 1) z (omega arith) (omega arith) e); count = W .count };
-    even = λ o. record { each = each-of _ (k - 1) n from (W .ends) (λ z e. walked-odd (k - 1) z (omega arith) (omega arith) e); count = W .count };
+  sides : (single : Bool) (k v n met : ℕ) (marks from found layers : List ℕ) → 1 ≤ k → k < length st → Walk m st single cs (k - 1) v marks from found layers n met → Sided m k from n
+  sides single k v n met marks from found layers l h W = record {
+    odd = λ o. record { each = each-of (Cell m) single (k - 1) n from (W .ends) (λ z e. walked-even (k - 1) z (omega arith) (omega arith) e); count = W .count };
+    even = λ o. record { each = each-of _ single (k - 1) n from (W .ends) (λ z e. walked-odd (k - 1) z (omega arith) (omega arith) e); count = W .count };
   }
 
-pub walk-sides : (m st : Bytes) (cell prev last cs : List ℕ) (k v n : ℕ) (marks from layers : List ℕ) → Ground m st cell prev last → All (Cell m) cs → (k ≡ 0 → ⊥) → k < length st
-    → Walk m st cs (k - 1) v marks from layers n → Sided m k from n
-walk-sides m st cell prev last cs k v n marks from layers G C z h W = sides m st (G .mesh) (G .stencil) cs C k v n marks from layers (omega arith) h W
+  -- ---- a stencil through one dimension
+
+  module _ (one : throughOne st ≡ true) where
+    alike-places : (j k : ℕ) → j < length st → k < length st → j % 2 ≡ k % 2 → byteAt st j ≡ byteAt st k
+    unfolding throughOne alike
+    alike-places j k h l e = go (eqb (j % 2) 1) refl
+      where
+        first : (i : ℕ) → i < length st → i % 2 ≡ 1 → byteAt st i ≡ byteAt st 1
+        first i g o =
+            let p : 2 * (0 + i / 2) + 1 ≡ i = omega arith in
+            let q : alike st (0 + i / 2) ≡ true = every-at 0 (alike st) (length st / 2) (i / 2) one (omega (arith, stencil-parts (top m) st bad .0)) in
+            ap (byteAt st) (sym p) ∙ eqb-true (byteAt st (2 * (0 + i / 2) + 1)) (byteAt st 1) q
+
+        go : (b : Bool) → eqb (j % 2) 1 ≡ b → byteAt st j ≡ byteAt st k
+        go true p = let o : j % 2 ≡ 1 = eqb-true (j % 2) 1 p in first j h o ∙ sym (first k l (omega arith))
+        go false p =
+            let o : j % 2 ≡ 1 → ⊥ = eqb-false (j % 2) 1 p in
+            stencil-even (top m) st bad j h o ∙ sym (stencil-even (top m) st bad k l (omega arith))
+
+    -- what was met before leads to what was met before; so what a step finds that is new, it finds from what is new
+    new-step : (j z : ℕ) (es : List ℕ) → suc j < length st → ((x : ℕ) → isIn x es ≡ newly true m st cs j x) → metBefore m st cs (suc j) z ≡ false
+        → isIn z (stepTo m (byteAt st (suc j)) es) ≡ isIn z (stepTo m (byteAt st (suc j)) (walkedFrom m st cs j))
+    unfolding newly metBefore walkedFrom
+    new-step j z es h like none = same-test _ _ there back
+      where
+        a : ℕ
+        a = byteAt st (suc j)
+
+        there : isIn z (stepTo m a es) ≡ true → isIn z (stepTo m a (walkedFrom m st cs j)) ≡ true
+        there e =
+            let w = step-from m a z es e in
+            step-to m a z (walkedFrom m st cs j) (w .0) (and-true (isIn (w .0) (walkedFrom m st cs j)) _ (sym (like (w .0)) ∙ w .1) .0) (w .2) (w .3) (w .4)
+
+        back : isIn z (stepTo m a (walkedFrom m st cs j)) ≡ true → isIn z (stepTo m a es) ≡ true
+        back e = let w = step-from m a z (walkedFrom m st cs j) e in go (w .0) (w .1) (w .2) (w .3) (w .4) (metBefore m st cs j (w .0)) refl
+          where
+            go : (x : ℕ) → isIn x (walkedFrom m st cs j) ≡ true → incident m x z ≡ true → below m a + 1 ≤ z → z < below m a + 1 + counted m a → (b : Bool) → metBefore m st cs j x ≡ b
+                → isIn z (stepTo m a es) ≡ true
+            go x i c l g false q = step-to m a z es x (like x ∙ and-intro (isIn x (walkedFrom m st cs j)) (not (metBefore m st cs j x)) i (ap not q)) c l g
+            go x i c l g true q =
+                let p : ℕ → Bool = λ i. isIn x (walkedFrom m st cs i) in
+                let w = some-witness 0 p j q in
+                let o : isIn x (walkedFrom m st cs (w .0)) ≡ true = ap p (sym (zero-add (w .0))) ∙ w .2 in
+                let k : w .0 < j = w .1 in
+                let d : byteAt st (suc (w .0)) ≡ a = alike-places (suc (w .0)) (suc j) (omega arith) h (omega (arith, one-side (w .0) j x (omega arith) (omega arith) o i)) in
+                let t : isIn z (walkedFrom m st cs (suc (w .0))) ≡ true =
+                subst (λ y. isIn z (stepTo m y (walkedFrom m st cs (w .0))) ≡ true) (sym d) (step-to m a z (walkedFrom m st cs (w .0)) x o c l g) in
+                let r : metBefore m st cs (suc j) z ≡ true = some-in 0 (λ i. isIn z (walkedFrom m st cs i)) (suc j) (suc (w .0)) (omega arith) (omega arith) t in
+                absurd (not-both (metBefore m st cs (suc j) z) r none)
+
+pub walk-sides : (m st : Bytes) (cell prev last cs : List ℕ) (single : Bool) (k v n met : ℕ) (marks from found layers : List ℕ) → Ground m st cell prev last → All (Cell m) cs → (k ≡ 0 → ⊥)
+    → k < length st → Walk m st single cs (k - 1) v marks from found layers n met → Sided m k from n
+walk-sides m st cell prev last cs single k v n met marks from found layers G C z h W = sides m st (G .mesh) (G .stencil) cs C single k v n met marks from found layers (omega arith) h W
 
 -- ---- layers
 
@@ -138,20 +223,45 @@ cell-layer m st cell prev last cs n z G C h c = ap firstMark (picked-cong 0 _ _ 
         even false o = let n : j % 2 ≡ 1 → ⊥ = eqb-false (j % 2) 1 o in omega arith
     go j l false q = and-right (eqb (j % 2) 0) false refl
 
+-- a mark says whether there is a number of steps
+pub marked-by : (ks : List ℕ) → not (eqb (firstMark ks) 0) ≡ ltb 0 (length ks)
+unfolding firstMark
+marked-by [] = refl
+marked-by (k ∷ ks) = ap not (ne-eqb (k + 1) 0 (omega arith)) ∙ sym (lt-ltb 0 (suc (length ks)) (omega arith))
+
+-- a cell that a shorter walk met has its layer
+met-layer : (m st : Bytes) (cell prev last cs : List ℕ) (j z : ℕ) → Ground m st cell prev last → All (Cell m) cs → j < length st → Cell m z → metBefore m st cs (suc j) z ≡ true
+    → eqb (layerMark m st cs j z) 0 ≡ false
+met-layer m st cell prev last cs j z G C h c e = not-true _ (
+    ap (λ x. not (eqb x 0)) (cell-layer m st cell prev last cs j z G C h c)
+    ∙ marked-by (picked 0 (j + 1) p)
+    ∙ picked-some 0 p (j + 1)
+    ∙ ap (λ n. some 0 n p) (add-one j)
+    ∙ (unfold metBefore in e))
+  where
+    p : ℕ → Bool
+    p i = isIn z (walkedFrom m st cs i)
+
 -- ---- no step, and one step more
 
-walk-none : (m st : Bytes) (s k v : ℕ) (marks from layers layers′ : List ℕ) → k ≡ 0 → Cells m from s → s ≤ 2000 → Under v marks → length from ≡ 2001 → Zeros 2001 layers
-    → Noted 0 layers layers′ (among from s) → Walk m st (take s from) k (v + k) marks from layers′ s
-walk-none m st s k v marks from layers layers′ z C few F r K N = subst (λ x. Walk m st (take s from) x (v + x) marks from layers′ s) (sym z) (record {
-  fresh = record { size = F .size; each = λ y. omega (arith, F .each y) };
+walk-none : (m st : Bytes) (single : Bool) (s k v met : ℕ) (marks from found layers layers′ : List ℕ) → k ≡ 0 → Cells m from s → length from ≡ 2001 → Zeros 2001 layers
+    → Gathered v marks found met × Toward found met [] (startsAmong single from s) → Noted 0 layers layers′ (among from s)
+    → Walk m st single (take s from) k v marks from found layers′ s met
+unfolding isIn startsAmong metBefore some walkedFrom newly
+walk-none m st single s k v met marks from found layers layers′ z C r K T N = subst (λ x. Walk m st single (take s from) x v marks from found layers′ s met) (sym z) (record {
+  gathered = subst (λ x. Gathered x marks found met) (sym (mark single)) (T .0);
+  told = λ z. sym (or-nothing (isIn z (take met found))) ∙ T .1 .each z;
   room = r;
   count = C .count;
-  few = few;
-  ends = λ z. unfold walkedFrom in refl;
+  ends = λ z. sym (ap (λ b. isIn z (take s from) && not b) (and-right single false refl) ∙ and-all (isIn z (take s from)));
   size = N .size ∙ K .size;
   layered = λ z. N .each z ∙ ap (noted 0 (among from s z)) (K .each z) ∙ first z (among from s z) refl;
 })
   where
+    mark : (b : Bool) → markAt b v 0 ≡ v
+    mark true = unfold markAt in refl
+    mark false = unfold markAt in add-zero v
+
     here : (z : ℕ) → isIn z (take s from) ≡ among from s z
     here z = unfold among in refl
 
@@ -163,39 +273,140 @@ step-like : (m : Bytes) (a : ℕ) (xs ys : List ℕ) → ((z : ℕ) → isIn z x
 unfolding stepTo
 step-like m a xs ys like = picked-cong (below m a + 1) _ _ (counted m a) (λ i h. someOf-like xs ys _ like)
 
--- one step more, at a count that is not 0
-more : (m st : Bytes) (cs : List ℕ) (j v n s : ℕ) (marks marks′ from from′ found layers layers′ : List ℕ) → Walk m st cs j (v + j) marks from layers n
-    → Gathered (v + j) marks′ found s → Toward found s [] (stepped m (byteAt st (suc j)) from n) → s ≤ 2000 → take s from′ ≡ take s found → length from′ ≡ length from
-    → Noted (suc j) layers layers′ (cellsAmong (suc j) from′ s) → Walk m st cs (suc j) (v + suc j) marks′ from′ layers′ s
-unfolding walkedFrom stepped cellsAmong isIn
-more m st cs j v n s marks marks′ from from′ found layers layers′ W G t few e r N = record {
-  fresh = record { size = G .size; each = λ y. omega (arith, G .top y) };
-  room = r ∙ W .room;
-  count = ap length e ∙ G .count;
-  few = few;
-  ends = ends;
-  size = N .size ∙ W .size;
-  layered = λ z. N .each z ∙ ap₂ (λ b x. noted (suc j) (eqb (suc j % 2) 0 && b) x) (ends z) (W .layered z) ∙ sym (layer-more m st cs j z);
-}
+-- what stands in the second of two lists that have nothing in common
+apart : (z : ℕ) (xs ys : List ℕ) → repeats (xs ++ ys) ≡ false → isIn z ys ≡ isIn z (xs ++ ys) && not (isIn z xs)
+apart z xs ys e = go (isIn z xs) refl (isIn z ys) refl ∙ ap (λ b. b && not (isIn z xs)) (sym (isIn-append z xs ys))
   where
-    ends : (z : ℕ) → isIn z (take s from′) ≡ isIn z (stepTo m (byteAt st (suc j)) (walkedFrom m st cs j))
-    ends z = ap (isIn z) e ∙ sym (or-nothing (isIn z (take s found))) ∙ t .each z ∙ ap (isIn z) (step-like m (byteAt st (suc j)) (take n from) (walkedFrom m st cs j) (W .ends))
+    go : (a : Bool) → isIn z xs ≡ a → (b : Bool) → isIn z ys ≡ b → isIn z ys ≡ (isIn z xs || isIn z ys) && not (isIn z xs)
+    go true p true q =
+        let t = isIn-at z xs p in
+        let u = isIn-at z ys q in
+        let n : t .place ≡ length xs + u .place = repeats-once (xs ++ ys) (t .place) (length xs + u .place) e
+        (omega (arith, length-append xs ys, t .place-lt)) (omega (arith, length-append xs ys, u .place-lt))
+        (List·getD-append xs ys 0 (t .place) (t .place-lt) ∙ t .place-is ∙ sym (u .place-is) ∙ sym (getD-append-add xs ys (u .place) 0)) in
+        let o : ⊥ = omega (arith, t .place-lt) in absurd o
+    go true p false q = q ∙ sym (ap (λ b. (b || isIn z ys) && not b) p)
+    go false p b q = sym (ap (λ b. (b || isIn z ys) && not b) p ∙ and-all (isIn z ys))
 
-walk-more : (m st : Bytes) (cs : List ℕ) (k v n s : ℕ) (marks marks′ from from′ found layers layers′ : List ℕ) → (k ≡ 0 → ⊥) → Walk m st cs (k - 1) (v + (k - 1)) marks from layers n
-    → Gathered (v + (k - 1)) marks′ found s → Toward found s [] (stepped m (byteAt st k) from n) → s ≤ 2000 → take s from′ ≡ take s found → length from′ ≡ length from
-    → Noted k layers layers′ (cellsAmong k from′ s) → Walk m st cs k (v + k) marks′ from′ layers′ s
-walk-more m st cs zero v n s marks marks′ from from′ found layers layers′ z W G t few e r N = absurd (z refl)
-walk-more m st cs (suc j) v n s marks marks′ from from′ found layers layers′ z W G t few e r N =
+module _ (m st : Bytes) (cell prev last cs : List ℕ) (single : Bool) (j v n base s n′ low high low′ high′ met′ : ℕ) (marks marks′ from from′ found found′ layers layers′ : List ℕ)
+    (G : Ground m st cell prev last) (C : All (Cell m) cs) (se : single ≡ throughOne st) (h : suc j < length st) (W : Walk m st single cs j v marks from found layers n base)
+    (T : Gathered (markAt single v j) marks′ found′ s × Toward found′ s [] (orAmong found base (stepped m (byteAt st (suc j)) from n)) × (s ≤ 2000) × Grown found base found′ s)
+    (A : Arrived (suc j) single found′ base s from from′ layers layers′ low high n′ low′ high′ met′) where
+  abbrev level : List ℕ
+  level = take n′ (drop base found′)
+
+  -- what was met before this step, and what the step reaches
+  abbrev M : ℕ → Bool
+  M z = metBefore m st cs (suc j) z
+
+  abbrev R : ℕ → Bool
+  R z = isIn z (walkedFrom m st cs (suc j))
+
+  whole : take s found′ ≡ take base found ++ level
+  whole =
+      let q : base + n′ ≡ s = omega (arith, A .count, T .3 .more) in
+      ap (λ x. take x found′) (sym q) ∙ take-add base n′ found′ ∙ ap (λ l. l ++ level) (T .3 .front)
+
+  found-all : (z : ℕ) → isIn z (take s found′) ≡ (single && M z) || isIn z (stepTo m (byteAt st (suc j)) (take n from))
+  unfolding isIn orAmong stepped
+  found-all z = sym (or-nothing (isIn z (take s found′))) ∙ T .1 .each z ∙ ap (λ b. b || isIn z (stepTo m (byteAt st (suc j)) (take n from))) (W .told z)
+
+  -- a step from what is new reaches what is new
+  reaches : (z : ℕ) (b c : Bool) → single ≡ b → M z ≡ c → ((b && c) || isIn z (stepTo m (byteAt st (suc j)) (take n from))) && not (b && c) ≡ R z && not (b && c)
+  unfolding walkedFrom newly
+  reaches z true true p q = sym (and-right (R z) false refl)
+  reaches z true false p q = ap (λ b. b && true) (new-step m st (G .mesh) (G .stencil) cs C (sym se ∙ p) j z (take n from) h (λ x. W .ends x ∙ ap (λ b. newly b m st cs j x) p) q)
+  reaches z false c p q =
+      ap (λ b. b && true) (ap (isIn z) (step-like m (byteAt st (suc j)) (take n from) (walkedFrom m st cs j)
+      (λ x. W .ends x ∙ ap (λ b. isIn x (walkedFrom m st cs j) && not (b && metBefore m st cs j x)) p ∙ and-all (isIn x (walkedFrom m st cs j)))))
+
+  ends : (z : ℕ) → isIn z (take n′ from′) ≡ newly single m st cs (suc j) z
+  ends z =
+      ap (isIn z) (A .moved)
+      ∙ apart z (take base found) level (ap repeats (sym whole) ∙ T .0 .once)
+      ∙ ap₂ (λ a b. a && not b) (ap (isIn z) (sym whole) ∙ found-all z) (W .told z)
+      ∙ reaches z single (M z) refl refl
+      ∙ (unfold newly in refl)
+
+  gathered : (b : Bool) → single ≡ b → Gathered (markAt b v (suc j)) marks′ found′ (cond b s 0)
+  unfolding markAt
+  gathered true p = subst (λ b. Gathered (markAt b v j) marks′ found′ s) p (T .0)
+  gathered false p =
+      let g : Gathered (v + j) marks′ found′ s = subst (λ b. Gathered (markAt b v j) marks′ found′ s) p (T .0) in
+      begin (v + suc j) marks′ found′ (record { size = g .size; each = λ y. omega (arith, g .top y) }) (g .room)
+
+  told : (z : ℕ) (b : Bool) → single ≡ b → isIn z (take (cond b s 0) found′) ≡ b && metBefore m st cs (suc (suc j)) z
+  told z true p =
+      found-all z
+      ∙ ap (λ b. (b && M z) || S) p
+      ∙ both (M z) refl
+      ∙ sym (unfold metBefore some in ap (λ i. some 0 (suc j) q || q i) (zero-add (suc j)))
+    where
+      S : Bool
+      S = isIn z (stepTo m (byteAt st (suc j)) (take n from))
+
+      q : ℕ → Bool
+      q i = isIn z (walkedFrom m st cs i)
+
+      both : (c : Bool) → M z ≡ c → c || S ≡ M z || R z
+      both true e = sym (ap (λ b. b || R z) e)
+      both false e = sym (and-all S) ∙ reaches z true false p e ∙ and-all (R z) ∙ sym (ap (λ b. b || R z) e)
+  told z false p = unfold isIn in refl
+
+  -- a layer that an earlier step gave stays
+  layers-are : (z : ℕ) (a b c : Bool) → eqb (suc j % 2) 0 ≡ a → R z ≡ b → M z ≡ c
+      → noted (suc j) (a && (b && not (single && c))) (layerMark m st cs j z) ≡ noted (suc j) (a && b) (layerMark m st cs j z)
+  layers-are z true true true p q r =
+      let c : Cell m z = walked-even m st (G .mesh) (G .stencil) cs C (suc j) z h (eqb-true (suc j % 2) 0 p) q in
+      let o = met-layer m st cell prev last cs j z G C (omega arith) c r in
+      unfold noted in ap (λ b. cond (not (single && true) && b) (suc j + 1) (layerMark m st cs j z)) o
+      ∙ ap (λ b. cond b (suc j + 1) (layerMark m st cs j z)) (and-right (not (single && true)) false refl ∙ sym o)
+  layers-are z true true false p q r = ap (λ b. noted (suc j) (not b) (layerMark m st cs j z)) (and-right single false refl)
+  layers-are z true false c p q r = refl
+  layers-are z false b c p q r = refl
+
+  more : Walk m st single cs (suc j) v marks′ from′ found′ layers′ n′ met′
+  unfolding cellsAmong newly
+  more = record {
+    gathered = subst (Gathered (markAt single v (suc j)) marks′ found′) (sym (A .kept)) (gathered single refl);
+    told = λ z. ap (λ x. isIn z (take x found′)) (A .kept) ∙ told z single refl;
+    room = A .size ∙ W .room;
+    count = ap length (A .moved) ∙ length-level;
+    ends = ends;
+    size = A .notes .size ∙ W .size;
+    layered = λ z.
+        A .notes .each z
+        ∙ ap₂ (noted (suc j)) (ap (λ b. eqb (suc j % 2) 0 && b) (ends z)) (W .layered z)
+        ∙ layers-are z (eqb (suc j % 2) 0) (R z) (M z) refl refl refl
+        ∙ sym (layer-more m st cs j z);
+  }
+    where
+      length-level : length level ≡ n′
+      length-level = omega (arith, length-take n′ (drop base found′), length-drop base found′, T .0 .room, T .2, A .count)
+
+walk-more : (m st : Bytes) (cell prev last cs : List ℕ) (single : Bool) (k v n base s n′ low high low′ high′ met′ : ℕ) (marks marks′ from from′ found found′ layers layers′ : List ℕ)
+    → Ground m st cell prev last → All (Cell m) cs → single ≡ throughOne st → k < length st → (k ≡ 0 → ⊥) → Walk m st single cs (k - 1) v marks from found layers n base
+    → Gathered (markAt single v (k - 1)) marks′ found′ s × Toward found′ s [] (orAmong found base (stepped m (byteAt st k) from n)) × (s ≤ 2000) × Grown found base found′ s
+    → Arrived k single found′ base s from from′ layers layers′ low high n′ low′ high′ met′ → Walk m st single cs k v marks′ from′ found′ layers′ n′ met′
+walk-more m st cell prev last cs single zero v n base s n′ low high low′ high′ met′ marks marks′ from from′ found found′ layers layers′ G C se h z W T A = absurd (z refl)
+walk-more m st cell prev last cs single (suc j) v n base s n′ low high low′ high′ met′ marks marks′ from from′ found found′ layers layers′ G C se h z W T A =
     let q : suc j - 1 ≡ j = omega arith in
-    more m st cs j v n s marks marks′ from from′ found layers layers′ (rw q at W) (rw q at G) t few e r N
+    more m st cell prev last cs single j v n base s n′ low high low′ high′ met′ marks marks′ from from′ found found′ layers layers′ G C se h (rw q at W) (rw q at T) A
 
 -- what the calls of a walk suppose
-pub notes-room : (m st : Bytes) (cs : List ℕ) (k w n v s : ℕ) (marks₀ from marks found layers : List ℕ) → Walk m st cs k w marks₀ from layers n → Gathered v marks found s
-    → All (λ y. y < length layers) (take s found)
-notes-room m st cs k w n v s marks₀ from marks found layers W G = All-map (take s found) (λ y h. omega (arith, h .1, W .size)) (G .in-range)
+pub gathered-as : (x y n : ℕ) (marks found : List ℕ) → x ≡ y → Gathered y marks found n → Gathered x marks found n
+gathered-as x y n marks found e G = rw e G
 
-pub cells-fit : (m st : Bytes) (cell prev last layers from : List ℕ) (s : ℕ) → Ground m st cell prev last → Cells m from s → Zeros 2001 layers → All (λ y. y < length layers) (take s from)
-cells-fit m st cell prev last layers from s G C K = All-map (take s from) (λ y h. omega (arith, h .high, G .mesh .cells-in, G .mesh .sizes .n-high, K .size)) (C .each)
+pub notes-room : (m st : Bytes) (cs : List ℕ) (single : Bool) (k w n met v s : ℕ) (marks₀ from found₀ marks found layers : List ℕ) → Walk m st single cs k w marks₀ from found₀ layers n met
+    → Gathered v marks found s → All (λ y. y < length layers) (take s found)
+notes-room m st cs single k w n met v s marks₀ from found₀ marks found layers W G = All-map (take s found) (λ y h. omega (arith, h .1, W .size)) (G .in-range)
+
+module _ (m st : Bytes) (cell prev last from : List ℕ) (s : ℕ) (G : Ground m st cell prev last) (C : Cells m from s) where
+  pub cells-fit : (layers : List ℕ) → Zeros 2001 layers → All (λ y. y < length layers) (take s from)
+  cells-fit layers K = All-map (take s from) (λ y h. omega (arith, h .high, G .mesh .cells-in, G .mesh .sizes .n-high, K .size)) (C .each)
+
+  pub cells-small : All (λ y. (1 ≤ y) × (y ≤ 2000)) (take s from)
+  cells-small = All-map (take s from) (λ y h. (omega (arith, h .low), omega (arith, h .high, G .mesh .cells-in, G .mesh .sizes .n-high))) (C .each)
 
 -- ---- the bounds of the cells met
 
@@ -264,76 +475,94 @@ within-none m st cell prev last e s low high from layers layers′ G ee C K N U 
     (record { starts = omega (arith, G .mesh .cells-in); ends = omega (arith, G .mesh .cells-in); stops = omega arith; before = λ z l. K .each z; after = λ z l. K .each z })
     (C .each) U
 
-within-even : (m st : Bytes) (cell prev last cs : List ℕ) (k v n low high low′ high′ : ℕ) (marks from layers layers′ : List ℕ) → Ground m st cell prev last → All (Cell m) cs → k < length st
-    → Walk m st cs k v marks from layers′ n → Noted k layers layers′ (cellsAmong k from n) → Within m layers low high → (k % 2 ≡ 1 → ⊥) → Widened low high low′ high′ (take n from)
-    → Within m layers′ low′ high′
-within-even m st cell prev last cs k v n low high low′ high′ marks from layers layers′ G C h W N I o U =
+within-even : (m st : Bytes) (cell prev last cs : List ℕ) (single : Bool) (k v n met low high low′ high′ : ℕ) (marks from found layers layers′ : List ℕ) → Ground m st cell prev last
+    → All (Cell m) cs → k < length st → Walk m st single cs k v marks from found layers′ n met → Noted k layers layers′ (cellsAmong k from n) → Within m layers low high → (k % 2 ≡ 1 → ⊥)
+    → Widened low high low′ high′ (take n from) → Within m layers′ low′ high′
+within-even m st cell prev last cs single k v n met low high low′ high′ marks from found layers layers′ G C h W N I o U =
     within-cells m k n low high low′ high′ (cellsAmong k from n) from layers layers′ N (λ z q. unfold cellsAmong in and-true (eqb (k % 2) 0) (isIn z (take n from)) q .1) I
-    (each-of m st (G .mesh) (G .stencil) cs C _ k n from (W .ends) (λ z e. walked-even m st (G .mesh) (G .stencil) cs C k z h (omega arith) e)) U
+    (each-of m st (G .mesh) (G .stencil) cs C _ single k n from (W .ends) (λ z e. walked-even m st (G .mesh) (G .stencil) cs C k z h (omega arith) e)) U
 
 -- ---- what a walk answers
 
-pub ends-none : (m st : Bytes) (cell prev last : List ℕ) (e s k v f n low high : ℕ) (marks from layers layers′ : List ℕ) → Ground m st cell prev last → e ≡ elements m → Cells m from s
-    → s ≤ 2000 → Under v marks → length from ≡ 2001 → f ≡ 2001 → Zeros 2001 layers → k ≡ 0 → Departed e from s layers layers′ n low high
-    → Walk m st (take s from) k (v + k) marks from layers′ n × (f ≡ 2001) × Within m layers′ low high
-ends-none m st cell prev last e s k v f n low high marks from layers layers′ G ee C few F r fe K z D = (
-  subst (Walk m st (take s from) k (v + k) marks from layers′) (sym (D .count)) (walk-none m st s k v marks from layers layers′ z C few F r K (D .notes)),
-  fe,
+pub ends-none : (m st : Bytes) (cell prev last : List ℕ) (single : Bool) (e s k v n met low high met′ : ℕ) (marks from found layers layers′ : List ℕ) → Ground m st cell prev last
+    → e ≡ elements m → Cells m from s → length from ≡ 2001 → Zeros 2001 layers → k ≡ 0 → Gathered v marks found met × Toward found met [] (startsAmong single from s)
+    → Departed e from s met layers layers′ n low high met′
+    → Walk m st single (take s from) k v marks from found layers′ n met′ × Within m layers′ low high
+ends-none m st cell prev last single e s k v n met low high met′ marks from found layers layers′ G ee C r K z T D = (
+  subst₂ (Walk m st single (take s from) k v marks from found layers′) (sym (D .count)) (sym (D .kept)) (walk-none m st single s k v met marks from found layers layers′ z C r K T (D .notes)),
   within-none m st cell prev last e s low high from layers layers′ G ee C K (D .notes) (D .bounds),
 )
 
-pub ends-more : (m st : Bytes) (cell prev last cs : List ℕ) (k v n f s n′ low high low′ high′ : ℕ) (marks marks′ from from′ found layers layers′ : List ℕ) → Ground m st cell prev last
-    → All (Cell m) cs → k < length st → (k ≡ 0 → ⊥)
-    → Walk m st cs (k - 1) (v + (k - 1)) marks from layers n × (f ≡ 2001) × Within m layers low high
-    → Gathered (v + (k - 1)) marks′ found s × Toward found s [] (stepped m (byteAt st k) from n) × (s ≤ 2000)
-    → Arrived k found s from from′ layers layers′ low high n′ low′ high′
-    → Walk m st cs k (v + k) marks′ from′ layers′ n′ × (length found ≡ 2001) × Within m layers′ low′ high′
-ends-more m st cell prev last cs k v n f s n′ low high low′ high′ marks marks′ from from′ found layers layers′ G C h z W T A = (
-  subst (Walk m st cs k (v + k) marks′ from′ layers′) (sym (A .count)) here,
-  T .0 .room,
-  inside (eqb (k % 2) 1) refl,
-)
+pub ends-more : (m st : Bytes) (cell prev last cs : List ℕ) (single : Bool) (k v n base s n′ low high low′ high′ met′ : ℕ) (marks marks′ from from′ found found′ layers layers′ : List ℕ)
+    → Ground m st cell prev last → All (Cell m) cs → single ≡ throughOne st → k < length st → (k ≡ 0 → ⊥)
+    → Walk m st single cs (k - 1) v marks from found layers n base × Within m layers low high
+    → Gathered (markAt single v (k - 1)) marks′ found′ s × Toward found′ s [] (orAmong found base (stepped m (byteAt st k) from n)) × (s ≤ 2000) × Grown found base found′ s
+    → Arrived k single found′ base s from from′ layers layers′ low high n′ low′ high′ met′
+    → Walk m st single cs k v marks′ from′ found′ layers′ n′ met′ × Within m layers′ low′ high′
+ends-more m st cell prev last cs single k v n base s n′ low high low′ high′ met′ marks marks′ from from′ found found′ layers layers′ G C se h z W T A = (here, inside (eqb (k % 2) 1) refl)
   where
-    here : Walk m st cs k (v + k) marks′ from′ layers′ s
-    here = walk-more m st cs k v n s marks marks′ from from′ found layers layers′ z (W .0) (T .0) (T .1) (T .2) (A .moved) (A .size) (A .notes)
+    here : Walk m st single cs k v marks′ from′ found′ layers′ n′ met′
+    here = walk-more m st cell prev last cs single k v n base s n′ low high low′ high′ met′ marks marks′ from from′ found found′ layers layers′ G C se h z (W .0) T A
 
     inside : (b : Bool) → eqb (k % 2) 1 ≡ b → Within m layers′ low′ high′
     inside true q =
         let e = A .odd (eqb-true (k % 2) 1 q) in
-        rw (e .0, e .1, e .2) (W .2)
+        rw (e .0, e .1, e .2) (W .1)
     inside false q =
         let o = eqb-false (k % 2) 1 q in
-        within-even m st cell prev last cs k (v + k) s low high low′ high′ marks′ from′ layers layers′ G C h here (A .notes) (W .2) o (A .even o)
+        within-even m st cell prev last cs single k v n′ met′ low high low′ high′ marks′ from′ found′ layers layers′ G C h here (A .notes) (W .1) o (A .even o)
+
+-- what a walk leaves for the next
+pub walk-fresh : (m st : Bytes) (cs : List ℕ) (single : Bool) (k v n met : ℕ) (marks from found layers : List ℕ) → Walk m st single cs k v marks from found layers n met → Under (v + (k + 1)) marks
+unfolding markAt
+walk-fresh m st cs single k v n met marks from found layers W = record { size = W .gathered .size; each = λ y. go single (W .gathered .top y) }
+  where
+    go : {x : ℕ} (b : Bool) → x ≤ markAt b v k → x < v + (k + 1)
+    go true l = omega arith
+    go false l = omega arith
 
 -- ---- what is found and moved to `from`
 
-pub list-room : (n l : ℕ) (found : List ℕ) → length (take n found) ≡ n → l ≡ length found → (n ≤ length found) × (n ≤ l)
-list-room n l found c e = let h : n ≤ length found = omega (arith, c, length-take n found) in (h, omega (arith, h))
+module _ (found : List ℕ) (base n : ℕ) (low : base ≤ n) (len : length (take n found) ≡ n) (size : length found ≡ 2001) where
+  n-fits : n ≤ 2001
+  n-fits = omega (arith, length-take n found)
 
-pub notes-moved : (k n l : ℕ) (found from′ : List ℕ) → k ≤ 8 → length (take n found) ≡ n → All (λ y. y < l) (take n found) → take n from′ ≡ take n found
-    → (k < 65535) × (length (take n from′) ≡ n) × All (λ y. y < l) (take n from′)
-notes-moved k n l found from′ h c a e = (omega arith, ap length e ∙ c, rw e a)
+  pub list-room : (l : ℕ) → l ≡ 2001 → (base + (n - base) ≤ length found) × (n - base ≤ l) × (length found < 65536)
+  list-room l e = (omega (arith, n-fits), omega (arith, n-fits), omega arith)
 
-module _ (k : ℕ) (found : List ℕ) (n : ℕ) (from from′ layers : List ℕ) (low high : ℕ) (M : (take n from′ ≡ take n found) × (length from′ ≡ length from)) where
-  pub arrived-odd : k % 2 ≡ 1 → Arrived k found n from from′ layers layers low high n low high
+  module _ (from′ : List ℕ) (e : take (n - base) from′ ≡ take (n - base) (drop base found)) where
+    pub moved-count : length (take (n - base) from′) ≡ n - base
+    moved-count = ap length e ∙ (let q : length (take (n - base) (drop base found)) ≡ n - base = omega (arith, length-take (n - base) (drop base found), length-drop base found, n-fits) in q)
+
+    pub notes-moved : (k l : ℕ) → k ≤ 8 → All (λ y. y < l) (take n found) → (k < 65535) × (length (take (n - base) from′) ≡ n - base) × All (λ y. y < l) (take (n - base) from′)
+    notes-moved k l h a = (omega arith, moved-count, rw e (All-split (λ y. y < l) (take base found) (take (n - base) (drop base found)) (subst (All (λ y. y < l)) parts a) .1))
+      where
+        parts : take n found ≡ take base found ++ take (n - base) (drop base found)
+        parts = let q : base + (n - base) ≡ n = omega arith in ap (λ x. take x found) (sym q) ∙ take-add base (n - base) found
+
+module _ (k : ℕ) (single : Bool) (found : List ℕ) (base n c : ℕ) (from from′ layers : List ℕ) (low high : ℕ) (ce : c ≡ n - base) (met′ : ℕ) (K : met′ ≡ cond single n 0)
+    (M : (take c from′ ≡ take c (drop base found)) × (length from′ ≡ length from)) where
+  pub arrived-odd : k % 2 ≡ 1 → Arrived k single found base n from from′ layers layers low high c low high met′
   unfolding noted cellsAmong
   arrived-odd o = record {
-    count = refl;
+    count = ce;
+    kept = K;
     size = M .1;
     moved = M .0;
-    notes = record { size = refl; each = λ z. sym (ap (λ b. noted k (b && isIn z (take n from′)) (getD layers z 0)) (ne-eqb (k % 2) 0 (omega arith))) };
+    notes = record { size = refl; each = λ z. sym (ap (λ b. noted k (b && isIn z (take c from′)) (getD layers z 0)) (ne-eqb (k % 2) 0 (omega arith))) };
     odd = λ _. (refl, refl, refl);
     even = λ x. absurd (x o);
   }
 
-  pub arrived-even : (k % 2 ≡ 1 → ⊥) → (layers′ : List ℕ) (n′ low′ high′ : ℕ) → Noted k layers layers′ (among from′ n) → (n′ ≡ n) × Widened low high low′ high′ (take n from′)
-      → Arrived k found n from from′ layers layers′ low high n′ low′ high′
+  pub arrived-even : (k % 2 ≡ 1 → ⊥) → (layers′ : List ℕ) (n′ low′ high′ met″ : ℕ) → Noted k layers layers′ (among from′ c)
+      → (n′ ≡ c) × (met″ ≡ met′) × Widened low high low′ high′ (take c from′) → Arrived k single found base n from from′ layers layers′ low high n′ low′ high′ met″
   unfolding among cellsAmong
-  arrived-even o layers′ n′ low′ high′ N U = record {
-    count = U .0;
+  arrived-even o layers′ n′ low′ high′ met″ N U = subst₂ (λ x y. Arrived k single found base n from from′ layers layers′ low high x low′ high′ y) (sym (U .0)) (sym (U .1)) (record {
+    count = ce;
+    kept = K;
     size = M .1;
     moved = M .0;
-    notes = record { size = N .size; each = λ z. N .each z ∙ sym (ap (λ b. noted k (b && isIn z (take n from′)) (getD layers z 0)) (eq-eqb (k % 2) 0 (omega arith))) };
+    notes = record { size = N .size; each = λ z. N .each z ∙ sym (ap (λ b. noted k (b && isIn z (take c from′)) (getD layers z 0)) (eq-eqb (k % 2) 0 (omega arith))) };
     odd = λ x. absurd (o x);
-    even = λ _. U .1;
-  }
+    even = λ _. U .2;
+  })

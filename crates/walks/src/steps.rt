@@ -6,37 +6,61 @@ use mesh::inner::below_of;
 use visits::inner::entry;
 use visits::inner::step_down;
 use visits::inner::step_up;
+use visits::inner::visit_all;
 ghost use mathlib.Core.Path.{_≡_};
+ghost use mathlib.Core.Bool.{cond};
 ghost use mathlib.Core.List.{[], _∷_};
 ghost use Prim.Native.Nat.{ℕ, _+_, _<_, _≤_};
 ghost use lib.Dec.{eqb};
-ghost use lib.ListN.{length, take};
+ghost use lib.ListN.{length, take, drop};
 ghost use Rattle.mesh.specs.Meet.{Under};
 ghost use Rattle.vocabulary.specs.Bytes.{byteAt};
 ghost use Rattle.vocabulary.specs.Lists.{All, Zeros};
-ghost use Rattle.mesh.specs.Mesh.{top, elements, recordCount};
+ghost use Rattle.mesh.specs.Mesh.{top};
 ghost use Rattle.mesh.specs.Accepted.{Accepted};
-ghost use Rattle.visits.specs.Visits.{Gathered, Toward};
-ghost use Rattle.walks.specs.Walking.{Ground, Cells, Lowers, Sided, stepped, Noted, among, Walk, Within, Widened, Departed, Arrived};
+ghost use Rattle.visits.specs.Visits.{Gathered, Toward, Grown};
+ghost use Rattle.walks.specs.Walking.{Ground, Sized, Cells, Lowers, Sided, stepped, alike, throughOne, markAt, startsAmong, orAmong, Noted, among, Walk, Within, Widened, Departed, Arrived};
+
+// The sizes of a mesh: how many elements, records and cells it has, and its first cell.
+pub struct MeshSizes {
+    pub elements: usize,
+    pub records: usize,
+    pub first: usize,
+    pub cells: usize,
+}
 
 // Down from the first n cells of `from` to the elements of dimension a.
 pub fn walk_down(
     m: &[u8],
-    e: usize,
-    r: usize,
+    sizes: MeshSizes,
     a: usize,
     from: &[u16],
     n: usize,
     v: u16,
     marks: &mut [u16],
     found: &mut [u16],
+    base: usize,
 ) -> usize
-    requires { ⌜ Accepted (now m) × (e ≡ elements (now m)) × (r ≡ recordCount (now m)) × (a < top (now m)) × Cells (now m) (now from) n × Under v (now marks) × (length (now found) ≡ 2001) ⌝ }
-    ensures { λ s. ⌜ Gathered v (now (marks .exit)) (now (found .exit)) s × Toward (now (found .exit)) s [] (stepped (now (m .entry)) a (now (from .entry)) n) × (s ≤ 2000) ⌝ }
+    requires { ⌜ Accepted (now m) × Sized (now m) sizes × (a < top (now m)) × Cells (now m) (now from) n × Gathered v (now marks) (now found) base × (base ≤ 2000) ⌝ }
+    ensures { λ s. ⌜ Gathered v (now (marks .exit)) (now (found .exit)) s
+        × Toward (now (found .exit)) s [] (orAmong (now (found .entry)) base (stepped (now (m .entry)) a (now (from .entry)) n)) × (s ≤ 2000)
+        × Grown (now (found .entry)) base (now (found .exit)) s ⌝ }
 {
     let lo = below_of(m, a);
     let hi = below_of(m, a + 1);
-    step_down(m, e, r, from, n, lo, hi, v, marks, found)
+    step_down(
+        m,
+        sizes.elements,
+        sizes.records,
+        from,
+        n,
+        lo,
+        hi,
+        v,
+        marks,
+        found,
+        base,
+    )
 }
 
 // Up from the first n lower elements of `from` to their cells.
@@ -51,11 +75,14 @@ pub fn walk_up(
     v: u16,
     marks: &mut [u16],
     found: &mut [u16],
+    base: usize,
 ) -> usize
-    requires { ⌜ Ground (now m) (now st) (now cell) (now prev) (now last) × Lowers (now m) (now from) n × Under v (now marks) × (length (now found) ≡ 2001) ⌝ }
-    ensures { λ s. ⌜ Gathered v (now (marks .exit)) (now (found .exit)) s × Toward (now (found .exit)) s [] (stepped (now (m .entry)) (top (now (m .entry))) (now (from .entry)) n) × (s ≤ 2000) ⌝ }
+    requires { ⌜ Ground (now m) (now st) (now cell) (now prev) (now last) × Lowers (now m) (now from) n × Gathered v (now marks) (now found) base × (base ≤ 2000) ⌝ }
+    ensures { λ s. ⌜ Gathered v (now (marks .exit)) (now (found .exit)) s
+        × Toward (now (found .exit)) s [] (orAmong (now (found .entry)) base (stepped (now (m .entry)) (top (now (m .entry))) (now (from .entry)) n)) × (s ≤ 2000)
+        × Grown (now (found .entry)) base (now (found .exit)) s ⌝ }
 {
-    step_up(cell, prev, last, from, n, v, marks, found)
+    step_up(cell, prev, last, from, n, v, marks, found, base)
 }
 
 // Gives y the layer k, unless it has one.
@@ -78,11 +105,10 @@ pub fn note_all(k: u16, from: &[u16], n: usize, layers: &mut [u16])
     }
 }
 
-// Step k of a walk: down where k is odd, and up where it is even.
+// Step k of a walk: down where k is odd, and up where it is even. What it finds comes after the first `base` numbers of `found`.
 fn step(
     m: &[u8],
-    e: usize,
-    r: usize,
+    sizes: MeshSizes,
     st: &[u8],
     cell: &[u16],
     prev: &[u16],
@@ -93,32 +119,74 @@ fn step(
     v: u16,
     marks: &mut [u16],
     found: &mut [u16],
+    base: usize,
 ) -> usize
-    requires { ⌜ Ground (now m) (now st) (now cell) (now prev) (now last) × (e ≡ elements (now m)) × (r ≡ recordCount (now m)) × (k < length (now st)) × Sided (now m) k (now from) n × Under v (now marks) × (length (now found) ≡ 2001) ⌝ }
-    ensures { λ s. ⌜ Gathered v (now (marks .exit)) (now (found .exit)) s × Toward (now (found .exit)) s [] (stepped (now (m .entry)) (byteAt (now (st .entry)) k) (now (from .entry)) n) × (s ≤ 2000) ⌝ }
+    requires { ⌜ Ground (now m) (now st) (now cell) (now prev) (now last) × Sized (now m) sizes × (k < length (now st)) × Sided (now m) k (now from) n
+        × Gathered v (now marks) (now found) base × (base ≤ 2000) ⌝ }
+    ensures { λ s. ⌜ Gathered v (now (marks .exit)) (now (found .exit)) s
+        × Toward (now (found .exit)) s [] (orAmong (now (found .entry)) base (stepped (now (m .entry)) (byteAt (now (st .entry)) k) (now (from .entry)) n)) × (s ≤ 2000)
+        × Grown (now (found .entry)) base (now (found .exit)) s ⌝ }
 {
     if k % 2 == 1 {
         let a = byte_at(st, k) as usize;
-        return walk_down(m, e, r, a, from, n, v, marks, found);
+        return walk_down(m, sizes, a, from, n, v, marks, found, base);
     }
-    walk_up(m, st, cell, prev, last, from, n, v, marks, found)
+    walk_up(m, st, cell, prev, last, from, n, v, marks, found, base)
 }
 
-// Copies the first n numbers of a list.
-fn copy_list(src: &[u16], n: usize, dst: &mut [u16])
-    requires { ⌜ (n ≤ length (now src)) × (n ≤ length (now dst)) ⌝ }
-    ensures { λ _. ⌜ (take n (now (dst .exit)) ≡ take n (now (src .entry))) × (length (now (dst .exit)) ≡ length (now (dst .entry))) ⌝ }
+// Copies n numbers of a list, from `at` on, to the front of another.
+fn copy_part(src: &[u16], at: usize, n: usize, dst: &mut [u16])
+    requires { ⌜ (at + n ≤ length (now src)) × (n ≤ length (now dst)) × (length (now src) < 65536) ⌝ }
+    ensures { λ _. ⌜ (take n (now (dst .exit)) ≡ take n (drop at (now (src .entry)))) × (length (now (dst .exit)) ≡ length (now (dst .entry))) ⌝ }
 {
     for j in 0..n {
-        dst[j] = src[j];
+        dst[j] = src[at + j];
     }
 }
 
-// Where walks end: how many elements those are; and the bounds of all cells met on the way, from `low` up to but without `high`.
+// Where walks end: how many elements those are; the bounds of all cells met on the way, from `low` up to but without `high`; and how many elements
+// were met in all, if the stencil goes through one dimension.
 pub struct Ends {
     pub count: usize,
     pub low: usize,
     pub high: usize,
+    pub met: usize,
+}
+
+// Whether the j-th odd place is like the first.
+fn is_alike(st: &[u8], j: usize) -> bool
+    requires { ⌜ j ≤ 8 ⌝ }
+    ensures { λ b. ⌜ b ≡ alike (now (st .entry)) j ⌝ }
+{
+    byte_at(st, 2 * j + 1) == byte_at(st, 1)
+}
+
+// Whether the stencil goes through one dimension: its odd places are alike.
+pub fn through_one(st: &[u8]) -> bool
+    requires { ⌜ length (now st) ≤ 9 ⌝ }
+    ensures { λ b. ⌜ b ≡ throughOne (now (st .entry)) ⌝ }
+{
+    for j in 0..st.len() / 2 {
+        if !is_alike(st, j) {
+            return false;
+        }
+    }
+    true
+}
+
+// The mark of the step after k steps: one for the whole walk, or one a step.
+fn mark_at(single: bool, v: usize, k: usize) -> usize
+    requires { ⌜ (v ≤ 60000) × (k ≤ 8) ⌝ }
+    ensures { λ r. ⌜ (r ≡ markAt single v k) × (r ≤ 60008) ⌝ }
+{
+    if single { v } else { v + k }
+}
+
+// How many of the n elements found stay gathered: all, where one mark serves the whole walk.
+fn kept(single: bool, n: usize) -> usize
+    ensures { λ r. ⌜ r ≡ cond single n 0 ⌝ }
+{
+    if single { n } else { 0 }
 }
 
 // The lesser and the greater of two numbers.
@@ -137,19 +205,20 @@ fn greater(x: usize, y: usize) -> usize
 // The bounds that hold cell y as well.
 fn widened(w: Ends, y: usize) -> Ends
     requires { ⌜ y < 65536 ⌝ }
-    ensures { λ r. ⌜ (r .count ≡ w .count) × Widened (w .low) (w .high) (r .low) (r .high) (y ∷ []) ⌝ }
+    ensures { λ r. ⌜ (r .count ≡ w .count) × (r .met ≡ w .met) × Widened (w .low) (w .high) (r .low) (r .high) (y ∷ []) ⌝ }
 {
     Ends {
         count: w.count,
         low: lesser(w.low, y),
         high: greater(w.high, y + 1),
+        met: w.met,
     }
 }
 
 // The bounds that hold the first n numbers of a list as well.
 fn widen(list: &[u16], n: usize, w: Ends) -> Ends
     requires { ⌜ length (take n (now list)) ≡ n ⌝ }
-    ensures { λ r. ⌜ (r .count ≡ w .count) × Widened (w .low) (w .high) (r .low) (r .high) (take n (now (list .entry))) ⌝ }
+    ensures { λ r. ⌜ (r .count ≡ w .count) × (r .met ≡ w .met) × Widened (w .low) (w .high) (r .low) (r .high) (take n (now (list .entry))) ⌝ }
 {
     let mut r = w;
     for j in 0..n {
@@ -158,10 +227,28 @@ fn widen(list: &[u16], n: usize, w: Ends) -> Ends
     r
 }
 
+// Where one mark serves the whole walk, the first s cells of `from` are gathered before its first step.
+fn set_out(
+    single: bool,
+    from: &[u16],
+    s: usize,
+    v: u16,
+    marks: &mut [u16],
+    found: &mut [u16],
+) -> usize
+    requires { ⌜ (length (take s (now from)) ≡ s) × All (λ y. (1 ≤ y) × (y ≤ 2000)) (take s (now from)) × Under v (now marks) × (length (now found) ≡ 2001) ⌝ }
+    ensures { λ r. ⌜ Gathered v (now (marks .exit)) (now (found .exit)) r × Toward (now (found .exit)) r [] (startsAmong single (now (from .entry)) s) ⌝ }
+{
+    if !single {
+        return 0;
+    }
+    visit_all(from, s, v, marks, found)
+}
+
 // Before the first step the cells stand in `from`, bear the layer 0, and are all that was met.
-fn depart(e: usize, from: &[u16], s: usize, layers: &mut [u16]) -> Ends
+fn depart(e: usize, from: &[u16], s: usize, met: usize, layers: &mut [u16]) -> Ends
     requires { ⌜ (e < 65536) × (length (take s (now from)) ≡ s) × All (λ y. y < length (now layers)) (take s (now from)) ⌝ }
-    ensures { λ w. ⌜ Departed e (now (from .entry)) s (now (layers .entry)) (now (layers .exit)) (w .count) (w .low) (w .high) ⌝ }
+    ensures { λ w. ⌜ Departed e (now (from .entry)) s met (now (layers .entry)) (now (layers .exit)) (w .count) (w .low) (w .high) (w .met) ⌝ }
 {
     note_all(0, from, s, layers);
     widen(
@@ -171,34 +258,47 @@ fn depart(e: usize, from: &[u16], s: usize, layers: &mut [u16]) -> Ends
             count: s,
             low: e + 1,
             high: 0,
+            met,
         },
     )
 }
 
-// After step k the n elements that it found stand in `from`; cells bear the layer k unless they have one, and widen the bounds.
-fn arrive(k: usize, found: &[u16], n: usize, w: Ends, from: &mut [u16], layers: &mut [u16]) -> Ends
-    requires { ⌜ (k ≤ 8) × (length (take n (now found)) ≡ n) × (length (now from) ≡ length (now found)) × All (λ y. y < length (now layers)) (take n (now found)) ⌝ }
-    ensures { λ r. ⌜ Arrived k (now (found .entry)) n (now (from .entry)) (now (from .exit)) (now (layers .entry)) (now (layers .exit)) (w .low) (w .high) (r .count) (r .low) (r .high) ⌝ }
+// After step k, by which n elements are found in all, the new ones stand in `from`; cells bear the layer k unless they have one, and widen the bounds.
+fn arrive(
+    k: usize,
+    single: bool,
+    found: &[u16],
+    n: usize,
+    w: Ends,
+    from: &mut [u16],
+    layers: &mut [u16],
+) -> Ends
+    requires { ⌜ (k ≤ 8) × (w .met ≤ n) × (length (take n (now found)) ≡ n) × (length (now found) ≡ 2001) × (length (now from) ≡ 2001) × All (λ y. y < length (now layers)) (take n (now found)) ⌝ }
+    ensures { λ r. ⌜ Arrived k single (now (found .entry)) (w .met) n (now (from .entry)) (now (from .exit)) (now (layers .entry)) (now (layers .exit)) (w .low) (w .high) (r .count)
+        (r .low) (r .high) (r .met) ⌝ }
 {
-    copy_list(found, n, from);
+    let count = n - w.met;
+    copy_part(found, w.met, count, from);
     let met = Ends {
-        count: n,
+        count,
         low: w.low,
         high: w.high,
+        met: kept(single, n),
     };
     if k % 2 == 1 {
         return met;
     }
-    note_all(k as u16, from, n, layers);
-    widen(from, n, met)
+    note_all(k as u16, from, count, layers);
+    widen(from, count, met)
 }
 
-// Where the walks of k steps from the first s cells of `from` end: a walk of k - 1 steps, and one step more. Each cell met bears its layer.
+// Where the walks of k steps from the first s cells of `from` end: a walk of k - 1 steps, and one step more. Each cell met bears its layer. Where the
+// stencil goes through one dimension, which `single` tells, no step goes on from what an earlier one has met: it would find nothing new.
 pub fn walk(
     m: &[u8],
-    e: usize,
-    r: usize,
+    sizes: MeshSizes,
     st: &[u8],
+    single: bool,
     cell: &[u16],
     prev: &[u16],
     last: &[u16],
@@ -210,17 +310,20 @@ pub fn walk(
     found: &mut [u16],
     layers: &mut [u16],
 ) -> Ends
-    requires { ⌜ Ground (now m) (now st) (now cell) (now prev) (now last) × (e ≡ elements (now m)) × (r ≡ recordCount (now m)) × Cells (now m) (now from) s × (s ≤ 2000) × (k < length (now st)) × (k ≤ 8) × (v ≤ 60000) × Under v (now marks) × (length (now from) ≡ 2001) × (length (now found) ≡ 2001) × Zeros 2001 (now layers) ⌝ }
-    ensures { λ w. ⌜ Walk (now (m .entry)) (now (st .entry)) (take s (now (from .entry))) k (v + k) (now (marks .exit)) (now (from .exit)) (now (layers .exit)) (w .count) × (length (now (found .exit)) ≡ 2001) × Within (now (m .entry)) (now (layers .exit)) (w .low) (w .high) ⌝ }
+    requires { ⌜ Ground (now m) (now st) (now cell) (now prev) (now last) × Sized (now m) sizes × (single ≡ throughOne (now st))
+        × Cells (now m) (now from) s × (k < length (now st)) × (k ≤ 8) × (v ≤ 60000) × Under v (now marks) × (length (now from) ≡ 2001) × (length (now found) ≡ 2001) × Zeros 2001 (now layers) ⌝ }
+    ensures { λ w. ⌜ Walk (now (m .entry)) (now (st .entry)) single (take s (now (from .entry))) k v (now (marks .exit)) (now (from .exit)) (now (found .exit)) (now (layers .exit))
+        (w .count) (w .met) × Within (now (m .entry)) (now (layers .exit)) (w .low) (w .high) ⌝ }
 {
     if k == 0 {
-        return depart(e, from, s, layers);
+        let met = set_out(single, from, s, v as u16, marks, found);
+        return depart(sizes.elements, from, s, met, layers);
     }
     let w = walk(
         m,
-        e,
-        r,
+        sizes,
         st,
+        single,
         cell,
         prev,
         last,
@@ -234,8 +337,7 @@ pub fn walk(
     );
     let n = step(
         m,
-        e,
-        r,
+        sizes,
         st,
         cell,
         prev,
@@ -243,9 +345,10 @@ pub fn walk(
         k,
         from,
         w.count,
-        (v + (k - 1)) as u16,
+        mark_at(single, v, k - 1) as u16,
         marks,
         found,
+        w.met,
     );
-    arrive(k, found, n, w, from, layers)
+    arrive(k, single, found, n, w, from, layers)
 }

@@ -15,12 +15,12 @@ use Rattle.mesh.proofs.AcceptedLaws.{cells-few}
 use Rattle.mesh.proofs.MeetLaws.{under-none}
 
 abbrev Inv-loop : tie.InvT-loop
-Inv-loop m e r st n cell prev last first cells table₀ ends₀ marks₀ from₀ found₀ layers₀ t₀ v₀ x₀ x-end table ends marks from found layers t v x =
-    (first ≤ x) × (x ≤ first + cells) × (x-end ≡ first + cells) × (t ≤ 8000) × (v ≤ 1 + 8 * (x - first)) × Under v marks × (length from ≡ 2001) × (length found ≡ 2001) × Zeros 2001 layers
+Inv-loop m e r st n cell prev last first cells table₀ ends₀ single sizes marks₀ from₀ found₀ layers₀ t₀ v₀ x₀ x-end table ends marks from found layers t v x =
+    (first ≤ x) × (x ≤ first + cells) × (x-end ≡ first + cells) × (t ≤ 8000) × (v ≤ 1 + 9 * (x - first)) × Under v marks × (length from ≡ 2001) × (length found ≡ 2001) × Zeros 2001 layers
     × (length table ≡ 32000) × (length ends ≡ 2001) × Emitted table₀ table 0 t (tableWords m st (x - first)) × Ends m st ends (x - first)
 
 abbrev μ-loop : tie.MeasureT-loop
-μ-loop m e r st n cell prev last first cells table₀ ends₀ marks₀ from₀ found₀ layers₀ t₀ v₀ x₀ x-end table ends marks from found layers t v x = x-end - x
+μ-loop m e r st n cell prev last first cells table₀ ends₀ single sizes marks₀ from₀ found₀ layers₀ t₀ v₀ x₀ x-end table ends marks from found layers t v x = x-end - x
 
 pub reach-all-spec : {M : Type 1} → statement M
 reach-all-spec =
@@ -28,62 +28,118 @@ reach-all-spec =
     (tie.spec
     Inv-loop
     μ-loop
+    (λ c κs.
+    let start = c .before .before .before .before .before .before .before in
+    omega (arith, start .pre .5, start .pre .6))
     (λ c κs. search needs)
     (λ c.
-    let start = c .before .before .before .before .before .before .before .before .before .before .before in
+    let start = c .before .before .before .before .before .before .before .before .before .before .before .before in
     omega (arith, first-small _ _ (start .pre .0 .mesh) (start .pre .3), cells-few _ _ (start .pre .0 .mesh) (start .pre .4)))
     (λ c.
-    let start = c .before .before .before .before .before .before .before .before .before .before .before in
-    let put-number-at = c .before .before .put-number-at in
-    (search needs, search needs, refl, search needs, search needs, under-none, refl, refl, zeros 2001, start .pre .7, search needs, table-start _ _ _ _, ends-start _ _ _ (start .args .ends .now) _ (start .pre .8) (put-number-at .ensures)))
+    let at-put-number-at = c .before .before in
+    let start = at-put-number-at .before .before .before .before .before .before .before .before .before .before in (
+      search needs,
+      search needs,
+      refl,
+      search needs,
+      search needs,
+      under-none,
+      refl,
+      refl,
+      zeros 2001,
+      start .pre .7,
+      search needs,
+      table-start _ _ _ _,
+      ends-start _ _ _
+          (start .args .ends .now) _ (start .pre .8) (at-put-number-at .put-number-at .ensures),
+    ))
     (λ c. search needs)
     (λ c. search needs)
     (λ c. search needs)
     (λ c. search needs)
     (λ c κs.
-    let start = c .before .before .before .before .before .before .before .before .before .before .before .before .before .before .before .before .before .before in
-    let loop = c .before .before .before .before .before .before .loop in
-    let loop-test = c .before .before .before .before .before .loop-test in
-    (start .pre .0, start .pre .1, start .pre .2, start .pre .3, cell-is _ _ _ _ (start .pre .3) (start .pre .4) (loop .inv .0) (loop-test .taken), start .pre .5, start .pre .6, omega (arith, loop .inv .4, loop-test .taken, cells-few _ _ (start .pre .0 .mesh) (start .pre .4)), loop .inv .5, loop .inv .6, loop .inv .7, loop .inv .8, loop .inv .9, omega (arith, loop .inv .3)))
+    let at-loop-test = c .before .before .before .before .before in
+    let at-loop = at-loop-test .before in
+    let at-through-one = at-loop .before .before .before .before .before in
+    let start = at-through-one .before .before .before .before .before .before .before .before in (
+      start .pre .0,
+      record { elements-is = start .pre .1; records-is = start .pre .2; first-is = start .pre .3; cells-is = start .pre .4 },
+      cell-is _ _ _ _ (start .pre .3)
+          (start .pre .4) (at-loop .loop .inv .0) (at-loop-test .loop-test .taken),
+      start .pre .5,
+      at-through-one .through-one .ensures,
+      start .pre .6,
+      omega
+          (arith, at-loop .loop .inv .4, at-loop-test .loop-test .taken, cells-few _ _ (start .pre .0 .mesh) (start .pre .4)),
+      at-loop .loop .inv .5,
+      at-loop .loop .inv .6,
+      at-loop .loop .inv .7,
+      at-loop .loop .inv .8,
+      at-loop .loop .inv .9,
+      omega (arith, at-loop .loop .inv .3),
+    ))
     (λ c. search needs)
     (λ c. search needs)
     (λ c.
-    let start = c .before .before .before .before .before .before .before .before .before .before .before .before .before .before .before .before .before .before .before .before .before .before .before .before .before .before in
-    let loop = c .before .before .before .before .before .before .before .before .before .before .before .before .before .before .loop in
-    let loop-test = c .before .before .before .before .before .before .before .before .before .before .before .before .before .loop-test in
-    let reach-of = c .before .before .before .before .before .before .before .reach-of in
-    table-over _ _ _ _ (start .pre .3) (loop .inv .0) _ _ _ _ _ _ _ (start .pre .7) (start .pre .4) (loop-test .taken) (loop .inv .11) (reach-of .ensures .0) (c .if1 .taken))
+    let at-reach-of = c .before .before .before .before .before .before .before in
+    let at-loop-test = at-reach-of .before .before .before .before .before .before in
+    let at-loop = at-loop-test .before in
+    let start = at-loop .before .before .before .before .before .before .before .before .before .before .before .before .before in
+    table-over _ _ _ _ (start .pre .3) (at-loop .loop .inv .0) _ _ _ _ _ _ _ (start .pre .7) (start .pre .4) (at-loop-test .loop-test .taken) (at-loop .loop .inv .11)
+    (at-reach-of .reach-of .ensures .0) (c .if1 .taken))
     (λ c.
-    let loop = c .before .before .before .before .before .before .before .before .before .before .before .before .before .before .loop in
-    let loop-test = c .before .before .before .before .before .before .before .before .before .before .before .before .before .loop-test in
-    let start = c .before .before .before .before .before .before .before .before .before .before .before .before .before .before .before .before .before .before .before .before .before .before .before .before .before .before in
-    omega (arith, loop .inv .4, loop-test .taken, cells-few _ _ (start .pre .0 .mesh) (start .pre .4), start .pre .6))
+    let midway = c .before .before .before .before .before .before .before .before .before .before .before .before in
+    let start = midway .before .before .before .before .before .before .before .before .before .before .before .before .before .before .before in
+    omega (arith, start .pre .6))
     (λ c.
-    let loop-test = c .before .before .before .before .before .before .before .before .before .before .before .before .before .before .loop-test in
-    let loop = c .before .before .before .before .before .before .before .before .before .before .before .before .before .before .before .loop in
-    let start = c .before .before .before .before .before .before .before .before .before .before .before .before .before .before .before .before .before .before .before .before .before .before .before .before .before .before .before in
-    omega (arith, loop-test .taken, loop .inv .2, first-small _ _ (start .pre .0 .mesh) (start .pre .3), cells-few _ _ (start .pre .0 .mesh) (start .pre .4)))
+    let at-loop-test = c .before .before .before .before .before .before .before .before .before .before .before .before .before in
+    let at-loop = at-loop-test .before in
+    let start = at-loop .before .before .before .before .before .before .before .before .before .before .before .before .before in
+    omega (arith, at-loop .loop .inv .4, at-loop-test .loop-test .taken, cells-few _ _ (start .pre .0 .mesh) (start .pre .4), start .pre .6))
     (λ c.
-    let loop = c .before .before .before .before .before .before .before .before .before .before .before .before .before .before .before .loop in
-    omega (arith, loop .inv .0))
-    (λ c. record { fits = omega (arith, c .before .if1 .left) })
+    let at-loop-test = c .before .before .before .before .before .before .before .before .before .before .before .before .before .before in
+    let at-loop = at-loop-test .before in
+    let start = at-loop .before .before .before .before .before .before .before .before .before .before .before .before .before in
+    omega (arith, at-loop-test .loop-test .taken, at-loop .loop .inv .2, first-small _ _ (start .pre .0 .mesh) (start .pre .3), cells-few _ _ (start .pre .0 .mesh) (start .pre .4)))
+    (λ c.
+    let at-loop = c .before .before .before .before .before .before .before .before .before .before .before .before .before .before .before in
+    omega (arith, at-loop .loop .inv .0))
+    (λ c.
+    let at-if1 = c .before in
+    record { fits = omega (arith, at-if1 .if1 .left) })
     (λ c κs. search needs)
     (λ c.
-    let loop-test = c .before .before .before .before .before .before .before .before .before .before .before .before .before .before .before .before .before .loop-test in
-    let loop = c .before .before .before .before .before .before .before .before .before .before .before .before .before .before .before .before .before .before .loop in
-    let start = c .before .before .before .before .before .before .before .before .before .before .before .before .before .before .before .before .before .before .before .before .before .before .before .before .before .before .before .before .before .before in
-    omega (arith, loop-test .taken, loop .inv .2, first-small _ _ (start .pre .0 .mesh) (start .pre .3), cells-few _ _ (start .pre .0 .mesh) (start .pre .4)))
+    let at-loop-test = c .before .before .before .before .before .before .before .before .before .before .before .before .before .before .before .before .before in
+    let at-loop = at-loop-test .before in
+    let start = at-loop .before .before .before .before .before .before .before .before .before .before .before .before .before in
+    omega (arith, at-loop-test .loop-test .taken, at-loop .loop .inv .2, first-small _ _ (start .pre .0 .mesh) (start .pre .3), cells-few _ _ (start .pre .0 .mesh) (start .pre .4)))
     (λ c.
-    let loop-test = c .before .before .before .before .before .before .before .before .before .before .before .before .before .before .before .before .before .loop-test in
-    omega (arith, loop-test .taken))
+    let at-loop-test = c .before .before .before .before .before .before .before .before .before .before .before .before .before .before .before .before .before in
+    omega (arith, at-loop-test .loop-test .taken))
     (λ c.
-    let loop = c .before .before .before .before .before .before .before .before .before .before .before .before .before .before .before .before .before .before .loop in
-    let start = c .before .before .before .before .before .before .before .before .before .before .before .before .before .before .before .before .before .before .before .before .before .before .before .before .before .before .before .before .before .before in
-    let reach-of = c .before .before .before .before .before .before .before .before .before .before .before .reach-of in
-    let loop-test = c .before .before .before .before .before .before .before .before .before .before .before .before .before .before .before .before .before .loop-test in
-    let if1 = c .before .before .before .before .if1 in
-    let put-number-at2 = c .before .before .put-number-at2 in
-    (search needs, search needs, search needs, search needs, omega (arith, loop .inv .4, start .pre .6), reach-of .ensures .2, reach-of .ensures .3, reach-of .ensures .4, reach-of .ensures .5, search needs, search needs, table-turn _ _ _ _ (start .pre .3) (loop .inv .0) _ _ _ _ _ (start .pre .7) (loop .inv .11) (reach-of .ensures .0), ends-turn _ _ _ _ (start .pre .3) (loop .inv .0) _ _ _ _ _ _ _ _ (start .pre .0 .mesh) (start .pre .4) (loop-test .taken) (start .pre .7) (loop .inv .10) (loop .inv .11) (reach-of .ensures .0) (if1 .left) (loop .inv .12) (put-number-at2 .ensures)))
+    let at-put-number-at2 = c .before .before in
+    let at-if1 = at-put-number-at2 .before .before in
+    let at-reach-of = at-if1 .before .before .before .before .before .before .before in
+    let at-loop-test = at-reach-of .before .before .before .before .before .before in
+    let at-loop = at-loop-test .before in
+    let start = at-loop .before .before .before .before .before .before .before .before .before .before .before .before .before in (
+      search needs,
+      search needs,
+      search needs,
+      search needs,
+      omega (arith, at-loop .loop .inv .4, start .pre .6),
+      at-reach-of .reach-of .ensures .2,
+      at-reach-of .reach-of .ensures .3,
+      at-reach-of .reach-of .ensures .4,
+      at-reach-of .reach-of .ensures .5,
+      search needs,
+      search needs,
+      table-turn _ _ _ _ (start .pre .3) (at-loop .loop .inv .0) _ _ _ _ _
+          (start .pre .7) (at-loop .loop .inv .11) (at-reach-of .reach-of .ensures .0),
+      ends-turn _ _ _ _ (start .pre .3) (at-loop .loop .inv .0) _ _ _ _ _ _ _ _ (start .pre .0 .mesh)
+          (start .pre .4) (at-loop-test .loop-test .taken) (start .pre .7) (at-loop .loop .inv .10) (at-loop .loop .inv .11) (at-reach-of .reach-of .ensures .0) (at-if1 .if1 .left)
+          (at-loop .loop .inv .12) (at-put-number-at2 .put-number-at2 .ensures),
+    ))
     (λ c. search needs)
     (λ c. search needs)
     (λ c. search table-end))

@@ -1,5 +1,5 @@
 -- `visits::inner::visit` meets its contract. Assumes nothing.
-use Rattle.visits.proofs.VisitLaws.{visit-old, visit-new, visit-adds, visit-few}
+use Rattle.visits.proofs.VisitLaws.{visit-old, visit-new, visit-adds, visit-few, grown-none, grown-new}
 use borrow.Author.Needs.{needs}
 use Rattle.visits.proofs.inner.visit.Statement.{statement}
 use Rattle.visits.proofs.inner.visit.Tie as tie
@@ -10,11 +10,11 @@ visit-spec =
     (tie.spec
     (λ c κs. search needs)
     (λ c. search needs)
-    (λ c. (search needs, search visit-old, search needs))
+    (λ c. (search needs, search visit-old, search needs, search grown-none))
     (λ c κs. search needs)
     (λ c. search needs)
     (λ c κs. search needs)
     (λ c. search needs)
     (λ c. search needs)
     (λ c. search needs)
-    (λ c. (search visit-new, search visit-adds, search visit-few)))
+    (λ c. (search visit-new, search visit-adds, search visit-few, search grown-new)))

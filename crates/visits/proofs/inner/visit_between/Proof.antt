@@ -1,5 +1,5 @@
 -- `visits::inner::visit_between` meets its contract. Assumes nothing.
-use Rattle.visits.proofs.VisitLaws.{between-low, between-high, between-yes}
+use Rattle.visits.proofs.VisitLaws.{grown-none, between-low, between-high, between-yes}
 use borrow.Author.Needs.{needs}
 use Rattle.visits.proofs.inner.visit_between.Statement.{statement}
 use Rattle.visits.proofs.inner.visit_between.Tie as tie
@@ -8,9 +8,9 @@ pub visit-between-spec : {M : Type 1} → statement M
 visit-between-spec =
     tie.close
     (tie.spec
-    (λ c. (search needs, search between-low, search needs))
-    (λ c. (search needs, search between-high, search needs))
+    (λ c. (search needs, search between-low, search needs, search grown-none))
+    (λ c. (search needs, search between-high, search needs, search grown-none))
     (λ c κs. search needs)
     (λ c. search needs)
     (λ c. search needs)
-    (λ c. (search needs, search between-yes, search needs)))
+    (λ c. (search needs, search between-yes, search needs, search needs)))

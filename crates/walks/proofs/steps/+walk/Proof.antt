@@ -1,6 +1,7 @@
 -- `walks::steps::walk` meets its contract: by the number of steps, which falls. Assumes nothing.
-use Rattle.walks.proofs.WalkLaws.{walk-sides, notes-room, cells-fit, ends-none, ends-more}
-use mathlib.Core.Path.{_∙_, sym}
+use Rattle.walks.proofs.WalkLaws.{walk-sides, gathered-as, notes-room, cells-fit, cells-small, ends-none, ends-more}
+use Rattle.visits.proofs.VisitLaws.{few}
+use mathlib.Core.Path.{sym}
 use native.Mathlib.Omega.{arith}
 use borrow.Author.Needs.{needs}
 use Prim.Native.Nat.{ℕ, _<_}
@@ -11,6 +12,8 @@ use Rattle.walks.proofs.steps.walk.Kinds as walk-kinds
 use Rattle.walks.proofs.steps.+walk.Lts-walk as walk-lts
 use Rattle.walks.proofs.steps.arrive.Reads as arrive-reads
 use Rattle.walks.proofs.steps.depart.Reads as depart-reads
+use Rattle.walks.proofs.steps.mark_at.Reads as mark-at-reads
+use Rattle.walks.proofs.steps.set_out.Reads as set-out-reads
 use Rattle.walks.proofs.steps.step.Reads as step-reads
 use Rattle.walks.proofs.steps.+walk.{statement}
 use Rattle.walks.proofs.steps.+walk.Tie.{close}
@@ -26,10 +29,14 @@ walk-below t = and 9 walk-kinds.ps (falls 9 walk-kinds.ps _<_ μ-walk t) walk.Pr
 
 pub +walk-spec : {M : Type 1} → statement M
 +walk-spec = close μ-walk λ t. walk-lts.spec (
+  set-out-reads.Asked,
+  set-out-reads.Learnt,
   depart-reads.Asked,
   depart-reads.Learnt,
   walk-below t,
   walk.Post,
+  mark-at-reads.Asked,
+  mark-at-reads.Learnt,
   step-reads.Asked,
   step-reads.Learnt,
   arrive-reads.Asked,
@@ -37,19 +44,89 @@ pub +walk-spec : {M : Type 1} → statement M
 )
     (walk-at t)
     walk.Post
-    (λ c κs. (search needs, c .before .before .before .before .before .before .before .before .before .before .before .before .pre .1 .3 .count, cells-fit _ _ _ _ _ _ _ _ (c .before .before .before .before .before .before .before .before .before .before .before .before .pre .1 .0) (c .before .before .before .before .before .before .before .before .before .before .before .before .pre .1 .3) (c .before .before .before .before .before .before .before .before .before .before .before .before .pre .1 .11)))
     (λ c. search needs)
-    (λ c. search needs)
-    (λ c. ends-none _ _ _ _ _ _ _ _ _ _ _ _ _ _ _ _ _ (c .before .before .before .before .before .before .before .before .before .before .before .before .before .before .before .pre .1 .0) (c .before .before .before .before .before .before .before .before .before .before .before .before .before .before .before .pre .1 .1) (c .before .before .before .before .before .before .before .before .before .before .before .before .before .before .before .pre .1 .3) (c .before .before .before .before .before .before .before .before .before .before .before .before .before .before .before .pre .1 .4) (c .before .before .before .before .before .before .before .before .before .before .before .before .before .before .before .pre .1 .8) (c .before .before .before .before .before .before .before .before .before .before .before .before .before .before .before .pre .1 .9) (c .before .before .before .before .before .before .before .before .before .before .before .before .before .before .before .pre .1 .10) (c .before .before .before .before .before .before .before .before .before .before .before .before .before .before .before .pre .1 .11) (c .before .before .before .before .before .if1 .taken) (c .before .before .depart .ensures))
-    (λ c. search needs)
-    (λ c κs. (omega (arith, c .before .before .before .before .before .before .before .before .before .before .before .before .before .before .pre .0, c .before .before .before .before .if1 .left), (c .before .before .before .before .before .before .before .before .before .before .before .before .before .before .pre .1 .0, c .before .before .before .before .before .before .before .before .before .before .before .before .before .before .pre .1 .1, c .before .before .before .before .before .before .before .before .before .before .before .before .before .before .pre .1 .2, c .before .before .before .before .before .before .before .before .before .before .before .before .before .before .pre .1 .3, c .before .before .before .before .before .before .before .before .before .before .before .before .before .before .pre .1 .4, search needs, search needs, c .before .before .before .before .before .before .before .before .before .before .before .before .before .before .pre .1 .7, c .before .before .before .before .before .before .before .before .before .before .before .before .before .before .pre .1 .8, c .before .before .before .before .before .before .before .before .before .before .before .before .before .before .pre .1 .9, c .before .before .before .before .before .before .before .before .before .before .before .before .before .before .pre .1 .10, c .before .before .before .before .before .before .before .before .before .before .before .before .before .before .pre .1 .11)))
-    (λ c. search needs)
-    (λ c. search needs)
-    (λ c. search needs)
-    (λ c κs. (c .before .before .before .before .before .before .before .before .before .before .before .before .before .before .before .before .before .before .before .before .before .before .before .before .before .before .pre .1 .0, c .before .before .before .before .before .before .before .before .before .before .before .before .before .before .before .before .before .before .before .before .before .before .before .before .before .before .pre .1 .1, c .before .before .before .before .before .before .before .before .before .before .before .before .before .before .before .before .before .before .before .before .before .before .before .before .before .before .pre .1 .2, c .before .before .before .before .before .before .before .before .before .before .before .before .before .before .before .before .before .before .before .before .before .before .before .before .before .before .pre .1 .5, walk-sides _ _ _ _ _ _ _ _ _ _ _ _ (c .before .before .before .before .before .before .before .before .before .before .before .before .before .before .before .before .before .before .before .before .before .before .before .before .before .before .pre .1 .0) (c .before .before .before .before .before .before .before .before .before .before .before .before .before .before .before .before .before .before .before .before .before .before .before .before .before .before .pre .1 .3 .each) (c .before .before .before .before .before .before .before .before .before .before .before .before .before .before .before .before .if1 .left) (c .before .before .before .before .before .before .before .before .before .before .before .before .before .before .before .before .before .before .before .before .before .before .before .before .before .before .pre .1 .5) (c .before .before .before .before .before .before .before .before .before .before .before .walk .ensures .0), c .before .before .before .before .before .before .before .before .before .before .before .walk .ensures .0 .fresh, c .before .before .before .before .before .before .before .before .before .before .before .walk .ensures .1))
-    (λ c κs. (c .before .before .before .before .before .before .before .before .before .before .before .before .before .before .before .before .before .before .before .before .before .before .before .before .before .before .before .before .before .before .before .before .before .before .pre .1 .6, c .before .before .before .before .before .before .before .step .ensures .0 .count, c .before .before .before .before .before .before .before .before .before .before .before .before .before .before .before .before .before .before .before .walk .ensures .0 .room ∙ sym (c .before .before .before .before .before .before .before .step .ensures .0 .room), notes-room _ _ _ _ _ _ _ _ _ _ _ _ _ (c .before .before .before .before .before .before .before .before .before .before .before .before .before .before .before .before .before .before .before .walk .ensures .0) (c .before .before .before .before .before .before .before .step .ensures .0)))
+    (λ c κs.
+    let start = c .before .before .before .before .before .before .before .before .before .before .before .before .before in
+    (start .pre .1 .3 .count, cells-small _ _ _ _ _ _ _ (start .pre .1 .0) (start .pre .1 .3), start .pre .1 .7, start .pre .1 .9))
+    (λ c κs.
+    let start = c .before .before .before .before .before .before .before .before .before .before .before .before .before .before .before .before .before .before .before .before in
+    (search needs, start .pre .1 .3 .count, cells-fit _ _ _ _ _ _ _ (start .pre .1 .0) (start .pre .1 .3) _ (start .pre .1 .10)))
     (λ c. search needs)
     (λ c. search needs)
     (λ c. search needs)
     (λ c. search needs)
-    (λ c. ends-more _ _ _ _ _ _ _ _ _ _ _ _ _ _ _ _ _ _ _ _ _ _ _ (c .before .before .before .before .before .before .before .before .before .before .before .before .before .before .before .before .before .before .before .before .before .before .before .before .before .before .before .before .before .before .before .before .before .before .before .before .before .before .before .pre .1 .0) (c .before .before .before .before .before .before .before .before .before .before .before .before .before .before .before .before .before .before .before .before .before .before .before .before .before .before .before .before .before .before .before .before .before .before .before .before .before .before .before .pre .1 .3 .each) (c .before .before .before .before .before .before .before .before .before .before .before .before .before .before .before .before .before .before .before .before .before .before .before .before .before .before .before .before .before .before .before .before .before .before .before .before .before .before .before .pre .1 .5) (c .before .before .before .before .before .before .before .before .before .before .before .before .before .before .before .before .before .before .before .before .before .before .before .before .before .before .before .before .before .if1 .left) (c .before .before .before .before .before .before .before .before .before .before .before .before .before .before .before .before .before .before .before .before .before .before .before .before .walk .ensures) (c .before .before .before .before .before .before .before .before .before .before .before .before .step .ensures) (c .before .before .before .before .arrive .ensures))
+    (λ c.
+    let at-depart = c .before .before in
+    let at-set-out = at-depart .before .before .before .before .before .before .before in
+    let at-if1 = at-set-out .before .before .before .before in
+    let start = at-if1 .before .before .before .before .before .before .before .before .before .before in
+    ends-none _ _ _ _ _ _ _ _ _ _ _ _ _ _ _ _ _ _ _ _ (start .pre .1 .0) (start .pre .1 .1 .elements-is) (start .pre .1 .3) (start .pre .1 .8) (start .pre .1 .10) (at-if1 .if1 .taken)
+    (at-set-out .set-out .ensures) (at-depart .depart .ensures))
+    (λ c. search needs)
+    (λ c κs.
+    let at-if1 = c .before .before .before .before in
+    let start = at-if1 .before .before .before .before .before .before .before .before .before .before in (
+      omega (arith, start .pre .0, at-if1 .if1 .left),
+      (
+        start .pre .1 .0,
+        start .pre .1 .1,
+        start .pre .1 .2,
+        start .pre .1 .3,
+        search needs,
+        search needs,
+        start .pre .1 .6,
+        start .pre .1 .7,
+        start .pre .1 .8,
+        start .pre .1 .9,
+        start .pre .1 .10,
+      ),
+    ))
+    (λ c. search needs)
+    (λ c κs.
+    let midway = c .before .before .before .before .before .before .before .before .before .before .before .before in
+    let start = midway .before .before .before .before .before .before .before .before .before .before .before .before in
+    (start .pre .1 .6, omega (arith, start .pre .1 .5)))
+    (λ c. search needs)
+    (λ c κs.
+    let at-mark-at = c .before .before in
+    let at-walk = at-mark-at .before .before .before .before .before .before .before .before .before .before in
+    let at-if1 = at-walk .before .before .before .before .before in
+    let start = at-if1 .before .before .before .before .before .before .before .before .before .before in (
+      start .pre .1 .0,
+      start .pre .1 .1,
+      start .pre .1 .4,
+      walk-sides _ _ _ _ _ _ _ _ _ _ _ _ _ _ _ (start .pre .1 .0) (start .pre .1 .3 .each) (at-if1 .if1 .left) (start .pre .1 .4)
+          (at-walk .walk .ensures .0),
+      gathered-as _ _ _ _ _ (at-mark-at .mark-at .ensures .0) (at-walk .walk .ensures .0 .gathered),
+      few _ _ _ _ (at-walk .walk .ensures .0 .gathered),
+    ))
+    (λ c κs.
+    let at-step = c .before .before .before .before .before .before .before in
+    let at-walk = at-step .before .before .before .before .before .before .before .before .before .before .before .before .before in
+    let start = at-walk .before .before .before .before .before .before .before .before .before .before .before .before .before .before .before in (
+      start .pre .1 .5,
+      at-step .step .ensures .3 .more,
+      at-step .step .ensures .0 .count,
+      at-step .step .ensures .0 .room,
+      at-walk .walk .ensures .0 .room,
+      notes-room _ _ _ _ _ _ _ _ _
+          _ _ _ _ _ _ _ (at-walk .walk .ensures .0) (at-step .step .ensures .0),
+    ))
+    (λ c. search needs)
+    (λ c. search needs)
+    (λ c. search needs)
+    (λ c. search needs)
+    (λ c.
+    let at-arrive = c .before .before .before .before in
+    let at-step = at-arrive .before .before .before .before .before .before .before .before in
+    let at-mark-at = at-step .before .before .before in
+    let at-walk = at-mark-at .before .before .before .before .before .before .before .before .before .before in
+    let at-if1 = at-walk .before .before .before .before .before in
+    let start = at-if1 .before .before .before .before .before .before .before .before .before .before in
+    ends-more _ _ _ _ _ _ _ _ _ _ _ _ _ _ _ _ _ _ _ _ _ _ _ _ _ _ (start .pre .1 .0) (start .pre .1 .3 .each) (start .pre .1 .2) (start .pre .1 .4) (at-if1 .if1 .left)
+    (at-walk .walk .ensures) (
+      gathered-as _ _ _ _ _ (sym (at-mark-at .mark-at .ensures .0)) (at-step .step .ensures .0),
+      at-step .step .ensures .1,
+      at-step .step .ensures .2,
+      at-step .step .ensures .3,
+    ) (at-arrive .arrive .ensures))

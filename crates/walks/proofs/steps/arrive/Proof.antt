@@ -1,5 +1,6 @@
 -- `walks::steps::arrive` meets its contract. Assumes nothing.
-use Rattle.walks.proofs.WalkLaws.{list-room, notes-moved, arrived-odd, arrived-even}
+use mathlib.Core.Path.{refl}
+use Rattle.walks.proofs.WalkLaws.{list-room, moved-count, notes-moved, arrived-odd, arrived-even}
 use borrow.Author.Needs.{needs}
 use Rattle.walks.proofs.steps.arrive.Statement.{statement}
 use Rattle.walks.proofs.steps.arrive.Tie as tie
@@ -8,26 +9,31 @@ pub arrive-spec : {M : Type 1} → statement M
 arrive-spec =
     tie.close
     (tie.spec
+    (λ c. search needs)
     (λ c κs.
-    let start = c .before .before .before .before in
-    list-room _ _ _ (start .pre .1) (start .pre .2))
+    let start = c .before .before .before .before .before in
+    list-room _ _ _ (start .pre .1) (start .pre .2) (start .pre .3) _ (start .pre .4))
+    (λ c κs. search needs)
     (λ c. search needs)
     (λ c.
-    let copy-list = c .before .before .before .copy-list in
-    arrived-odd _ _ _ _ _ _ _ _ (copy-list .ensures) (c .if1 .taken))
+    let at-kept = c .before in
+    let at-copy-part = at-kept .before .before .before in
+    arrived-odd _ _ _ _ _ _ _ _ _ _ _ refl _ (at-kept .kept .ensures) (at-copy-part .copy-part .ensures) (c .if1 .taken))
     (λ c. search needs)
     (λ c κs.
-    let start = c .before .before .before .before .before .before .before .before .before .before in
-    let copy-list = c .before .before .before .before .before .copy-list in
-    notes-moved _ _ _ _ _ (start .pre .0) (start .pre .1) (start .pre .3) (copy-list .ensures .0))
+    let at-copy-part = c .before .before .before .before .before .before in
+    let start = at-copy-part .before .before .before .before .before .before in
+    notes-moved _ _ _ (start .pre .1) (start .pre .2) (start .pre .3) _ (at-copy-part .copy-part .ensures .0) _ _ (start .pre .0) (start .pre .5))
     (λ c κs.
-    let start = c .before .before .before .before .before .before .before .before .before .before .before .before .before .before in
-    let copy-list = c .before .before .before .before .before .before .before .before .before .copy-list in
-    notes-moved _ _ _ _ _ (start .pre .0) (start .pre .1) (start .pre .3) (copy-list .ensures .0) .1)
+    let at-copy-part = c .before .before .before .before .before .before .before .before .before .before in
+    let start = at-copy-part .before .before .before .before .before .before in
+    moved-count _ _ _ (start .pre .1) (start .pre .2) (start .pre .3) _ (at-copy-part .copy-part .ensures .0))
     (λ c. search needs)
     (λ c. search needs)
     (λ c.
-    let copy-list = c .before .before .before .before .before .before .before .before .before .before .copy-list in
-    let if1 = c .before .before .before .before .before .before .before .if1 in
-    let note-all = c .before .before .before .before .note-all in
-    arrived-even _ _ _ _ _ _ _ _ (copy-list .ensures) (if1 .left) _ _ _ _ (note-all .ensures) (c .widen .ensures)))
+    let at-note-all = c .before .before .before .before in
+    let at-if1 = at-note-all .before .before .before in
+    let at-kept = at-if1 .before in
+    let at-copy-part = at-kept .before .before .before in
+    arrived-even _ _ _ _ _ _ _ _ _ _ _ refl _ (at-kept .kept .ensures) (at-copy-part .copy-part .ensures) (at-if1 .if1 .left) _ _ _ _ _ (at-note-all .note-all .ensures)
+    (c .widen .ensures)))

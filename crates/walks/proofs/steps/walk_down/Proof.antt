@@ -1,5 +1,5 @@
 -- `walks::steps::walk_down` meets its contract. Assumes nothing.
-use Rattle.walks.proofs.NoteLaws.{begin, gone-down, low-enough}
+use Rattle.walks.proofs.NoteLaws.{gone-down, low-enough}
 use borrow.Author.Needs.{needs}
 use Rattle.walks.proofs.steps.walk_down.Statement.{statement}
 use Rattle.walks.proofs.steps.walk_down.Tie as tie
@@ -11,7 +11,7 @@ walk-down-spec =
     (λ c κs. search needs)
     (λ c. search needs)
     (λ c κs. search needs)
-    (λ c κs. (search needs, search needs, search needs, search needs, search low-enough, search begin))
+    (λ c κs. (search needs, search needs, search needs, search needs, search low-enough, search needs, search needs))
     (λ c. search needs)
     (λ c. search needs)
-    (λ c. (search needs, search gone-down, search needs)))
+    (λ c. (search needs, search gone-down, search needs, search needs)))

@@ -1,5 +1,5 @@
 -- `walks::steps::walk_up` meets its contract. Assumes nothing.
-use Rattle.walks.proofs.NoteLaws.{begin, gone-up, upwards}
+use Rattle.walks.proofs.NoteLaws.{gone-up, upwards}
 use borrow.Author.Needs.{needs}
 use Rattle.walks.proofs.steps.walk_up.Statement.{statement}
 use Rattle.walks.proofs.steps.walk_up.Tie as tie
@@ -8,7 +8,7 @@ pub walk-up-spec : {M : Type 1} → statement M
 walk-up-spec =
     tie.close
     (tie.spec
-    (λ c κs. (search upwards, search begin))
+    (λ c κs. (search upwards, search needs, search needs))
     (λ c. search needs)
     (λ c. search needs)
-    (λ c. (search needs, search gone-up, search needs)))
+    (λ c. (search needs, search gone-up, search needs, search needs)))

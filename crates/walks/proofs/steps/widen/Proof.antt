@@ -9,7 +9,7 @@ use Rattle.walks.proofs.steps.widen.Statement.{statement}
 use Rattle.walks.proofs.steps.widen.Tie as tie
 
 abbrev Inv-loop : tie.InvT-loop
-Inv-loop list n r₀ j₀ r j = (j ≤ n) × (r .count ≡ r₀ .count) × Widened (r₀ .low) (r₀ .high) (r .low) (r .high) (take j list)
+Inv-loop list n r₀ j₀ r j = (j ≤ n) × (r .count ≡ r₀ .count) × (r .met ≡ r₀ .met) × Widened (r₀ .low) (r₀ .high) (r .low) (r .high) (take j list)
 
 abbrev μ-loop : tie.MeasureT-loop
 μ-loop list n r₀ j₀ r j = n - j
@@ -20,10 +20,17 @@ widen-spec =
     (tie.spec
     Inv-loop
     μ-loop
-    (λ c. (search needs, refl, widen-start _ _ (c .before .args .list .now)))
+    (λ c. (search needs, refl, refl, widen-start _ _ (c .before .args .list .now)))
     (λ c κs. search needs)
     (λ c κs. search needs)
     (λ c. search needs)
     (λ c. search needs)
-    (λ c. (search needs, c .widened .ensures .0 ∙ c .before .before .before .loop .inv .1, widen-turn _ _ _ _ _ _ _ _ _ _ (c .before .before .before .before .before .pre) (c .before .before .loop-test .taken) (c .before .entry .ensures .0) (c .before .before .before .loop .inv .2) (c .widened .ensures .1)))
-    (λ c. (c .before .loop .inv .1, widen-end _ _ _ _ _ _ _ (c .before .loop .inv .0) (c .loop-test .left) (c .before .loop .inv .2))))
+    (λ c. (
+      search needs,
+      c .widened .ensures .0 ∙ c .before .before .before .loop .inv .1,
+      c .widened .ensures .1
+          ∙ c .before .before .before .loop .inv .2,
+      widen-turn _ _ _ _ _ _ _ _ _ _ (c .before .before .before .before .before .pre) (c .before .before .loop-test .taken)
+          (c .before .entry .ensures .0) (c .before .before .before .loop .inv .3) (c .widened .ensures .2),
+    ))
+    (λ c. (c .before .loop .inv .1, c .before .loop .inv .2, widen-end _ _ _ _ _ _ _ (c .before .loop .inv .0) (c .loop-test .left) (c .before .loop .inv .3))))

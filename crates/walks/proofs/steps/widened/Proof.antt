@@ -12,4 +12,4 @@ widened-spec =
     (λ c κs. search needs)
     (λ c. search needs)
     (λ c κs. search needs)
-    (λ c. (refl, widened-one _ _ _ _ _ _ refl (c .before .lesser .ensures) (c .greater .ensures))))
+    (λ c. (refl, refl, widened-one _ _ _ _ _ _ refl (c .before .lesser .ensures) (c .greater .ensures))))
