@@ -1,4 +1,5 @@
 pub mod Split
+pub mod Numbering
 pub mod Lists
 pub mod SplitLaws
 pub mod Sorting

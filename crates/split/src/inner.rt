@@ -6,5 +6,6 @@ pub use crate::classes::classify;
 pub use crate::tables::bad_holdings;
 pub use crate::tables::holds_at;
 pub use crate::tables::sizes_number;
+pub use crate::units::number_cells;
 pub use crate::units::to_global;
 pub use crate::units::to_local;

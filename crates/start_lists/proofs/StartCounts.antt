@@ -12,11 +12,11 @@ use Rattle.vocabulary.specs.Ranges.{blocks, total}
 use Rattle.vocabulary.specs.RangeLaws.{total-grows, blocks-turn, blocks-sized, rows-length, at-last}
 use Rattle.vocabulary.specs.CountLaws.{total-double}
 use Rattle.layout.specs.Words.{wordAt}
-use Rattle.split.specs.Split.{localOf, globalOf}
+use Rattle.split.specs.Split.{globalOf}
 use Rattle.split.specs.Sorting.{cellsOf, Added}
 use Rattle.cell_lists.proofs.SortLaws.{added-take}
 use Rattle.start_lists.proofs.PutLaws.{put-as, put-none, put-both}
-use Rattle.start_lists.specs.Starting.{Put, placeAt, rowSize, partCount, endsOf, Counted, Before, entryWords, rowEnds, rowWords, Row, Rows, sentEnds, sentWords}
+use Rattle.start_lists.specs.Starting.{Put, localIn, placeAt, rowSize, partCount, endsOf, Counted, Before, entryWords, rowEnds, rowWords, Row, Rows, sentEnds, sentWords}
 
 module _ (table : Bytes) (ends : List ℕ) (first : ℕ) (order : List ℕ) (l q from to : ℕ) (qe : q ≡ getD order (l - 1) 0 - first) (fe : from ≡ getD ends q 0) (te : to ≡ getD ends (q + 1) 0) where
   size-is : rowSize table ends first order l ≡ to - from
@@ -95,11 +95,11 @@ two-up (suc (suc k)) a b = omega arith
 
 -- ---- an entry in local numbers
 
-pub entry-put : (a b c : Bytes) (s t u first n x y l w : ℕ) (table : Bytes) (order : List ℕ) (e : ℕ) → 2 * (s + 2) ≤ length a → x ≡ wordAt table (2 * e) → y ≡ first + x → l ≡ localOf (take n order) y
-    → w ≡ wordAt table (2 * e + 1) → Put a b s t (l ∷ []) → Put b c t u (w ∷ []) → Put a c s u (entryWords table first order n e)
-unfolding entryWords
-entry-put a b c s t u first n x y l w table order e room xe ye le we P Q =
-    put-as a c s u (l ∷ w ∷ []) _ (ap₂ (λ y z. y ∷ z ∷ []) (le ∙ ap (localOf (take n order)) (ye ∙ ap (λ z. first + z) xe)) we)
+pub entry-put : (a b c : Bytes) (s t u first x y l w : ℕ) (table : Bytes) (local : List ℕ) (e : ℕ) → 2 * (s + 2) ≤ length a → x ≡ wordAt table (2 * e) → y ≡ first + x → l ≡ getD local y 0
+    → w ≡ wordAt table (2 * e + 1) → Put a b s t (l ∷ []) → Put b c t u (w ∷ []) → Put a c s u (entryWords table first local e)
+unfolding entryWords localIn
+entry-put a b c s t u first x y l w table local e room xe ye le we P Q =
+    put-as a c s u (l ∷ w ∷ []) _ (ap₂ (λ y z. y ∷ z ∷ []) (le ∙ ap (localIn local) (ye ∙ ap (λ z. first + z) xe)) we)
     (put-both a b c s t u (l ∷ []) (w ∷ []) P Q (omega (arith, P .count)))
 
 -- ---- the rows, one entry and one cell after the other
@@ -122,20 +122,22 @@ module _ (table : Bytes) (ends : List ℕ) (first : ℕ) (order : List ℕ) (l q
   pub row-room : (t s u x y : ℕ) → 2 * (s + 2 * rowSize table ends first order l) ≤ x → y ≡ x → u ≡ s + 2 * (t - from) → from ≤ t → t < to → 2 * (u + 2) ≤ y
   row-room t s u x y r w e h k = omega (arith, row-size)
 
-  pub row-turn : (n : ℕ) (a b c : Bytes) (s u w t : ℕ) → 2 * (s + 2 * rowSize table ends first order l) ≤ length a → from ≤ t → t < to → u ≡ s + 2 * (t - from)
-      → Put a b s u (blocks from (t - from) (entryWords table first order n)) → Put b c u w (entryWords table first order n t) → Put a c s w (blocks from (t + 1 - from) (entryWords table first order n))
-  row-turn n a b c s u w t r h k e P Q =
+  pub row-turn : (local : List ℕ) (a b c : Bytes) (s u w t : ℕ) → 2 * (s + 2 * rowSize table ends first order l) ≤ length a → from ≤ t → t < to → u ≡ s + 2 * (t - from)
+      → Put a b s u (blocks from (t - from) (entryWords table first local)) → Put b c u w (entryWords table first local t) → Put a c s w (blocks from (t + 1 - from) (entryWords table first local))
+  row-turn local a b c s u w t r h k e P Q =
       let i₁ : from + (t - from) ≡ t = omega arith in
       let i₂ : t - from + 1 ≡ t + 1 - from = omega arith in
-      put-as a c s w (blocks from (t - from) (entryWords table first order n) ++ entryWords table first order n t) _
-      (ap (λ x. blocks from (t - from) (entryWords table first order n) ++ entryWords table first order n x) (sym i₁) ∙ sym (blocks-turn from (entryWords table first order n) (t - from)) ∙ ap (λ k. blocks from k (entryWords table first order n)) i₂)
+      put-as a c s w (blocks from (t - from) (entryWords table first local) ++ entryWords table first local t) _
+      (ap (λ x. blocks from (t - from) (entryWords table first local) ++ entryWords table first local x) (sym i₁)
+      ∙ sym (blocks-turn from (entryWords table first local) (t - from)) ∙ ap (λ k. blocks from k (entryWords table first local)) i₂)
       (put-both a b c s u w _ _ P Q (omega (arith, row-size)))
 
-  pub row-end : (n : ℕ) (a b : Bytes) (s u t : ℕ) → from ≤ t → t ≤ from + (to - from) → to ≤ t → Put a b s u (blocks from (t - from) (entryWords table first order n)) → Put a b s u (rowWords table ends first order n l)
+  pub row-end : (local : List ℕ) (a b : Bytes) (s u t : ℕ) → from ≤ t → t ≤ from + (to - from) → to ≤ t
+      → Put a b s u (blocks from (t - from) (entryWords table first local)) → Put a b s u (rowWords table ends first order local l)
   unfolding rowWords
-  row-end n a b s u t h k w P =
+  row-end local a b s u t h k w P =
       let e : t - from ≡ to - from = omega arith in
-      put-as a b s u _ _ (ap (λ k. blocks from k (entryWords table first order n)) (e ∙ sym row-size) ∙ ap (λ x. blocks x (rowSize table ends first order l) (entryWords table first order n)) from-is) P
+      put-as a b s u _ _ (ap (λ k. blocks from k (entryWords table first local)) (e ∙ sym row-size) ∙ ap (λ x. blocks x (rowSize table ends first order l) (entryWords table first local)) from-is) P
 
 pub row-cell : (table : Bytes) (ends : List ℕ) (first : ℕ) (order : List ℕ) (l : ℕ) → Row table ends first order l → first ≤ getD order (l - 1) 0
 row-cell table ends first order l R = R .cell
@@ -150,22 +152,24 @@ unfolding globalOf
 place-low order first l c h e = omega (arith, e)
 
 -- words of a row
-entry-two : (table : Bytes) (first : ℕ) (order : List ℕ) (n t : ℕ) → length (entryWords table first order n t) ≡ 2
+entry-two : (table : Bytes) (first : ℕ) (local : List ℕ) (t : ℕ) → length (entryWords table first local t) ≡ 2
 unfolding entryWords
-entry-two table first order n t = refl
+entry-two table first local t = refl
 
-pub row-length : (table : Bytes) (ends : List ℕ) (first : ℕ) (order : List ℕ) (n l : ℕ) → length (rowWords table ends first order n l) ≡ 2 * rowSize table ends first order l
+pub row-length : (table : Bytes) (ends : List ℕ) (first : ℕ) (order local : List ℕ) (l : ℕ) → length (rowWords table ends first order local l) ≡ 2 * rowSize table ends first order l
 unfolding rowWords
-row-length table ends first order n l = rows-length (getD ends (placeAt table ends first order l) 0) (entryWords table first order n) 2 (rowSize table ends first order l) (λ j h. entry-two table first order n _)
+row-length table ends first order local l =
+    rows-length (getD ends (placeAt table ends first order l) 0) (entryWords table first local) 2 (rowSize table ends first order l) (λ j h. entry-two table first local _)
 
-pub row-count : (a b : Bytes) (u w from t s : ℕ) (table : Bytes) (first : ℕ) (order : List ℕ) (n : ℕ) → Put a b u w (entryWords table first order n t) → u ≡ s + 2 * (t - from) → from ≤ t → w ≡ s + 2 * (t + 1 - from)
-row-count a b u w from t s table first order n P e h = omega (arith, P .count, entry-two table first order n t)
+pub row-count : (a b : Bytes) (u w from t s : ℕ) (table : Bytes) (first : ℕ) (local : List ℕ)
+    → Put a b u w (entryWords table first local t) → u ≡ s + 2 * (t - from) → from ≤ t → w ≡ s + 2 * (t + 1 - from)
+row-count a b u w from t s table first local P e h = omega (arith, P .count, entry-two table first local t)
 
-module _ (table : Bytes) (ends : List ℕ) (first : ℕ) (order : List ℕ) (n owned : ℕ) where
-  pub rows-long : length (blocks 1 owned (rowWords table ends first order n)) ≡ 2 * rowEnds table ends first order owned
+module _ (table : Bytes) (ends : List ℕ) (first : ℕ) (order local : List ℕ) (owned : ℕ) where
+  pub rows-long : length (blocks 1 owned (rowWords table ends first order local)) ≡ 2 * rowEnds table ends first order owned
   unfolding rowEnds
   rows-long =
-      blocks-sized 1 (rowWords table ends first order n) (λ l. 2 * rowSize table ends first order l) owned (row-length table ends first order n)
+      blocks-sized 1 (rowWords table ends first order local) (λ l. 2 * rowSize table ends first order l) owned (row-length table ends first order local)
       ∙ total-double 1 owned (λ l. 2 * rowSize table ends first order l) (rowSize table ends first order) (λ l. refl)
 
   pub rows-each : (l : ℕ) → Rows table ends first order owned → 1 ≤ l → l < owned + 1 → Row table ends first order l
@@ -173,38 +177,39 @@ module _ (table : Bytes) (ends : List ℕ) (first : ℕ) (order : List ℕ) (n o
 
 -- ---- local numbers of a list
 
-module _ (order : List ℕ) (n : ℕ) where
-  map-take : (k : ℕ) (list : List ℕ) → k < length list → map (localOf (take n order)) (take (k + 1) list) ≡ map (localOf (take n order)) (take k list) ++ (localOf (take n order) (getD list k 0) ∷ [])
+module _ (local : List ℕ) where
+  map-take : (k : ℕ) (list : List ℕ) → k < length list → map (localIn local) (take (k + 1) list) ≡ map (localIn local) (take k list) ++ (localIn local (getD list k 0) ∷ [])
   map-take k list h =
-      ap (λ j. map (localOf (take n order)) (take j list)) (add-one k)
-      ∙ ap (map (localOf (take n order))) (take-suc list k 0 h)
-      ∙ map-append (localOf (take n order)) (take k list) (getD list k 0 ∷ [])
+      ap (λ j. map (localIn local) (take j list)) (add-one k)
+      ∙ ap (map (localIn local)) (take-suc list k 0 h)
+      ∙ map-append (localIn local) (take k list) (getD list k 0 ∷ [])
 
-  pub locals-start : (b : Bytes) (s : ℕ) (list : List ℕ) → Put b b s s (map (localOf (take n order)) (take 0 list))
+  pub locals-start : (b : Bytes) (s : ℕ) (list : List ℕ) → Put b b s s (map (localIn local) (take 0 list))
   locals-start b s list = put-none b s
 
-  pub locals-turn : (a b c : Bytes) (s u w k x l y : ℕ) (list : List ℕ) → 2 * (s + k) ≤ length a → x < k → k ≤ length list → u ≡ s + x → y ≡ getD list x 0 → l ≡ localOf (take n order) y
-      → Put a b s u (map (localOf (take n order)) (take x list)) → Put b c u w (l ∷ []) → Put a c s w (map (localOf (take n order)) (take (x + 1) list))
+  pub locals-turn : (a b c : Bytes) (s u w k x l y : ℕ) (list : List ℕ) → 2 * (s + k) ≤ length a → x < k → k ≤ length list → u ≡ s + x → y ≡ getD list x 0 → l ≡ getD local y 0
+      → Put a b s u (map (localIn local) (take x list)) → Put b c u w (l ∷ []) → Put a c s w (map (localIn local) (take (x + 1) list))
+  unfolding localIn
   locals-turn a b c s u w k x l y list r h q e ye le P Q =
-      put-as a c s w (map (localOf (take n order)) (take x list) ++ (l ∷ [])) _ (ap (λ z. map (localOf (take n order)) (take x list) ++ (z ∷ [])) (le ∙ ap (localOf (take n order)) ye) ∙ sym (map-take x list (omega arith)))
+      put-as a c s w (map (localIn local) (take x list) ++ (l ∷ [])) _ (ap (λ z. map (localIn local) (take x list) ++ (z ∷ [])) (le ∙ ap (localIn local) ye) ∙ sym (map-take x list (omega arith)))
       (put-both a b c s u w _ _ P Q (omega arith))
 
-  pub locals-end : (a b : Bytes) (s u k x : ℕ) (list : List ℕ) → x ≤ k → k ≤ x → Put a b s u (map (localOf (take n order)) (take x list)) → Put a b s u (map (localOf (take n order)) (take k list))
-  locals-end a b s u k x list g h P = at-last (λ j. Put a b s u (map (localOf (take n order)) (take j list))) x k g h P
+  pub locals-end : (a b : Bytes) (s u k x : ℕ) (list : List ℕ) → x ≤ k → k ≤ x → Put a b s u (map (localIn local) (take x list)) → Put a b s u (map (localIn local) (take k list))
+  locals-end a b s u k x list g h P = at-last (λ j. Put a b s u (map (localIn local) (take j list))) x k g h P
 
 -- ---- exports in local numbers
 
-module _ (owners table : Bytes) (ends : List ℕ) (held : Bytes) (i first cells : ℕ) (order : List ℕ) (n : ℕ) where
+module _ (owners table : Bytes) (ends : List ℕ) (held : Bytes) (i first cells : ℕ) (local : List ℕ) where
   pub sent-put : (a b : Bytes) (s t j k : ℕ) (x y : List ℕ) → Added x y 0 k (cellsOf owners table ends held j first cells i) → length x ≡ 2000 → k ≤ 2000
-      → Put a b s t (map (localOf (take n order)) (take k y)) → Put a b s t (sentWords owners table ends held i first cells order n j)
+      → Put a b s t (map (localIn local) (take k y)) → Put a b s t (sentWords owners table ends held i first cells local j)
   unfolding sentWords
   sent-put a b s t j k x y A l h P =
-      put-as a b s t _ _ (ap (map (localOf (take n order))) (added-take x y k (cellsOf owners table ends held j first cells i) A l (omega (arith, A .count)))) P
+      put-as a b s t _ _ (ap (map (localIn local)) (added-take x y k (cellsOf owners table ends held j first cells i) A l (omega (arith, A .count)))) P
 
-  pub sent-long : (j : ℕ) → length (sentWords owners table ends held i first cells order n j) ≡ length (cellsOf owners table ends held j first cells i)
+  pub sent-long : (j : ℕ) → length (sentWords owners table ends held i first cells local j) ≡ length (cellsOf owners table ends held j first cells i)
   unfolding sentWords
-  sent-long j = length-map (cellsOf owners table ends held j first cells i) (localOf (take n order))
+  sent-long j = length-map (cellsOf owners table ends held j first cells i) (localIn local)
 
-  pub all-long : length (blocks 1 16 (sentWords owners table ends held i first cells order n)) ≡ sentEnds owners table ends held i first cells 16
+  pub all-long : length (blocks 1 16 (sentWords owners table ends held i first cells local)) ≡ sentEnds owners table ends held i first cells 16
   unfolding sentEnds
-  all-long = blocks-sized 1 (sentWords owners table ends held i first cells order n) (λ j. length (cellsOf owners table ends held j first cells i)) 16 sent-long
+  all-long = blocks-sized 1 (sentWords owners table ends held i first cells local) (λ j. length (cellsOf owners table ends held j first cells i)) 16 sent-long

@@ -3,13 +3,21 @@
 use mathlib.Core.Path.{_≡_}
 use mathlib.Core.List.{List, [], _∷_, _++_, map}
 use Prim.Native.Nat.{ℕ, zero, suc, _+_, _-_, _*_, _≤_, _<_}
-use lib.ListN.{length, getD, take}
+use lib.ListN.{length, getD, take, replicate}
 use Rattle.vocabulary.specs.Bytes.{Bytes, over}
 use Rattle.vocabulary.specs.Ranges.{listed, blocks, total}
 use Rattle.layout.specs.Words.{wordAt, bytesOf}
 use Rattle.depths.specs.Depths.{four}
-use Rattle.split.specs.Split.{localOf}
+use Rattle.split.specs.Numbering.{numbering}
 use Rattle.split.specs.Sorting.{cellsOf}
+
+-- the local number of a cell, in the array that has them
+unfoldable pub localIn : List ℕ → ℕ → ℕ
+localIn local c = getD local c 0
+
+-- that array for the first n numbers of the order
+abbrev pub numbersOf : List ℕ → ℕ → List ℕ
+numbersOf order n = numbering 0 (take n order) (replicate 2001 0)
 
 module _ (owners table : Bytes) (ends : List ℕ) (held : Bytes) (i first cells : ℕ) where
   -- what part i imports from j, and exports to j
@@ -26,13 +34,13 @@ module _ (owners table : Bytes) (ends : List ℕ) (held : Bytes) (i first cells 
   unfoldable pub sentEnds : ℕ → ℕ
   sentEnds j = total 1 j (λ k. length (sentFrom k))
 
-  -- exports to j as local numbers, by the first n numbers of the order
-  unfoldable pub sentWords : List ℕ → ℕ → ℕ → List ℕ
-  sentWords order n j = map (localOf (take n order)) (sentFrom j)
+  -- exports to j as local numbers, by the array of them
+  unfoldable pub sentWords : List ℕ → ℕ → List ℕ
+  sentWords local j = map (localIn local) (sentFrom j)
 
--- entry t of the table in local numbers, by the first n numbers of the order
-unfoldable pub entryWords : Bytes → ℕ → List ℕ → ℕ → ℕ → List ℕ
-entryWords table first order n t = localOf (take n order) (first + wordAt table (2 * t)) ∷ wordAt table (2 * t + 1) ∷ []
+-- entry t of the table in local numbers, by the array of them
+unfoldable pub entryWords : Bytes → ℕ → List ℕ → ℕ → List ℕ
+entryWords table first local t = localIn local (first + wordAt table (2 * t)) ∷ wordAt table (2 * t + 1) ∷ []
 
 module _ (table : Bytes) (ends : List ℕ) (first : ℕ) (order : List ℕ) where
   -- the place of local cell l, and how many entries its reach has
@@ -45,13 +53,14 @@ module _ (table : Bytes) (ends : List ℕ) (first : ℕ) (order : List ℕ) wher
   unfoldable pub rowEnds : ℕ → ℕ
   rowEnds l = total 1 l rowSize
 
-  -- all entries of local cell l, by the first n numbers of the order
-  unfoldable pub rowWords : ℕ → ℕ → List ℕ
-  rowWords n l = blocks (getD ends (placeAt l) 0) (rowSize l) (entryWords table first order n)
+  -- all entries of local cell l, by the array of local numbers
+  unfoldable pub rowWords : List ℕ → ℕ → List ℕ
+  rowWords local l = blocks (getD ends (placeAt l) 0) (rowSize l) (entryWords table first local)
 
--- all words of the lists of part i, of which n cells are held and `owned` owned, for a stencil of `steps` steps and a rule
-unfoldable pub startWords : Bytes → Bytes → List ℕ → Bytes → ℕ → ℕ → ℕ → List ℕ → ℕ → ℕ → ℕ → ℕ → Bytes → List ℕ
-startWords owners table ends held i first cells order n owned steps kind v =
+-- all words of the lists of part i, of which n cells are held and `owned` owned, for a stencil of `steps` steps and a rule, by an array of local
+-- numbers, and by that of the order
+unfoldable pub numberedWords : Bytes → Bytes → List ℕ → Bytes → ℕ → ℕ → ℕ → List ℕ → ℕ → List ℕ → ℕ → ℕ → ℕ → Bytes → List ℕ
+numberedWords owners table ends held i first cells order n local owned steps kind v =
     ((46 + n + owned + 2 * rowEnds table ends first order owned + sentEnds owners table ends held i first cells 16) ∷ i ∷ steps ∷ kind ∷ [])
     ++ (listed 0 5 (wordAt v)
     ++ ((first ∷ cells ∷ [])
@@ -59,8 +68,12 @@ startWords owners table ends held i first cells order n owned steps kind v =
     ++ (listed 0 17 (sentEnds owners table ends held i first cells)
     ++ (take n order
     ++ (listed 0 (owned + 1) (rowEnds table ends first order)
-    ++ (blocks 1 owned (rowWords table ends first order n)
-    ++ blocks 1 16 (sentWords owners table ends held i first cells order n))))))))
+    ++ (blocks 1 owned (rowWords table ends first order local)
+    ++ blocks 1 16 (sentWords owners table ends held i first cells local))))))))
+
+abbrev pub startWords : Bytes → Bytes → List ℕ → Bytes → ℕ → ℕ → ℕ → List ℕ → ℕ → ℕ → ℕ → ℕ → Bytes → List ℕ
+startWords owners table ends held i first cells order n owned steps kind v =
+    numberedWords owners table ends held i first cells order n (numbersOf order n) owned steps kind v
 
 -- the words ws stand in b from word s on, which makes t of them, and nothing else has changed
 pub record Put (before after : Bytes) (s t : ℕ) (ws : List ℕ) : Type 0 where

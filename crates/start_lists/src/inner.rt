@@ -9,6 +9,7 @@ use layout::inner::copy;
 use layout::inner::put_word;
 use layout::number_at;
 use layout::word_at;
+use split::inner::number_cells;
 use split::inner::to_global;
 use split::inner::to_local;
 ghost use mathlib.Core.Path.{_≡_};
@@ -18,9 +19,8 @@ ghost use lib.ListN.{length, getD, take};
 ghost use Rattle.vocabulary.specs.Bytes.{over};
 ghost use Rattle.vocabulary.specs.Ranges.{listed, blocks};
 ghost use Rattle.layout.specs.Words.{wordAt};
-ghost use Rattle.split.specs.Split.{localOf};
 ghost use Rattle.split.specs.Sorting.{cellsOf};
-ghost use Rattle.start_lists.specs.Starting.{Put, rowSize, partCount, endsOf, Counted, Before, entryWords, rowEnds, rowWords, sentEnds, sentWords, Row, Rows, Fit, startWords, startDepth, Cells};
+ghost use Rattle.start_lists.specs.Starting.{Put, localIn, rowSize, partCount, endsOf, Counted, Before, entryWords, rowEnds, rowWords, sentEnds, sentWords, Row, Rows, Fit, numberedWords, startWords, startDepth, Cells};
 
 // Writes w as word s, and gives how many words there are then.
 fn put_one(b: &mut [u8], s: usize, w: usize) -> usize
@@ -227,20 +227,12 @@ fn last_end(
 }
 
 // Writes entry t of the table in local numbers.
-fn put_entry(
-    b: &mut [u8],
-    s: usize,
-    table: &[u8],
-    first: usize,
-    order: &[u16],
-    n: usize,
-    t: usize,
-) -> usize
-    requires { ⌜ (2 * (s + 2) ≤ length (now b)) × (s < 500000) × (n ≤ length (now order)) × (n < 65535) × (t < 65536) × (first + wordAt (now table) (2 * t) < 65536) ⌝ }
-    ensures { λ u. ⌜ Put (now (b .entry)) (now (b .exit)) s u (entryWords (now (table .entry)) first (now (order .entry)) n t) ⌝ }
+fn put_entry(b: &mut [u8], s: usize, table: &[u8], first: usize, local: &[u16], t: usize) -> usize
+    requires { ⌜ (2 * (s + 2) ≤ length (now b)) × (s < 500000) × (t < 65536) × (first + wordAt (now table) (2 * t) < 65536) ⌝ }
+    ensures { λ u. ⌜ Put (now (b .entry)) (now (b .exit)) s u (entryWords (now (table .entry)) first (now (local .entry)) t) ⌝ }
 {
     let c = cell_at(first, word_at(table, 2 * t));
-    let u = put_local(b, s, to_local(order, n, c));
+    let u = put_local(b, s, to_local(local, c));
     put_one(b, u, word_at(table, 2 * t + 1))
 }
 
@@ -252,18 +244,18 @@ fn put_row(
     ends: &[u16],
     first: usize,
     order: &[u16],
-    n: usize,
+    local: &[u16],
     l: Local,
 ) -> usize
-    requires { ⌜ (2 * (s + 2 * rowSize (now table) (now ends) first (now order) (l .0)) ≤ length (now b)) × (s < 65536) × (1 ≤ l .0) × (n ≤ length (now order)) × (n < 65535) × Row (now table) (now ends) first (now order) (l .0) ⌝ }
-    ensures { λ u. ⌜ Put (now (b .entry)) (now (b .exit)) s u (rowWords (now (table .entry)) (now (ends .entry)) first (now (order .entry)) n (l .0)) ⌝ }
+    requires { ⌜ (2 * (s + 2 * rowSize (now table) (now ends) first (now order) (l .0)) ≤ length (now b)) × (s < 65536) × (1 ≤ l .0) × Row (now table) (now ends) first (now order) (l .0) ⌝ }
+    ensures { λ u. ⌜ Put (now (b .entry)) (now (b .exit)) s u (rowWords (now (table .entry)) (now (ends .entry)) first (now (order .entry)) (now (local .entry)) (l .0)) ⌝ }
 {
     let q = place_at(order, first, l);
     let from = number_at(ends, q) as usize;
     let to = number_at(ends, q + 1) as usize;
     let mut u = s;
     for t in from..to {
-        u = put_entry(b, u, table, first, order, n, t);
+        u = put_entry(b, u, table, first, local, t);
     }
     u
 }
@@ -276,27 +268,27 @@ fn put_rows(
     ends: &[u16],
     first: usize,
     order: &[u16],
-    n: usize,
+    local: &[u16],
     owned: usize,
 ) -> usize
-    requires { ⌜ (2 * (s + 2 * rowEnds (now table) (now ends) first (now order) owned) ≤ length (now b)) × (s + 2 * rowEnds (now table) (now ends) first (now order) owned < 65536) × (owned < 65535) × (n ≤ length (now order)) × (n < 65535) × Rows (now table) (now ends) first (now order) owned ⌝ }
-    ensures { λ u. ⌜ Put (now (b .entry)) (now (b .exit)) s u (blocks 1 owned (rowWords (now (table .entry)) (now (ends .entry)) first (now (order .entry)) n)) ⌝ }
+    requires { ⌜ (2 * (s + 2 * rowEnds (now table) (now ends) first (now order) owned) ≤ length (now b)) × (s + 2 * rowEnds (now table) (now ends) first (now order) owned < 65536) × (owned < 65535) × Rows (now table) (now ends) first (now order) owned ⌝ }
+    ensures { λ u. ⌜ Put (now (b .entry)) (now (b .exit)) s u (blocks 1 owned (rowWords (now (table .entry)) (now (ends .entry)) first (now (order .entry)) (now (local .entry)))) ⌝ }
 {
     let mut u = s;
     for l in 1..owned + 1 {
-        u = put_row(b, u, table, ends, first, order, n, Local(l as u16));
+        u = put_row(b, u, table, ends, first, order, local, Local(l as u16));
     }
     u
 }
 
 // Writes the first k numbers of a list as local numbers.
-fn put_locals(b: &mut [u8], s: usize, list: &[u16], k: usize, order: &[u16], n: usize) -> usize
-    requires { ⌜ (2 * (s + k) ≤ length (now b)) × (s < 65536) × (k ≤ length (now list)) × (k < 65536) × (n ≤ length (now order)) × (n < 65535) ⌝ }
-    ensures { λ u. ⌜ Put (now (b .entry)) (now (b .exit)) s u (map (localOf (take n (now (order .entry)))) (take k (now (list .entry)))) ⌝ }
+fn put_locals(b: &mut [u8], s: usize, list: &[u16], k: usize, local: &[u16]) -> usize
+    requires { ⌜ (2 * (s + k) ≤ length (now b)) × (s < 65536) × (k ≤ length (now list)) × (k < 65536) ⌝ }
+    ensures { λ u. ⌜ Put (now (b .entry)) (now (b .exit)) s u (map (localIn (now (local .entry))) (take k (now (list .entry)))) ⌝ }
 {
     let mut u = s;
     for x in 0..k {
-        let l = to_local(order, n, Global(number_at(list, x)));
+        let l = to_local(local, Global(number_at(list, x)));
         u = put_local(b, u, l);
     }
     u
@@ -313,16 +305,15 @@ fn put_sent_to(
     i: usize,
     first: usize,
     cells: usize,
-    order: &[u16],
-    n: usize,
+    local: &[u16],
     j: usize,
     list: &mut [u16],
 ) -> usize
-    requires { ⌜ (2 * (s + length (cellsOf (now owners) (now table) (now ends) (now held) j first cells i)) ≤ length (now b)) × (s < 65536) × (j < 65536) × (first + cells ≤ 65536) × (cells ≤ 2000) × (n ≤ length (now order)) × (n < 65535) × (length (now list) ≡ 2000) ⌝ }
-    ensures { λ u. ⌜ Put (now (b .entry)) (now (b .exit)) s u (sentWords (now (owners .entry)) (now (table .entry)) (now (ends .entry)) (now (held .entry)) i first cells (now (order .entry)) n j) × (length (now (list .exit)) ≡ 2000) ⌝ }
+    requires { ⌜ (2 * (s + length (cellsOf (now owners) (now table) (now ends) (now held) j first cells i)) ≤ length (now b)) × (s < 65536) × (j < 65536) × (first + cells ≤ 65536) × (cells ≤ 2000) × (length (now list) ≡ 2000) ⌝ }
+    ensures { λ u. ⌜ Put (now (b .entry)) (now (b .exit)) s u (sentWords (now (owners .entry)) (now (table .entry)) (now (ends .entry)) (now (held .entry)) i first cells (now (local .entry)) j) × (length (now (list .exit)) ≡ 2000) ⌝ }
 {
     let k = add_cells(owners, table, ends, held, j, first, cells, i, list, 0);
-    put_locals(b, s, list, k, order, n)
+    put_locals(b, s, list, k, local)
 }
 
 // Writes the exports to all parts.
@@ -336,12 +327,11 @@ fn put_sent(
     i: usize,
     first: usize,
     cells: usize,
-    order: &[u16],
-    n: usize,
+    local: &[u16],
     list: &mut [u16],
 ) -> usize
-    requires { ⌜ (2 * (s + sentEnds (now owners) (now table) (now ends) (now held) i first cells 16) ≤ length (now b)) × (s + sentEnds (now owners) (now table) (now ends) (now held) i first cells 16 < 65536) × (first + cells ≤ 65536) × (cells ≤ 2000) × (n ≤ length (now order)) × (n < 65535) × (length (now list) ≡ 2000) ⌝ }
-    ensures { λ u. ⌜ Put (now (b .entry)) (now (b .exit)) s u (blocks 1 16 (sentWords (now (owners .entry)) (now (table .entry)) (now (ends .entry)) (now (held .entry)) i first cells (now (order .entry)) n)) ⌝ }
+    requires { ⌜ (2 * (s + sentEnds (now owners) (now table) (now ends) (now held) i first cells 16) ≤ length (now b)) × (s + sentEnds (now owners) (now table) (now ends) (now held) i first cells 16 < 65536) × (first + cells ≤ 65536) × (cells ≤ 2000) × (length (now list) ≡ 2000) ⌝ }
+    ensures { λ u. ⌜ Put (now (b .entry)) (now (b .exit)) s u (blocks 1 16 (sentWords (now (owners .entry)) (now (table .entry)) (now (ends .entry)) (now (held .entry)) i first cells (now (local .entry)))) ⌝ }
 {
     let mut u = s;
     for j in 1..17 {
@@ -355,8 +345,7 @@ fn put_sent(
             i,
             first,
             cells,
-            order,
-            n,
+            local,
             j,
             list,
         );
@@ -449,11 +438,12 @@ fn put_entries(
     cells: usize,
     order: &[u16],
     n: usize,
+    local: &[u16],
     owned: usize,
     list: &mut [u16],
 ) -> usize
     requires { ⌜ (2 * (s + n + owned + 1 + 2 * rowEnds (now table) (now ends) first (now order) owned + sentEnds (now owners) (now table) (now ends) (now held) i first cells 16) ≤ length (now b)) × (s + n + owned + 1 + 2 * rowEnds (now table) (now ends) first (now order) owned + sentEnds (now owners) (now table) (now ends) (now held) i first cells 16 < 65536) × (i < 65536) × (first + cells ≤ 65536) × (cells ≤ 2000) × (n ≤ length (now order)) × (length (now list) ≡ 2000) × Counted 2 (now owners) (now table) (now ends) (now held) i first cells (now order) 0 owned × Rows (now table) (now ends) first (now order) owned ⌝ }
-    ensures { λ t. ⌜ Put (now (b .entry)) (now (b .exit)) s t (take n (now (order .entry)) ++ (listed 0 (owned + 1) (endsOf 2 (now (owners .entry)) (now (table .entry)) (now (ends .entry)) (now (held .entry)) i first cells (now (order .entry)) 0) ++ (blocks 1 owned (rowWords (now (table .entry)) (now (ends .entry)) first (now (order .entry)) n) ++ blocks 1 16 (sentWords (now (owners .entry)) (now (table .entry)) (now (ends .entry)) (now (held .entry)) i first cells (now (order .entry)) n)))) ⌝ }
+    ensures { λ t. ⌜ Put (now (b .entry)) (now (b .exit)) s t (take n (now (order .entry)) ++ (listed 0 (owned + 1) (endsOf 2 (now (owners .entry)) (now (table .entry)) (now (ends .entry)) (now (held .entry)) i first cells (now (order .entry)) 0) ++ (blocks 1 owned (rowWords (now (table .entry)) (now (ends .entry)) first (now (order .entry)) (now (local .entry))) ++ blocks 1 16 (sentWords (now (owners .entry)) (now (table .entry)) (now (ends .entry)) (now (held .entry)) i first cells (now (local .entry)))))) ⌝ }
 {
     let t = put_list(b, s, order, n);
     let u = put_ends(
@@ -471,7 +461,7 @@ fn put_entries(
         0,
         owned,
     );
-    let w = put_rows(b, u, table, ends, first, order, n, owned);
+    let w = put_rows(b, u, table, ends, first, order, local, owned);
     put_sent(
         b,
         w,
@@ -482,8 +472,7 @@ fn put_entries(
         i,
         first,
         cells,
-        order,
-        n,
+        local,
         list,
     )
 }
@@ -521,8 +510,8 @@ pub fn lists_length(
     46 + n + owned + 2 * reached + sent
 }
 
-// Writes the lists, which are `long` words.
-pub fn put_lists(
+// Writes the lists, which are `long` words, by an array of local numbers.
+fn put_pieces(
     b: &mut [u8],
     long: usize,
     steps: usize,
@@ -537,11 +526,12 @@ pub fn put_lists(
     cells: usize,
     order: &[u16],
     n: usize,
+    local: &[u16],
     owned: usize,
     list: &mut [u16],
 ) -> usize
     requires { ⌜ Fit (now owners) (now table) (now ends) (now held) i first cells (now order) n owned × (long ≡ 46 + n + owned + 2 * rowEnds (now table) (now ends) first (now order) owned + sentEnds (now owners) (now table) (now ends) (now held) i first cells 16) × (2 * long ≤ length (now b)) × (steps < 65536) × (kind < 65536) × (length (now list) ≡ 2000) ⌝ }
-    ensures { λ t. ⌜ Put (now (b .entry)) (now (b .exit)) 0 t (startWords (now (owners .entry)) (now (table .entry)) (now (ends .entry)) (now (held .entry)) i first cells (now (order .entry)) n owned steps kind (now (v .entry))) ⌝ }
+    ensures { λ t. ⌜ Put (now (b .entry)) (now (b .exit)) 0 t (numberedWords (now (owners .entry)) (now (table .entry)) (now (ends .entry)) (now (held .entry)) i first cells (now (order .entry)) n (now (local .entry)) owned steps kind (now (v .entry))) ⌝ }
 {
     let s = put_head(b, long, i, steps, kind, v, first, cells);
     let t = put_borders(
@@ -569,6 +559,52 @@ pub fn put_lists(
         cells,
         order,
         n,
+        local,
+        owned,
+        list,
+    )
+}
+
+// Writes the lists, which are `long` words.
+pub fn put_lists(
+    b: &mut [u8],
+    long: usize,
+    steps: usize,
+    kind: usize,
+    v: &[u8],
+    owners: &[u8],
+    table: &[u8],
+    ends: &[u16],
+    held: &[u8],
+    i: usize,
+    first: usize,
+    cells: usize,
+    order: &[u16],
+    n: usize,
+    owned: usize,
+    list: &mut [u16],
+) -> usize
+    requires { ⌜ Fit (now owners) (now table) (now ends) (now held) i first cells (now order) n owned × (long ≡ 46 + n + owned + 2 * rowEnds (now table) (now ends) first (now order) owned + sentEnds (now owners) (now table) (now ends) (now held) i first cells 16) × (2 * long ≤ length (now b)) × (steps < 65536) × (kind < 65536) × (length (now list) ≡ 2000) ⌝ }
+    ensures { λ t. ⌜ Put (now (b .entry)) (now (b .exit)) 0 t (startWords (now (owners .entry)) (now (table .entry)) (now (ends .entry)) (now (held .entry)) i first cells (now (order .entry)) n owned steps kind (now (v .entry))) ⌝ }
+{
+    let mut local = [0u16; 2001];
+    number_cells(order, n, &mut local);
+    put_pieces(
+        b,
+        long,
+        steps,
+        kind,
+        v,
+        owners,
+        table,
+        ends,
+        held,
+        i,
+        first,
+        cells,
+        order,
+        n,
+        &local,
         owned,
         list,
     )

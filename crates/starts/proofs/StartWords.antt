@@ -5,13 +5,13 @@ use mathlib.Core.List.{List, [], _∷_, _++_, map}
 use Prim.Native.Nat.{ℕ, zero, suc, _+_, _-_, _*_, _≤_, _<_}
 use native.Mathlib.Nat.{zero-add}
 use native.Mathlib.Omega.{arith}
-use lib.Dec.{eqb, ltb}
-use lib.ListN.{length, getD, take, length-append, length-map}
+use lib.Dec.{ltb}
+use lib.ListN.{length, getD, take, replicate, length-append, length-map, length-replicate}
 use lib.Seq.{getD-take}
 use borrow.Author.Tests.{ltb-true, ltb-false}
 use Rattle.vocabulary.specs.Bytes.{Bytes}
-use Rattle.vocabulary.specs.Lists.{joined, placeOf}
-use Rattle.vocabulary.specs.ListLaws.{All-getD}
+use Rattle.vocabulary.specs.Lists.{All, joined}
+use Rattle.vocabulary.specs.ListLaws.{At, All-getD, All-map, map-cong}
 use Rattle.vocabulary.specs.Ranges.{picked, listed, blocks, total}
 use Rattle.vocabulary.specs.RangeLaws.{picked-length-le, listed-cong, listed-back, blocks-moved, blocks-cong, blocks-length, joined-mapped, total-cong, total-agree, total-grows, total-has, total-mono}
 use Rattle.vocabulary.specs.CountLaws.{total-add}
@@ -22,12 +22,14 @@ use Rattle.mesh.specs.WalkLaws.{reach-in}
 use Rattle.reaches.specs.Tables.{entryCount}
 use Rattle.reaches.proofs.EntryLaws.{count-more}
 use Rattle.split.specs.Split.{Split, splitOf, owns, held, inside, imports, exports, interior, halo, locals, localOf, globalOf}
-use Rattle.split.specs.SplitLaws.{map-facts, Cell, ownCells, split-reach, split-own, split-owner, order-cells, order-length, own-count, own-first, held-length, imports-none, import-total, export-total}
+use Rattle.split.specs.SplitLaws.{map-facts, Cell, ownCells, split-reach, split-own, split-owner, own-is, own-local, local-back, import-own, reach-held, order-cells, order-length, own-count, own-first, held-length, imports-none, import-total, export-total}
+use Rattle.split.specs.Numbering.{numbering}
+use Rattle.split.proofs.UnitLaws.{numbered}
 use Rattle.split.specs.Lists.{bad12}
 use Rattle.split.specs.Sorting.{cellsOf, Prepared}
 use Rattle.cell_lists.proofs.CellLaws.{imports-are, locals-few}
 use Rattle.starts.specs.Start.{ownedIn, reachOf, importEnds, exportEnds, reachEnds, reachWords, exportWords, listsLong, listsWords}
-use Rattle.start_lists.specs.Starting.{gotEnds, sentEnds, sentWords, placeAt, rowSize, rowEnds, entryWords, rowWords, startWords}
+use Rattle.start_lists.specs.Starting.{localIn, numbersOf, gotEnds, sentEnds, sentWords, placeAt, rowSize, rowEnds, entryWords, rowWords, numberedWords, startWords}
 
 -- ---- lists
 
@@ -64,16 +66,6 @@ many-listed f xs =
     sym (blocks-length 1 (λ k. f (getD xs (k - 1) 0)) (length xs))
     ∙ ap length (sym (joined-mapped f 1 (λ k. getD xs (k - 1) 0) (length xs)))
     ∙ ap (many f) (listed-back 1 (λ k. getD xs (k - 1) 0) xs 0 (λ t k. let e : 1 + t - 1 ≡ t = omega arith in ap (λ x. getD xs x 0) e))
-
--- a place is at most the length
-place-high : (x : ℕ) (xs : List ℕ) → placeOf x xs ≤ length xs
-unfolding placeOf
-place-high x [] = omega arith
-place-high x (y ∷ ys) = go (eqb x y) (place-high x ys)
-  where
-    go : (b : Bool) → placeOf x ys ≤ length ys → cond b zero (suc (placeOf x ys)) ≤ suc (length ys)
-    go true h = omega arith
-    go false h = omega arith
 
 -- what passes one test or the other counts once
 either-le : (a b : Bool) (x : ℕ) → cond (a && b) x 0 + cond (a && not b) x 0 ≤ x
@@ -205,10 +197,6 @@ module _ (m : Bytes) (parts : ℕ) (owners st table : Bytes) (ends : List ℕ) (
       unfolding importEnds
       got-few j h = omega (arith, got-all, got-ends 16 (omega arith), got-ends j h, total-grows 1 (λ k. length (imports S i k)) j 16 h)
 
-      pub sent-words : (j : ℕ) → 1 ≤ j → j ≤ 16 → sentWords owners table ends held′ i first cells order n j ≡ exportWords S i L j
-      unfolding sentWords exportWords exports
-      sent-words j l h = ap₂ (λ (o xs : List ℕ). map (localOf o) xs) oe (cells-are j i h low high)
-
       -- ---- the order
 
       pub order-at : (k : ℕ) → k < n → getD order k 0 ≡ getD L k 0
@@ -232,9 +220,20 @@ module _ (m : Bytes) (parts : ℕ) (owners st table : Bytes) (ends : List ℕ) (
       pub order-high : (k : ℕ) → k < n → getD order k 0 ≤ 2000
       order-high k h = omega (arith, cell-at k h .1, R .mesh .cells-in, R .mesh .sizes .n-high)
 
-      pub local-few : (c : ℕ) → localOf (take n order) c ≤ 2001
-      unfolding localOf
-      local-few c = omega (arith, place-high c (take n order), ap length oe, order-few)
+      -- the array has the local number of each cell of the order
+      local-is : (c : ℕ) → localOf L c ≤ length L → globalOf L (localOf L c) ≡ c → localIn (numbersOf order n) c ≡ localOf L c
+      unfolding localIn localOf globalOf
+      local-is c h e =
+          let k : localOf L c - 1 < n = omega (arith, ne) in
+          let few : c ≤ 2000 = omega (arith, order-high (localOf L c - 1) k, order-at (localOf L c - 1) k, e) in
+          ap (λ cs. getD (numbering 0 cs (replicate 2001 0)) c 0) oe ∙ numbered L (replicate 2001 0) c h (omega (arith, length-replicate {A = ℕ} 2001 0))
+
+      pub sent-words : (j : ℕ) → 1 ≤ j → j ≤ 16 → sentWords owners table ends held′ i first cells (numbersOf order n) j ≡ exportWords S i L j
+      unfolding sentWords exportWords exports
+      sent-words j l h =
+          ap (map (localIn (numbersOf order n))) (cells-are j i h low high)
+          ∙ map-cong (localIn (numbersOf order n)) (localOf L) (imports S j i)
+          (All-map (imports S j i) (λ c a. let b = own-local S i c a in local-is c (omega (arith, b .0, order-length S i)) (b .1)) (import-own S j i))
 
       -- ---- the rows of the owned cells
 
@@ -283,18 +282,24 @@ module _ (m : Bytes) (parts : ℕ) (owners st table : Bytes) (ends : List ℕ) (
             subst (λ x. first + wordAt table (2 * x) ≤ 2000) e (entry-cell (t - entryCount m st place) (omega (arith, row-start place place-in, row-more place place-in)) .1)
 
         entry-words : (t : ℕ) → t < length (reach m st (firstCell m + place))
-            → entryWords table first order n (entryCount m st place + t)
+            → entryWords table first (numbersOf order n) (entryCount m st place + t)
             ≡ localOf L (getD (reach m st (firstCell m + place)) t (record { cell = 0; layer = 0 }) .cell) ∷ getD (reach m st (firstCell m + place)) t (record { cell = 0; layer = 0 }) .layer ∷ []
         unfolding entryWords
         entry-words t q =
-            ap₂ (λ x y. x ∷ y ∷ []) (ap₂ localOf oe (entry-cell t q .0)) (R .entries place t (record { cell = 0; layer = 0 }) place-in q .1)
+            let o = own-is S i l h (omega arith) in
+            let d : Near = record { cell = 0; layer = 0 } in
+            let a : At (getD (reach m st (firstCell m + place)) t d .cell) L =
+            All-getD (λ e. At (e .cell) L) (reach m st (firstCell m + place)) t d
+            (subst (All (λ e. At (e .cell) L)) (sym reach-is) (reach-held S (split-reach m parts owners st) owner-in i (globalOf L l) (o .0) (o .1))) q in
+            let b = local-back S i (getD (reach m st (firstCell m + place)) t d .cell) a in
+            ap₂ (λ x y. x ∷ y ∷ []) (ap (localIn (numbersOf order n)) (entry-cell t q .0) ∙ local-is _ (b .1) (b .2)) (R .entries place t d place-in q .1)
 
-        pub row-words : rowWords table ends first order n l ≡ reachWords S i L l
+        pub row-words : rowWords table ends first order (numbersOf order n) l ≡ reachWords S i L l
         unfolding rowWords reachWords
         row-words =
             let d : Near = record { cell = 0; layer = 0 } in
-            ap₂ (λ x y. blocks x y (entryWords table first order n)) (row-start place place-in) (row-size ∙ sym (ap length reach-is))
-            ∙ list-blocks (entryCount m st place) (entryWords table first order n) (reach m st (firstCell m + place)) d (λ e. localOf L (e .cell) ∷ e .layer ∷ []) entry-words
+            ap₂ (λ x y. blocks x y (entryWords table first (numbersOf order n))) (row-start place place-in) (row-size ∙ sym (ap length reach-is))
+            ∙ list-blocks (entryCount m st place) (entryWords table first (numbersOf order n)) (reach m st (firstCell m + place)) d (λ e. localOf L (e .cell) ∷ e .layer ∷ []) entry-words
             ∙ ap (λ es. joined (map (λ e. localOf L (e .cell) ∷ e .layer ∷ []) es)) reach-is
 
       pub row-ends : (l : ℕ) → l ≤ own → rowEnds table ends first order l ≡ reachEnds S i L l
@@ -317,7 +322,7 @@ module _ (m : Bytes) (parts : ℕ) (owners st table : Bytes) (ends : List ℕ) (
       long-few e f = omega (arith, order-few, own-few, ends-few f own (omega arith), sent-few e 16 (omega arith))
 
       pub start-words : (kind : ℕ) (v : Bytes) → startWords owners table ends held′ i first cells order n own (steps st) kind v ≡ listsWords S i L (steps st) kind v
-      unfolding startWords listsWords splitOf
+      unfolding numberedWords listsWords splitOf
       start-words kind v =
           ap₂ _++_ (ap (λ x. x ∷ i ∷ steps st ∷ kind ∷ []) head-is)
           (ap (λ xs. listed 0 5 (wordAt v) ++ xs)
@@ -328,5 +333,5 @@ module _ (m : Bytes) (parts : ℕ) (owners st table : Bytes) (ends : List ℕ) (
           (ap₂ _++_
           (listed-cong 0 (rowEnds table ends first order) (reachEnds S i L) (own + 1) (λ j h. row-ends (0 + j) (omega arith)) ∙ ap (λ x. listed 0 (x + 1) (reachEnds S i L)) we)
           (ap₂ _++_
-          (blocks-cong 1 (rowWords table ends first order n) (reachWords S i L) own (λ j h. row-words (1 + j) (omega arith) (omega arith)) ∙ ap (λ x. blocks 1 x (reachWords S i L)) we)
-          (blocks-cong 1 (sentWords owners table ends held′ i first cells order n) (exportWords S i L) 16 (λ j h. sent-words (1 + j) (omega arith) (omega arith))))))))))
+          (blocks-cong 1 (rowWords table ends first order (numbersOf order n)) (reachWords S i L) own (λ j h. row-words (1 + j) (omega arith) (omega arith)) ∙ ap (λ x. blocks 1 x (reachWords S i L)) we)
+          (blocks-cong 1 (sentWords owners table ends held′ i first cells (numbersOf order n)) (exportWords S i L) 16 (λ j h. sent-words (1 + j) (omega arith) (omega arith))))))))))

@@ -34,6 +34,19 @@ gather-spec =
     (λ c κs. (search cell-room, search depth-room))
     (λ c. search needs)
     (λ c. search needs)
-    (λ c. let told = c .before .before .before .before .before in let turn = told .before .before in let pre = turn .before .before .before .before .pre in (search needs, search needs, search needs, search needs, gather-turn _ _ _ (pre .0) _ _ (pre .1) (pre .2) _ _ (turn .loop .inv .1) (omega (arith, turn .loop .inv .0, told .before .loop-test .taken)) (told .global-of .ensures) _ (c .before .before .before .index-of .ensures .0) _ _ _ (turn .loop .inv .4) (c .before .before .copy .ensures)))
+    (λ c.
+    let told = c .before .before .before .before .before in
+    let turn = told .before .before in
+    let pre = turn .before .before .before .before .pre in (
+      search needs,
+      search needs,
+      search needs,
+      search needs,
+      gather-turn _ _ _ (pre .0) _ _ (pre .1) (pre .2) _ _ (turn .loop .inv .1) (omega (
+        arith,
+        turn .loop .inv .0,
+        told .before .loop-test .taken,
+      )) (told .global-of .ensures) _ (c .before .before .before .index-of .ensures .0) _ _ _ (turn .loop .inv .4) (c .before .before .copy .ensures),
+    ))
     (λ c. search needs)
     (λ c. search gather-end))

@@ -14,14 +14,48 @@ undivided-round-spec =
     (λ c. told-mesh _ _ _ _ _ _ _ (c .before .mesh-number .ensures) (c .if1 .taken))
     (λ c κs. search needs)
     (λ c κs. search needs)
-    (λ c. told-10 _ _ _ _ _ _ (omega (arith, c .before .before .before .before .mesh-number .ensures, c .before .before .before .if1 .left)) _ _ (c .before .before .top-of .ensures .0) (c .before .bad-stencil .ensures) (c .if2 .taken))
+    (λ c. told-10 _ _ _ _ _ _ (omega (
+      arith,
+      c .before .before .before .before .mesh-number .ensures,
+      c .before .before .before .if1 .left,
+    )) _ _ (c .before .before .top-of .ensures .0) (c .before .bad-stencil .ensures) (c .if2 .taken))
     (λ c κs. search needs)
     (λ c. search needs)
     (λ c. let passed = c .before .before .before .before in stencil-some _ _ (passed .before .bad-stencil .ensures) (passed .if2 .left))
     (λ c κs. search needs)
-    (λ c. let known = c .before .before in let rule = known .before .before .before in let passed = rule .before in told-11 _ _ _ _ _ _ (omega (arith, passed .before .before .before .before .mesh-number .ensures, passed .before .before .before .if1 .left)) (accepted-stencil _ _ (passed .before .before .top-of .ensures .0) (passed .before .bad-stencil .ensures) (passed .if2 .left)) _ _ (rule .rule-of .ensures) (known .before .k .given .1) _ (c .before .wrong-weights .ensures) (c .if3 .taken))
-    (λ c κs. let passed = c .before .before .before .before .before .before .before in ((omega (arith, passed .before .before .before .before .mesh-number .ensures, passed .before .before .before .if1 .left)), (accepted-stencil _ _ (passed .before .before .top-of .ensures .0) (passed .before .bad-stencil .ensures) (passed .if2 .left)), rule-good _ _ _ _ (c .before .before .wrong-weights .ensures) (c .before .if3 .left)))
+    (λ c.
+    let known = c .before .before in
+    let rule = known .before .before .before in
+    let passed = rule .before in
+    told-11 _ _ _ _ _ _ (omega (
+      arith,
+      passed .before .before .before .before .mesh-number .ensures,
+      passed .before .before .before .if1 .left,
+    )) (accepted-stencil _ _ (passed .before .before .top-of .ensures .0) (passed .before .bad-stencil .ensures)
+    (passed .if2 .left)) _ _ (rule .rule-of .ensures) (known .before .k .given .1) _ (c .before .wrong-weights .ensures) (c .if3 .taken))
+    (λ c κs.
+    let passed = c .before .before .before .before .before .before .before in (
+      (omega (
+        arith,
+        passed .before .before .before .before .mesh-number .ensures,
+        passed .before .before .before .if1 .left,
+      )),
+      (accepted-stencil _ _ (passed .before .before .top-of .ensures .0) (passed .before .bad-stencil .ensures)
+          (passed .if2 .left)),
+      rule-good _ _ _ _ (c .before .before .wrong-weights .ensures) (c .before .if3 .left),
+    ))
     (λ c. search needs)
     (λ c. search needs)
-    (λ c. let went = c .before .before in let known = went .before .before .before .before in told-kind _ _ _ _ _ _ _ _ (known .before .before .before .rule-of .ensures) (known .before .k .given .1) _ _ (went .round-on .ensures))
-    (λ c. let rule = c .before .before in let passed = rule .before in told-unknown _ _ _ _ _ _ (omega (arith, passed .before .before .before .before .mesh-number .ensures, passed .before .before .before .if1 .left)) (accepted-stencil _ _ (passed .before .before .top-of .ensures .0) (passed .before .bad-stencil .ensures) (passed .if2 .left)) _ (rule .rule-of .ensures) (c .enum-told .given .1)))
+    (λ c.
+    let went = c .before .before in
+    let known = went .before .before .before .before in
+    told-kind _ _ _ _ _ _ _ _ (known .before .before .before .rule-of .ensures) (known .before .k .given .1) _ _ (went .round-on .ensures))
+    (λ c.
+    let rule = c .before .before in
+    let passed = rule .before in
+    told-unknown _ _ _ _ _ _ (omega (
+      arith,
+      passed .before .before .before .before .mesh-number .ensures,
+      passed .before .before .before .if1 .left,
+    )) (accepted-stencil _ _ (passed .before .before .top-of .ensures .0) (passed .before .bad-stencil .ensures)
+    (passed .if2 .left)) _ (rule .rule-of .ensures) (c .enum-told .given .1)))

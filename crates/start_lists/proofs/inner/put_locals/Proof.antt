@@ -3,18 +3,17 @@ use mathlib.Core.Path.{_≡_}
 use mathlib.Core.List.{map}
 use Prim.Native.Nat.{_+_, _-_, _≤_}
 use lib.ListN.{length, take}
-use Rattle.split.specs.Split.{localOf}
-use Rattle.start_lists.specs.Starting.{Put}
+use Rattle.start_lists.specs.Starting.{Put, localIn}
 use Rattle.start_lists.proofs.StartCounts.{locals-start, locals-turn, locals-end}
 use borrow.Author.Needs.{needs}
 use Rattle.start_lists.proofs.inner.put_locals.Statement.{statement}
 use Rattle.start_lists.proofs.inner.put_locals.Tie as tie
 
 abbrev Inv-loop : tie.InvT-loop
-Inv-loop b₀ s list k order n u₀ x₀ b u x = (x ≤ k) × (u ≡ s + x) × (length b ≡ length b₀) × Put b₀ b s u (map (localOf (take n order)) (take x list))
+Inv-loop b₀ s list k local u₀ x₀ b u x = (x ≤ k) × (u ≡ s + x) × (length b ≡ length b₀) × Put b₀ b s u (map (localIn local) (take x list))
 
 abbrev μ-loop : tie.MeasureT-loop
-μ-loop b₀ s list k order n u₀ x₀ b u x = k - x
+μ-loop b₀ s list k local u₀ x₀ b u x = k - x
 
 pub put-locals-spec : {M : Type 1} → statement M
 put-locals-spec =

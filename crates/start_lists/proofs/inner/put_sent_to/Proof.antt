@@ -14,4 +14,10 @@ put-sent-to-spec =
     (λ c κs. search needs)
     (λ c. search needs)
     (λ c. search needs)
-    (λ c. (sent-put _ _ _ _ _ _ _ _ _ _ _ _ _ _ _ _ _ (c .before .before .before .before .before .before .before .add-cells .ensures .0) (c .before .before .before .before .before .before .before .before .before .before .before .before .before .before .before .before .pre .7) (omega (arith, c .before .before .before .before .before .before .before .add-cells .ensures .1, c .before .before .before .before .before .before .before .before .before .before .before .before .before .before .before .before .pre .4)) (c .before .before .put-locals .ensures), c .before .before .before .before .before .before .before .add-cells .ensures .0 .size ∙ c .before .before .before .before .before .before .before .before .before .before .before .before .before .before .before .before .pre .7)))
+    (λ c.
+    let add-cells = c .before .before .before .before .before .before .before .add-cells in
+    let start = c .before .before .before .before .before .before .before .before .before .before .before .before .before .before .before .before in
+    let put-locals = c .before .before .put-locals in (
+      sent-put _ _ _ _ _ _ _ _ _ _ _ _ _ _ _ _ (add-cells .ensures .0) (start .pre .5) (omega (arith, add-cells .ensures .1, start .pre .4)) (put-locals .ensures),
+      add-cells .ensures .0 .size ∙ start .pre .5,
+    )))

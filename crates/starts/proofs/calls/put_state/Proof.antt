@@ -17,4 +17,10 @@ put-state-spec =
     (λ c κs. search needs)
     (λ c. search needs)
     (λ c. search needs)
-    (λ c. state-put _ _ _ _ _ _ _ _ _ _ _ (c .before .before .before .before .before .before .before .before .before .before .before .before .before .before .before .before .before .before .before .before .before .before .before .before .pre .2) (words-long _ _ _ _ _ _ _ _ _ _ _ _ _ _ (c .before .before .before .before .before .before .before .before .before .before .before .before .before .before .before .before .before .before .before .before .before .before .before .before .pre .1) (c .before .before .before .before .before .before .before .before .before .before .before .before .before .before .before .before .before .before .before .before .before .before .before .before .pre .0 .order-there)) (c .before .before .before .before .before .before .before .before .before .before .before .before .put-lists .ensures) (c .before .before .before .before .before .before .clear .ensures) (c .before .before .put-cells .ensures)))
+    (λ c.
+    let start = c .before .before .before .before .before .before .before .before .before .before .before .before .before .before .before .before .before .before .before .before .before .before .before .before in
+    let put-lists = c .before .before .before .before .before .before .before .before .before .before .before .before .put-lists in
+    let clear = c .before .before .before .before .before .before .clear in
+    let put-cells = c .before .before .put-cells in
+    state-put _ _ _ _ _ _ _ _ _ _ _ (start .pre .2) (words-long _ _ _ _ _ _ _ _ _ _ _ _ _ _ _ (start .pre .1) (start .pre .0 .order-there)) (put-lists .ensures)
+    (clear .ensures) (put-cells .ensures)))
