@@ -129,6 +129,31 @@ module _ (m : Bytes) (parts : ℕ) (owners st : Bytes) where
   unfolding bad12 splitOf
   walked-told s e = ap (ltb 4096) (e ∙ total-cong 1 (reachCount m st owners) (λ i. length (held S i)) parts (λ k h. walked-count (1 + k)))
 
+  -- a class is 0 exactly where the part does not hold the cell
+  module _ (right : bad8 m parts owners [] ≡ false) where
+    class-held : (i q : ℕ) → q < cellCount m → eqb (classIn S i (firstCell m + q)) 0 ≡ not (holds S i (firstCell m + q))
+    unfolding classIn
+    class-held i q h = go (owns S i (firstCell m + q)) refl (holds S i (firstCell m + q)) refl
+      where
+        owner-some : 1 ≤ S .owner (firstCell m + q)
+        owner-some = omega (arith, owner-at q, map-facts m parts owners [] right .owner-in q h .0)
+
+        mine : (b : Bool) → eqb (cond b 17 18) 0 ≡ false
+        mine true = refl
+        mine false = refl
+
+        go : (a : Bool) → owns S i (firstCell m + q) ≡ a → (b : Bool) → holds S i (firstCell m + q) ≡ b → eqb (classIn S i (firstCell m + q)) 0 ≡ not b
+        go true e true f = (ap (λ x. eqb (cond x (cond (inside S i (firstCell m + q)) 17 18) (cond (holds S i (firstCell m + q)) (S .owner (firstCell m + q)) 0)) 0) e) ∙ mine (inside S i (firstCell m + q))
+        go true e false f = absurd (not-both (holds S i (firstCell m + q)) (own-held S (split-own m parts owners st) i (firstCell m + q) cell e) f)
+          where
+            cell : Cell S (firstCell m + q)
+            cell = unfold splitOf in (omega arith, omega arith)
+        go false e true f = (ap₂ (λ x y. eqb (cond x (cond (inside S i (firstCell m + q)) 17 18) (cond y (S .owner (firstCell m + q)) 0)) 0) e f) ∙ ne-eqb (S .owner (firstCell m + q)) 0 (omega (arith, owner-some))
+        go false e false f = (ap₂ (λ x y. eqb (cond x (cond (inside S i (firstCell m + q)) 17 18) (cond y (S .owner (firstCell m + q)) 0)) 0) e f)
+
+    pub class-zero : (i q : ℕ) → q < cellCount m → (x : ℕ) → x ≡ classIn S i (firstCell m + q) → eqb x 0 ≡ not (holds S i (firstCell m + q))
+    class-zero i q h x e = ap (λ y. eqb y 0) e ∙ class-held i q h
+
   -- ---- by the table of the reaches
 
   module _ (table : Bytes) (ends : List ℕ) (E : Ends m st ends (cellCount m))
@@ -168,31 +193,10 @@ module _ (m : Bytes) (parts : ℕ) (owners st : Bytes) where
         ap₂ (λ o b. cond (eqb o i) (cond b (cond (insideAt owners table ends i q) 17 18) 0) (cond (reachedAt owners table ends i (cellCount m) q) o 0)) (sym (owner-at q)) (lt-ltb q (cellCount m) h)
         ∙ ap₂ (λ a b. cond (eqb (S .owner (firstCell m + q)) i) (cond a 17 18) (cond b (S .owner (firstCell m + q)) 0)) (N i q h) (holds-told i q)
 
-    -- a class is 0 exactly where the part does not hold the cell
     module _ (right : bad8 m parts owners [] ≡ false) where
-      pub class-held : (i q : ℕ) → q < cellCount m → eqb (classIn S i (firstCell m + q)) 0 ≡ not (holds S i (firstCell m + q))
-      unfolding classIn
-      class-held i q h = go (owns S i (firstCell m + q)) refl (holds S i (firstCell m + q)) refl
-        where
-          owner-some : 1 ≤ S .owner (firstCell m + q)
-          owner-some = omega (arith, owner-at q, map-facts m parts owners [] right .owner-in q h .0)
-
-          mine : (b : Bool) → eqb (cond b 17 18) 0 ≡ false
-          mine true = refl
-          mine false = refl
-
-          go : (a : Bool) → owns S i (firstCell m + q) ≡ a → (b : Bool) → holds S i (firstCell m + q) ≡ b → eqb (classIn S i (firstCell m + q)) 0 ≡ not b
-          go true e true f = (ap (λ x. eqb (cond x (cond (inside S i (firstCell m + q)) 17 18) (cond (holds S i (firstCell m + q)) (S .owner (firstCell m + q)) 0)) 0) e) ∙ mine (inside S i (firstCell m + q))
-          go true e false f = absurd (not-both (holds S i (firstCell m + q)) (own-held S (split-own m parts owners st) i (firstCell m + q) cell e) f)
-            where
-              cell : Cell S (firstCell m + q)
-              cell = unfold splitOf in (omega arith, omega arith)
-          go false e true f = (ap₂ (λ x y. eqb (cond x (cond (inside S i (firstCell m + q)) 17 18) (cond y (S .owner (firstCell m + q)) 0)) 0) e f) ∙ ne-eqb (S .owner (firstCell m + q)) 0 (omega (arith, owner-some))
-          go false e false f = (ap₂ (λ x y. eqb (cond x (cond (inside S i (firstCell m + q)) 17 18) (cond y (S .owner (firstCell m + q)) 0)) 0) e f)
-
       held-by : (i q : ℕ) → q < cellCount m → heldBy owners table ends (cellCount m) q i ≡ cond (holds S i (firstCell m + q)) 1 0
       unfolding heldBy
-      held-by i q h = ap (λ c. cond (eqb c 0) 0 1) (class-told i q h) ∙ ap (λ b. cond b 0 1) (class-held i q h) ∙ swap (holds S i (firstCell m + q))
+      held-by i q h = ap (λ c. cond (eqb c 0) 0 1) (class-told i q h) ∙ ap (λ b. cond b 0 1) (class-held right i q h) ∙ swap (holds S i (firstCell m + q))
         where
           swap : (b : Bool) → _≡_ {A = ℕ} (cond (not b) 0 1) (cond b 1 0)
           swap true = refl

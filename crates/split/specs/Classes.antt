@@ -7,7 +7,7 @@ use Prim.Native.Nat.{ℕ, _+_, _-_, _*_, _≤_, _<_}
 use lib.Dec.{eqb, ltb}
 use lib.ListN.{length, getD}
 use Rattle.vocabulary.specs.Bytes.{Bytes, byteAt}
-use Rattle.vocabulary.specs.Ranges.{some, total}
+use Rattle.vocabulary.specs.Ranges.{some, blocks, total}
 use Rattle.layout.specs.Words.{wordAt}
 use Rattle.mesh.specs.Mesh.{top, firstCell, cellCount}
 use Rattle.mesh.specs.Walks.{Near, reach, bad10}
@@ -110,3 +110,21 @@ pub record Prepared (m : Bytes) (parts : ℕ) (owners st table : Bytes) (ends : 
       × (wordAt table (2 * (entryCount m st q + t) + 1) ≡ getD (reach m st (firstCell m + q)) t d .layer)
   pub classes : (i q : ℕ) → q < cellCount m → classAt owners table ends i (cellCount m) q ≡ classIn (splitOf m parts owners st) i (firstCell m + q)
   pub held : (q : ℕ) → q < cellCount m → byteAt holders q ≡ holderCount (splitOf m parts owners st) (firstCell m + q)
+
+-- ---- lists by class
+
+-- the number of place q, counted from `first`, if the row has the class k there
+unfoldable pub ofClass : Bytes → ℕ → ℕ → ℕ → List ℕ
+ofClass class first k q = cond (eqb (byteAt class q) k) ((first + q) ∷ []) []
+
+-- the numbers of class k
+unfoldable pub classCells : Bytes → ℕ → ℕ → ℕ → List ℕ
+classCells class first cells k = blocks 0 cells (ofClass class first k)
+
+-- the same for part j, by the tables
+unfoldable pub partCells : Bytes → Bytes → List ℕ → ℕ → ℕ → ℕ → ℕ → List ℕ
+partCells owners table ends j first cells k = blocks 0 cells (λ q. cond (eqb (classAt owners table ends j cells q) k) ((first + q) ∷ []) [])
+
+-- the local order: interior, halo, and the imports by their owners
+unfoldable pub classOrder : Bytes → ℕ → ℕ → ℕ → List ℕ
+classOrder class first cells parts = classCells class first cells 17 ++ (classCells class first cells 18 ++ blocks 1 parts (classCells class first cells))
