@@ -1,2 +1,3 @@
 pub mod SortLaws
 pub mod CellLaws
+pub mod ClassLists

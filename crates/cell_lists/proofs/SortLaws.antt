@@ -12,9 +12,10 @@ use borrow.Author.Tests.{eq-eqb, ne-eqb, not-true, not-false}
 use Rattle.vocabulary.specs.Bytes.{Bytes, byteAt, over}
 use Rattle.vocabulary.specs.ByteLaws.{over-none, over-more, over-one, over-front}
 use Rattle.vocabulary.specs.Ranges.{every, blocks, some}
-use Rattle.vocabulary.specs.RangeLaws.{every-none, every-more, every-fails, blocks-turn, blocks-start, some-has, some-more, at-last}
+use Rattle.vocabulary.specs.RangeLaws.{every-none, every-more, every-fails, blocks-turn, blocks-start, some-has, some-more, at-last, blocks-length, total-bound}
 use Rattle.layout.specs.Words.{wordAt}
 use Rattle.split.specs.Sorting.{ownsAt, heldAt, entryOwned, insideAt, sortAt, sorted, cellsOf, localsOf, Added, elsewhereAt}
+use Rattle.split.specs.Classes.{ofClass, classCells, classOrder}
 use lib.Seq.{take-append-seam}
 
 pub entry-told : (owners table : Bytes) (i t w x : ℕ) → w ≡ wordAt table (2 * t) → x ≡ byteAt owners w → eqb x i ≡ entryOwned owners table i t
@@ -133,6 +134,43 @@ module _ (owners table : Bytes) (ends : List ℕ) (held : Bytes) (i first cells 
       → Added c d t u (blocks 1 parts (cellsOf owners table ends held i first cells)) → Added a d 0 u (localsOf owners table ends held i first cells parts)
   unfolding localsOf
   locals-added a b c d s t u parts X Y Z = add-both a b d 0 s u _ _ X (add-both b c d s t u _ _ Y Z)
+
+-- ---- the numbers of a class, and the local order by classes
+
+module _ (class : Bytes) (first cells : ℕ) where
+  pub class-end : (k : ℕ) (a b : List ℕ) (s t q : ℕ) → q ≤ cells → cells ≤ q → Added a b s t (blocks 0 q (ofClass class first k)) → Added a b s t (classCells class first cells k)
+  unfolding classCells
+  class-end k a b s t q h l X = add-end (ofClass class first k) a b s t q cells h l X
+
+  pub imported-start : (b : List ℕ) (s : ℕ) → Added b b s s (blocks 1 0 (classCells class first cells))
+  imported-start b s = subst (Added b b s s) (sym (blocks-start 1 (classCells class first cells))) (add-none b s)
+
+  pub imported-turn : (a b c : List ℕ) (s t u j : ℕ) → Added a b s t (blocks 1 j (classCells class first cells)) → Added b c t u (classCells class first cells (j + 1))
+      → Added a c s u (blocks 1 (j + 1) (classCells class first cells))
+  imported-turn a b c s t u j X Y =
+      let q : j + 1 ≡ 1 + j = omega arith in
+      subst (Added a c s u) (ap (λ x. blocks 1 j (classCells class first cells) ++ classCells class first cells x) q ∙ sym (blocks-turn 1 (classCells class first cells) j))
+      (add-both a b c s t u (blocks 1 j (classCells class first cells)) (classCells class first cells (j + 1)) X Y)
+
+  pub imported-end : (a b : List ℕ) (s t j parts : ℕ) → j ≤ parts → parts ≤ j → Added a b s t (blocks 1 j (classCells class first cells)) → Added a b s t (blocks 1 parts (classCells class first cells))
+  imported-end a b s t j parts h k X = at-last (λ n. Added a b s t (blocks 1 n (classCells class first cells))) j parts h k X
+
+  pub order-added : (a b c d : List ℕ) (s t u parts : ℕ) → Added a b 0 s (classCells class first cells 17) → Added b c s t (classCells class first cells 18)
+      → Added c d t u (blocks 1 parts (classCells class first cells)) → Added a d 0 u (classOrder class first cells parts)
+  unfolding classOrder
+  order-added a b c d s t u parts X Y Z = add-both a b d 0 s u _ _ X (add-both b c d s t u _ _ Y Z)
+
+-- no more than there are places
+pub class-few : (class : Bytes) (first cells k : ℕ) → length (classCells class first cells k) ≤ cells
+unfolding classCells
+class-few class first cells k = omega (arith, blocks-length 0 (ofClass class first k) cells, total-bound 0 (λ q. length (ofClass class first k q)) 1 cells (λ q h. one (0 + q)))
+  where
+    one : (q : ℕ) → length (ofClass class first k q) ≤ 1
+    one q = unfold ofClass in go (eqb (byteAt class q) k)
+      where
+        go : (b : Bool) → length (cond b ((first + q) ∷ []) []) ≤ 1
+        go true = omega arith
+        go false = omega arith
 
 -- ---- what was added to an empty list
 

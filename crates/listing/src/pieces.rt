@@ -4,7 +4,8 @@ use mesh::inner::cell_count;
 use mesh::inner::elements_of;
 use mesh::inner::record_count;
 use part_text::inner::put_parts;
-use split::inner::sizes_number;
+use split::inner::MOST_CELLS;
+use split::inner::prepare;
 use split::split_number;
 use text::inner::put_line;
 use text::inner::put_text;
@@ -15,7 +16,8 @@ ghost use lib.ListN.{length, take, drop};
 ghost use Rattle.mesh.specs.Mesh.{meshLength};
 ghost use Rattle.split.specs.Split.{splitOf};
 ghost use Rattle.split.specs.Lists.{splitNumber};
-ghost use Rattle.split.specs.Sorting.{Prepared};
+ghost use Rattle.walks.specs.Walking.{Ground};
+ghost use Rattle.split.specs.Classes.{Prepared};
 ghost use Rattle.text.specs.Listing.{splitText, listText};
 ghost use Rattle.text.specs.Printing.{Printed};
 ghost use Rattle.listing.specs.Pieces.{Listed, piecesText, stencilText, lastText, ownersText, mapText};
@@ -26,16 +28,32 @@ fn put_split(
     parts: usize,
     owners: &[u8],
     st: &[u8],
+    cell: &[u16],
+    prev: &[u16],
+    last: &[u16],
     table: &[u8],
     ends: &[u16],
-    held: &[u8],
+    holders: &[u8],
     out: &mut [u8],
 ) -> usize
-    requires { ⌜ Prepared (now m) parts (now owners) (now st) (now table) (now ends) (now held) × (parts ≤ 16) ⌝ }
+    requires { ⌜ Prepared (now m) parts (now owners) (now st) (now table) (now ends) (now holders) × Ground (now m) (now st) (now cell) (now prev) (now last) × (parts ≤ 16) ⌝ }
     ensures { λ t. ⌜ Printed (now (out .entry)) (now (out .exit)) 0 t (splitText (now (m .entry)) (splitOf (now (m .entry)) parts (now (owners .entry)) (now (st .entry)))) ⌝ }
 {
     let t = put_line(b"parts", parts, out, 0);
-    put_parts(m, parts, owners, st, table, ends, held, out, t)
+    put_parts(
+        m,
+        parts,
+        owners,
+        st,
+        cell,
+        prev,
+        last,
+        table,
+        ends,
+        holders,
+        out,
+        t,
+    )
 }
 
 // The text, where the tests up to 10 are passed. They are asked for the parts 1 and 1, which any map has.
@@ -43,14 +61,42 @@ fn list_passed(m: &[u8], parts: u32, owners: &[u8], st: &[u8], out: &mut [u8]) -
     requires { ⌜ splitNumber (now m) parts (now owners) (1 ∷ 1 ∷ []) (now st) ≡ 0 ⌝ }
     ensures { λ t. ⌜ Printed (now (out .entry)) (now (out .exit)) 0 t (piecesText (now (m .entry)) parts (now (owners .entry)) (now (st .entry))) ⌝ }
 {
+    let mut cell = [0u16; 12001];
+    let mut prev = [0u16; 12001];
+    let mut last = [0u16; 2001];
     let mut table = [0u8; 32000];
     let mut ends = [0u16; 2001];
-    let mut held = [0u8; 34000];
-    let number = sizes_number(m, parts, owners, st, &mut table, &mut ends, &mut held);
+    let mut holders = [0u8; MOST_CELLS];
+    let mut class = [0u8; MOST_CELLS];
+    let number = prepare(
+        m,
+        parts,
+        owners,
+        st,
+        &mut cell,
+        &mut prev,
+        &mut last,
+        &mut table,
+        &mut ends,
+        &mut holders,
+        &mut class,
+    );
     if number != 0 {
         return put_line(b"refused", number as usize, out, 0);
     }
-    put_split(m, parts as usize, owners, st, &table, &ends, &held, out)
+    put_split(
+        m,
+        parts as usize,
+        owners,
+        st,
+        &cell,
+        &prev,
+        &last,
+        &table,
+        &ends,
+        &holders,
+        out,
+    )
 }
 
 fn list_pieces(m: &[u8], parts: u32, owners: &[u8], st: &[u8], out: &mut [u8]) -> usize

@@ -17,8 +17,9 @@ use Rattle.layout.specs.declared.Answer.the-variants.{Refused}
 use Rattle.split.specs.Split.{splitOf}
 use Rattle.split.specs.Lists.{splitTests, sizeTests, splitNumber, sizesNumber, others, listOf, listWords, listTests, listNumber, listAnswer, listOut}
 use Rattle.split.proofs.PassedLaws.{tests-numbered, twice, passed-facts}
-use Rattle.split.specs.Sorting.{Prepared}
-use Rattle.part_lists.specs.Giving.{meant, Names, chosen, givenNumber, givenAnswer, givenOut, namedWords, namedTests, namedAnswer, namedOut}
+use Rattle.mesh.specs.Mesh.{cellCount}
+use Rattle.split.specs.Classes.{Classed, Prepared}
+use Rattle.part_lists.specs.Giving.{meant, Names, rowOf, chosen, givenNumber, givenAnswer, givenOut, namedWords, namedTests, namedAnswer, namedOut}
 use Rattle.part_lists.specs.declared.lists.Wanted.{Wanted}
 use Rattle.part_lists.specs.declared.lists.Wanted.the-variants.{Interior, Halo, Locals, Imports, Exports, Private, Exposed, Shared, Copied}
 use Rattle.part_lists.proofs.ChosenLaws.{chosen-is, list-few}
@@ -55,22 +56,23 @@ module _ (w : Wanted) (m : Bytes) (parts : ℕ) (owners : Bytes) (i j k : ℕ) (
     pub refused-sizes : (n : ℕ) → n ≡ sizesNumber m parts owners st → (n ≡ 0 → ⊥) → (Refused n ≡ namedAnswer w m parts owners i j k st out) × (out ≡ namedOut w m parts owners i j k st out)
     refused-sizes n e h = refusing n h (sizes-left ∙ ap₂ (λ b x. cond b (givenNumber (namedWords w m parts owners i j k st) out) x) (ne-eqb _ 0 (λ z. h (e ∙ z))) (sym e))
 
-    module _ (q : sizesNumber m parts owners st ≡ 0) (table : Bytes) (ends : List ℕ) (held : Bytes) (R : Prepared m parts owners st table ends held) where
-      words-are : chosen w m parts owners table ends held i j k ≡ namedWords w m parts owners i j k st
+    module _ (q : sizesNumber m parts owners st ≡ 0) (table : Bytes) (ends : List ℕ) (holders : Bytes) (R : Prepared m parts owners st table ends holders) (cells : ℕ) (ce : cells ≡ cellCount m) (class : Bytes)
+        (r : ℕ) (re : r ≡ rowOf w i j) (C : Classed owners table ends r cells class) where
+      words-are : chosen w m parts class holders i j k ≡ namedWords w m parts owners i j k st
       words-are =
           let f = passed-facts m parts owners i j st p in
-          chosen-is m parts owners st table ends held R w i j k (f .i-in .0) (f .i-in .1) (f .j-in .0) (f .j-in .1) ∙ (unfold namedWords in refl)
+          chosen-is m parts owners st table ends holders R w i j k (f .i-in .0) (f .i-high) (f .j-in .0) (f .j-high) (f .few) cells ce class (subst (λ x. Classed owners table ends x cells class) re C) ∙ (unfold namedWords in refl)
 
-      pub chosen-few : length (chosen w m parts owners table ends held i j k) ≤ 2000
-      chosen-few = subst (λ (xs : List ℕ). length xs ≤ 2000) (sym words-are) (unfold namedWords in list-few m parts owners st table ends held R w i j k)
+      pub chosen-few : length (chosen w m parts class holders i j k) ≤ 2000
+      chosen-few = subst (λ (xs : List ℕ). length xs ≤ 2000) (sym words-are) (unfold namedWords in list-few m parts owners st table ends holders R w i j k)
 
       given : firstOf (namedTests w m parts owners i j k st out) ≡ givenNumber (namedWords w m parts owners i j k st) out
       given = sizes-left ∙ ap (λ b. cond b (givenNumber (namedWords w m parts owners i j k st) out) (sizesNumber m parts owners st)) (eq-eqb _ 0 q)
 
-      pub given-named : (r : Answer) (after : Bytes) → (r ≡ givenAnswer (chosen w m parts owners table ends held i j k) out) × (after ≡ givenOut (chosen w m parts owners table ends held i j k) out)
-          → (r ≡ namedAnswer w m parts owners i j k st out) × (after ≡ namedOut w m parts owners i j k st out)
+      pub given-named : (x : Answer) (after : Bytes) → (x ≡ givenAnswer (chosen w m parts class holders i j k) out) × (after ≡ givenOut (chosen w m parts class holders i j k) out)
+          → (x ≡ namedAnswer w m parts owners i j k st out) × (after ≡ namedOut w m parts owners i j k st out)
       unfolding givenAnswer givenOut namedAnswer namedOut
-      given-named r after g = (
+      given-named x after g = (
         g .0 ∙ ap (λ ws. answer (givenNumber ws out) (length ws)) words-are ∙ ap (λ n. answer n (length (namedWords w m parts owners i j k st))) (sym given),
         g .1 ∙ ap (λ ws. cond (eqb (givenNumber ws out) 0) (over out 0 (bytesOf ws)) out) words-are ∙ ap (λ n. cond (eqb n 0) (over out 0 (bytesOf (namedWords w m parts owners i j k st))) out) (sym given),
       )

@@ -1,19 +1,21 @@
 -- The lists that the code chooses are those of the definitions. Assumes nothing.
-use mathlib.Core.Path.{_≡_}
+use mathlib.Core.Path.{_≡_, refl, subst}
+use native.Mathlib.Omega.{arith}
 use mathlib.Core.List.{List}
 use Prim.Native.Nat.{ℕ, _-_, _≤_}
 use lib.ListN.{length}
 use Rattle.vocabulary.specs.Bytes.{Bytes}
+use Rattle.mesh.specs.Mesh.{firstCell, cellCount}
 use Rattle.split.specs.Split.{Split, splitOf, imports, exports, interior, halo, holdsLower, touches, another, isCopied, isShared, isExposed, isPrivate}
 use Rattle.split.specs.Lists.{listOf}
-use Rattle.split.specs.Sorting.{Prepared}
-use Rattle.part_lists.specs.Giving.{meant, chosen}
+use Rattle.split.specs.Classes.{Classed, Prepared}
+use Rattle.part_lists.specs.Giving.{meant, rowOf, chosen}
 use Rattle.part_lists.specs.declared.lists.Wanted.{Wanted}
 use Rattle.part_lists.specs.declared.lists.Wanted.the-variants.{Interior, Halo, Locals, Imports, Exports, Private, Exposed, Shared, Copied}
-use Rattle.cell_lists.proofs.CellLaws.{interior-is, halo-is, imports-are, locals-are, picked-few, locals-few}
+use Rattle.cell_lists.proofs.ClassLists.{interior-is, halo-is, imports-are, order-is, picked-few, locals-few}
 use Rattle.ranges.proofs.LowerLaws.{Sorts, sort-tells, range-is, range-few}
 
-module _ (m : Bytes) (parts : ℕ) (owners st table : Bytes) (ends : List ℕ) (held′ : Bytes) (R : Prepared m parts owners st table ends held′) where
+module _ (m : Bytes) (parts : ℕ) (owners st table : Bytes) (ends : List ℕ) (holders : Bytes) (R : Prepared m parts owners st table ends holders) where
   abbrev S : Split
   S = splitOf m parts owners st
 
@@ -22,28 +24,32 @@ module _ (m : Bytes) (parts : ℕ) (owners st table : Bytes) (ends : List ℕ) (
   sorts : (i e : ℕ) → Sorts (touches m S e i) (another m S i (touches m S e)) (another m S i (λ j. holdsLower m S j e)) (holdsLower m S i e)
   sorts i e = sort-tells (touches m S e i) (another m S i (touches m S e)) (another m S i (λ j. holdsLower m S j e)) (holdsLower m S i e)
 
-  pub chosen-is : (w : Wanted) (i j k : ℕ) → 1 ≤ i → i ≤ 16 → 1 ≤ j → j ≤ 16 → chosen w m parts owners table ends held′ i j k ≡ listOf m S i (meant w j k)
+  counted : (cells : ℕ) → cells ≡ cellCount m → (i : ℕ) (class : Bytes) → Classed owners table ends i cells class → Classed owners table ends i (cellCount m) class
+  counted cells ce i class C = subst (λ n. Classed owners table ends i n class) ce C
+
+  pub chosen-is : (w : Wanted) (i j k : ℕ) → 1 ≤ i → i ≤ parts → 1 ≤ j → j ≤ parts → parts ≤ 16 → (cells : ℕ) → cells ≡ cellCount m → (class : Bytes) → Classed owners table ends (rowOf w i j) cells class
+      → chosen w m parts class holders i j k ≡ listOf m S i (meant w j k)
   unfolding chosen listOf exports isPrivate isExposed isShared isCopied
-  chosen-is Interior i j k il ih jl jh = interior-is m parts owners st table ends held′ R i ih
-  chosen-is Halo i j k il ih jl jh = halo-is m parts owners st table ends held′ R i ih
-  chosen-is Locals i j k il ih jl jh = locals-are m parts owners st table ends held′ R i ih
-  chosen-is Imports i j k il ih jl jh = imports-are m parts owners st table ends held′ R i ih j jl jh
-  chosen-is Exports i j k il ih jl jh = imports-are m parts owners st table ends held′ R j jh i il ih
-  chosen-is Private i j k il ih jl jh = range-is m parts owners st table ends held′ R i k 1 _ ih (λ e. sorts i e .0)
-  chosen-is Exposed i j k il ih jl jh = range-is m parts owners st table ends held′ R i k 2 _ ih (λ e. sorts i e .1)
-  chosen-is Shared i j k il ih jl jh = range-is m parts owners st table ends held′ R i k 3 _ ih (λ e. sorts i e .2)
-  chosen-is Copied i j k il ih jl jh = range-is m parts owners st table ends held′ R i k 4 _ ih (λ e. sorts i e .3)
+  chosen-is Interior i j k il ih jl jh few cells ce class C = interior-is m parts owners st table ends holders R i (firstCell m) (cellCount m) refl refl class (counted cells ce i class C)
+  chosen-is Halo i j k il ih jl jh few cells ce class C = halo-is m parts owners st table ends holders R i (firstCell m) (cellCount m) refl refl class (counted cells ce i class C)
+  chosen-is Locals i j k il ih jl jh few cells ce class C = order-is m parts owners st table ends holders R i (firstCell m) (cellCount m) refl refl class (counted cells ce i class C)
+  chosen-is Imports i j k il ih jl jh few cells ce class C = imports-are m parts owners st table ends holders R i (firstCell m) (cellCount m) refl refl class (counted cells ce i class C) j jl (omega arith)
+  chosen-is Exports i j k il ih jl jh few cells ce class C = imports-are m parts owners st table ends holders R j (firstCell m) (cellCount m) refl refl class (counted cells ce j class C) i il (omega arith)
+  chosen-is Private i j k il ih jl jh few cells ce class C = range-is m parts owners st table ends holders R i il ih cells ce class C k 1 _ (λ e. sorts i e .0)
+  chosen-is Exposed i j k il ih jl jh few cells ce class C = range-is m parts owners st table ends holders R i il ih cells ce class C k 2 _ (λ e. sorts i e .1)
+  chosen-is Shared i j k il ih jl jh few cells ce class C = range-is m parts owners st table ends holders R i il ih cells ce class C k 3 _ (λ e. sorts i e .2)
+  chosen-is Copied i j k il ih jl jh few cells ce class C = range-is m parts owners st table ends holders R i il ih cells ce class C k 4 _ (λ e. sorts i e .3)
 
   -- ---- how long they are
 
   pub list-few : (w : Wanted) (i j k : ℕ) → length (listOf m S i (meant w j k)) ≤ 2000
   unfolding listOf interior halo imports exports
-  list-few Interior i j k = picked-few m parts owners st table ends held′ R _
-  list-few Halo i j k = picked-few m parts owners st table ends held′ R _
-  list-few Locals i j k = locals-few m parts owners st table ends held′ R i
-  list-few Imports i j k = picked-few m parts owners st table ends held′ R _
-  list-few Exports i j k = picked-few m parts owners st table ends held′ R _
-  list-few Private i j k = range-few m parts owners st table ends held′ R k _
-  list-few Exposed i j k = range-few m parts owners st table ends held′ R k _
-  list-few Shared i j k = range-few m parts owners st table ends held′ R k _
-  list-few Copied i j k = range-few m parts owners st table ends held′ R k _
+  list-few Interior i j k = picked-few m parts owners st table ends holders R _
+  list-few Halo i j k = picked-few m parts owners st table ends holders R _
+  list-few Locals i j k = locals-few m parts owners st table ends holders R i
+  list-few Imports i j k = picked-few m parts owners st table ends holders R _
+  list-few Exports i j k = picked-few m parts owners st table ends holders R _
+  list-few Private i j k = range-few m parts owners st table ends holders R k _
+  list-few Exposed i j k = range-few m parts owners st table ends holders R k _
+  list-few Shared i j k = range-few m parts owners st table ends holders R k _
+  list-few Copied i j k = range-few m parts owners st table ends holders R k _

@@ -15,7 +15,8 @@ use Rattle.mesh.specs.Mesh.{firstCell, cellCount}
 use Rattle.split.specs.Split.{splitOf}
 use Rattle.split.specs.Lists as Lists
 use Rattle.split.specs.Lists.{splitTests, sizeTests, listOf}
-use Rattle.split.specs.Sorting.{cellsOf, localsOf, rangeOf}
+use Rattle.split.specs.Classes.{classCells, classOrder}
+use Rattle.ranges.specs.Lowers.{rangeOf}
 use Rattle.part_lists.specs.declared.lists.Wanted.{Wanted}
 use Rattle.part_lists.specs.declared.lists.Wanted.the-variants.{Interior, Halo, Locals, Imports, Exports, Private, Exposed, Shared, Copied}
 
@@ -43,17 +44,29 @@ Names Exposed i j = j ≡ i
 Names Shared i j = j ≡ i
 Names Copied i j = j ≡ i
 
--- its words, from prepared tables
-unfoldable pub chosen : Wanted → Bytes → ℕ → Bytes → Bytes → List ℕ → Bytes → ℕ → ℕ → ℕ → List ℕ
-chosen Interior m parts owners table ends held i j k = cellsOf owners table ends held i (firstCell m) (cellCount m) 17
-chosen Halo m parts owners table ends held i j k = cellsOf owners table ends held i (firstCell m) (cellCount m) 18
-chosen Locals m parts owners table ends held i j k = localsOf owners table ends held i (firstCell m) (cellCount m) parts
-chosen Imports m parts owners table ends held i j k = cellsOf owners table ends held i (firstCell m) (cellCount m) j
-chosen Exports m parts owners table ends held i j k = cellsOf owners table ends held j (firstCell m) (cellCount m) i
-chosen Private m parts owners table ends held i j k = rangeOf m owners held parts i k 1
-chosen Exposed m parts owners table ends held i j k = rangeOf m owners held parts i k 2
-chosen Shared m parts owners table ends held i j k = rangeOf m owners held parts i k 3
-chosen Copied m parts owners table ends held i j k = rangeOf m owners held parts i k 4
+-- the part whose row of classes tells it: exports to j are what j imports
+abbrev pub rowOf : Wanted → ℕ → ℕ → ℕ
+rowOf Interior i j = i
+rowOf Halo i j = i
+rowOf Locals i j = i
+rowOf Imports i j = i
+rowOf Exports i j = j
+rowOf Private i j = i
+rowOf Exposed i j = i
+rowOf Shared i j = i
+rowOf Copied i j = i
+
+-- its words, from that row and the parts that hold each cell
+unfoldable pub chosen : Wanted → Bytes → ℕ → Bytes → Bytes → ℕ → ℕ → ℕ → List ℕ
+chosen Interior m parts class holders i j k = classCells class (firstCell m) (cellCount m) 17
+chosen Halo m parts class holders i j k = classCells class (firstCell m) (cellCount m) 18
+chosen Locals m parts class holders i j k = classOrder class (firstCell m) (cellCount m) parts
+chosen Imports m parts class holders i j k = classCells class (firstCell m) (cellCount m) j
+chosen Exports m parts class holders i j k = classCells class (firstCell m) (cellCount m) i
+chosen Private m parts class holders i j k = rangeOf m class holders k 1
+chosen Exposed m parts class holders i j k = rangeOf m class holders k 2
+chosen Shared m parts class holders i j k = rangeOf m class holders k 3
+chosen Copied m parts class holders i j k = rangeOf m class holders k 4
 
 -- words given where there is room: 16, the last test, or their count; and the output
 unfoldable pub givenNumber : List ℕ → Bytes → ℕ

@@ -1,6 +1,5 @@
-// The lists of the parts. Here stand the calls, which take any bytes and numbers; what supposes prepared tables is in `inner`.
+// The lists of the parts. Each call takes any bytes and numbers.
 mod calls;
-pub mod inner;
 mod lists;
 
 pub use calls::copied_range;

@@ -1,8 +1,6 @@
 // The lists of a part, as the calls give them.
-use cell_lists::inner::HALO;
-use cell_lists::inner::INTERIOR;
-use cell_lists::inner::add_cells;
-use cell_lists::inner::add_locals;
+use cell_lists::inner::add_class;
+use cell_lists::inner::add_order;
 use layout::Answer;
 use layout::inner::put_word;
 use layout::number_at;
@@ -13,7 +11,12 @@ use ranges::inner::EXPOSED;
 use ranges::inner::PRIVATE;
 use ranges::inner::SHARED;
 use ranges::inner::add_range;
-use split::inner::sizes_number;
+use ranges::inner::classify_lowers;
+use split::inner::HALO;
+use split::inner::INTERIOR;
+use split::inner::MOST_CELLS;
+use split::inner::classify;
+use split::inner::prepare;
 use split::split_number;
 ghost use mathlib.Core.Path.{_≡_};
 ghost use mathlib.Core.List.{[], _∷_};
@@ -21,10 +24,12 @@ ghost use Prim.Native.Nat.{_*_, _≤_, _<_};
 ghost use lib.ListN.{length, take};
 ghost use Rattle.vocabulary.specs.Bytes.{over};
 ghost use Rattle.layout.specs.Words.{bytesOf};
-ghost use Rattle.mesh.specs.Accepted.{Accepted};
+ghost use Rattle.mesh.specs.Mesh.{top};
+ghost use Rattle.walks.specs.Walking.{Ground};
 ghost use Rattle.split.specs.Lists.{splitNumber, listAnswer, listOut};
 ghost use Rattle.split.specs.Sorting.{Added};
-ghost use Rattle.part_lists.specs.Giving.{meant, Names, chosen, givenAnswer, givenOut, namedAnswer, namedOut};
+ghost use Rattle.ranges.specs.Lowers.{rangeOf};
+ghost use Rattle.part_lists.specs.Giving.{meant, Names, rowOf, chosen, givenAnswer, givenOut, namedAnswer, namedOut};
 
 // The lists that can be asked for. An import or export list names the other part, and a range its dimension; both stand beside it.
 pub enum Wanted {
@@ -39,46 +44,73 @@ pub enum Wanted {
     Copied,
 }
 
-// The words of the list, and their count, from prepared tables.
-pub fn list_words(
+// The part whose row of classes tells the list: exports to j are what j imports.
+fn row_of(wanted: Wanted, i: usize, j: usize) -> usize
+    ensures { λ r. ⌜ r ≡ rowOf wanted i j ⌝ }
+{
+    match wanted {
+        Wanted::Interior => i,
+        Wanted::Halo => i,
+        Wanted::Locals => i,
+        Wanted::Imports => i,
+        Wanted::Exports => j,
+        Wanted::Private => i,
+        Wanted::Exposed => i,
+        Wanted::Shared => i,
+        Wanted::Copied => i,
+    }
+}
+
+// The words of a range, and their count.
+fn range_words(
+    m: &[u8],
+    cell: &[u16],
+    prev: &[u16],
+    last: &[u16],
+    class: &[u8],
+    holders: &[u8],
+    k: usize,
+    sort: u8,
+    list: &mut [u16],
+) -> usize
+    requires { ⌜ Ground (now m) (top (now m) ∷ []) (now cell) (now prev) (now last) ⌝ }
+    ensures { λ n. ⌜ Added (now (list .entry)) (now (list .exit)) 0 n (rangeOf (now (m .entry)) (now (class .entry)) (now (holders .entry)) k sort) ⌝ }
+{
+    let mut lower = [0u8; MOST_CELLS];
+    classify_lowers(m, cell, prev, last, class, holders, k, &mut lower);
+    add_range(m, k, &lower, sort, list)
+}
+
+// The words of the list, and their count, from the row of classes that tells it.
+fn list_words(
     wanted: Wanted,
     m: &[u8],
     parts: usize,
-    owners: &[u8],
-    table: &[u8],
-    ends: &[u16],
-    held: &[u8],
+    cell: &[u16],
+    prev: &[u16],
+    last: &[u16],
+    class: &[u8],
+    holders: &[u8],
     i: usize,
     j: usize,
     k: usize,
     list: &mut [u16],
 ) -> usize
-    requires { ⌜ Accepted (now m) × (parts ≤ 16) × (i ≤ 16) × (j ≤ 16) ⌝ }
-    ensures { λ n. ⌜ Added (now (list .entry)) (now (list .exit)) 0 n (chosen wanted (now (m .entry)) parts (now (owners .entry)) (now (table .entry)) (now (ends .entry)) (now (held .entry)) i j k) ⌝ }
+    requires { ⌜ Ground (now m) (top (now m) ∷ []) (now cell) (now prev) (now last) × (parts ≤ 16) × (i ≤ 16) × (j ≤ 16) ⌝ }
+    ensures { λ n. ⌜ Added (now (list .entry)) (now (list .exit)) 0 n (chosen wanted (now (m .entry)) parts (now (class .entry)) (now (holders .entry)) i j k) ⌝ }
 {
     let first = first_cell(m);
     let cells = cell_count(m);
     match wanted {
-        Wanted::Interior => add_cells(
-            owners,
-            table,
-            ends,
-            held,
-            i,
-            first,
-            cells,
-            INTERIOR,
-            list,
-            0,
-        ),
-        Wanted::Halo => add_cells(owners, table, ends, held, i, first, cells, HALO, list, 0),
-        Wanted::Locals => add_locals(owners, table, ends, held, i, first, cells, parts, list),
-        Wanted::Imports => add_cells(owners, table, ends, held, i, first, cells, j, list, 0),
-        Wanted::Exports => add_cells(owners, table, ends, held, j, first, cells, i, list, 0),
-        Wanted::Private => add_range(m, parts, owners, held, i, k, PRIVATE, list),
-        Wanted::Exposed => add_range(m, parts, owners, held, i, k, EXPOSED, list),
-        Wanted::Shared => add_range(m, parts, owners, held, i, k, SHARED, list),
-        Wanted::Copied => add_range(m, parts, owners, held, i, k, COPIED, list),
+        Wanted::Interior => add_class(class, first, cells, INTERIOR, list, 0),
+        Wanted::Halo => add_class(class, first, cells, HALO, list, 0),
+        Wanted::Locals => add_order(class, first, cells, parts, list),
+        Wanted::Imports => add_class(class, first, cells, j as u8, list, 0),
+        Wanted::Exports => add_class(class, first, cells, i as u8, list, 0),
+        Wanted::Private => range_words(m, cell, prev, last, class, holders, k, PRIVATE, list),
+        Wanted::Exposed => range_words(m, cell, prev, last, class, holders, k, EXPOSED, list),
+        Wanted::Shared => range_words(m, cell, prev, last, class, holders, k, SHARED, list),
+        Wanted::Copied => range_words(m, cell, prev, last, class, holders, k, COPIED, list),
     }
 }
 
@@ -104,32 +136,34 @@ fn give(list: &[u16], n: usize, out: &mut [u8]) -> Answer
     Answer::Done(n as u32)
 }
 
-// The list given from prepared tables.
+// The list given from the row of classes that tells it.
 fn list_given(
     wanted: Wanted,
     m: &[u8],
     parts: usize,
-    owners: &[u8],
-    table: &[u8],
-    ends: &[u16],
-    held: &[u8],
+    cell: &[u16],
+    prev: &[u16],
+    last: &[u16],
+    class: &[u8],
+    holders: &[u8],
     i: usize,
     j: usize,
     k: usize,
     out: &mut [u8],
 ) -> Answer
-    requires { ⌜ Accepted (now m) × (parts ≤ 16) × (i ≤ 16) × (j ≤ 16) × (length (chosen wanted (now m) parts (now owners) (now table) (now ends) (now held) i j k) ≤ 2000) ⌝ }
-    ensures { λ r. ⌜ (r ≡ givenAnswer (chosen wanted (now (m .entry)) parts (now (owners .entry)) (now (table .entry)) (now (ends .entry)) (now (held .entry)) i j k) (now (out .entry))) × (now (out .exit) ≡ givenOut (chosen wanted (now (m .entry)) parts (now (owners .entry)) (now (table .entry)) (now (ends .entry)) (now (held .entry)) i j k) (now (out .entry))) ⌝ }
+    requires { ⌜ Ground (now m) (top (now m) ∷ []) (now cell) (now prev) (now last) × (parts ≤ 16) × (i ≤ 16) × (j ≤ 16) × (length (chosen wanted (now m) parts (now class) (now holders) i j k) ≤ 2000) ⌝ }
+    ensures { λ r. ⌜ (r ≡ givenAnswer (chosen wanted (now (m .entry)) parts (now (class .entry)) (now (holders .entry)) i j k) (now (out .entry))) × (now (out .exit) ≡ givenOut (chosen wanted (now (m .entry)) parts (now (class .entry)) (now (holders .entry)) i j k) (now (out .entry))) ⌝ }
 {
-    let mut list = [0u16; 2000];
+    let mut list = [0u16; MOST_CELLS];
     let n = list_words(
         wanted,
         m,
         parts,
-        owners,
-        table,
-        ends,
-        held,
+        cell,
+        prev,
+        last,
+        class,
+        holders,
         i,
         j,
         k,
@@ -153,21 +187,46 @@ fn list_passed(
     requires { ⌜ splitNumber (now m) parts (now owners) (i ∷ j ∷ []) (now st) ≡ 0 ⌝ }
     ensures { λ r. ⌜ (r ≡ namedAnswer wanted (now (m .entry)) parts (now (owners .entry)) i j k (now (st .entry)) (now (out .entry))) × (now (out .exit) ≡ namedOut wanted (now (m .entry)) parts (now (owners .entry)) i j k (now (st .entry)) (now (out .entry))) ⌝ }
 {
+    let mut cell = [0u16; 12001];
+    let mut prev = [0u16; 12001];
+    let mut last = [0u16; 2001];
     let mut table = [0u8; 32000];
     let mut ends = [0u16; 2001];
-    let mut held = [0u8; 34000];
-    let number = sizes_number(m, parts, owners, st, &mut table, &mut ends, &mut held);
+    let mut holders = [0u8; MOST_CELLS];
+    let mut class = [0u8; MOST_CELLS];
+    let number = prepare(
+        m,
+        parts,
+        owners,
+        st,
+        &mut cell,
+        &mut prev,
+        &mut last,
+        &mut table,
+        &mut ends,
+        &mut holders,
+        &mut class,
+    );
     if number != 0 {
         return Answer::Refused(number);
     }
+    classify(
+        owners,
+        &table,
+        &ends,
+        cell_count(m),
+        row_of(wanted, i as usize, j as usize),
+        &mut class,
+    );
     list_given(
         wanted,
         m,
         parts as usize,
-        owners,
-        &table,
-        &ends,
-        &held,
+        &cell,
+        &prev,
+        &last,
+        &class,
+        &holders,
         i as usize,
         j as usize,
         k as usize,

@@ -1,25 +1,26 @@
 -- The lines of a part, put one after another. Assumes nothing.
-use mathlib.Core.Path.{_≡_, sym, ap, _∙_, subst}
-use mathlib.Core.List.{List, [], _∷_, _++_, map}
+use mathlib.Core.Path.{_≡_, refl, sym, ap, ap₂, _∙_, subst}
+use mathlib.Core.Bool.{cond}
+use borrow.Author.Tests.{lt-ltb}
+use mathlib.Core.List.{List, [], _∷_, _++_, map, append-assoc}
 use Prim.Native.Nat.{ℕ, zero, suc, _+_, _≤_, _<_}
 use native.Mathlib.Omega.{arith}
 use lib.ListN.{length, take}
 use Rattle.vocabulary.specs.Bytes.{Bytes}
 use Rattle.vocabulary.specs.Ranges.{blocks}
-use Rattle.vocabulary.specs.RangeLaws.{blocks-turn, blocks-start, at-last}
+use Rattle.vocabulary.specs.RangeLaws.{blocks-turn, blocks-start, blocks-cong, at-last}
 use Rattle.vocabulary.specs.Lists.{joined}
-use Rattle.mesh.specs.Mesh.{top}
-use Rattle.split.specs.Split.{splitOf}
-use Rattle.split.specs.Lists.{listOf}
-use Rattle.split.specs.Sorting.{Added, Prepared}
-use Rattle.part_lists.specs.Giving.{chosen}
-use Rattle.part_lists.specs.declared.lists.Wanted.{Wanted}
-use Rattle.part_lists.specs.declared.lists.Wanted.the-variants.{Interior, Halo, Imports, Exports, Private, Exposed, Shared, Copied}
-use Rattle.part_lists.proofs.ChosenLaws.{chosen-is, list-few}
-use Rattle.cell_lists.proofs.SortLaws.{added-fits, added-take}
+use Rattle.mesh.specs.Mesh.{top, counted, below, firstCell, cellCount}
+use Rattle.split.specs.Split.{Split, splitOf, interior, halo, imports, exports, holdsLower, touches, another, isCopied, isShared, isExposed, isPrivate}
+use Rattle.split.specs.Sorting.{Added}
+use Rattle.split.specs.Classes.{Classed, Prepared, classCells, partCells}
+use Rattle.ranges.specs.Lowers.{Lowered, rangeOf, rowRange}
+use Rattle.cell_lists.proofs.SortLaws.{added-fits, added-take, class-few}
+use Rattle.cell_lists.proofs.ClassLists.{row-cells, interior-is, halo-is, imports-are, part-imports}
+use Rattle.ranges.proofs.LowerLaws.{Sorts, sort-tells, row-range, range-is}
 use Rattle.text.specs.Listing.{ascii, spaced, line, lineUnlessEmpty, dimensionText, partText}
 use Rattle.text.specs.Printing.{Printed, numbers}
-use Rattle.range_text.specs.Lines.{Ready, wantedOf, cellsLine, passing, rangeLine, dimensionOf, partOf}
+use Rattle.range_text.specs.Lines.{rangeLine, dimensionLines, passing, importLine, exportLine, ownLines, partOf}
 use Rattle.text.proofs.PrintLaws.{print-none, print-both}
 
 -- ---- the labels in bytes
@@ -73,39 +74,31 @@ full-told label a b c d s t u w j (suc n) [] h l X Y Z = let z : ⊥ = omega ari
 full-told label a b c d s t u w j (suc n) (x ∷ xs) h l X Y Z =
     unfold lineUnlessEmpty in line-told (label ++ spaced j) a c d s u w (x ∷ take n xs) (print-both a b c s t u label (spaced j) X Y) Z
 
--- ---- lists from prepared tables
+-- ---- lists by class
 
-module _ (m : Bytes) (parts : ℕ) (owners st table : Bytes) (ends : List ℕ) (held : Bytes) (i : ℕ) (R : Ready m parts owners st table ends held i) where
-  module _ (w : Wanted) (j k : ℕ) (low : 1 ≤ j) (high : j ≤ 16) (before after : List ℕ) (n : ℕ)
-      (A : Added before after 0 n (chosen w m parts owners table ends held i j k)) where
-    same : chosen w m parts owners table ends held i j k ≡ wantedOf m parts owners st w i j k
-    unfolding wantedOf
-    same = chosen-is m parts owners st table ends held (R .tables) w i j k (R .low) (omega (arith, R .high, R .few)) low high
+module _ (class : Bytes) (first cells k : ℕ) (few : cells ≤ 2000) (before after : List ℕ) (n : ℕ) (A : Added before after 0 n (classCells class first cells k)) (l : length before ≡ 2000) where
+  short : length (classCells class first cells k) ≤ 2000
+  short = omega (arith, class-few class first cells k)
 
-    short : length (chosen w m parts owners table ends held i j k) ≤ 2000
-    short = subst (λ (xs : List ℕ). length xs ≤ 2000) (sym same) (unfold wantedOf in list-few m parts owners st table ends held (R .tables) w i j k)
+  pub list-room : n ≤ length after
+  list-room = added-fits before after n (classCells class first cells k) A l short
 
-    pub list-room : length before ≡ 2000 → n ≤ length after
-    list-room l = added-fits before after n (chosen w m parts owners table ends held i j k) A l short
+  taken : take n after ≡ classCells class first cells k
+  taken = added-take before after n (classCells class first cells k) A l short
 
-    taken : length before ≡ 2000 → take n after ≡ wantedOf m parts owners st w i j k
-    taken l = added-take before after n (chosen w m parts owners table ends held i j k) A l short ∙ same
+  pub list-told : (a b : Bytes) (s t : ℕ) → Printed a b s t (numbers (take n after)) → Printed a b s t (numbers (classCells class first cells k))
+  list-told a b s t X = subst (λ (xs : List ℕ). Printed a b s t (numbers xs)) taken X
 
-    pub list-told : length before ≡ 2000 → (a b : Bytes) (s t : ℕ) → Printed a b s t (numbers (take n after)) → Printed a b s t (numbers (wantedOf m parts owners st w i j k))
-    list-told l a b s t X = subst (λ (xs : List ℕ). Printed a b s t (numbers xs)) (taken l) X
+  pub passing-none : (label : Bytes) (j : ℕ) → n < 1 → (b : Bytes) (s : ℕ) → Printed b b s s (passing label j (classCells class first cells k))
+  unfolding passing lineUnlessEmpty
+  passing-none label j h b s =
+      let z : n ≡ 0 = omega arith in
+      let e : [] ≡ classCells class first cells k = ap (λ x. take x after) (sym z) ∙ taken in
+      subst (λ (xs : List ℕ). Printed b b s s (lineUnlessEmpty (label ++ spaced j) xs)) e (print-none b s)
 
-  module _ (w : Wanted) (j : ℕ) (low : 1 ≤ j) (high : j ≤ 16) (before after : List ℕ) (n : ℕ)
-      (A : Added before after 0 n (chosen w m parts owners table ends held i j 0)) (l : length before ≡ 2000) (label : Bytes) where
-    pub passing-none : n < 1 → (b : Bytes) (s : ℕ) → Printed b b s s (passing m parts owners st w label i j)
-    unfolding passing lineUnlessEmpty
-    passing-none h b s =
-        let z : n ≡ 0 = omega arith in
-        let e : [] ≡ wantedOf m parts owners st w i j 0 = ap (λ x. take x after) (sym z) ∙ taken w j 0 low high before after n A l in
-        subst (λ (xs : List ℕ). Printed b b s s (lineUnlessEmpty (label ++ spaced j) xs)) e (print-none b s)
-
-    pub passing-some : (a b : Bytes) (s t : ℕ) → Printed a b s t (lineUnlessEmpty (label ++ spaced j) (take n after)) → Printed a b s t (passing m parts owners st w label i j)
-    unfolding passing
-    passing-some a b s t X = subst (λ (xs : List ℕ). Printed a b s t (lineUnlessEmpty (label ++ spaced j) xs)) (taken w j 0 low high before after n A l) X
+  pub passing-some : (label : Bytes) (j : ℕ) (a b : Bytes) (s t : ℕ) → Printed a b s t (lineUnlessEmpty (label ++ spaced j) (take n after)) → Printed a b s t (passing label j (classCells class first cells k))
+  unfolding passing
+  passing-some label j a b s t X = subst (λ (xs : List ℕ). Printed a b s t (lineUnlessEmpty (label ++ spaced j) xs)) taken X
 
 -- ---- texts over a range of numbers
 
@@ -123,32 +116,97 @@ module _ (f : ℕ) (g : ℕ → Bytes) where
   pub texts-up-to : (a b : Bytes) (s t k e n : ℕ) → e ≡ n → k ≤ n → e ≤ k → Printed a b s t (blocks f k g) → Printed a b s t (blocks f n g)
   texts-up-to a b s t k e n q h l X = texts-end a b s t k n h (omega arith) X
 
-module _ (m : Bytes) (parts : ℕ) (owners st : Bytes) where
-  pub cells-told : (w : Wanted) (label a b c : Bytes) (s t u i : ℕ) → Printed a b s t label → Printed b c t u (numbers (wantedOf m parts owners st w i i 0))
-      → Printed a c s u (cellsLine m parts owners st w label i)
-  unfolding cellsLine
-  cells-told w label a b c s t u i X Y = line-told label a b c s t u (wantedOf m parts owners st w i i 0) X Y
+pub cells-told : (label a b c : Bytes) (s t u : ℕ) (vs : List ℕ) → Printed a b s t label → Printed b c t u (numbers vs) → Printed a c s u (line label vs)
+cells-told label a b c s t u vs X Y = line-told label a b c s t u vs X Y
 
-  pub range-told : (w : Wanted) (name a b c d e : Bytes) (s t u v x i k : ℕ) → Printed a b s t b-dim → Printed b c t u (spaced k) → Printed c d u v name
-      → Printed d e v x (numbers (wantedOf m parts owners st w i i k)) → Printed a e s x (rangeLine m parts owners st w name i k)
-  unfolding rangeLine ascii
-  range-told w name a b c d e s t u v x i k X Y Z W =
-      line-told (b-dim ++ (spaced k ++ name)) a d e s v x (wantedOf m parts owners st w i i k)
-      (print-both a b d s t v b-dim (spaced k ++ name) X (print-both b c d t u v (spaced k) name Y Z)) W
+pub range-told : (name a b c d e : Bytes) (s t u v x k : ℕ) (vs : List ℕ) → Printed a b s t b-dim → Printed b c t u (spaced k) → Printed c d u v name → Printed d e v x (numbers vs)
+    → Printed a e s x (rangeLine name k vs)
+unfolding rangeLine ascii
+range-told name a b c d e s t u v x k vs X Y Z W =
+    line-told (b-dim ++ (spaced k ++ name)) a d e s v x vs (print-both a b d s t v b-dim (spaced k ++ name) X (print-both b c d t u v (spaced k) name Y Z)) W
 
-  pub dimension-told : (i k : ℕ) (a b c d e : Bytes) (s t u v x : ℕ) → Printed a b s t (rangeLine m parts owners st Private b-private i k) → Printed b c t u (rangeLine m parts owners st Exposed b-exposed i k)
-      → Printed c d u v (rangeLine m parts owners st Shared b-shared i k) → Printed d e v x (rangeLine m parts owners st Copied b-copied i k) → Printed a e s x (dimensionOf m parts owners st i k)
-  unfolding rangeLine dimensionOf dimensionText wantedOf listOf ascii
-  dimension-told i k a b c d e s t u v x X Y Z W = print-both a b e s t x _ _ X (print-both b c e t u x _ _ Y (print-both c d e u v x _ _ Z W))
+pub dimension-told : (m class holders : Bytes) (k lo n : ℕ) (lower : Bytes) (a b c d e : Bytes) (s t u v x : ℕ) → k < top m → lo ≡ below m k → n ≡ counted m k → Lowered m class holders k lower
+    → Printed a b s t (rangeLine b-private k (classCells lower (lo + 1) n 1)) → Printed b c t u (rangeLine b-exposed k (classCells lower (lo + 1) n 2))
+    → Printed c d u v (rangeLine b-shared k (classCells lower (lo + 1) n 3)) → Printed d e v x (rangeLine b-copied k (classCells lower (lo + 1) n 4))
+    → Printed a e s x (dimensionLines m class holders k)
+unfolding rangeLine dimensionLines ascii rowRange
+dimension-told m class holders k lo n lower a b c d e s t u v x h loe ne L X Y Z W =
+    print-both a b e s t x _ _ (of a b s t b-private 1 X) (print-both b c e t u x _ _ (of b c t u b-exposed 2 Y) (print-both c d e u v x _ _ (of c d u v b-shared 3 Z) (of d e v x b-copied 4 W)))
+  where
+    same : (sort : ℕ) → classCells lower (lo + 1) n sort ≡ rangeOf m class holders k sort
+    same sort =
+        ap₂ (λ l c. classCells lower (l + 1) c sort) loe ne
+        ∙ sym (ap (λ c. cond c (classCells lower (below m k + 1) (counted m k) sort) []) (lt-ltb k (top m) h))
+        ∙ row-range m class holders k sort lower L
 
-  pub part-told : (i : ℕ) (a b c d e f g : Bytes) (s t u v w x y : ℕ) → Printed a b s t (line b-part (i ∷ [])) → Printed b c t u (cellsLine m parts owners st Interior b-interior i)
-      → Printed c d u v (cellsLine m parts owners st Halo b-halo i) → Printed d e v w (blocks 1 parts (passing m parts owners st Imports (ascii "import") i))
-      → Printed e f w x (blocks 1 parts (passing m parts owners st Exports (ascii "export") i)) → Printed f g x y (blocks 0 (top m) (dimensionOf m parts owners st i))
+    of : (a b : Bytes) (s t : ℕ) (name : Bytes) (sort : ℕ) → Printed a b s t (line (b-dim ++ (spaced k ++ name)) (classCells lower (lo + 1) n sort)) → Printed a b s t (line (b-dim ++ (spaced k ++ name)) (rangeOf m class holders k sort))
+    of a b s t name sort X = subst (λ (vs : List ℕ). Printed a b s t (line (b-dim ++ (spaced k ++ name)) vs)) (same sort) X
+
+pub import-told : (class : Bytes) (first cells j k : ℕ) (a b : Bytes) (s t : ℕ) → k ≡ j → Printed a b s t (passing b-import j (classCells class first cells k)) → Printed a b s t (importLine class first cells j)
+unfolding importLine passing ascii
+import-told class first cells j k a b s t e X = subst (λ x. Printed a b s t (lineUnlessEmpty (b-import ++ spaced j) (classCells class first cells x))) e X
+
+pub export-told : (owners table : Bytes) (ends : List ℕ) (first cells i j : ℕ) (class : Bytes) (a b : Bytes) (s t : ℕ) → cells ≤ 2000 → Classed owners table ends j cells class
+    → Printed a b s t (passing b-export j (classCells class first cells i)) → Printed a b s t (exportLine owners table ends first cells i j)
+unfolding exportLine passing ascii
+export-told owners table ends first cells i j class a b s t few C X =
+    subst (λ (vs : List ℕ). Printed a b s t (lineUnlessEmpty (b-export ++ spaced j) vs)) (row-cells owners table ends j first cells i class few C) X
+
+pub own-told : (class : Bytes) (first cells i : ℕ) (a b c d : Bytes) (s t u v : ℕ) → Printed a b s t (line b-part (i ∷ [])) → Printed b c t u (line b-interior (classCells class first cells 17))
+    → Printed c d u v (line b-halo (classCells class first cells 18)) → Printed a d s v (ownLines class first cells i)
+unfolding ownLines ascii
+own-told class first cells i a b c d s t u v X Y Z = print-both a b d s t v _ _ X (print-both b c d t u v _ _ Y Z)
+
+-- ---- a part
+
+module _ (m : Bytes) (parts : ℕ) (owners st table : Bytes) (ends : List ℕ) (holders : Bytes) (R : Prepared m parts owners st table ends holders) (i : ℕ) (low : 1 ≤ i) (high : i ≤ parts) (fewp : parts ≤ 16)
+    (first cells : ℕ) (fe : first ≡ firstCell m) (ce : cells ≡ cellCount m) (class : Bytes) (C : Classed owners table ends i cells class) where
+  abbrev S : Split
+  S = splitOf m parts owners st
+
+  imports-told : blocks 1 parts (importLine class first cells) ≡ blocks 1 parts (λ j. lineUnlessEmpty (ascii "import" ++ spaced j) (imports S i j))
+  unfolding importLine passing
+  imports-told =
+      blocks-cong 1 (λ j. lineUnlessEmpty (ascii "import" ++ spaced j) (classCells class first cells j)) (λ j. lineUnlessEmpty (ascii "import" ++ spaced j) (imports S i j)) parts
+      (λ j h. ap (lineUnlessEmpty (ascii "import" ++ spaced (1 + j))) (imports-are m parts owners st table ends holders R i first cells fe ce class C (1 + j) (omega arith) (omega arith)))
+
+  exports-told : blocks 1 parts (exportLine owners table ends first cells i) ≡ blocks 1 parts (λ j. lineUnlessEmpty (ascii "export" ++ spaced j) (exports S i j))
+  unfolding exportLine passing exports
+  exports-told =
+      blocks-cong 1 (λ j. lineUnlessEmpty (ascii "export" ++ spaced j) (partCells owners table ends j first cells i)) (λ j. lineUnlessEmpty (ascii "export" ++ spaced j) (imports S j i)) parts
+      (λ j h. ap (lineUnlessEmpty (ascii "export" ++ spaced (1 + j))) (part-imports m parts owners st table ends holders R i (1 + j) first cells fe ce low (omega arith)))
+
+  sorts : (e : ℕ) → Sorts (touches m S e i) (another m S i (touches m S e)) (another m S i (λ j. holdsLower m S j e)) (holdsLower m S i e)
+  sorts e = sort-tells (touches m S e i) (another m S i (touches m S e)) (another m S i (λ j. holdsLower m S j e)) (holdsLower m S i e)
+
+  dimension-is : (k : ℕ) → dimensionLines m class holders k ≡ dimensionText m S i k
+  unfolding dimensionLines dimensionText rangeLine isPrivate isExposed isShared isCopied
+  dimension-is k =
+      ap₂ _++_ (ap (line (ascii "dim" ++ (spaced k ++ ascii " private"))) (range-is m parts owners st table ends holders R i low high cells ce class C k 1 _ (λ e. sorts e .0)))
+      (ap₂ _++_ (ap (line (ascii "dim" ++ (spaced k ++ ascii " exposed"))) (range-is m parts owners st table ends holders R i low high cells ce class C k 2 _ (λ e. sorts e .1)))
+      (ap₂ _++_ (ap (line (ascii "dim" ++ (spaced k ++ ascii " shared"))) (range-is m parts owners st table ends holders R i low high cells ce class C k 3 _ (λ e. sorts e .2)))
+      (ap (line (ascii "dim" ++ (spaced k ++ ascii " copied"))) (range-is m parts owners st table ends holders R i low high cells ce class C k 4 _ (λ e. sorts e .3)))))
+
+  pub part-told : (a d e f g : Bytes) (s v w x y : ℕ) → Printed a d s v (ownLines class first cells i) → Printed d e v w (blocks 1 parts (importLine class first cells))
+      → Printed e f w x (blocks 1 parts (exportLine owners table ends first cells i)) → Printed f g x y (blocks 0 (top m) (dimensionLines m class holders))
       → Printed a g s y (partOf m parts owners st i)
-  unfolding cellsLine passing dimensionOf partOf partText wantedOf listOf splitOf ascii
-  part-told i a b c d e f g s t u v w x y A B C D E F =
-      print-both a b g s t y _ _ A (print-both b c g t u y _ _ B (print-both c d g u v y _ _ C (print-both d e g v w y _ _ D (print-both e f g w x y _ _ E F))))
+  part-told a d e f g s v w x y A D E F =
+      subst (Printed a g s y) whole
+      (print-both a d g s v y (ownLines class first cells i) _ A
+      (print-both d e g v w y (blocks 1 parts (importLine class first cells)) _ D (print-both e f g w x y (blocks 1 parts (exportLine owners table ends first cells i)) _ E F)))
+    where
+      whole : ownLines class first cells i ++ (blocks 1 parts (importLine class first cells) ++ (blocks 1 parts (exportLine owners table ends first cells i) ++ blocks 0 (top m) (dimensionLines m class holders)))
+          ≡ partOf m parts owners st i
+      whole =
+          ap₂ _++_ own
+          (ap₂ _++_ imports-told (ap₂ _++_ exports-told (blocks-cong 0 (dimensionLines m class holders) (dimensionText m S i) (top m) (λ k h. dimension-is (0 + k)))))
+          ∙ joined-up (line (ascii "part") (i ∷ [])) (line (ascii "interior") (interior S i)) (line (ascii "halo") (halo S i)) _
+          ∙ (unfold partOf partText splitOf in refl)
+        where
+          own : ownLines class first cells i ≡ line (ascii "part") (i ∷ []) ++ (line (ascii "interior") (interior S i) ++ line (ascii "halo") (halo S i))
+          own =
+              unfold ownLines in ap₂ (λ (xs ys : List ℕ). line (ascii "part") (i ∷ []) ++ (line (ascii "interior") xs ++ line (ascii "halo") ys))
+              (interior-is m parts owners st table ends holders R i first cells fe ce class C) (halo-is m parts owners st table ends holders R i first cells fe ce class C)
 
-pub ready : (m : Bytes) (parts : ℕ) (owners st table : Bytes) (ends : List ℕ) (held : Bytes) (i : ℕ) → Prepared m parts owners st table ends held → parts ≤ 16 → i < parts
-    → Ready m parts owners st table ends held (i + 1)
-ready m parts owners st table ends held i P few h = record { tables = P; few = few; low = omega arith; high = omega arith }
+          joined-up : (xs ys zs ws : Bytes) → (xs ++ (ys ++ zs)) ++ ws ≡ xs ++ (ys ++ (zs ++ ws))
+          joined-up xs ys zs ws = append-assoc xs (ys ++ zs) ws ∙ ap (λ us. xs ++ us) (append-assoc ys zs ws)

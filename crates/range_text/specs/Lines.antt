@@ -1,45 +1,40 @@
--- The lines of a part by the code's names of its lists. No public contract rests on this page. Assumes nothing.
-use mathlib.Core.List.{List, _++_}
-use Prim.Native.Nat.{ℕ, _+_, _≤_}
+-- The lines of a part by the rows of classes that the code reads them off. No public contract rests on this page. Assumes nothing.
+use mathlib.Core.List.{List, [], _∷_, _++_}
+use Prim.Native.Nat.{ℕ}
 use Rattle.vocabulary.specs.Bytes.{Bytes}
 use Rattle.split.specs.Split.{Split, splitOf}
-use Rattle.split.specs.Lists.{listOf}
-use Rattle.split.specs.Sorting.{Prepared}
-use Rattle.part_lists.specs.Giving.{meant}
-use Rattle.part_lists.specs.declared.lists.Wanted.{Wanted}
-use Rattle.text.specs.Listing.{ascii, spaced, line, lineUnlessEmpty, dimensionText, partText}
+use Rattle.split.specs.Classes.{classCells, partCells}
+use Rattle.ranges.specs.Lowers.{rangeOf}
+use Rattle.text.specs.Listing.{ascii, spaced, line, lineUnlessEmpty, partText}
 
--- ---- part i, with tables prepared
+-- the line of a range of dimension d
+unfoldable pub rangeLine : Bytes → ℕ → List ℕ → Bytes
+rangeLine name d vs = line (ascii "dim" ++ (spaced d ++ name)) vs
 
-pub record Ready (m : Bytes) (parts : ℕ) (owners st table : Bytes) (ends : List ℕ) (held : Bytes) (i : ℕ) : Type 0 where
-  pub tables : Prepared m parts owners st table ends held
-  pub few : parts ≤ 16
-  pub low : 1 ≤ i
-  pub high : i ≤ parts
+-- the lines of dimension d
+unfoldable pub dimensionLines : Bytes → Bytes → Bytes → ℕ → Bytes
+dimensionLines m class holders d =
+    rangeLine (ascii " private") d (rangeOf m class holders d 1)
+    ++ (rangeLine (ascii " exposed") d (rangeOf m class holders d 2)
+    ++ (rangeLine (ascii " shared") d (rangeOf m class holders d 3)
+    ++ rangeLine (ascii " copied") d (rangeOf m class holders d 4)))
 
-module _ (m : Bytes) (parts : ℕ) (owners st : Bytes) where
-  abbrev pub S : Split
-  S = splitOf m parts owners st
+-- the line of what passes between the part and part j, if anything does
+unfoldable pub passing : Bytes → ℕ → List ℕ → Bytes
+passing label j vs = lineUnlessEmpty (label ++ spaced j) vs
 
-  -- a list, with the other part j and the dimension k
-  unfoldable pub wantedOf : Wanted → ℕ → ℕ → ℕ → List ℕ
-  wantedOf w i j k = listOf m S i (meant w j k)
+-- the imports from part j, by the part's row, and the exports of part i to part j, by the tables
+unfoldable pub importLine : Bytes → ℕ → ℕ → ℕ → Bytes
+importLine class first cells j = passing (ascii "import") j (classCells class first cells j)
 
-  -- the line of the cells of a sort
-  unfoldable pub cellsLine : Wanted → Bytes → ℕ → Bytes
-  cellsLine w label i = line label (wantedOf w i i 0)
+unfoldable pub exportLine : Bytes → Bytes → List ℕ → ℕ → ℕ → ℕ → ℕ → Bytes
+exportLine owners table ends first cells i j = passing (ascii "export") j (partCells owners table ends j first cells i)
 
-  -- the line of what passes between part i and part j
-  unfoldable pub passing : Wanted → Bytes → ℕ → ℕ → Bytes
-  passing w label i j = lineUnlessEmpty (label ++ spaced j) (wantedOf w i j 0)
+-- the lines of the cells of part i
+unfoldable pub ownLines : Bytes → ℕ → ℕ → ℕ → Bytes
+ownLines class first cells i =
+    line (ascii "part") (i ∷ []) ++ (line (ascii "interior") (classCells class first cells 17) ++ line (ascii "halo") (classCells class first cells 18))
 
-  -- the line of a range of dimension k
-  unfoldable pub rangeLine : Wanted → Bytes → ℕ → ℕ → Bytes
-  rangeLine w name i k = line (ascii "dim" ++ (spaced k ++ name)) (wantedOf w i i k)
-
-  -- the definitions' texts
-  unfoldable pub dimensionOf : ℕ → ℕ → Bytes
-  dimensionOf i k = dimensionText m S i k
-
-  unfoldable pub partOf : ℕ → Bytes
-  partOf i = partText m S i
+-- all lines of part i
+unfoldable pub partOf : Bytes → ℕ → Bytes → Bytes → ℕ → Bytes
+partOf m parts owners st i = partText m (splitOf m parts owners st) i

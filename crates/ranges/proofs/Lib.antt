@@ -1,2 +1,2 @@
-pub mod RangeSorts
+pub mod SideLaws
 pub mod LowerLaws

@@ -1,100 +1,182 @@
--- The ranges as the code finds them, by the cells on an element's trail, are those by its incident cells. Assumes nothing.
+-- The ranges as the code finds them, by the cells on an element's trail, are those of the definitions. Assumes nothing.
 use mathlib.Core.Path.{_≡_, refl, sym, ap, ap₂, _∙_, subst}
 use mathlib.Core.Bool.{Bool, false, not, cond, true, _&&_}
 use mathlib.Core.List.{List, [], _∷_}
-use Prim.Native.Nat.{ℕ, _+_, _-_, _≤_, _<_}
+use Prim.Native.Nat.{ℕ, zero, suc, _+_, _-_, _≤_, _<_}
 use native.Mathlib.Omega.{arith}
-use lib.Dec.{eqb, ltb}
-use lib.ListN.{getD, length}
-use borrow.Author.Tests.{eq-eqb, lt-ltb, le-ltb, eqb-true, eqb-false, ne-eqb, not-true, ltb-true}
-use Rattle.split.specs.SplitLaws.{map-facts}
+use lib.Dec.{eqb, leb, ltb}
+use lib.ListN.{getD, length, set, length-set, length-append}
+use lib.Seq.{getD-set-same, getD-set-other}
+use mathlib.Core.Logic.{⊎-elim}
+use Rattle.vocabulary.specs.CountLaws.{total-add, total-single}
+use borrow.Author.Tests.{eq-eqb, le-leb, lt-leb, lt-ltb, le-ltb, eqb-true, eqb-false, ne-eqb, not-true, ltb-true}
 use Rattle.vocabulary.specs.Bytes.{Bytes, byteAt}
-use Rattle.vocabulary.specs.Ranges.{picked, every, blocks, some}
-use Rattle.vocabulary.specs.RangeLaws.{picked-cong, some-cong, some-swap, blocks-cong, picked-all, picked-length-le, some-in, some-witness, blocks-picked}
+use Rattle.vocabulary.specs.Ranges.{picked, every, blocks, some, total}
+use Rattle.vocabulary.specs.RangeLaws.{at-last, picked-cong, some-cong, some-swap, picked-some, last-or, total-cong, blocks-cong, picked-all, picked-length-le, some-in, some-witness, blocks-picked}
 use Rattle.vocabulary.specs.Lists.{isIn, someOf, All}
 use Rattle.vocabulary.specs.ListLaws.{or-nothing, and-true, and-intro, same-test, All-map, All-getD, someOf-has, someOf-witness, someOf-cong, someOf-and, cond-has}
 use Rattle.mesh.specs.Mesh.{top, counted, below, firstCell, cellCount}
 use Rattle.mesh.specs.Walks.{incident, rightAt, bad10, stepTo}
 use Rattle.mesh.specs.Accepted.{Accepted}
 use Rattle.mesh.specs.WalkLaws.{below-grows}
-use Rattle.links.specs.Links.{trail, links, linkCells}
+use Rattle.links.specs.Links.{trail}
 use Rattle.visits.specs.Visits.{up}
 use Rattle.walks.specs.Walking.{Ground, stepped}
-use Rattle.walks.proofs.GroundLaws.{grounded}
 use Rattle.walks.proofs.StepLaws.{someOf-like, up-told}
-use Rattle.links.proofs.TrailLaws.{empty}
 use Rattle.mesh.proofs.DimensionLaws.{below-next}
-use Rattle.split.specs.Split.{range, Split, splitOf, ownerAt, owns, holds, held, cellsAt, holdsLower, touches, another}
-use Rattle.split.specs.Sorting.{sideAt, someSide, lowerSort, trailSort, trailSorted, rangeOf, Added, ownsAt, heldAt, elsewhereAt, Prepared}
+use Rattle.split.specs.Split.{range, Split, splitOf, ownerAt, owns, holds, held, inside, cellsAt, holdsLower, touches, another}
+use Rattle.split.specs.SplitLaws.{map-facts}
+use Rattle.split.specs.Classes.{classIn, holderCount, heldOne, Classed, Prepared, ofClass, classCells}
+use Rattle.split.specs.Sorting.{Added}
+use Rattle.split.proofs.HoldLaws.{class-zero}
 use Rattle.cell_lists.proofs.SortLaws.{add-none}
+use Rattle.cell_lists.proofs.ClassLists.{class-at}
+use Rattle.ranges.specs.Lowers.{sideAt, someSide, lowerClass, trailClass, elementClass, Trailed, Lowered, rangeOf, rowRange}
 
 -- the stencil (d), which is always right: the chains turned round do not depend on the stencil
 alone-right : (d : ℕ) → bad10 d (d ∷ []) ≡ false
 unfolding bad10 rightAt every
 alone-right d = ap (λ b. not b) (eq-eqb d d refl)
 
-module _ (m : Bytes) (A : Accepted m) (first cells : ℕ) (fe : first ≡ firstCell m) (ce : cells ≡ cellCount m) (s : ℕ) (cell prev last : List ℕ)
-    (le : links s cell prev last ≡ linkCells m first cells empty) where
+pub alone : (m st : Bytes) (cell prev last : List ℕ) → Ground m st cell prev last → Ground m (top m ∷ []) cell prev last
+alone m st cell prev last G = record { mesh = G .mesh; stencil = alone-right (top m); told = G .told }
+
+-- ---- a row of classes
+
+pub trailed-start : (cell prev last : List ℕ) (first : ℕ) (class holders : Bytes) (lo : ℕ) (lower : Bytes) → length lower ≡ 2000 → Trailed cell prev last first class holders lo 0 lower
+trailed-start cell prev last first class holders lo lower l = record { room = l; each = λ q h. let n : ⊥ = omega arith in absurd n }
+
+pub trailed-turn : (cell prev last : List ℕ) (first : ℕ) (class holders : Bytes) (lo q n : ℕ) (a b : Bytes) (x : ℕ) → q < n → n ≤ 2000 → Trailed cell prev last first class holders lo q a
+    → x ≡ trailClass cell prev last first class holders (lo + 1 + q) → b ≡ set a q x → Trailed cell prev last first class holders lo (q + 1) b
+trailed-turn cell prev last first class holders lo q n a b x h nl T xe e = record {
+  room = ap length e ∙ length-set a q x ∙ T .room;
+  each = λ y l. ap (λ (c : Bytes). byteAt c y) e ∙ go y l (eqb y q) refl;
+}
+  where
+    go : (y : ℕ) → y < q + 1 → (t : Bool) → eqb y q ≡ t → byteAt (set a q x) y ≡ trailClass cell prev last first class holders (lo + 1 + y)
+    go y l true w =
+        let z : y ≡ q = eqb-true y q w in
+        ap (byteAt (set a q x)) z ∙ getD-set-same a q x 0 (omega (arith, T .room)) ∙ xe ∙ ap (λ k. trailClass cell prev last first class holders (lo + 1 + k)) (sym z)
+    go y l false w =
+        let ne : y ≡ q → ⊥ = eqb-false y q w in
+        getD-set-other a q y x 0 ne ∙ T .each y (⊎-elim (λ g. g) (λ g. absurd (ne g)) (last-or y q (omega arith)))
+
+pub trailed-end : (cell prev last : List ℕ) (first : ℕ) (class holders : Bytes) (lo q n : ℕ) (lower : Bytes) → q ≤ n → n ≤ q → Trailed cell prev last first class holders lo q lower
+    → Trailed cell prev last first class holders lo n lower
+trailed-end cell prev last first class holders lo q n lower g h T = at-last (λ k. Trailed cell prev last first class holders lo k lower) q n g h T
+
+module _ (m : Bytes) (cell prev last : List ℕ) (G : Ground m (top m ∷ []) cell prev last) where
   -- the cells on a lower element's trail are those incident to it
   trail-told : (e z : ℕ) → 1 ≤ e → e ≤ below m (top m) → isIn z (trail cell prev 12001 (getD last e 0)) ≡ isIn z (picked (firstCell m) (cellCount m) (incident m e))
   trail-told e z low high = turned ∙ stepping ∙ ap (isIn z) (picked-cong (firstCell m) (λ x. someOf (e ∷ []) (λ y. incident m y x)) (incident m e) (cellCount m) (λ k h. unfold someOf in or-nothing (incident m e (firstCell m + k))))
     where
-      G : Ground m (top m ∷ []) cell prev last
-      G = grounded m A first cells fe ce (top m ∷ []) (alone-right (top m)) s cell prev last le
-
       turned : isIn z (trail cell prev 12001 (getD last e 0)) ≡ isIn z (blocks 0 1 (up cell prev last (e ∷ [])))
       turned = unfold blocks up in refl
 
       stepping : isIn z (blocks 0 1 (up cell prev last (e ∷ []))) ≡ isIn z (picked (firstCell m) (cellCount m) (λ x. someOf (e ∷ []) (λ y. incident m y x)))
       stepping =
-          up-told m A (top m ∷ []) cell prev last (e ∷ []) 1 G (record { each = ((low, high), tt); count = refl }) z
+          up-told m (G .mesh) (top m ∷ []) cell prev last (e ∷ []) 1 G (record { each = ((low, high), tt); count = refl }) z
           ∙ (unfold stepped stepTo in refl)
 
-  module _ (owners held : Bytes) (parts i : ℕ) where
-    sort-like : (e : ℕ) → 1 ≤ e → e ≤ below m (top m)
-        → trailSort cell prev last first owners held parts i e ≡ lowerSort (picked (firstCell m) (cellCount m) (incident m e)) (firstCell m) owners held parts i
-    unfolding trailSort lowerSort
-    sort-like e low high =
-        let at : List ℕ = picked (firstCell m) (cellCount m) (incident m e) in
-        λ x. cond (side 0 x) (cond (side 1 x) 3 (cond (side 3 x) 2 1)) (cond (side 2 x) 4 0)
+  module _ (first : ℕ) (fe : first ≡ firstCell m) (class holders : Bytes) where
+    class-like : (e : ℕ) → 1 ≤ e → e ≤ below m (top m) → trailClass cell prev last first class holders e ≡ elementClass m class holders e
+    unfolding trailClass elementClass lowerClass
+    class-like e low high = λ x. cond (side 0 x) (cond (side 1 x) 3 (cond (side 3 x) 2 1)) (cond (side 2 x) 4 0)
       where
-        side : (k : ℕ) → someSide (trail cell prev 12001 (getD last e 0)) first k owners held parts i ≡ someSide (picked (firstCell m) (cellCount m) (incident m e)) (firstCell m) k owners held parts i
+        side : (k : ℕ) → someSide (trail cell prev 12001 (getD last e 0)) first k class holders ≡ someSide (picked (firstCell m) (cellCount m) (incident m e)) (firstCell m) k class holders
         side k =
-            unfold someSide in someOf-like (trail cell prev 12001 (getD last e 0)) (picked (firstCell m) (cellCount m) (incident m e)) (λ y. sideAt k owners held parts i (y - first)) (λ z. trail-told e z low high)
-            ∙ ap (λ f. someOf (picked (firstCell m) (cellCount m) (incident m e)) (λ y. sideAt k owners held parts i (y - f))) fe
+            unfold someSide in someOf-like (trail cell prev 12001 (getD last e 0)) (picked (firstCell m) (cellCount m) (incident m e)) (λ y. sideAt k class holders (y - first)) (λ z. trail-told e z low high)
+            ∙ ap (λ f. someOf (picked (firstCell m) (cellCount m) (incident m e)) (λ y. sideAt k class holders (y - f))) fe
 
-    module _ (k sort lo n : ℕ) (h : k < top m) (loe : lo ≡ below m k) (ne : n ≡ counted m k) where
-      trails-are : blocks 0 n (trailSorted cell prev last first owners held parts i lo sort) ≡ rangeOf m owners held parts i k sort
-      unfolding rangeOf range trailSorted
-      trails-are =
-          let p : ℕ → Bool = λ e. eqb (lowerSort (picked (firstCell m) (cellCount m) (incident m e)) (firstCell m) owners held parts i) sort in
-          blocks-cong 0 (λ q. cond (eqb (trailSort cell prev last first owners held parts i (lo + 1 + q)) sort) ((lo + 1 + q) ∷ []) [])
-          (λ q. cond (p (lo + 1 + q)) ((lo + 1 + q) ∷ []) []) n
-          (λ q l. ap (λ x. cond (eqb x sort) ((lo + 1 + (0 + q)) ∷ []) []) (sort-like (lo + 1 + (0 + q)) (omega arith) (omega (arith, below-grows m (k + 1) (top m) (omega arith), below-next m k))))
-          ∙ blocks-picked (lo + 1) n p
-          ∙ ap₂ (λ a c. picked (a + 1) c p) loe ne
-          ∙ sym (ap (λ b. cond b (picked (below m k + 1) (counted m k) p) []) (lt-ltb k (top m) h))
+    pub lowered : (k d lo n : ℕ) (lower : Bytes) → d ≡ top m → k < d → lo ≡ below m k → n ≡ counted m k → Trailed cell prev last first class holders lo n lower → Lowered m class holders k lower
+    lowered k d lo n lower de h loe ne T = record {
+      room = T .room;
+      each = λ q a b.
+          T .each q (omega arith)
+          ∙ ap (λ l. trailClass cell prev last first class holders (l + 1 + q)) loe
+          ∙ class-like (below m k + 1 + q) (omega arith) (omega (arith, below-grows m (k + 1) (top m) (omega arith), below-next m k));
+    }
 
-      pub range-added : (a b : List ℕ) (t : ℕ) → Added a b 0 t (blocks 0 n (trailSorted cell prev last first owners held parts i lo sort)) → Added a b 0 t (rangeOf m owners held parts i k sort)
-      range-added a b t X = subst (Added a b 0 t) trails-are X
+pub lowered-none : (m class holders : Bytes) (k d : ℕ) (lower : Bytes) → d ≡ top m → d ≤ k → length lower ≡ 2000 → Lowered m class holders k lower
+lowered-none m class holders k d lower e h l = record { room = l; each = λ q a b. let n : ⊥ = omega arith in absurd n }
 
-pub range-none : (m owners held : Bytes) (parts i k sort : ℕ) (d : ℕ) (b : List ℕ) → d ≡ top m → d ≤ k → Added b b 0 0 (rangeOf m owners held parts i k sort)
-range-none m owners held parts i k sort d b e h = subst (Added b b 0 0) (sym none) (add-none b 0)
+pub range-fits : (m : Bytes) (d k lo n : ℕ) → Accepted m → d ≡ top m → k < d → lo ≡ below m k → n ≡ counted m k → (lo + n < 65535) × (n ≤ 2000)
+range-fits m d k lo n A e h loe ne =
+    (omega (arith, below-next m k, below-grows m (k + 1) 4 (omega (arith, A .sizes .d-high)), A .sizes .n-high), omega (arith, below-next m k, below-grows m (k + 1) 4 (omega (arith, A .sizes .d-high)), A .sizes .n-high))
+
+-- ---- a range by its row
+
+pub range-none : (m : Bytes) (k : ℕ) (lower : Bytes) (sort d : ℕ) (b : List ℕ) → d ≡ top m → d ≤ k → Added b b 0 0 (rowRange m k lower sort)
+unfolding rowRange
+range-none m k lower sort d b e h = subst (Added b b 0 0) (sym (ap (λ c. cond c (classCells lower (below m k + 1) (counted m k) sort) []) (le-ltb k (top m) (omega arith)))) (add-none b 0)
+
+pub range-added : (m : Bytes) (k : ℕ) (lower : Bytes) (sort d lo n : ℕ) (a b : List ℕ) (t : ℕ) → d ≡ top m → k < d → lo ≡ below m k → n ≡ counted m k
+    → Added a b 0 t (classCells lower (lo + 1) n sort) → Added a b 0 t (rowRange m k lower sort)
+unfolding rowRange
+range-added m k lower sort d lo n a b t e h loe ne X =
+    subst (Added a b 0 t)
+    (ap₂ (λ l c. classCells lower (l + 1) c sort) loe ne ∙ sym (ap (λ c. cond c (classCells lower (below m k + 1) (counted m k) sort) []) (lt-ltb k (top m) (omega arith)))) X
+
+pub row-range : (m class holders : Bytes) (k sort : ℕ) (lower : Bytes) → Lowered m class holders k lower → rowRange m k lower sort ≡ rangeOf m class holders k sort
+unfolding rowRange rangeOf range classCells ofClass
+row-range m class holders k sort lower L = go (ltb k (top m)) refl
   where
-    low : ltb k (top m) ≡ false
-    low = le-ltb k (top m) (omega arith)
+    go : (b : Bool) → ltb k (top m) ≡ b
+        → cond b (blocks 0 (counted m k) (λ q. cond (eqb (byteAt lower q) sort) ((below m k + 1 + q) ∷ []) [])) [] ≡ cond b (picked (below m k + 1) (counted m k) (λ e. eqb (elementClass m class holders e) sort)) []
+    go true e =
+        blocks-cong 0 (λ q. cond (eqb (byteAt lower q) sort) ((below m k + 1 + q) ∷ []) []) (λ q. cond (eqb (elementClass m class holders (below m k + 1 + q)) sort) ((below m k + 1 + q) ∷ []) []) (counted m k)
+        (λ q h. ap (λ x. cond (eqb x sort) ((below m k + 1 + (0 + q)) ∷ []) []) (L .each (0 + q) (ltb-true k (top m) e) (omega arith)))
+        ∙ blocks-picked (below m k + 1) (counted m k) (λ e. eqb (elementClass m class holders e) sort)
+    go false e = refl
 
-    none : rangeOf m owners held parts i k sort ≡ []
-    none =
-        unfold rangeOf range in ap
-        (λ c. cond c (picked (below m k + 1) (counted m k) (λ e. eqb (lowerSort (picked (firstCell m) (cellCount m) (incident m e)) (firstCell m) owners held parts i) sort)) []) low
+pub range-told : (m class holders : Bytes) (k sort : ℕ) (lower : Bytes) (a b : List ℕ) (t : ℕ) → Lowered m class holders k lower → Added a b 0 t (rowRange m k lower sort)
+    → Added a b 0 t (rangeOf m class holders k sort)
+range-told m class holders k sort lower a b t L X = subst (Added a b 0 t) (row-range m class holders k sort lower L) X
 
-pub range-fits : (m : Bytes) (d k lo n : ℕ) → Accepted m → d ≡ top m → k < d → lo ≡ below m k → n ≡ counted m k → lo + n < 65535
-range-fits m d k lo n A e h loe ne = omega (arith, below-next m k, below-grows m (k + 1) 4 (omega (arith, A .sizes .d-high)), A .sizes .n-high)
+-- ---- how many parts pass, and whether another than part i does
+
+count-picked : (a n : ℕ) (p : ℕ → Bool) → total a n (λ j. cond (p j) 1 0) ≡ length (picked a n p)
+unfolding total picked
+count-picked a zero p = refl
+count-picked a (suc n) p = ap₂ _+_ (count-picked a n p) (one (p (a + n))) ∙ sym (length-append (picked a n p) (cond (p (a + n)) ((a + n) ∷ []) []))
+  where
+    one : (b : Bool) → cond b 1 0 ≡ length (cond b ((a + n) ∷ []) [])
+    one true = refl
+    one false = refl
+
+another-counts : (p : ℕ → Bool) (i n : ℕ) → 1 ≤ i → i ≤ n → ltb (cond (p i) 1 0) (total 1 n (λ j. cond (p j) 1 0)) ≡ some 1 n (λ j. not (eqb i j) && p j)
+another-counts p i n low high = ap (ltb (cond (p i) 1 0)) whole ∙ above ∙ ap (ltb 0) (count-picked 1 n (λ j. not (eqb i j) && p j)) ∙ picked-some 1 (λ j. not (eqb i j) && p j) n
+  where
+    f : ℕ → ℕ
+    f j = cond (eqb i j && p j) 1 0
+
+    g : ℕ → ℕ
+    g j = cond (not (eqb i j) && p j) 1 0
+
+    halves : (e b : Bool) → _≡_ {A = ℕ} (cond b 1 0) (cond (e && b) 1 0 + cond (not e && b) 1 0)
+    halves true true = refl
+    halves true false = refl
+    halves false true = refl
+    halves false false = refl
+
+    back : 1 + (i - 1) ≡ i
+    back = omega arith
+
+    one : total 1 n f ≡ cond (p i) 1 0
+    one =
+        total-single 1 n (i - 1) f (omega arith) (λ k h ne. ap (λ e. cond (e && p (1 + k)) 1 0) (ne-eqb i (1 + k) (λ z. ne (let w : k ≡ i - 1 = omega arith in w))))
+        ∙ ap f back
+        ∙ ap (λ e. cond (e && p i) 1 0) (eq-eqb i i refl)
+
+    whole : total 1 n (λ j. cond (p j) 1 0) ≡ cond (p i) 1 0 + total 1 n g
+    whole = total-cong 1 (λ j. cond (p j) 1 0) (λ j. f j + g j) n (λ k h. halves (eqb i (1 + k)) (p (1 + k))) ∙ total-add 1 n f g ∙ ap (λ x. x + total 1 n g) one
+
+    above : ltb (cond (p i) 1 0) (cond (p i) 1 0 + total 1 n g) ≡ ltb 0 (total 1 n g)
+    above = same-test _ _ (λ e. let h = ltb-true (cond (p i) 1 0) (cond (p i) 1 0 + total 1 n g) e in lt-ltb 0 (total 1 n g) (omega arith)) (λ e. let h = ltb-true 0 (total 1 n g) e in lt-ltb (cond (p i) 1 0) (cond (p i) 1 0 + total 1 n g) (omega arith))
 
 -- ---- a range is that of the definitions
 
--- the sort of an element, by its four tests
+-- the class of an element, by its four tests
 abbrev pub sortBy : Bool → Bool → Bool → Bool → ℕ
 sortBy t a e h = cond t (cond a 3 (cond e 2 1)) (cond h 4 0)
 
@@ -112,7 +194,7 @@ sort-tells true false false false = (refl, refl, refl, refl)
 sort-tells false a e true = (refl, refl, refl, refl)
 sort-tells false a e false = (refl, refl, refl, refl)
 
-module _ (m : Bytes) (parts : ℕ) (owners st table : Bytes) (ends : List ℕ) (held′ : Bytes) (R : Prepared m parts owners st table ends held′) where
+module _ (m : Bytes) (parts : ℕ) (owners st table : Bytes) (ends : List ℕ) (holders : Bytes) (R : Prepared m parts owners st table ends holders) where
   abbrev S : Split
   S = splitOf m parts owners st
 
@@ -125,79 +207,119 @@ module _ (m : Bytes) (parts : ℕ) (owners st table : Bytes) (ends : List ℕ) (
   unfolding cellsAt splitOf
   at-cells e = picked-all (firstCell m) (incident m e) (λ y. (firstCell m ≤ y) × (y < firstCell m + cellCount m)) (cellCount m) (λ k h t. (omega arith, omega arith))
 
-  holds-at : (i y : ℕ) → i ≤ 16 → firstCell m ≤ y → y < firstCell m + cellCount m → heldAt held′ i (y - firstCell m) ≡ holds S i y
-  holds-at i y high l h = let e : firstCell m + (y - firstCell m) ≡ y = omega arith in R .holding .each i (y - firstCell m) (omega arith) high ∙ ap (holds S i) e
+  module _ (i : ℕ) (low : 1 ≤ i) (high : i ≤ parts) (cells : ℕ) (ce : cells ≡ cellCount m) (class : Bytes) (C : Classed owners table ends i cells class) where
+    module _ (y : ℕ) (l : firstCell m ≤ y) (h : y < firstCell m + cellCount m) where
+      place : firstCell m + (y - firstCell m) ≡ y
+      place = omega arith
 
-  module _ (i e : ℕ) (high : i ≤ 16) where
-    mine : someSide (cellsAt m S e) (firstCell m) 0 owners held′ parts i ≡ touches m S e i
-    unfolding someSide sideAt ownsAt touches owns splitOf ownerAt
-    mine = refl
+      class-of : byteAt class (y - firstCell m) ≡ classIn S i y
+      class-of = class-at m parts owners st table ends holders R i (firstCell m) cells refl ce class C (y - firstCell m) (omega arith) ∙ ap (classIn S i) place
 
-    here : (j : ℕ) → j ≤ 16 → someOf (cellsAt m S e) (λ y. heldAt held′ j (y - firstCell m)) ≡ someOf (cellsAt m S e) (holds S j)
-    here j l = someOf-cong (λ y. heldAt held′ j (y - firstCell m)) (holds S j) (cellsAt m S e) (All-map (cellsAt m S e) (λ y w. holds-at j y l (w .0) (w .1)) (at-cells e))
+      owner-few : S .owner y ≤ 16
+      owner-few = let f = map-facts m parts owners [] (R .map) in omega (arith, own-is y, f .owner-in (y - firstCell m) (omega arith) .1, f .few)
 
-    held-here : someSide (cellsAt m S e) (firstCell m) 2 owners held′ parts i ≡ holdsLower m S i e
-    unfolding someSide sideAt holdsLower
-    held-here = here i high
+      mine-told : leb 17 (byteAt class (y - firstCell m)) ≡ owns S i y
+      unfolding classIn
+      mine-told = ap (leb 17) class-of ∙ go (owns S i y) (inside S i y) (holds S i y)
+        where
+          go : (a b h : Bool) → leb 17 (cond a (cond b 17 18) (cond h (S .owner y) 0)) ≡ a
+          go true true h = refl
+          go true false h = refl
+          go false b true = lt-leb 17 (S .owner y) (omega (arith, owner-few))
+          go false b false = refl
 
-    anothers : someSide (cellsAt m S e) (firstCell m) 1 owners held′ parts i ≡ another m S i (touches m S e)
-    unfolding someSide sideAt ownsAt another touches owns splitOf
-    anothers = same-test _ _ left right
-      where
-        own : ℕ → ℕ
-        own y = byteAt owners (y - firstCell m)
+      other-told : ltb (byteAt class (y - firstCell m)) 17 ≡ not (owns S i y)
+      unfolding classIn
+      other-told = ap (λ x. ltb x 17) class-of ∙ go (owns S i y) (inside S i y) (holds S i y)
+        where
+          go : (a b h : Bool) → ltb (cond a (cond b 17 18) (cond h (S .owner y) 0)) 17 ≡ not a
+          go true true h = refl
+          go true false h = refl
+          go false b true = lt-ltb (S .owner y) 17 (omega (arith, owner-few))
+          go false b false = refl
 
-        left : someOf (cellsAt m S e) (λ y. not (eqb (byteAt owners (y - firstCell m)) i)) ≡ true → some 1 parts (λ j. not (eqb i j) && someOf (cellsAt m S e) (λ y. eqb (S .owner y) j)) ≡ true
-        left t =
-            let w = someOf-witness (λ y. not (eqb (byteAt owners (y - firstCell m)) i)) (cellsAt m S e) 0 t in
-            let c = All-getD (λ y. (firstCell m ≤ y) × (y < firstCell m + cellCount m)) (cellsAt m S e) (w .0) 0 (at-cells e) (w .1) in
-            let o = map-facts m parts owners [] (R .map) .owner-in (getD (cellsAt m S e) (w .0) 0 - firstCell m) (omega (arith, c .0, c .1)) in
-            let n = eqb-false _ i (not-true _ (w .2)) in
-            some-in 1 (λ j. not (eqb i j) && someOf (cellsAt m S e) (λ y. eqb (S .owner y) j)) parts (own (getD (cellsAt m S e) (w .0) 0)) (o .0) (omega (arith, o .1))
-            (and-intro _ _ (ap not (ne-eqb i (own (getD (cellsAt m S e) (w .0) 0)) (λ z. n (sym z))))
-            (someOf-has (λ y. eqb (S .owner y) (own (getD (cellsAt m S e) (w .0) 0))) (cellsAt m S e) 0 (w .0) (w .1) (eq-eqb _ _ (own-is (getD (cellsAt m S e) (w .0) 0)))))
+      zero-told : eqb (byteAt class (y - firstCell m)) 0 ≡ not (holds S i y)
+      zero-told =
+          class-zero m parts owners st (R .map) i (y - firstCell m) (omega arith) (byteAt class (y - firstCell m)) (class-of ∙ ap (classIn S i) (sym place)) ∙ ap (λ z. not (holds S i z)) place
 
-        right : some 1 parts (λ j. not (eqb i j) && someOf (cellsAt m S e) (λ y. eqb (S .owner y) j)) ≡ true → someOf (cellsAt m S e) (λ y. not (eqb (byteAt owners (y - firstCell m)) i)) ≡ true
-        right t =
-            let w = some-witness 1 (λ j. not (eqb i j) && someOf (cellsAt m S e) (λ y. eqb (S .owner y) j)) parts t in
-            let u = and-true (not (eqb i (1 + w .0))) (someOf (cellsAt m S e) (λ y. eqb (S .owner y) (1 + w .0))) (w .2) in
-            let v = someOf-witness (λ y. eqb (S .owner y) (1 + w .0)) (cellsAt m S e) 0 (u .1) in
-            let o : byteAt owners (getD (cellsAt m S e) (v .0) 0 - firstCell m) ≡ 1 + w .0 = sym (own-is (getD (cellsAt m S e) (v .0) 0)) ∙ eqb-true _ _ (v .2) in
-            someOf-has (λ y. not (eqb (byteAt owners (y - firstCell m)) i)) (cellsAt m S e) 0 (v .0) (v .1)
-            (ap not (ne-eqb _ i (λ z. eqb-false i (1 + w .0) (not-true _ (u .0)) (sym z ∙ o))))
+      held-told : not (eqb (byteAt class (y - firstCell m)) 0) ≡ holds S i y
+      held-told = ap not zero-told ∙ twice (holds S i y)
+        where
+          twice : (b : Bool) → not (not b) ≡ b
+          twice true = refl
+          twice false = refl
 
-    held-others : someSide (cellsAt m S e) (firstCell m) 3 owners held′ parts i ≡ another m S i (λ j. holdsLower m S j e)
-    unfolding someSide sideAt elsewhereAt another holdsLower splitOf
-    held-others =
-        sym (some-swap 1 parts (cellsAt m S e) (λ j y. not (eqb i j) && heldAt held′ j (y - firstCell m)))
-        ∙ some-cong 1 (λ j. someOf (cellsAt m S e) (λ y. not (eqb i j) && heldAt held′ j (y - firstCell m))) (λ j. not (eqb i j) && someOf (cellsAt m S e) (holds S j)) parts
-        (λ k h.
-        someOf-and (not (eqb i (1 + k))) (λ y. heldAt held′ (1 + k) (y - firstCell m)) (cellsAt m S e)
-        ∙ ap (λ b. not (eqb i (1 + k)) && b) (here (1 + k) (omega (arith, map-facts m parts owners [] (R .map) .few))))
+      elsewhere-told : ltb (heldOne class (y - firstCell m)) (byteAt holders (y - firstCell m)) ≡ some 1 parts (λ j. not (eqb i j) && holds S j y)
+      unfolding heldOne holderCount splitOf
+      elsewhere-told =
+          ap₂ (λ b n. ltb (cond b 0 1) n) zero-told (R .held (y - firstCell m) (omega arith) ∙ ap (λ z. total 1 parts (λ j. cond (holds S j z) 1 0)) place)
+          ∙ ap (λ x. ltb x (total 1 parts (λ j. cond (holds S j y) 1 0))) (swap (holds S i y))
+          ∙ another-counts (λ j. holds S j y) i parts low high
+        where
+          swap : (b : Bool) → _≡_ {A = ℕ} (cond (not b) 0 1) (cond b 1 0)
+          swap true = refl
+          swap false = refl
 
-    -- the sort, by the definitions
-    lower-is : lowerSort (picked (firstCell m) (cellCount m) (incident m e)) (firstCell m) owners held′ parts i
-        ≡ cond (touches m S e i) (cond (another m S i (touches m S e)) 3 (cond (another m S i (λ j. holdsLower m S j e)) 2 1)) (cond (holdsLower m S i e) 4 0)
-    lower-is = whole
-      where
-        same : picked (firstCell m) (cellCount m) (incident m e) ≡ cellsAt m S e
-        same = unfold cellsAt splitOf in refl
+    -- the same for the cells at an element
+    module _ (e : ℕ) where
+      -- by a test of the definitions
+      by : (p q : ℕ → Bool) → ((y : ℕ) → firstCell m ≤ y → y < firstCell m + cellCount m → p (y - firstCell m) ≡ q y) → someOf (cellsAt m S e) (λ y. p (y - firstCell m)) ≡ someOf (cellsAt m S e) q
+      by p q f = someOf-cong (λ y. p (y - firstCell m)) q (cellsAt m S e) (All-map (cellsAt m S e) (λ y w. f y (w .0) (w .1)) (at-cells e))
 
-        whole : lowerSort (picked (firstCell m) (cellCount m) (incident m e)) (firstCell m) owners held′ parts i
-            ≡ cond (touches m S e i) (cond (another m S i (touches m S e)) 3 (cond (another m S i (λ j. holdsLower m S j e)) 2 1)) (cond (holdsLower m S i e) 4 0)
-        whole =
-            ap (λ xs. lowerSort xs (firstCell m) owners held′ parts i) same
-            ∙ (unfold lowerSort in λ x. cond (mine x) (cond (anothers x) 3 (cond (held-others x) 2 1)) (cond (held-here x) 4 0))
+      mine : someSide (cellsAt m S e) (firstCell m) 0 class holders ≡ touches m S e i
+      unfolding someSide sideAt touches
+      mine = by (λ q. leb 17 (byteAt class q)) (owns S i) mine-told
 
-  -- a range, by a test of the definitions that tells its sort
-  pub range-is : (i k sort : ℕ) (p : ℕ → Bool) → i ≤ 16
-      → ((e : ℕ) → eqb (cond (touches m S e i) (cond (another m S i (touches m S e)) 3 (cond (another m S i (λ j. holdsLower m S j e)) 2 1)) (cond (holdsLower m S i e) 4 0)) sort ≡ p e)
-      → rangeOf m owners held′ parts i k sort ≡ range m k p
-  unfolding rangeOf range
-  range-is i k sort p high f =
-      ap (λ xs. cond (ltb k (top m)) xs [])
-      (picked-cong (below m k + 1) (λ e. eqb (lowerSort (picked (firstCell m) (cellCount m) (incident m e)) (firstCell m) owners held′ parts i) sort) p (counted m k)
-      (λ q h. ap (λ x. eqb x sort) (lower-is i (below m k + 1 + q) high) ∙ f (below m k + 1 + q)))
+      held-here : someSide (cellsAt m S e) (firstCell m) 2 class holders ≡ holdsLower m S i e
+      unfolding someSide sideAt holdsLower
+      held-here = by (λ q. not (eqb (byteAt class q) 0)) (holds S i) held-told
+
+      anothers : someSide (cellsAt m S e) (firstCell m) 1 class holders ≡ another m S i (touches m S e)
+      unfolding someSide sideAt another touches owns splitOf
+      anothers = by (λ q. ltb (byteAt class q) 17) (λ y. not (eqb (S .owner y) i)) other-told ∙ same-test _ _ left right
+        where
+          left : someOf (cellsAt m S e) (λ y. not (eqb (S .owner y) i)) ≡ true → some 1 parts (λ j. not (eqb i j) && someOf (cellsAt m S e) (λ y. eqb (S .owner y) j)) ≡ true
+          left t =
+              let w = someOf-witness (λ y. not (eqb (S .owner y) i)) (cellsAt m S e) 0 t in
+              let c = All-getD (λ y. (firstCell m ≤ y) × (y < firstCell m + cellCount m)) (cellsAt m S e) (w .0) 0 (at-cells e) (w .1) in
+              let o = map-facts m parts owners [] (R .map) .owner-in (getD (cellsAt m S e) (w .0) 0 - firstCell m) (omega (arith, c .0, c .1)) in
+              let n = eqb-false (S .owner (getD (cellsAt m S e) (w .0) 0)) i (not-true (eqb (S .owner (getD (cellsAt m S e) (w .0) 0)) i) (w .2)) in
+              some-in 1 (λ j. not (eqb i j) && someOf (cellsAt m S e) (λ y. eqb (S .owner y) j)) parts (S .owner (getD (cellsAt m S e) (w .0) 0)) (omega (arith, o .0, own-is (getD (cellsAt m S e) (w .0) 0))) (omega (arith, o .1, own-is (getD (cellsAt m S e) (w .0) 0)))
+              (and-intro (not (eqb i (S .owner (getD (cellsAt m S e) (w .0) 0)))) (someOf (cellsAt m S e) (λ y. eqb (S .owner y) (S .owner (getD (cellsAt m S e) (w .0) 0)))) (ap not (ne-eqb i (S .owner (getD (cellsAt m S e) (w .0) 0)) (λ z. n (sym z))))
+              (someOf-has (λ y. eqb (S .owner y) (S .owner (getD (cellsAt m S e) (w .0) 0))) (cellsAt m S e) 0 (w .0) (w .1) (eq-eqb (S .owner (getD (cellsAt m S e) (w .0) 0)) (S .owner (getD (cellsAt m S e) (w .0) 0)) refl)))
+
+          right : some 1 parts (λ j. not (eqb i j) && someOf (cellsAt m S e) (λ y. eqb (S .owner y) j)) ≡ true → someOf (cellsAt m S e) (λ y. not (eqb (S .owner y) i)) ≡ true
+          right t =
+              let w = some-witness 1 (λ j. not (eqb i j) && someOf (cellsAt m S e) (λ y. eqb (S .owner y) j)) parts t in
+              let u = and-true (not (eqb i (1 + w .0))) (someOf (cellsAt m S e) (λ y. eqb (S .owner y) (1 + w .0))) (w .2) in
+              let v = someOf-witness (λ y. eqb (S .owner y) (1 + w .0)) (cellsAt m S e) 0 (u .1) in
+              someOf-has (λ y. not (eqb (S .owner y) i)) (cellsAt m S e) 0 (v .0) (v .1)
+              (ap not (ne-eqb (S .owner (getD (cellsAt m S e) (v .0) 0)) i (λ z. eqb-false i (1 + w .0) (not-true (eqb i (1 + w .0)) (u .0)) (sym z ∙ eqb-true (S .owner (getD (cellsAt m S e) (v .0) 0)) (1 + w .0) (v .2)))))
+
+      held-others : someSide (cellsAt m S e) (firstCell m) 3 class holders ≡ another m S i (λ j. holdsLower m S j e)
+      unfolding someSide sideAt another holdsLower splitOf
+      held-others =
+          by (λ q. ltb (heldOne class q) (byteAt holders q)) (λ y. some 1 parts (λ j. not (eqb i j) && holds S j y)) elsewhere-told
+          ∙ sym (some-swap 1 parts (cellsAt m S e) (λ j y. not (eqb i j) && holds S j y))
+          ∙ some-cong 1 (λ j. someOf (cellsAt m S e) (λ y. not (eqb i j) && holds S j y)) (λ j. not (eqb i j) && someOf (cellsAt m S e) (holds S j)) parts
+          (λ k h. someOf-and (not (eqb i (1 + k))) (holds S (1 + k)) (cellsAt m S e))
+
+      -- the class, by the definitions
+      element-is : elementClass m class holders e
+          ≡ cond (touches m S e i) (cond (another m S i (touches m S e)) 3 (cond (another m S i (λ j. holdsLower m S j e)) 2 1)) (cond (holdsLower m S i e) 4 0)
+      element-is = start ∙ (unfold lowerClass in λ x. cond (mine x) (cond (anothers x) 3 (cond (held-others x) 2 1)) (cond (held-here x) 4 0))
+        where
+          start : elementClass m class holders e ≡ lowerClass (cellsAt m S e) (firstCell m) class holders
+          start = unfold elementClass cellsAt splitOf in refl
+
+    -- a range, by a test of the definitions that tells its class
+    pub range-is : (k sort : ℕ) (p : ℕ → Bool)
+        → ((e : ℕ) → eqb (cond (touches m S e i) (cond (another m S i (touches m S e)) 3 (cond (another m S i (λ j. holdsLower m S j e)) 2 1)) (cond (holdsLower m S i e) 4 0)) sort ≡ p e)
+        → rangeOf m class holders k sort ≡ range m k p
+    unfolding rangeOf range
+    range-is k sort p f =
+        ap (λ xs. cond (ltb k (top m)) xs [])
+        (picked-cong (below m k + 1) (λ e. eqb (elementClass m class holders e) sort) p (counted m k) (λ q h. ap (λ x. eqb x sort) (element-is (below m k + 1 + q)) ∙ f (below m k + 1 + q)))
 
   pub range-few : (k : ℕ) (p : ℕ → Bool) → length (range m k p) ≤ 2000
   unfolding range

@@ -1,33 +1,34 @@
-// What a part makes of the lower elements, and the ranges of those of one sort.
-use cell_lists::inner::held_elsewhere;
+// What a part makes of the lower elements, and the ranges of those of one class.
+use cell_lists::inner::add_class;
 use layout::byte_at;
 use layout::number_at;
-use layout::put_number_at;
-use links::inner::invert;
 use mesh::inner::below_of;
-use mesh::inner::cell_count;
 use mesh::inner::count_of;
-use mesh::inner::elements_of;
 use mesh::inner::first_cell;
-use mesh::inner::record_count;
 use mesh::inner::top_of;
-use split::inner::holds_at;
 ghost use mathlib.Core.Path.{_≡_};
-ghost use mathlib.Core.Bool.{not};
+ghost use mathlib.Core.List.{[], _∷_};
 ghost use Prim.Native.Nat.{_+_, _-_, _≤_, _<_};
-ghost use Rattle.vocabulary.specs.Ranges.{blocks};
+ghost use lib.ListN.{length};
+ghost use Rattle.mesh.specs.Mesh.{top};
 ghost use Rattle.mesh.specs.Accepted.{Accepted};
 ghost use Rattle.links.specs.Links.{trail};
-ghost use Rattle.split.specs.Sorting.{sideAt, someSide, trailSort, trailSorted, rangeOf, Added};
+ghost use Rattle.walks.specs.Walking.{Ground};
+ghost use Rattle.split.specs.Classes.{heldOne};
+ghost use Rattle.split.specs.Sorting.{Added};
+ghost use Rattle.ranges.specs.Lowers.{sideAt, someSide, trailClass, Trailed, Lowered, rowRange};
 
-// The sorts of a lower element.
-pub const PRIVATE: usize = 1;
+// The classes of a lower element.
+pub const PRIVATE: u8 = 1;
 
-pub const EXPOSED: usize = 2;
+pub const EXPOSED: u8 = 2;
 
-pub const SHARED: usize = 3;
+pub const SHARED: u8 = 3;
 
-pub const COPIED: usize = 4;
+pub const COPIED: u8 = 4;
+
+// The least class of an owned cell: interior, and halo is the next.
+const OWNED: u8 = 17;
 
 // What is asked of a cell at an element: `side`.
 const MINE: usize = 0;
@@ -41,16 +42,22 @@ const HELD_BY_ANOTHER: usize = 3;
 // The most entries that the chains of all cells have, and one more.
 const ENTRIES: usize = 12001;
 
-// The cell at place q, asked by part i.
-fn has_side(side: usize, owners: &[u8], held: &[u8], parts: usize, i: usize, q: usize) -> bool
-    requires { ⌜ (i < 65536) × (q < 65536) × (parts ≤ 16) ⌝ }
-    ensures { λ b. ⌜ b ≡ sideAt side (now (owners .entry)) (now (held .entry)) parts i q ⌝ }
+// One if the part holds the cell at place q.
+fn held_one(class: &[u8], q: usize) -> u8
+    ensures { λ k. ⌜ (k ≡ heldOne (now (class .entry)) q) ⌝ }
+{
+    if byte_at(class, q) == 0 { 0 } else { 1 }
+}
+
+// The cell at place q.
+fn has_side(side: usize, class: &[u8], holders: &[u8], q: usize) -> bool
+    ensures { λ b. ⌜ b ≡ sideAt side (now (class .entry)) (now (holders .entry)) q ⌝ }
 {
     match side {
-        MINE => byte_at(owners, q) as usize == i,
-        ANOTHERS => byte_at(owners, q) as usize != i,
-        HELD => holds_at(held, i, q),
-        _ => held_elsewhere(held, parts, i, q),
+        MINE => OWNED <= byte_at(class, q),
+        ANOTHERS => byte_at(class, q) < OWNED,
+        HELD => byte_at(class, q) != 0,
+        _ => held_one(class, q) < byte_at(holders, q),
     }
 }
 
@@ -68,13 +75,10 @@ fn some_cell(
     t: usize,
     first: usize,
     side: usize,
-    owners: &[u8],
-    held: &[u8],
-    parts: usize,
-    i: usize,
+    class: &[u8],
+    holders: &[u8],
 ) -> bool
-    requires { ⌜ (i < 65536) × (parts ≤ 16) ⌝ }
-    ensures { λ b. ⌜ b ≡ someSide (trail (now (cell .entry)) (now (prev .entry)) 12001 t) first side (now (owners .entry)) (now (held .entry)) parts i ⌝ }
+    ensures { λ b. ⌜ b ≡ someSide (trail (now (cell .entry)) (now (prev .entry)) 12001 t) first side (now (class .entry)) (now (holders .entry)) ⌝ }
 {
     let mut s = t;
     for _k in 0..ENTRIES {
@@ -82,7 +86,7 @@ fn some_cell(
             return false;
         }
         let q = place_from(first, number_at(cell, s) as usize);
-        if has_side(side, owners, held, parts, i, q) {
+        if has_side(side, class, holders, q) {
             return true;
         }
         s = number_at(prev, s) as usize;
@@ -90,156 +94,91 @@ fn some_cell(
     false
 }
 
-// What part i makes of element e: its sort, and 0 if it does not hold it.
-fn lower_sort(
+// What the part makes of element e: its class, and 0 if it does not hold it.
+fn lower_class(
     cell: &[u16],
     prev: &[u16],
     last: &[u16],
     first: usize,
-    owners: &[u8],
-    held: &[u8],
-    parts: usize,
-    i: usize,
+    class: &[u8],
+    holders: &[u8],
     e: usize,
-) -> usize
-    requires { ⌜ (i < 65536) × (parts ≤ 16) ⌝ }
-    ensures { λ s. ⌜ s ≡ trailSort (now (cell .entry)) (now (prev .entry)) (now (last .entry)) first (now (owners .entry)) (now (held .entry)) parts i e ⌝ }
+) -> u8
+    ensures { λ s. ⌜ s ≡ trailClass (now (cell .entry)) (now (prev .entry)) (now (last .entry)) first (now (class .entry)) (now (holders .entry)) e ⌝ }
 {
     let t = number_at(last, e) as usize;
-    if some_cell(cell, prev, t, first, MINE, owners, held, parts, i) {
-        if some_cell(cell, prev, t, first, ANOTHERS, owners, held, parts, i) {
+    if some_cell(cell, prev, t, first, MINE, class, holders) {
+        if some_cell(cell, prev, t, first, ANOTHERS, class, holders) {
             return SHARED;
         }
-        if some_cell(
-            cell,
-            prev,
-            t,
-            first,
-            HELD_BY_ANOTHER,
-            owners,
-            held,
-            parts,
-            i,
-        ) {
+        if some_cell(cell, prev, t, first, HELD_BY_ANOTHER, class, holders) {
             return EXPOSED;
         }
         return PRIVATE;
     }
-    if some_cell(cell, prev, t, first, HELD, owners, held, parts, i) {
+    if some_cell(cell, prev, t, first, HELD, class, holders) {
         return COPIED;
     }
     0
 }
 
-// Adds the q-th element after lo to the list, if it is of sort k.
-fn add_lower(
+// The classes of the n elements after lo, in a row.
+fn classify_after(
     cell: &[u16],
     prev: &[u16],
     last: &[u16],
     first: usize,
-    owners: &[u8],
-    held: &[u8],
-    parts: usize,
-    i: usize,
-    lo: usize,
-    k: usize,
-    q: usize,
-    list: &mut [u16],
-    s: usize,
-) -> usize
-    requires { ⌜ (i < 65536) × (parts ≤ 16) × (lo + 1 + q < 65536) × (s < 65536) ⌝ }
-    ensures { λ t. ⌜ Added (now (list .entry)) (now (list .exit)) s t (trailSorted (now (cell .entry)) (now (prev .entry)) (now (last .entry)) first (now (owners .entry)) (now (held .entry)) parts i lo k q) × (t ≤ s + 1) ⌝ }
-{
-    let e = lo + 1 + q;
-    if lower_sort(cell, prev, last, first, owners, held, parts, i, e) != k {
-        return s;
-    }
-    put_number_at(list, s, e as u16);
-    s + 1
-}
-
-// Adds those of the n elements after lo that are of sort k.
-fn add_lowers(
-    cell: &[u16],
-    prev: &[u16],
-    last: &[u16],
-    first: usize,
-    owners: &[u8],
-    held: &[u8],
-    parts: usize,
-    i: usize,
+    class: &[u8],
+    holders: &[u8],
     lo: usize,
     n: usize,
-    k: usize,
-    list: &mut [u16],
-) -> usize
-    requires { ⌜ (i < 65536) × (parts ≤ 16) × (lo + n < 65535) ⌝ }
-    ensures { λ t. ⌜ Added (now (list .entry)) (now (list .exit)) 0 t (blocks 0 n (trailSorted (now (cell .entry)) (now (prev .entry)) (now (last .entry)) first (now (owners .entry)) (now (held .entry)) parts i lo k)) ⌝ }
+    lower: &mut [u8],
+)
+    requires { ⌜ (lo + n < 65535) × (n ≤ 2000) × (length (now lower) ≡ 2000) ⌝ }
+    ensures { λ _. ⌜ Trailed (now (cell .entry)) (now (prev .entry)) (now (last .entry)) first (now (class .entry)) (now (holders .entry)) lo n (now (lower .exit)) ⌝ }
 {
-    let mut t = 0;
     for q in 0..n {
-        t = add_lower(
-            cell,
-            prev,
-            last,
-            first,
-            owners,
-            held,
-            parts,
-            i,
-            lo,
-            k,
-            q,
-            list,
-            t,
-        );
+        lower[q] = lower_class(cell, prev, last, first, class, holders, lo + 1 + q);
     }
-    t
 }
 
-// The range of part i of dimension k and of one sort, in the list from its start on. There is none where no lower element has that dimension.
-pub fn add_range(
+// The classes of the lower elements of dimension k for the part that the row of cells is of. There are none from the cells' dimension on.
+pub fn classify_lowers(
     m: &[u8],
-    parts: usize,
-    owners: &[u8],
-    held: &[u8],
-    i: usize,
+    cell: &[u16],
+    prev: &[u16],
+    last: &[u16],
+    class: &[u8],
+    holders: &[u8],
     k: usize,
-    sort: usize,
-    list: &mut [u16],
-) -> usize
-    requires { ⌜ Accepted (now m) × (i < 65536) × (parts ≤ 16) ⌝ }
-    ensures { λ t. ⌜ Added (now (list .entry)) (now (list .exit)) 0 t (rangeOf (now (m .entry)) (now (owners .entry)) (now (held .entry)) parts i k sort) ⌝ }
+    lower: &mut [u8],
+)
+    requires { ⌜ Ground (now m) (top (now m) ∷ []) (now cell) (now prev) (now last) × (length (now lower) ≡ 2000) ⌝ }
+    ensures { λ _. ⌜ Lowered (now (m .entry)) (now (class .entry)) (now (holders .entry)) k (now (lower .exit)) ⌝ }
+{
+    if top_of(m) <= k {
+        return;
+    }
+    classify_after(
+        cell,
+        prev,
+        last,
+        first_cell(m),
+        class,
+        holders,
+        below_of(m, k),
+        count_of(m, k),
+        lower,
+    );
+}
+
+// The range of dimension k and of one class, in the list from its start on, by the classes of the elements.
+pub fn add_range(m: &[u8], k: usize, lower: &[u8], sort: u8, list: &mut [u16]) -> usize
+    requires { ⌜ Accepted (now m) ⌝ }
+    ensures { λ t. ⌜ Added (now (list .entry)) (now (list .exit)) 0 t (rowRange (now (m .entry)) k (now (lower .entry)) sort) ⌝ }
 {
     if top_of(m) <= k {
         return 0;
     }
-    let first = first_cell(m);
-    let mut cell = [0u16; 12001];
-    let mut prev = [0u16; 12001];
-    let mut last = [0u16; 2001];
-    invert(
-        m,
-        elements_of(m),
-        record_count(m),
-        first,
-        cell_count(m),
-        &mut cell,
-        &mut prev,
-        &mut last,
-    );
-    add_lowers(
-        &cell,
-        &prev,
-        &last,
-        first,
-        owners,
-        held,
-        parts,
-        i,
-        below_of(m, k),
-        count_of(m, k),
-        sort,
-        list,
-    )
+    add_class(lower, below_of(m, k) + 1, count_of(m, k), sort, list, 0)
 }

@@ -1,6 +1,6 @@
 -- The marks that the code makes in the rows of a matrix are those of the reaches. Assumes nothing.
 use mathlib.Core.Path.{_≡_, refl, sym, ap, ap₂, _∙_, subst}
-use mathlib.Core.Bool.{Bool, true, false, not, _&&_, _||_}
+use mathlib.Core.Bool.{Bool, true, false, not, _&&_, _||_, cond}
 use mathlib.Core.List.{List, [], _∷_, _++_}
 use Prim.Native.Nat.{ℕ, zero, suc, _+_, _-_, _*_, _≤_, _<_}
 use native.Mathlib.Nat.{zero-add}
@@ -11,8 +11,8 @@ use lib.ListN.{length, getD, set, take, length-set, length-take, replicate, leng
 use lib.Seq.{getD-set-same, getD-set-other, take-suc-set}
 use borrow.Author.Tests.{eqb-true, eqb-false, eq-eqb, ne-eqb, lt-ltb}
 use Rattle.vocabulary.specs.Bytes.{Bytes, byteAt}
-use Rattle.vocabulary.specs.Ranges.{isUpTo, every, some, picked}
-use Rattle.vocabulary.specs.RangeLaws.{upTo-true, every-at, some-cong, some-has, some-in, some-witness, picked-all, picked-in, picked-passes, picked-yes, picked-no, some-next, picked-some, some-swap, at-last}
+use Rattle.vocabulary.specs.Ranges.{isUpTo, every, some, picked, total}
+use Rattle.vocabulary.specs.RangeLaws.{upTo-true, every-at, some-cong, some-has, some-in, some-witness, picked-all, picked-in, picked-passes, picked-yes, picked-no, some-next, picked-some, some-swap, at-last, total-start, total-turn, total-cong}
 use Rattle.vocabulary.specs.Lists.{isIn, someOf, All}
 use Rattle.vocabulary.specs.ListLaws.{same-test, and-true, and-intro, or-nothing, or-assoc, or-always, and-right, All-intro, isIn-at, at-isIn, someOf-has, someOf-witness, someOf-cong, isIn-some}
 use Rattle.mesh.specs.Mesh.{counted, below, firstCell, cellCount}
@@ -21,7 +21,7 @@ use Rattle.mesh.specs.Accepted.{Cell}
 use Rattle.walks.specs.Walking.{Ground, firstMark, layerMark, walkedFrom, Cells, Walk}
 use Rattle.walks.proofs.WalkLaws.{marked-by, cell-layer, walk-fresh}
 use Rattle.walks.proofs.StepLaws.{step-from, step-to}
-use Rattle.reach_rows.specs.Rows.{walkedTo, reachMark, rowMarks, Marks, layerAt, layersAt, layerOf, rowCells, Rowed, rowReach, Site, Space, Swept}
+use Rattle.reach_rows.specs.Rows.{walkedTo, reachMark, rowMarks, Marks, layerAt, layersAt, layerOf, rowCells, Rowed, rowReach, Site, Space, Swept, layerOne, layerCount, reachCount, Counted}
 use Rattle.walks.proofs.GroundLaws.{steps-is}
 use Rattle.mesh.proofs.MeetLaws.{under-none}
 
@@ -251,3 +251,65 @@ sweep-start m st rows marks from found a s = record {
 
 pub space-start : Space 1 (replicate 2001 0) (replicate 2001 0) (replicate 2001 0)
 space-start = record { fresh = under-none; from-long = length-replicate {A = ℕ} 2001 0; found-long = length-replicate {A = ℕ} 2001 0 }
+
+-- ---- counts
+
+module _ (layers : List ℕ) (first q x : ℕ) (e : x ≡ getD layers (first + q) 0) where
+  pub one-bare : x ≡ 0 → 0 ≡ layerOne layers first q
+  unfolding layerOne
+  one-bare h = sym (ap (λ b. cond b 0 1) (eq-eqb (getD layers (first + q) 0) 0 (sym e ∙ h)))
+
+  pub one-layer : (x ≡ 0 → ⊥) → 1 ≡ layerOne layers first q
+  unfolding layerOne
+  one-layer h = sym (ap (λ b. cond b 0 1) (ne-eqb (getD layers (first + q) 0) 0 (λ z. h (e ∙ z))))
+
+module _ (layers : List ℕ) (first : ℕ) where
+  pub count-start : 0 ≡ layerCount layers first 0
+  unfolding layerCount
+  count-start = sym (total-start 0 (layerOne layers first))
+
+  pub count-turn : (q s k : ℕ) → s ≡ layerCount layers first q → k ≡ layerOne layers first q → s + k ≡ layerCount layers first (q + 1)
+  unfolding layerCount
+  count-turn q s k e f = ap₂ _+_ e (f ∙ ap (layerOne layers first) (sym (zero-add q))) ∙ sym (total-turn 0 (layerOne layers first) q)
+
+  pub count-end : (q cells s : ℕ) → q ≤ cells → cells ≤ q → s ≡ layerCount layers first q → s ≡ layerCount layers first cells
+  count-end q cells s g h e = at-last (λ k. s ≡ layerCount layers first k) q cells g h e
+
+module _ (m st : Bytes) (cell prev last : List ℕ) (e r first cells n : ℕ) (S : Site m st cell prev last e r first cells n) (rows : Bytes) where
+  pub reach-counted : (i v k s t : ℕ) (marks from from′ layers : List ℕ) → Rowed first rows i cells s from → Walk m st (take s from) n v marks from′ layers k
+      → t ≡ layerCount layers first cells → t ≡ reachCount m st rows i
+  unfolding layerCount reachCount layerOne
+  reach-counted i v k s t marks from from′ layers R W te =
+      te
+      ∙ ap (λ c. total 0 c (λ q. cond (eqb (getD layers (first + q) 0) 0) 0 1)) (S .cells-is)
+      ∙ total-cong 0 (λ q. cond (eqb (getD layers (first + q) 0) 0) 0 1) (λ q. cond (someOf (rowCells (firstCell m) rows i (cellCount m)) (λ c. walkedTo m st c (firstCell m + q))) 1 0) (cellCount m) (λ q h. each (0 + q))
+    where
+      row : take s from ≡ rowCells (firstCell m) rows i (cellCount m)
+      row = R .cells ∙ ap₂ (λ x y. rowCells x rows i y) (S .first-is) (S .cells-is)
+
+      swap : (b : Bool) → _≡_ {A = ℕ} (cond b 0 1) (cond (not b) 1 0)
+      swap true = refl
+      swap false = refl
+
+      each : (q : ℕ) → _≡_ {A = ℕ} (cond (eqb (getD layers (first + q) 0) 0) 0 1) (cond (someOf (rowCells (firstCell m) rows i (cellCount m)) (λ c. walkedTo m st c (firstCell m + q))) 1 0)
+      each q =
+          swap (eqb (getD layers (first + q) 0) 0)
+          ∙ ap (λ b. cond b 1 0)
+          (ap (λ x. not (eqb (getD layers (x + q) 0) 0)) (S .first-is) ∙ ap (λ x. not (eqb x 0)) (W .layered (firstCell m + q))
+          ∙ reach-some m st (take s from) n (firstCell m + q) (steps-is st n (S .n-is)) ∙ ap (λ cs. someOf cs (λ c. walkedTo m st c (firstCell m + q))) row)
+
+  pub counted-turn : (i v : ℕ) (marks from found marks′ from′ found′ : List ℕ) (s k : ℕ) → Counted m st rows i v marks from found s
+      → k ≡ reachCount m st rows (i + 1) → k ≤ 2000 → Space (v + n) marks′ from′ found′ → Counted m st rows (i + 1) (v + n) marks′ from′ found′ (s + k)
+  counted-turn i v marks from found marks′ from′ found′ s k C ke kl sp = record {
+    turns = omega (arith, C .turns, S .n-few);
+    space = sp;
+    told = let z : i + 1 ≡ 1 + i = omega arith in ap₂ _+_ (C .told) (ke ∙ ap (reachCount m st rows) z) ∙ sym (total-turn 1 (reachCount m st rows) i);
+    few = omega (arith, C .few);
+  }
+
+pub counted-start : (m st rows : Bytes) (marks from found : List ℕ) → Space 1 marks from found → Counted m st rows 0 1 marks from found 0
+counted-start m st rows marks from found s = record { turns = omega arith; space = s; told = sym (total-start 1 (reachCount m st rows)); few = omega arith }
+
+pub counted-end : (m st rows : Bytes) (i v count : ℕ) (marks from found : List ℕ) (s : ℕ) → i ≤ count → count ≤ i → Counted m st rows i v marks from found s
+    → s ≡ total 1 count (reachCount m st rows)
+counted-end m st rows i v count marks from found s g h C = at-last (λ k. s ≡ total 1 k (reachCount m st rows)) i count g h (C .told)

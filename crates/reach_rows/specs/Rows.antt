@@ -1,14 +1,14 @@
 -- Which cells the cells of each row reach, as marks in a matrix: a cell's row is told by a byte, and its column by its place. No public contract
 -- rests on this page. Assumes nothing.
 use mathlib.Core.Path.{_≡_}
-use mathlib.Core.Bool.{Bool, not, _&&_, _||_}
+use mathlib.Core.Bool.{Bool, not, _&&_, _||_, cond}
 use mathlib.Core.List.{List}
 use Prim.Native.Nat.{ℕ, _+_, _-_, _*_, _≤_, _<_}
 use lib.Dec.{eqb, ltb}
 use lib.ListN.{length, getD, take}
 use Rattle.mesh.specs.Meet.{Under}
 use Rattle.vocabulary.specs.Bytes.{Bytes, byteAt}
-use Rattle.vocabulary.specs.Ranges.{some, picked}
+use Rattle.vocabulary.specs.Ranges.{some, picked, total}
 use Rattle.vocabulary.specs.Lists.{someOf}
 use Rattle.mesh.specs.Mesh.{elements, recordCount, firstCell, cellCount}
 use Rattle.mesh.specs.Walks.{stepsTo}
@@ -79,3 +79,21 @@ pub record Swept (m st rows : Bytes) (n v : ℕ) (marks from found : List ℕ) (
   pub turns : v ≤ 1 + 9 * n
   pub space : Space v marks from found
   pub marked : Marks before after (λ z. some 1 n (λ i. rowReach m st rows i z))
+
+-- one where place q has a layer; how many of the first n places have one
+unfoldable pub layerOne : List ℕ → ℕ → ℕ → ℕ
+layerOne layers first q = cond (eqb (getD layers (first + q) 0) 0) 0 1
+
+unfoldable pub layerCount : List ℕ → ℕ → ℕ → ℕ
+layerCount layers first n = total 0 n (layerOne layers first)
+
+-- how many cells the cells of row i reach
+unfoldable pub reachCount : Bytes → Bytes → Bytes → ℕ → ℕ
+reachCount m st rows i = total 0 (cellCount m) (λ q. cond (someOf (rowCells (firstCell m) rows i (cellCount m)) (λ c. walkedTo m st c (firstCell m + q))) 1 0)
+
+-- the first n rows are counted
+pub record Counted (m st rows : Bytes) (n v : ℕ) (marks from found : List ℕ) (s : ℕ) : Type 0 where
+  pub turns : v ≤ 1 + 8 * n
+  pub space : Space v marks from found
+  pub told : s ≡ total 1 n (reachCount m st rows)
+  pub few : s ≤ 2000 * n

@@ -15,12 +15,12 @@ ghost use mathlib.Core.Bool.{true, false};
 ghost use Prim.Native.Nat.{_+_, _<_, _≤_};
 ghost use lib.ListN.{length, set};
 ghost use Rattle.vocabulary.specs.Bytes.{byteAt};
-ghost use Rattle.vocabulary.specs.Ranges.{isUpTo, every};
+ghost use Rattle.vocabulary.specs.Ranges.{isUpTo, every, total};
 ghost use Rattle.mesh.specs.Mesh.{top, cellCount};
 ghost use Rattle.mesh.specs.Walks.{bad10};
 ghost use Rattle.mesh.specs.Accepted.{Accepted};
 ghost use Rattle.walks.specs.Walking.{throughOne};
-ghost use Rattle.reach_rows.specs.Rows.{rowMarks, rowReach, Rowed, Marks, layerOf, layersAt, Site, Space};
+ghost use Rattle.reach_rows.specs.Rows.{rowMarks, rowReach, Rowed, Marks, layerOf, layersAt, Site, Space, layerOne, layerCount, reachCount};
 
 // The room for a number of each element; none is numbered 0.
 const NUMBERS: usize = 2001;
@@ -210,4 +210,115 @@ pub fn mark_reaches(m: &[u8], st: &[u8], rows: &[u8], count: usize, held: &mut [
         count,
         held,
     );
+}
+
+// One if place q has a layer.
+fn count_place(layers: &[u16], first: usize, q: usize) -> usize
+    requires { ⌜ (first < 65536) × (q < 65536) ⌝ }
+    ensures { λ k. ⌜ (k ≡ layerOne (now (layers .entry)) first q) × (k ≤ 1) ⌝ }
+{
+    if entry(layers, first + q) == 0 { 0 } else { 1 }
+}
+
+// How many cells have a layer.
+fn count_row(layers: &[u16], first: usize, cells: usize) -> usize
+    requires { ⌜ (first < 65536) × (cells < 65536) ⌝ }
+    ensures { λ k. ⌜ (k ≡ layerCount (now (layers .entry)) first cells) × (k ≤ cells) ⌝ }
+{
+    let mut k = 0;
+    for q in 0..cells {
+        k += count_place(layers, first, q);
+    }
+    k
+}
+
+// How many cells the cells of row i reach, by walks from all of them at once.
+fn count_reach(
+    m: &[u8],
+    e: usize,
+    r: usize,
+    st: &[u8],
+    n: usize,
+    cell: &[u16],
+    prev: &[u16],
+    last: &[u16],
+    first: usize,
+    cells: usize,
+    rows: &[u8],
+    i: usize,
+    v: usize,
+    marks: &mut [u16],
+    from: &mut [u16],
+    found: &mut [u16],
+) -> usize
+    requires { ⌜ Site (now m) (now st) (now cell) (now prev) (now last) e r first cells n × (v ≤ 60000) × Space v (now marks) (now from) (now found) ⌝ }
+    ensures { λ k. ⌜ (k ≡ reachCount (now (m .entry)) (now (st .entry)) (now (rows .entry)) i) × (k ≤ 2000) × Space (v + n) (now (marks .exit)) (now (from .exit)) (now (found .exit)) ⌝ }
+{
+    let s = row_cells(rows, i, first, cells, from);
+    let mut layers = [0u16; 2001];
+    walk(
+        m,
+        e,
+        r,
+        st,
+        cell,
+        prev,
+        last,
+        s,
+        n,
+        v,
+        marks,
+        from,
+        found,
+        &mut layers,
+    );
+    count_row(&layers, first, cells)
+}
+
+// How many cells the cells of each row from 1 on reach, together over as many rows as `count`. The byte of `rows` at a cell's place tells its
+// row, and the chains are turned round already.
+pub fn count_all(
+    m: &[u8],
+    e: usize,
+    r: usize,
+    st: &[u8],
+    n: usize,
+    cell: &[u16],
+    prev: &[u16],
+    last: &[u16],
+    first: usize,
+    cells: usize,
+    rows: &[u8],
+    count: usize,
+) -> usize
+    requires { ⌜ Site (now m) (now st) (now cell) (now prev) (now last) e r first cells n × (count ≤ 16) ⌝ }
+    ensures { λ s. ⌜ s ≡ total 1 count (reachCount (now (m .entry)) (now (st .entry)) (now (rows .entry))) ⌝ }
+{
+    let mut marks = [0u16; 2001];
+    let mut from = [0u16; 2001];
+    let mut found = [0u16; 2001];
+    let mut v = 1;
+    let mut s = 0;
+    for i in 0..count {
+        s += count_reach(
+            m,
+            e,
+            r,
+            st,
+            n,
+            cell,
+            prev,
+            last,
+            first,
+            cells,
+            rows,
+            i + 1,
+            v,
+            &mut marks,
+            &mut from,
+            &mut found,
+        );
+        v += n;
+    }
+    s
 }

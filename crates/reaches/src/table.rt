@@ -129,7 +129,7 @@ fn reach_of(
 }
 
 // The reaches of all cells, from the chains turned round.
-fn reach_all(
+pub fn reach_all(
     m: &[u8],
     e: usize,
     r: usize,

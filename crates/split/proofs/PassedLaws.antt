@@ -44,6 +44,8 @@ pub record Passed (m : Bytes) (parts : ℕ) (owners : Bytes) (i j : ℕ) (st : B
   pub few : parts ≤ 16
   pub i-in : (1 ≤ i) × (i ≤ 16)
   pub j-in : (1 ≤ j) × (j ≤ 16)
+  pub i-high : i ≤ parts
+  pub j-high : j ≤ parts
 
 module _ (m : Bytes) (parts : ℕ) (owners : Bytes) (i j : ℕ) (st : Bytes) where
   abbrev later : List Test
@@ -65,4 +67,6 @@ module _ (m : Bytes) (parts : ℕ) (owners : Bytes) (i j : ℕ) (st : Bytes) whe
         few = n .few;
         i-in = (n .named-in .0 .0, omega (arith, n .few, n .named-in .0 .1));
         j-in = (n .named-in .1 .0 .0, omega (arith, n .few, n .named-in .1 .0 .1));
+        i-high = n .named-in .0 .1;
+        j-high = n .named-in .1 .0 .1;
       }

@@ -5,7 +5,7 @@ use mathlib.Core.List.{List, [], map}
 use Prim.Native.Nat.{ℕ, _+_, _-_, _*_, _≤_, _<_}
 use native.Mathlib.Omega.{arith}
 use lib.Dec.{eqb, ltb}
-use lib.ListN.{length, getD}
+use lib.ListN.{length, getD, replicate}
 use borrow.Author.Tests.{lt-ltb, le-ltb}
 use Rattle.split.specs.SplitLaws.{map-facts}
 use Rattle.vocabulary.specs.Bytes.{Bytes, byteAt, over}
@@ -14,17 +14,24 @@ use Rattle.vocabulary.specs.RangeLaws.{every-at, every-intro, upTo-intro}
 use Rattle.vocabulary.specs.Lists.{everyOf, Zeros}
 use Rattle.vocabulary.specs.ListLaws.{same-test, everyOf-at, everyOf-intro, All-intro}
 use Rattle.layout.specs.Words.{wordAt, bytesOf}
-use Rattle.mesh.specs.Mesh.{top, firstCell, cellCount}
+use Rattle.mesh.specs.Mesh.{top, elements, recordCount, firstCell, cellCount}
+use Rattle.mesh.specs.WalkLaws.{stencil-parts}
+use Rattle.links.specs.Links.{links, linkCells}
+use Rattle.walks.specs.Walking.{Ground}
+use Rattle.walks.proofs.GroundLaws.{grounded}
 use Rattle.mesh.specs.Walks.{Near, reach, bad10, bad13}
 use Rattle.mesh.specs.Accepted.{Accepted}
 use Rattle.reaches.specs.Tables.{tableWords, entryCount, Ends, Tabled}
-use Rattle.reach_rows.specs.Rows.{rowMarks, Marks}
+use Rattle.reach_rows.specs.Rows.{rowMarks, Marks, reachCount, Site}
 use Rattle.reaches.proofs.EntryLaws.{count-more, entry-is}
 use Rattle.reaches.proofs.SizeLaws.{table-refused}
 use Rattle.split.specs.Split.{splitOf, ownerAt, owns, inside}
 use Rattle.split.specs.Lists.{bad8, bad12, sizeTests, sizesNumber}
 use Rattle.split.specs.Sorting.{ownsAt, rowCount, entryOwned, insideAt, Holding, Prepared}
 use Rattle.split.proofs.HeldLaws.{matrix-told, held-is}
+use Rattle.split.specs.Classes as Classes
+use Rattle.split.specs.Classes.{Holders}
+use Rattle.split.proofs.HoldLaws.{walked-told, sum-told, class-told, held-told}
 
 -- ---- an accepted map
 
@@ -90,3 +97,63 @@ prepared m parts owners st held start table ends r A right stencil H T k = recor
   holding = H;
   insides = insides-are m st start table (T .text k) parts owners ends (T .ended k);
 }
+
+-- ---- the chains turned round
+
+pub linked : (m : Bytes) (first cells : ℕ) (st : Bytes) (s : ℕ) (cell₀ prev₀ last₀ cell prev last : List ℕ) → Accepted m → first ≡ firstCell m → cells ≡ cellCount m → bad10 (top m) st ≡ false
+    → cell₀ ≡ replicate 12001 0 → prev₀ ≡ replicate 12001 0 → last₀ ≡ replicate 2001 0 → links s cell prev last ≡ linkCells m first cells (links 0 cell₀ prev₀ last₀) → Ground m st cell prev last
+linked m first cells st s cell₀ prev₀ last₀ cell prev last A fe ce bad c p l e = grounded m A first cells fe ce st bad s cell prev last (e ∙ λ x. linkCells m first cells (links 0 (c x) (p x) (l x)))
+
+-- the numbers that the walks go by
+pub sited : (m st : Bytes) (cell prev last : List ℕ) (e r first cells : ℕ) → Ground m st cell prev last → e ≡ elements m → r ≡ recordCount m → first ≡ firstCell m → cells ≡ cellCount m
+    → Site m st cell prev last e r first cells (length st - 1)
+sited m st cell prev last e r first cells G ee re fe ce = record {
+  ground = G;
+  e-is = ee;
+  r-is = re;
+  first-is = fe;
+  cells-is = ce;
+  n-is = let p = stencil-parts (top m) st (G .stencil) in omega (arith, p .0);
+  n-few = let p = stencil-parts (top m) st (G .stencil) in omega (arith, p .1);
+}
+
+-- ---- the tests 12 and 13, and the tables, where the reaches are found first
+
+pub table-over : (m st start table : Bytes) (ends : List ℕ) (r : ℕ) → Tabled m st start table ends r → 8000 < r → bad13 m st ≡ true
+table-over m st start table ends r T h = sym (table-refused m st start table ends r T) ∙ lt-ltb 8000 r h
+
+module _ (m : Bytes) (parts : ℕ) (owners st : Bytes) where
+  pub overflow-twelve : (s : ℕ) → s ≡ total 1 parts (reachCount m st owners) → 4096 < s → 12 ≡ sizesNumber m parts owners st
+  unfolding sizesNumber sizeTests
+  overflow-twelve s e h = sym (ap (λ b. cond b 12 (cond (bad13 m st) 13 0)) (sym (walked-told m parts owners st s e) ∙ lt-ltb 4096 s h))
+
+  pub overflow-thirteen : (s : ℕ) → s ≡ total 1 parts (reachCount m st owners) → s ≤ 4096 → bad13 m st ≡ true → 13 ≡ sizesNumber m parts owners st
+  unfolding sizesNumber sizeTests
+  overflow-thirteen s e h t = sym (ap₂ (λ a b. cond a 12 (cond b 13 0)) (sym (walked-told m parts owners st s e) ∙ le-ltb 4096 s h) t)
+
+  module _ (start table : Bytes) (ends : List ℕ) (r : ℕ) (T : Tabled m st start table ends r) where
+    module _ (right : bad8 m parts owners [] ≡ false) (fits : r ≤ 8000) (cells : ℕ) (ce : cells ≡ cellCount m) (holders : Bytes) (s : ℕ) (H : Holders owners table ends cells parts holders s) where
+      N : (i q : ℕ) → q < cellCount m → insideAt owners table ends i q ≡ inside (splitOf m parts owners st) i (firstCell m + q)
+      N = insides-are m st start table (T .text fits) parts owners ends (T .ended fits)
+
+      twelve : ltb 4096 s ≡ bad12 (splitOf m parts owners st)
+      twelve = sum-told m parts owners st table ends (T .ended fits) (entry-is m st start table (T .text fits)) N right cells ce holders s H
+
+      pub tables-held : 4096 < s → 12 ≡ sizesNumber m parts owners st
+      unfolding sizesNumber sizeTests
+      tables-held h = sym (ap (λ b. cond b 12 (cond (bad13 m st) 13 0)) (sym twelve ∙ lt-ltb 4096 s h))
+
+      pub tables-passed : s ≤ 4096 → 0 ≡ sizesNumber m parts owners st
+      unfolding sizesNumber sizeTests
+      tables-passed h = sym (ap₂ (λ a b. cond a 12 (cond b 13 0)) (sym twelve ∙ le-ltb 4096 s h) (sym (table-refused m st start table ends r T) ∙ le-ltb 8000 r fits))
+
+      pub tables-prepared : Accepted m → bad10 (top m) st ≡ false → Classes.Prepared m parts owners st table ends holders
+      tables-prepared A stencil = record {
+        mesh = A;
+        map = right;
+        stencil = stencil;
+        ended = T .ended fits;
+        entries = entry-is m st start table (T .text fits);
+        classes = class-told m parts owners st table ends (T .ended fits) (entry-is m st start table (T .text fits)) N;
+        held = held-told m parts owners st table ends (T .ended fits) (entry-is m st start table (T .text fits)) N right cells ce holders s H;
+      }

@@ -1,4 +1,9 @@
 // The tables that all lists are read off, and the numbers of cells, for an accepted mesh, map and stencil.
+pub use crate::classes::HALO;
+pub use crate::classes::INTERIOR;
+pub use crate::classes::MOST_CELLS;
+pub use crate::classes::classify;
+pub use crate::preparing::prepare;
 pub use crate::tables::bad_holdings;
 pub use crate::tables::holds_at;
 pub use crate::tables::sizes_number;

@@ -1,6 +1,9 @@
 // Part maps and what the parts hold. Here stand the tests that take any bytes and numbers; what supposes an accepted mesh is in `inner`.
+mod classes;
+mod holders;
 pub mod inner;
 mod maps;
+mod preparing;
 mod tables;
 mod units;
 

@@ -1,6 +1,5 @@
 -- `listing::pieces::list_passed` meets its contract. Assumes nothing.
 use mathlib.Core.Path.{refl}
-use Rattle.vocabulary.specs.ListLaws.{zeros}
 use Rattle.split.proofs.PassedLaws.{passed-facts}
 use Rattle.listing.proofs.PieceLaws.{refused-sizes, passed-all}
 use borrow.Author.Needs.{needs}
@@ -14,15 +13,22 @@ list-passed-spec =
     (λ c. search needs)
     (λ c. search needs)
     (λ c. search needs)
-    (λ c κs. (passed-facts _ _ _ _ _ _ (c .before .before .before .before .before .before .before .pre) .mesh, passed-facts _ _ _ _ _ _ (c .before .before .before .before .before .before .before .pre) .map, passed-facts _ _ _ _ _ _ (c .before .before .before .before .before .before .before .pre) .stencil, refl, refl, zeros 34000))
+    (λ c. search needs)
+    (λ c. search needs)
+    (λ c. search needs)
+    (λ c. search needs)
+    (λ c κs. let f = passed-facts _ _ _ _ _ _ (c .before .before .before .before .before .before .before .before .before .before .before .pre) in (f .mesh, f .map, f .stencil, refl, refl, refl, refl, refl, refl, refl))
     (λ c. search needs)
     (λ c. search needs)
     (λ c κs. search needs)
     (λ c. search needs)
-    (λ c. refused-sizes _ _ _ _ _ _ _ (c .before .before .before .before .before .before .before .before .before .before .before .before .before .before .before .before .before .pre) _ (c .before .before .before .before .before .before .before .before .before .sizes-number .ensures .0) (c .before .before .before .before .before .if1 .taken) (c .before .before .put-line .ensures))
+    (λ c. refused-sizes _ _ _ _ _ _ _ (c .before .before .before .before .before .before .before .before .before .before .before .before .before .before .before .before .before .before .before .before .before .before .before .before .before .pre) _ (c .before .before .before .before .before .before .before .before .before .before .before .before .before .prepare .ensures .0) (c .before .before .before .before .before .if1 .taken) (c .before .before .put-line .ensures))
     (λ c. search needs)
     (λ c. search needs)
     (λ c. search needs)
-    (λ c κs. (c .before .before .before .before .before .before .before .before .sizes-number .ensures .1 (c .before .before .before .before .if1 .left), passed-facts _ _ _ _ _ _ (c .before .before .before .before .before .before .before .before .before .before .before .before .before .before .before .before .pre) .few))
     (λ c. search needs)
-    (λ c. passed-all _ _ _ _ _ _ _ (c .before .before .before .before .before .before .before .before .before .before .before .before .before .before .before .before .before .before .before .pre) _ (c .before .before .before .before .before .before .before .before .before .before .before .sizes-number .ensures .0) (c .before .before .before .before .before .before .before .if1 .left) (c .before .before .put-split .ensures)))
+    (λ c. search needs)
+    (λ c. search needs)
+    (λ c κs. (c .before .before .before .before .before .before .before .before .before .before .before .before .before .before .before .prepare .ensures .1 (c .before .before .before .before .before .before .before .if1 .left), c .before .before .before .before .before .before .before .before .before .before .before .before .before .before .before .prepare .ensures .2, passed-facts _ _ _ _ _ _ (c .before .before .before .before .before .before .before .before .before .before .before .before .before .before .before .before .before .before .before .before .before .before .before .before .before .before .before .pre) .few))
+    (λ c. search needs)
+    (λ c. passed-all _ _ _ _ _ _ _ (c .before .before .before .before .before .before .before .before .before .before .before .before .before .before .before .before .before .before .before .before .before .before .before .before .before .before .before .before .before .before .pre) _ (c .before .before .before .before .before .before .before .before .before .before .before .before .before .before .before .before .before .before .prepare .ensures .0) (c .before .before .before .before .before .before .before .before .before .before .if1 .left) (c .before .before .put-split .ensures)))

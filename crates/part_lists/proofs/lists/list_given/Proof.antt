@@ -14,6 +14,6 @@ list-given-spec =
     (λ c. search needs)
     (λ c κs. search needs)
     (λ c. search needs)
-    (λ c κs. (added-fits _ _ _ _ (c .before .before .before .list-words .ensures) refl (c .before .before .before .before .before .before .before .before .before .before .before .pre .4), omega (arith, c .before .before .before .list-words .ensures .count, c .before .before .before .before .before .before .before .before .before .before .before .pre .4)))
+    (λ c κs. (added-fits _ _ _ _ (c .before .before .before .list-words .ensures) refl (c .before .before .before .before .before .before .before .before .before .before .before .before .pre .4), omega (arith, c .before .before .before .list-words .ensures .count, c .before .before .before .before .before .before .before .before .before .before .before .before .pre .4)))
     (λ c. search needs)
-    (λ c. (given-answer _ _ _ _ _ _ (c .before .before .before .before .before .before .list-words .ensures) refl (c .before .before .before .before .before .before .before .before .before .before .before .before .before .before .pre .4) (c .before .before .give .ensures .0), given-out _ _ _ _ _ _ (c .before .before .before .before .before .before .list-words .ensures) refl (c .before .before .before .before .before .before .before .before .before .before .before .before .before .before .pre .4) (c .before .before .give .ensures .1))))
+    (λ c. (given-answer _ _ _ _ _ _ (c .before .before .before .before .before .before .list-words .ensures) refl (c .before .before .before .before .before .before .before .before .before .before .before .before .before .before .before .pre .4) (c .before .before .give .ensures .0), given-out _ _ _ _ _ _ (c .before .before .before .before .before .before .list-words .ensures) refl (c .before .before .before .before .before .before .before .before .before .before .before .before .before .before .before .pre .4) (c .before .before .give .ensures .1))))

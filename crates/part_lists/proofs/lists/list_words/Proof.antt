@@ -1,10 +1,10 @@
 -- `part_lists::lists::list_words` meets its contract. Assumes nothing.
 use Rattle.part_lists.specs.Giving.{chosen}
-use Rattle.part_lists.proofs.ListedLaws.{chose, chose-cells, chose-locals}
+use Rattle.part_lists.proofs.ListedLaws.{chose, chose-cells, chose-order}
+use Rattle.mesh.proofs.AcceptedLaws.{cells-few, cells-fit}
 use borrow.Author.Needs.{needs}
 use Rattle.part_lists.proofs.lists.list_words.Statement.{statement}
 use Rattle.part_lists.proofs.lists.list_words.Tie as tie
-use Rattle.mesh.proofs.AcceptedLaws.{cells-few, cells-fit}
 
 pub list-words-spec : {M : Type 1} → statement M
 unfolding chosen
@@ -14,15 +14,17 @@ list-words-spec =
     (λ c κs. search needs)
     (λ c κs. search needs)
     (λ c. search needs)
-    (λ c κs. (search needs, search cells-fit, search needs))
+    (λ c κs. (search cells-fit, search needs))
     (λ c. search needs)
-    (λ c κs. (search needs, search cells-fit, search needs))
+    (λ c κs. (search cells-fit, search needs))
     (λ c. search needs)
-    (λ c κs. (search needs, search cells-fit, search cells-few, search needs))
+    (λ c κs. (search cells-fit, search cells-few, search needs))
     (λ c. search needs)
-    (λ c κs. (search needs, search cells-fit, search needs))
     (λ c. search needs)
-    (λ c κs. (search needs, search cells-fit, search needs))
+    (λ c κs. (search cells-fit, search needs))
+    (λ c. search needs)
+    (λ c. search needs)
+    (λ c κs. (search cells-fit, search needs))
     (λ c. search needs)
     (λ c κs. search needs)
     (λ c. search needs)
@@ -36,7 +38,7 @@ list-words-spec =
     (λ c. search needs)
     (λ c. search chose-cells)
     (λ c. search needs)
-    (λ c. search chose-locals)
+    (λ c. search chose-order)
     (λ c. search needs)
     (λ c. search chose-cells)
     (λ c. search needs)

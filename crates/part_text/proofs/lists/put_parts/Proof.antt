@@ -6,16 +6,16 @@ use lib.ListN.{length}
 use Rattle.vocabulary.specs.Ranges.{blocks}
 use Rattle.text.specs.Printing.{Printed}
 use Rattle.range_text.specs.Lines.{partOf}
-use Rattle.range_text.proofs.PartLaws.{ready, texts-start, texts-turn, texts-end}
+use Rattle.range_text.proofs.PartLaws.{texts-start, texts-turn, texts-end}
 use borrow.Author.Needs.{needs}
 use Rattle.part_text.proofs.lists.put_parts.Statement.{statement}
 use Rattle.part_text.proofs.lists.put_parts.Tie as tie
 
 abbrev Inv-loop : tie.InvT-loop
-Inv-loop m parts owners st table ends held out₀ at t₀ i₀ out t i = (i ≤ parts) × (length out ≡ length out₀) × Printed out₀ out at t (blocks 1 i (partOf m parts owners st))
+Inv-loop m parts owners st cell prev last table ends holders out₀ at t₀ i₀ out t i = (i ≤ parts) × (length out ≡ length out₀) × Printed out₀ out at t (blocks 1 i (partOf m parts owners st))
 
 abbrev μ-loop : tie.MeasureT-loop
-μ-loop m parts owners st table ends held out₀ at t₀ i₀ out t i = parts - i
+μ-loop m parts owners st cell prev last table ends holders out₀ at t₀ i₀ out t i = parts - i
 
 pub put-parts-spec : {M : Type 1} → statement M
 put-parts-spec =
@@ -25,7 +25,7 @@ put-parts-spec =
     μ-loop
     (λ c. (search needs, refl, search texts-start))
     (λ c. search needs)
-    (λ c κs. search ready)
+    (λ c κs. (c .before .before .before .before .before .before .before .before .before .before .before .before .before .pre .0, c .before .before .before .before .before .before .before .before .before .before .before .before .before .pre .1, c .before .before .before .before .before .before .before .before .before .before .before .before .before .pre .2, omega arith, omega (arith, c .before .loop-test .taken)))
     (λ c. search needs)
     (λ c. search needs)
     (λ c. (search needs, search needs, texts-turn _ _ _ _ _ _ _ _ _ _ (c .before .before .before .before .before .loop .inv .2) (c .before .before .put-part .ensures) (omega arith)))

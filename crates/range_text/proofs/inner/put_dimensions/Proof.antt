@@ -1,4 +1,4 @@
--- `range_text::inner::put_dimensions` meets its contract. The invariant: the dimensions before k are put. Assumes nothing.
+-- `range_text::inner::put_dimensions` meets its contract. The invariant: the dimensions before d are put. Assumes nothing.
 use native.Mathlib.Omega.{arith}
 use mathlib.Core.Path.{_≡_, refl}
 use Prim.Native.Nat.{_-_, _≤_}
@@ -6,17 +6,17 @@ use lib.ListN.{length}
 use Rattle.vocabulary.specs.Ranges.{blocks}
 use Rattle.mesh.specs.Mesh.{top}
 use Rattle.text.specs.Printing.{Printed}
-use Rattle.range_text.specs.Lines.{dimensionOf}
+use Rattle.range_text.specs.Lines.{dimensionLines}
 use Rattle.range_text.proofs.PartLaws.{texts-start, texts-turn, texts-up-to}
 use borrow.Author.Needs.{needs}
 use Rattle.range_text.proofs.inner.put_dimensions.Statement.{statement}
 use Rattle.range_text.proofs.inner.put_dimensions.Tie as tie
 
 abbrev Inv-loop : tie.InvT-loop
-Inv-loop m parts owners st table ends held i out₀ at t₀ k₀ k-end out t k = (k-end ≡ top m) × (k ≤ top m) × (length out ≡ length out₀) × Printed out₀ out at t (blocks 0 k (dimensionOf m parts owners st i))
+Inv-loop m cell prev last class holders out₀ at t₀ d₀ d-end out t d = (d-end ≡ top m) × (d ≤ top m) × (length out ≡ length out₀) × Printed out₀ out at t (blocks 0 d (dimensionLines m class holders))
 
 abbrev μ-loop : tie.MeasureT-loop
-μ-loop m parts owners st table ends held i out₀ at t₀ k₀ k-end out t k = k-end - k
+μ-loop m cell prev last class holders out₀ at t₀ d₀ d-end out t d = d-end - d
 
 pub put-dimensions-spec : {M : Type 1} → statement M
 put-dimensions-spec =
@@ -26,7 +26,7 @@ put-dimensions-spec =
     μ-loop
     (λ c κs. search needs)
     (λ c. (search needs, search needs, refl, search texts-start))
-    (λ c κs. search needs)
+    (λ c κs. (c .before .before .before .before .before .before .before .before .before .before .before .pre, omega (arith, c .before .loop-test .taken, c .before .before .loop .inv .0)))
     (λ c. search needs)
     (λ c. search needs)
     (λ c. (search needs, search needs, search needs, texts-turn _ _ _ _ _ _ _ _ _ _ (c .before .before .before .before .before .loop .inv .3) (c .before .before .put-dimension .ensures) (omega arith)))

@@ -1,5 +1,5 @@
 -- `ranges::inner::has_side` meets its contract. Assumes nothing.
-use Rattle.ranges.proofs.RangeSorts.{side-mine, side-anothers, side-held, side-elsewhere}
+use Rattle.ranges.proofs.SideLaws.{side-mine, side-anothers, side-held, side-elsewhere}
 use borrow.Author.Needs.{needs}
 use Rattle.ranges.proofs.inner.has_side.Statement.{statement}
 use Rattle.ranges.proofs.inner.has_side.Tie as tie
@@ -9,9 +9,8 @@ has-side-spec =
     tie.close
     (tie.spec
     (λ c κs. search needs)
-    (λ c. search needs)
     (λ c κs. search needs)
-    (λ c. search needs)
+    (λ c κs. search needs)
     (λ c κs. search needs)
     (λ c κs. search needs)
     (λ c. search side-mine)

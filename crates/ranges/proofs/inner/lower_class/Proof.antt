@@ -1,12 +1,12 @@
--- `ranges::inner::lower_sort` meets its contract. Assumes nothing.
+-- `ranges::inner::lower_class` meets its contract. Assumes nothing.
 use mathlib.Core.Bool.{true, false}
-use Rattle.ranges.proofs.RangeSorts.{is-shared, is-alone, is-theirs}
+use Rattle.ranges.proofs.SideLaws.{is-shared, is-alone, is-theirs}
 use borrow.Author.Needs.{needs}
-use Rattle.ranges.proofs.inner.lower_sort.Statement.{statement}
-use Rattle.ranges.proofs.inner.lower_sort.Tie as tie
+use Rattle.ranges.proofs.inner.lower_class.Statement.{statement}
+use Rattle.ranges.proofs.inner.lower_class.Tie as tie
 
-pub lower-sort-spec : {M : Type 1} → statement M
-lower-sort-spec =
+pub lower-class-spec : {M : Type 1} → statement M
+lower-class-spec =
     tie.close
     (tie.spec
     (λ c κs. search needs)

@@ -1,0 +1,33 @@
+-- `reach_rows::inner::count_all` meets its contract. The invariant: the first i rows are counted. Assumes nothing.
+use Prim.Native.Nat.{_-_, _≤_}
+use native.Mathlib.Omega.{arith}
+use Rattle.reach_rows.specs.Rows.{Counted}
+use Rattle.reach_rows.proofs.RowLaws.{space-start, counted-start, counted-turn, counted-end}
+use borrow.Author.Needs.{needs}
+use Rattle.reach_rows.proofs.inner.count_all.Statement.{statement}
+use Rattle.reach_rows.proofs.inner.count_all.Tie as tie
+
+abbrev Inv-loop : tie.InvT-loop
+Inv-loop m e r st n cell prev last first cells rows count marks₀ from₀ found₀ v₀ s₀ i₀ marks from found v s i = (i ≤ count) × Counted m st rows i v marks from found s
+
+abbrev μ-loop : tie.MeasureT-loop
+μ-loop m e r st n cell prev last first cells rows count marks₀ from₀ found₀ v₀ s₀ i₀ marks from found v s i = count - i
+
+pub count-all-spec : {M : Type 1} → statement M
+count-all-spec =
+    tie.close
+    (tie.spec
+    Inv-loop
+    μ-loop
+    (λ c. (search needs, counted-start _ _ _ _ _ _ space-start))
+    (λ c. search needs)
+    (λ c. search needs)
+    (λ c. search needs)
+    (λ c. search needs)
+    (λ c κs. (c .before .before .before .before .before .before .before .before .before .before .before .pre .0, omega (arith, c .before .before .before .before .loop .inv .1 .turns, c .before .before .before .before .loop .inv .0, c .before .before .before .before .before .before .before .before .before .before .before .pre .1), c .before .before .before .before .loop .inv .1 .space))
+    (λ c. omega (arith, c .before .before .before .before .before .before .before .before .loop .inv .1 .few, c .before .before .before .count-reach .ensures .1, c .before .before .before .before .before .before .before .before .loop .inv .0, c .before .before .before .before .before .before .before .before .before .before .before .before .before .before .before .pre .1))
+    (λ c. omega (arith, c .before .before .before .before .before .before .before .before .loop .inv .1 .turns, c .before .before .before .before .before .before .before .before .loop .inv .0, c .before .before .before .before .before .before .before .before .before .before .before .before .before .before .before .pre .1, c .before .before .before .before .before .before .before .before .before .before .before .before .before .before .before .pre .0 .n-few))
+    (λ c. search needs)
+    (λ c. search needs)
+    (λ c. (search needs, counted-turn _ _ _ _ _ _ _ _ _ _ (c .before .before .before .before .before .before .before .before .before .before .before .before .before .before .before .pre .0) _ _ _ _ _ _ _ _ _ _ _ (c .before .before .before .before .before .before .before .before .loop .inv .1) (c .before .before .before .count-reach .ensures .0) (c .before .before .before .count-reach .ensures .1) (c .before .before .before .count-reach .ensures .2)))
+    (λ c. counted-end _ _ _ _ _ _ _ _ _ _ (c .before .loop .inv .0) (omega (arith, c .loop-test .left)) (c .before .loop .inv .1)))
