@@ -276,13 +276,14 @@ module _ (layers : List ℕ) (first : ℕ) where
   count-end q cells s g h e = at-last (λ k. s ≡ layerCount layers first k) q cells g h e
 
 module _ (m st : Bytes) (cell prev last : List ℕ) (e r first cells n : ℕ) (S : Site m st cell prev last e r first cells n) (rows : Bytes) where
-  pub reach-counted : (i v k s t : ℕ) (marks from from′ layers : List ℕ) → Rowed first rows i cells s from → Walk m st (take s from) n v marks from′ layers k
-      → t ≡ layerCount layers first cells → t ≡ reachCount m st rows i
+  pub reach-counted : (single : Bool) (i v k s met t : ℕ) (marks from from′ found layers : List ℕ) → Rowed first rows i cells s from
+      → Walk m st single (take s from) n v marks from′ found layers k met → t ≡ layerCount layers first cells → t ≡ reachCount m st rows i
   unfolding layerCount reachCount layerOne
-  reach-counted i v k s t marks from from′ layers R W te =
+  reach-counted single i v k s met t marks from from′ found layers R W te =
       te
       ∙ ap (λ c. total 0 c (λ q. cond (eqb (getD layers (first + q) 0) 0) 0 1)) (S .cells-is)
-      ∙ total-cong 0 (λ q. cond (eqb (getD layers (first + q) 0) 0) 0 1) (λ q. cond (someOf (rowCells (firstCell m) rows i (cellCount m)) (λ c. walkedTo m st c (firstCell m + q))) 1 0) (cellCount m) (λ q h. each (0 + q))
+      ∙ total-cong 0 (λ q. cond (eqb (getD layers (first + q) 0) 0) 0 1)
+      (λ q. cond (someOf (rowCells (firstCell m) rows i (cellCount m)) (λ c. walkedTo m st c (firstCell m + q))) 1 0) (cellCount m) (λ q h. each (0 + q) (omega arith))
     where
       row : take s from ≡ rowCells (firstCell m) rows i (cellCount m)
       row = R .cells ∙ ap₂ (λ x y. rowCells x rows i y) (S .first-is) (S .cells-is)
@@ -291,15 +292,17 @@ module _ (m st : Bytes) (cell prev last : List ℕ) (e r first cells n : ℕ) (S
       swap true = refl
       swap false = refl
 
-      each : (q : ℕ) → _≡_ {A = ℕ} (cond (eqb (getD layers (first + q) 0) 0) 0 1) (cond (someOf (rowCells (firstCell m) rows i (cellCount m)) (λ c. walkedTo m st c (firstCell m + q))) 1 0)
-      each q =
+      each : (q : ℕ) → q < cellCount m
+          → _≡_ {A = ℕ} (cond (eqb (getD layers (first + q) 0) 0) 0 1) (cond (someOf (rowCells (firstCell m) rows i (cellCount m)) (λ c. walkedTo m st c (firstCell m + q))) 1 0)
+      each q h =
           swap (eqb (getD layers (first + q) 0) 0)
           ∙ ap (λ b. cond b 1 0)
           (ap (λ x. not (eqb (getD layers (x + q) 0) 0)) (S .first-is) ∙ ap (λ x. not (eqb x 0)) (W .layered (firstCell m + q))
-          ∙ reach-some m st (take s from) n (firstCell m + q) (steps-is st n (S .n-is)) ∙ ap (λ cs. someOf cs (λ c. walkedTo m st c (firstCell m + q))) row)
+          ∙ reach-some m st (take s from) cell prev last n (firstCell m + q) (S .ground) (row-starts m st cell prev last e r first cells n S rows i s from R .each) (record { low = omega arith; high = omega arith }) (S .n-is)
+          ∙ ap (λ cs. someOf cs (λ c. walkedTo m st c (firstCell m + q))) row)
 
   pub counted-turn : (i v : ℕ) (marks from found marks′ from′ found′ : List ℕ) (s k : ℕ) → Counted m st rows i v marks from found s
-      → k ≡ reachCount m st rows (i + 1) → k ≤ 2000 → Space (v + n) marks′ from′ found′ → Counted m st rows (i + 1) (v + n) marks′ from′ found′ (s + k)
+      → k ≡ reachCount m st rows (i + 1) → k ≤ 2000 → Space (v + (n + 1)) marks′ from′ found′ → Counted m st rows (i + 1) (v + (n + 1)) marks′ from′ found′ (s + k)
   counted-turn i v marks from found marks′ from′ found′ s k C ke kl sp = record {
     turns = omega (arith, C .turns, S .n-few);
     space = sp;

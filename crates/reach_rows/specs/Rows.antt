@@ -93,7 +93,7 @@ reachCount m st rows i = total 0 (cellCount m) (λ q. cond (someOf (rowCells (fi
 
 -- the first n rows are counted
 pub record Counted (m st rows : Bytes) (n v : ℕ) (marks from found : List ℕ) (s : ℕ) : Type 0 where
-  pub turns : v ≤ 1 + 8 * n
+  pub turns : v ≤ 1 + 9 * n
   pub space : Space v marks from found
   pub told : s ≡ total 1 n (reachCount m st rows)
   pub few : s ≤ 2000 * n

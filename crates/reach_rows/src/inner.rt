@@ -235,15 +235,13 @@ fn count_row(layers: &[u16], first: usize, cells: usize) -> usize
 // How many cells the cells of row i reach, by walks from all of them at once.
 fn count_reach(
     m: &[u8],
-    e: usize,
-    r: usize,
+    sizes: MeshSizes,
     st: &[u8],
     n: usize,
+    single: bool,
     cell: &[u16],
     prev: &[u16],
     last: &[u16],
-    first: usize,
-    cells: usize,
     rows: &[u8],
     i: usize,
     v: usize,
@@ -251,16 +249,18 @@ fn count_reach(
     from: &mut [u16],
     found: &mut [u16],
 ) -> usize
-    requires { ⌜ Site (now m) (now st) (now cell) (now prev) (now last) e r first cells n × (v ≤ 60000) × Space v (now marks) (now from) (now found) ⌝ }
-    ensures { λ k. ⌜ (k ≡ reachCount (now (m .entry)) (now (st .entry)) (now (rows .entry)) i) × (k ≤ 2000) × Space (v + n) (now (marks .exit)) (now (from .exit)) (now (found .exit)) ⌝ }
+    requires { ⌜ Site (now m) (now st) (now cell) (now prev) (now last) (sizes .elements) (sizes .records) (sizes .first) (sizes .cells) n × (single ≡ throughOne (now st))
+        × (v ≤ 60000) × Space v (now marks) (now from) (now found) ⌝ }
+    ensures { λ k. ⌜ (k ≡ reachCount (now (m .entry)) (now (st .entry)) (now (rows .entry)) i) × (k ≤ 2000)
+        × Space (v + (n + 1)) (now (marks .exit)) (now (from .exit)) (now (found .exit)) ⌝ }
 {
-    let s = row_cells(rows, i, first, cells, from);
-    let mut layers = [0u16; 2001];
+    let s = row_cells(rows, i, sizes.first, sizes.cells, from);
+    let mut layers = [0u16; NUMBERS];
     walk(
         m,
-        e,
-        r,
+        sizes,
         st,
+        single,
         cell,
         prev,
         last,
@@ -272,7 +272,7 @@ fn count_reach(
         found,
         &mut layers,
     );
-    count_row(&layers, first, cells)
+    count_row(&layers, sizes.first, sizes.cells)
 }
 
 // How many cells the cells of each row from 1 on reach, together over as many rows as `count`. The byte of `rows` at a cell's place tells its
@@ -294,23 +294,28 @@ pub fn count_all(
     requires { ⌜ Site (now m) (now st) (now cell) (now prev) (now last) e r first cells n × (count ≤ 16) ⌝ }
     ensures { λ s. ⌜ s ≡ total 1 count (reachCount (now (m .entry)) (now (st .entry)) (now (rows .entry))) ⌝ }
 {
-    let mut marks = [0u16; 2001];
-    let mut from = [0u16; 2001];
-    let mut found = [0u16; 2001];
+    let single = through_one(st);
+    let sizes = MeshSizes {
+        elements: e,
+        records: r,
+        first,
+        cells,
+    };
+    let mut marks = [0u16; NUMBERS];
+    let mut from = [0u16; NUMBERS];
+    let mut found = [0u16; NUMBERS];
     let mut v = 1;
     let mut s = 0;
     for i in 0..count {
         s += count_reach(
             m,
-            e,
-            r,
+            sizes,
             st,
             n,
+            single,
             cell,
             prev,
             last,
-            first,
-            cells,
             rows,
             i + 1,
             v,
@@ -318,7 +323,7 @@ pub fn count_all(
             &mut from,
             &mut found,
         );
-        v += n;
+        v += n + 1;
     }
     s
 }

@@ -10,12 +10,38 @@ pub count-reach-spec : {M : Type 1} → statement M
 count-reach-spec =
     tie.close
     (tie.spec
-    (λ c κs. (site-last _ _ _ _ _ _ _ _ _ _ (c .before .before .before .before .before .before .before .before .before .before .pre .0), c .before .before .before .before .before .before .before .before .before .before .pre .2 .from-long))
+    (λ c κs.
+    let start = c .before .before .before .before .before .before .before .before .before .before in
+    (site-last _ _ _ _ _ _ _ _ _ _ (start .pre .0), start .pre .3 .from-long))
     (λ c. search needs)
-    (λ c κs. (c .before .before .before .before .before .before .before .before .before .before .before .before .before .before .before .before .before .pre .0 .ground, c .before .before .before .before .before .before .before .before .before .before .before .before .before .before .before .before .before .pre .0 .e-is, c .before .before .before .before .before .before .before .before .before .before .before .before .before .before .before .before .before .pre .0 .r-is, row-starts _ _ _ _ _ _ _ _ _ _ (c .before .before .before .before .before .before .before .before .before .before .before .before .before .before .before .before .before .pre .0) _ _ _ _ (c .before .before .before .before .before .before .row-cells .ensures), omega (arith, c .before .before .before .before .before .before .row-cells .ensures .few, site-cells _ _ _ _ _ _ _ _ _ _ (c .before .before .before .before .before .before .before .before .before .before .before .before .before .before .before .before .before .pre .0)), omega (arith, c .before .before .before .before .before .before .before .before .before .before .before .before .before .before .before .before .before .pre .0 .n-is), c .before .before .before .before .before .before .before .before .before .before .before .before .before .before .before .before .before .pre .0 .n-few, c .before .before .before .before .before .before .before .before .before .before .before .before .before .before .before .before .before .pre .1, c .before .before .before .before .before .before .before .before .before .before .before .before .before .before .before .before .before .pre .2 .fresh, c .before .before .before .before .before .before .row-cells .ensures .room, c .before .before .before .before .before .before .before .before .before .before .before .before .before .before .before .before .before .pre .2 .found-long, zeros 2001))
+    (λ c κs.
+    let at-row-cells = c .before .before .before .before .before .before in
+    let start = at-row-cells .before .before .before .before .before .before .before .before .before .before .before in (
+      start .pre .0 .ground,
+      record { elements-is = start .pre .0 .e-is; records-is = start .pre .0 .r-is; first-is = start .pre .0 .first-is; cells-is = start .pre .0 .cells-is },
+      start .pre .1,
+      row-starts _ _ _ _ _ _ _ _ _ _ (start .pre .0) _ _ _ _ (at-row-cells .row-cells .ensures),
+      omega (arith, start .pre .0 .n-is),
+      start .pre .0 .n-few,
+      start .pre .2,
+      start .pre .3 .fresh,
+      at-row-cells .row-cells .ensures .room,
+      start .pre .3 .found-long,
+      zeros 2001,
+    ))
     (λ c. search needs)
-    (λ c κs. (site-first _ _ _ _ _ _ _ _ _ _ (c .before .before .before .before .before .before .before .before .before .before .before .before .before .before .before .before .before .before .before .before .before .before .before .before .before .before .pre .0), omega (arith, site-cells _ _ _ _ _ _ _ _ _ _ (c .before .before .before .before .before .before .before .before .before .before .before .before .before .before .before .before .before .before .before .before .before .before .before .before .before .before .pre .0))))
+    (λ c κs.
+    let midway = c .before .before .before .before .before .before .before .before .before .before .before .before .before in
+    let start = midway .before .before .before .before .before .before .before .before .before .before .before .before .before in
+    (site-first _ _ _ _ _ _ _ _ _ _ (start .pre .0), omega (arith, site-cells _ _ _ _ _ _ _ _ _ _ (start .pre .0))))
     (λ c. search needs)
     (λ c. search needs)
     (λ c. search needs)
-    (λ c. (reach-counted _ _ _ _ _ _ _ _ _ _ (c .before .before .before .before .before .before .before .before .before .before .before .before .before .before .before .before .before .before .before .before .before .before .before .before .before .before .before .pre .0) _ _ _ _ _ _ _ _ _ _ (c .before .before .before .before .before .before .before .before .before .before .before .before .before .before .before .before .row-cells .ensures) (c .before .before .before .before .before .before .before .before .before .walk .ensures .0) (c .count-row .ensures .0), omega (arith, c .count-row .ensures .1, site-cells _ _ _ _ _ _ _ _ _ _ (c .before .before .before .before .before .before .before .before .before .before .before .before .before .before .before .before .before .before .before .before .before .before .before .before .before .before .before .pre .0)), space-after _ _ _ _ _ _ _ _ _ _ (c .before .before .before .before .before .before .before .before .before .before .before .before .before .before .before .before .before .before .before .before .before .before .before .before .before .before .before .pre .0) _ _ _ _ _ _ _ (c .before .before .before .before .before .before .before .before .before .walk .ensures .0) (c .before .before .before .before .before .before .before .before .before .walk .ensures .1))))
+    (λ c.
+    let at-walk = c .before .before .before .before .before .before .before .before .before in
+    let at-row-cells = at-walk .before .before .before .before .before .before .before in
+    let start = at-row-cells .before .before .before .before .before .before .before .before .before .before .before in (
+      reach-counted _ _ _ _ _ _ _ _ _ _ (start .pre .0) _ _ _ _ _ _ _ _ _ _ _ _ _ (at-row-cells .row-cells .ensures) (at-walk .walk .ensures .0) (c .count-row .ensures .0),
+      omega (arith, c .count-row .ensures .1, site-cells _ _ _ _ _ _ _ _ _ _ (start .pre .0)),
+      space-after _ _ _ _ _ _ _ _ _ _ (start .pre .0) _ _ _ _ _ _ _ _ _ (at-walk .walk .ensures .0),
+    )))
