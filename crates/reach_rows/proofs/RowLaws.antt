@@ -9,16 +9,16 @@ use native.Mathlib.Omega.{arith}
 use lib.Dec.{eqb, ltb}
 use lib.ListN.{length, getD, set, take, length-set, length-take, replicate, length-replicate}
 use lib.Seq.{getD-set-same, getD-set-other, take-suc-set}
-use borrow.Author.Tests.{eqb-true, eqb-false, eq-eqb, ne-eqb, lt-ltb}
+use borrow.Author.Tests.{eqb-true, eqb-false, eq-eqb, ne-eqb}
 use Rattle.vocabulary.specs.Bytes.{Bytes, byteAt}
 use Rattle.vocabulary.specs.Ranges.{isUpTo, every, some, picked, total}
 use Rattle.vocabulary.specs.RangeLaws.{upTo-true, every-at, some-cong, some-has, some-in, some-witness, picked-all, picked-in, picked-passes, picked-yes, picked-no, some-next, picked-some, some-swap, at-last, total-start, total-turn, total-cong}
 use Rattle.vocabulary.specs.Lists.{isIn, someOf, All}
-use Rattle.vocabulary.specs.ListLaws.{same-test, and-true, and-intro, or-nothing, or-assoc, or-always, and-right, All-intro, isIn-at, at-isIn, someOf-has, someOf-witness, someOf-cong, isIn-some}
-use Rattle.mesh.specs.Mesh.{counted, below, firstCell, cellCount}
-use Rattle.mesh.specs.Walks.{incident, steps, stepTo, stepsTo, walked}
+use Rattle.vocabulary.specs.ListLaws.{same-test, and-true, and-intro, or-nothing, or-assoc, or-always, and-right, All-intro, someOf-has, someOf-witness, someOf-cong, isIn-some}
+use Rattle.mesh.specs.Mesh.{firstCell, cellCount}
+use Rattle.mesh.specs.Walks.{stepTo, stepsTo, walked}
 use Rattle.mesh.specs.Accepted.{Cell}
-use Rattle.walks.specs.Walking.{Ground, firstMark, layerMark, walkedFrom, Cells, Walk}
+use Rattle.walks.specs.Walking.{Ground, layerMark, walkedFrom, Cells, Walk}
 use Rattle.walks.proofs.WalkLaws.{marked-by, cell-layer, walk-fresh}
 use Rattle.walks.proofs.StepLaws.{step-from, step-to}
 use Rattle.reach_rows.specs.Rows.{walkedTo, reachMark, rowMarks, Marks, layerAt, layersAt, layerOf, rowCells, Rowed, rowReach, Site, Space, Swept, layerOne, layerCount, reachCount, Counted}
