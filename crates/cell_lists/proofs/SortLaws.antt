@@ -12,10 +12,10 @@ use borrow.Author.Tests.{eq-eqb, ne-eqb, not-true, not-false}
 use Rattle.vocabulary.specs.Bytes.{Bytes, byteAt, over}
 use Rattle.vocabulary.specs.ByteLaws.{over-none, over-more, over-one, over-front}
 use Rattle.vocabulary.specs.Ranges.{every, blocks, some}
-use Rattle.vocabulary.specs.RangeLaws.{every-none, every-more, every-fails, blocks-turn, blocks-start, some-has, some-more, at-last, blocks-length, total-bound}
+use Rattle.vocabulary.specs.RangeLaws.{every-none, every-more, every-fails, blocks-turn, blocks-start, some-has, some-more, at-last, blocks-length, total-bound, total-start, total-turn, total-cong}
 use Rattle.layout.specs.Words.{wordAt}
 use Rattle.split.specs.Sorting.{ownsAt, heldAt, entryOwned, insideAt, sortAt, sorted, cellsOf, localsOf, Added, elsewhereAt}
-use Rattle.split.specs.Classes.{ofClass, classCells, classOrder}
+use Rattle.split.specs.Classes.{ofClass, classCells, placeCount, classCount, classOrder}
 use lib.Seq.{take-append-seam}
 
 pub entry-told : (owners table : Bytes) (i t w x : ℕ) → w ≡ wordAt table (2 * t) → x ≡ byteAt owners w → eqb x i ≡ entryOwned owners table i t
@@ -159,6 +159,40 @@ module _ (class : Bytes) (first cells : ℕ) where
       → Added c d t u (blocks 1 parts (classCells class first cells)) → Added a d 0 u (classOrder class first cells parts)
   unfolding classOrder
   order-added a b c d s t u parts X Y Z = add-both a b d 0 s u _ _ X (add-both b c d s t u _ _ Y Z)
+
+-- ---- how many there are
+
+module _ (class : Bytes) (k q x : ℕ) (e : x ≡ byteAt class q) where
+  pub place-one : x ≡ k → 1 ≡ placeCount class k q
+  unfolding placeCount
+  place-one h = sym (ap (λ b. cond b 1 0) (eq-eqb (byteAt class q) k (sym e ∙ h)))
+
+  pub place-none : (x ≡ k → ⊥) → 0 ≡ placeCount class k q
+  unfolding placeCount
+  place-none h = sym (ap (λ b. cond b 1 0) (ne-eqb (byteAt class q) k (λ z. h (e ∙ z))))
+
+module _ (class : Bytes) (k : ℕ) where
+  pub count-start : 0 ≡ classCount class 0 k
+  unfolding classCount
+  count-start = sym (total-start 0 (placeCount class k))
+
+  pub count-turn : (q s n : ℕ) → s ≡ classCount class q k → n ≡ placeCount class k q → s + n ≡ classCount class (q + 1) k
+  unfolding classCount
+  count-turn q s n e f = ap₂ _+_ e (f ∙ ap (placeCount class k) (sym (zero-add q))) ∙ sym (total-turn 0 (placeCount class k) q)
+
+  pub count-end : (q cells s : ℕ) → q ≤ cells → cells ≤ q → s ≡ classCount class q k → s ≡ classCount class cells k
+  count-end q cells s g h e = at-last (λ n. s ≡ classCount class n k) q cells g h e
+
+  -- it is the length of the list
+  pub class-count : (first cells : ℕ) → length (classCells class first cells k) ≡ classCount class cells k
+  unfolding classCells classCount
+  class-count first cells =
+      blocks-length 0 (ofClass class first k) cells
+      ∙ total-cong 0 (λ q. length (ofClass class first k q)) (placeCount class k) cells (λ q h. unfold ofClass placeCount in one (0 + q) (eqb (byteAt class (0 + q)) k))
+    where
+      one : (q : ℕ) (b : Bool) → length (cond b ((first + q) ∷ []) []) ≡ cond b 1 0
+      one q true = refl
+      one q false = refl
 
 -- no more than there are places
 pub class-few : (class : Bytes) (first cells k : ℕ) → length (classCells class first cells k) ≤ cells

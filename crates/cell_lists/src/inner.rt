@@ -9,7 +9,7 @@ use split::inner::holds_at;
 ghost use mathlib.Core.Path.{_≡_};
 ghost use Prim.Native.Nat.{_+_, _≤_, _<_};
 ghost use Rattle.vocabulary.specs.Ranges.{some, blocks};
-ghost use Rattle.split.specs.Classes.{ofClass, classCells, classOrder};
+ghost use Rattle.split.specs.Classes.{ofClass, classCells, placeCount, classCount, classOrder};
 ghost use Rattle.split.specs.Sorting.{entryOwned, insideAt, sortAt, sorted, cellsOf, localsOf, elsewhereAt, Added};
 
 // An owner's number is at most 16, so these are free for the owned cells.
@@ -251,4 +251,27 @@ pub fn add_order(class: &[u8], first: usize, cells: usize, parts: usize, list: &
     let inner = add_class(class, first, cells, INTERIOR_CLASS, list, 0);
     let own = add_class(class, first, cells, HALO_CLASS, list, inner);
     add_imported(class, first, cells, parts, list, own)
+}
+
+// One if the row has the class k at place q.
+fn count_place(class: &[u8], k: usize, q: usize) -> usize
+    ensures { λ n. ⌜ (n ≡ placeCount (now (class .entry)) k q) × (n ≤ 1) ⌝ }
+{
+    if byte_at(class, q) as usize == k {
+        1
+    } else {
+        0
+    }
+}
+
+// How many cells are of class k.
+pub fn count_class(class: &[u8], cells: usize, k: usize) -> usize
+    requires { ⌜ cells ≤ 2000 ⌝ }
+    ensures { λ n. ⌜ (n ≡ classCount (now (class .entry)) cells k) × (n ≤ 2000) ⌝ }
+{
+    let mut n = 0;
+    for q in 0..cells {
+        n += count_place(class, k, q);
+    }
+    n
 }

@@ -121,6 +121,13 @@ ofClass class first k q = cond (eqb (byteAt class q) k) ((first + q) ∷ []) []
 unfoldable pub classCells : Bytes → ℕ → ℕ → ℕ → List ℕ
 classCells class first cells k = blocks 0 cells (ofClass class first k)
 
+-- how many there are
+unfoldable pub placeCount : Bytes → ℕ → ℕ → ℕ
+placeCount class k q = cond (eqb (byteAt class q) k) 1 0
+
+unfoldable pub classCount : Bytes → ℕ → ℕ → ℕ
+classCount class cells k = total 0 cells (placeCount class k)
+
 -- the same for part j, by the tables
 unfoldable pub partCells : Bytes → Bytes → List ℕ → ℕ → ℕ → ℕ → ℕ → List ℕ
 partCells owners table ends j first cells k = blocks 0 cells (λ q. cond (eqb (classAt owners table ends j cells q) k) ((first + q) ∷ []) [])
