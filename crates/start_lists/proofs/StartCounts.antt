@@ -13,9 +13,9 @@ use Rattle.vocabulary.specs.RangeLaws.{total-grows, blocks-turn, blocks-sized, 
 use Rattle.vocabulary.specs.CountLaws.{total-double}
 use Rattle.layout.specs.Words.{wordAt}
 use Rattle.split.specs.Split.{globalOf}
-use Rattle.split.specs.Sorting.{Added}
+use Rattle.split.specs.Classes.{Added}
 use Rattle.split.specs.Classes.{partCells, classCells, classCount, Classed}
-use Rattle.cell_lists.proofs.SortLaws.{added-take, class-count}
+use Rattle.cell_lists.proofs.AddLaws.{added-take, class-count}
 use Rattle.cell_lists.proofs.ClassLists.{row-cells}
 use Rattle.start_lists.proofs.PutLaws.{put-as, put-none, put-both}
 use Rattle.start_lists.specs.Starting.{Put, localIn, placeAt, rowSize, partCount, endsOf, Counted, Before, entryWords, rowEnds, rowWords, Row, Rows, sentEnds, sentWords}

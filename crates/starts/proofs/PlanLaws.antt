@@ -28,11 +28,11 @@ use Rattle.round.specs.Rounds.{schemeOf, depthIn, bad14}
 use Rattle.split.specs.Split.{splitOf, interior, halo, locals, globalOf}
 use Rattle.split.specs.SplitLaws.{own-count}
 use Rattle.split.specs.Lists.{bad12, splitTests, sizeTests, splitNumber, sizesNumber}
-use Rattle.split.specs.Sorting.{Added}
+use Rattle.split.specs.Classes.{Added}
 use Rattle.split.specs.Classes.{Classed, Prepared, classCount, classOrder}
 use Rattle.split.proofs.PassedLaws.{Passed, twice, passed-facts}
 use Rattle.cell_lists.proofs.ClassLists.{interior-is, halo-is, order-is as cells-order, locals-few}
-use Rattle.cell_lists.proofs.SortLaws.{added-fits, added-take, class-count}
+use Rattle.cell_lists.proofs.AddLaws.{added-fits, added-take, class-count}
 use Rattle.starts.specs.Start.{ownedIn, reachEnds, listsLong, stateSize, sizeNumber, sizeAnswer, firstState, startTests, startNumber, startAnswer, startState}
 use Rattle.start_lists.specs.Starting.{Put, rowEnds, sentEnds, startWords, startDepth, Fit, Cells}
 use Rattle.starts.specs.Planning.{Planned}

@@ -2,7 +2,7 @@
 use mathlib.Core.Path.{_≡_}
 use Prim.Native.Nat.{_-_, _≤_}
 use Rattle.split.specs.Classes.{classCount}
-use Rattle.cell_lists.proofs.SortLaws.{count-start, count-turn, count-end}
+use Rattle.cell_lists.proofs.AddLaws.{count-start, count-turn, count-end}
 use borrow.Author.Needs.{needs}
 use Rattle.cell_lists.proofs.inner.count_class.Statement.{statement}
 use Rattle.cell_lists.proofs.inner.count_class.Tie as tie

@@ -1,5 +1,5 @@
 -- `cell_lists::inner::count_place` meets its contract. Assumes nothing.
-use Rattle.cell_lists.proofs.SortLaws.{place-one, place-none}
+use Rattle.cell_lists.proofs.AddLaws.{place-one, place-none}
 use borrow.Author.Needs.{needs}
 use Rattle.cell_lists.proofs.inner.count_place.Statement.{statement}
 use Rattle.cell_lists.proofs.inner.count_place.Tie as tie

@@ -1,4 +1,4 @@
--- Sorts of cells as the code tells them, and lists to which numbers are added. Assumes nothing.
+-- Lists to which numbers are added, and the numbers of a class. Assumes nothing.
 use mathlib.Core.Path.{_≡_, refl, sym, ap, ap₂, _∙_, subst}
 use mathlib.Core.Bool.{Bool, true, false, not, cond, _&&_}
 use mathlib.Core.List.{List, [], _∷_, _++_}
@@ -14,60 +14,8 @@ use Rattle.vocabulary.specs.ByteLaws.{over-none, over-more, over-one, over-fron
 use Rattle.vocabulary.specs.Ranges.{every, blocks, some}
 use Rattle.vocabulary.specs.RangeLaws.{every-none, every-more, every-fails, blocks-turn, blocks-start, some-has, some-more, at-last, blocks-length, total-bound, total-start, total-turn, total-cong}
 use Rattle.layout.specs.Words.{wordAt}
-use Rattle.split.specs.Sorting.{ownsAt, heldAt, entryOwned, insideAt, sortAt, sorted, cellsOf, localsOf, Added, elsewhereAt}
-use Rattle.split.specs.Classes.{ofClass, classCells, placeCount, classCount, classOrder}
+use Rattle.split.specs.Classes.{ofClass, classCells, placeCount, classCount, classOrder, Added}
 use lib.Seq.{take-append-seam}
-
-pub entry-told : (owners table : Bytes) (i t w x : ℕ) → w ≡ wordAt table (2 * t) → x ≡ byteAt owners w → eqb x i ≡ entryOwned owners table i t
-unfolding entryOwned ownsAt
-entry-told owners table i t w x e f = ap (λ y. eqb y i) (f ∙ ap (λ y. byteAt owners y) e)
-
--- ---- all in a reach
-
--- the entries before t are of part i: those from a on, where any are
-pub record Within (owners table : Bytes) (i a t : ℕ) : Type 0 where
-  pub each : every a (t - a) (entryOwned owners table i) ≡ true
-
-module _ (owners table : Bytes) (ends : List ℕ) (i q a z : ℕ) (ae : a ≡ getD ends q 0) (ze : z ≡ getD ends (q + 1) 0) where
-  whole : every a (z - a) (entryOwned owners table i) ≡ insideAt owners table ends i q
-  unfolding insideAt
-  whole = ap₂ (λ x y. every x (y - x) (entryOwned owners table i)) ae ze
-
-  pub inside-stop : (t : ℕ) (b : Bool) → a ≤ t → t < z → b ≡ entryOwned owners table i t → not b ≡ true → false ≡ insideAt owners table ends i q
-  inside-stop t b l h e n =
-      let p : a + (t - a) ≡ t = omega arith in
-      sym (every-fails a (entryOwned owners table i) (z - a) (t - a) (omega arith) (ap (entryOwned owners table i) p ∙ sym e ∙ not-true b n)) ∙ whole
-
-  pub inside-end : (t : ℕ) → a ≤ t → z ≤ t → (t ≤ z) ⊎ (t ≡ a) → Within owners table i a t → true ≡ insideAt owners table ends i q
-  inside-end t l h c W = sym (W .each) ∙ ap (λ n. every a n (entryOwned owners table i)) q' ∙ whole
-    where
-      q' : t - a ≡ z - a
-      q' = ⊎-elim (λ g. omega arith) (λ g. omega arith) c
-
-pub inside-start : (owners table : Bytes) (i a : ℕ) → Within owners table i a a
-inside-start owners table i a = record { each = let z : a - a ≡ 0 = omega arith in rw z (every-none a (entryOwned owners table i)) }
-
-pub inside-turn : (owners table : Bytes) (i a t : ℕ) (b : Bool) → a ≤ t → b ≡ entryOwned owners table i t → not b ≡ false → Within owners table i a t → Within owners table i a (t + 1)
-inside-turn owners table i a t b l e n W = record {
-  each =
-      let q : t + 1 - a ≡ t - a + 1 = omega arith in
-      let r : a + (t - a) ≡ t = omega arith in
-      rw q (every-more a (entryOwned owners table i) (t - a) (W .each) (ap (entryOwned owners table i) r ∙ sym e ∙ not-false b n));
-}
-
--- ---- sorts, by the last answer y
-
-module _ (y : Bool) (owners table : Bytes) (ends : List ℕ) (held : Bytes) (i q x : ℕ) (xe : x ≡ byteAt owners q) (b : Bool) where
-  pub sort-mine : x ≡ i → b ≡ insideAt owners table ends i q → b ≡ y → cond y 17 18 ≡ sortAt owners table ends held i q
-  unfolding sortAt ownsAt
-  sort-mine own be t =
-      sym (ap₂ (λ c d. cond c (cond d 17 18) (cond (heldAt held i q) (byteAt owners q) 0)) (eq-eqb (byteAt owners q) i (sym xe ∙ own)) (sym be ∙ t))
-
-  pub sort-theirs : (x ≡ i → ⊥) → b ≡ heldAt held i q → b ≡ y → cond y x 0 ≡ sortAt owners table ends held i q
-  unfolding sortAt ownsAt
-  sort-theirs other be t =
-      ap (λ z. cond y z 0) xe
-      ∙ sym (ap₂ (λ c d. cond c (cond (insideAt owners table ends i q) 17 18) (cond d (byteAt owners q) 0)) (ne-eqb (byteAt owners q) i (λ e. other (xe ∙ e))) (sym be ∙ t))
 
 -- ---- adding to a list
 
@@ -100,40 +48,13 @@ module _ (g : ℕ → List ℕ) where
   pub add-end : (a b : List ℕ) (s t q n : ℕ) → q ≤ n → n ≤ q → Added a b s t (blocks 0 q g) → Added a b s t (blocks 0 n g)
   add-end a b s t q n h k X = at-last (λ j. Added a b s t (blocks 0 j g)) q n h k X
 
--- v is added where its sort y, which the code read as x, is the one wanted
+-- v is added where its class y, which the code read as x, is the one wanted
 module _ (x y k v : ℕ) (e : x ≡ y) (b : List ℕ) (s : ℕ) where
   pub sort-skips : (x ≡ k → ⊥) → Added b b s s (cond (eqb y k) (v ∷ []) [])
   sort-skips n = subst (λ c. Added b b s s (cond c (v ∷ []) [])) (sym (ne-eqb y k (λ z. n (e ∙ z)))) (add-none b s)
 
   pub sort-adds : (a : List ℕ) → x ≡ k → a ≡ set b s v → Added b a s (s + 1) (cond (eqb y k) (v ∷ []) [])
   sort-adds a n f = subst (λ c. Added b a s (s + 1) (cond c (v ∷ []) [])) (sym (eq-eqb y k (sym e ∙ n))) (add-one b a s v f)
-
--- ---- the cells of a sort, and the local order
-
-module _ (owners table : Bytes) (ends : List ℕ) (held : Bytes) (i first cells : ℕ) where
-  pub cells-end : (k : ℕ) (a b : List ℕ) (s t q : ℕ) → q ≤ cells → cells ≤ q → Added a b s t (blocks 0 q (sorted owners table ends held i first k))
-      → Added a b s t (cellsOf owners table ends held i first cells k)
-  unfolding cellsOf
-  cells-end k a b s t q h l X = add-end (sorted owners table ends held i first k) a b s t q cells h l X
-
-  pub imports-start : (b : List ℕ) (s : ℕ) → Added b b s s (blocks 1 0 (cellsOf owners table ends held i first cells))
-  imports-start b s = subst (Added b b s s) (sym (blocks-start 1 (cellsOf owners table ends held i first cells))) (add-none b s)
-
-  pub imports-turn : (a b c : List ℕ) (s t u j : ℕ) → Added a b s t (blocks 1 j (cellsOf owners table ends held i first cells)) → Added b c t u (cellsOf owners table ends held i first cells (j + 1))
-      → Added a c s u (blocks 1 (j + 1) (cellsOf owners table ends held i first cells))
-  imports-turn a b c s t u j X Y =
-      let q : j + 1 ≡ 1 + j = omega arith in
-      subst (Added a c s u) (ap (λ x. blocks 1 j (cellsOf owners table ends held i first cells) ++ cellsOf owners table ends held i first cells x) q ∙ sym (blocks-turn 1 (cellsOf owners table ends held i first cells) j))
-      (add-both a b c s t u (blocks 1 j (cellsOf owners table ends held i first cells)) (cellsOf owners table ends held i first cells (j + 1)) X Y)
-
-  pub imports-end : (a b : List ℕ) (s t j parts : ℕ) → j ≤ parts → parts ≤ j → Added a b s t (blocks 1 j (cellsOf owners table ends held i first cells))
-      → Added a b s t (blocks 1 parts (cellsOf owners table ends held i first cells))
-  imports-end a b s t j parts h k X = at-last (λ n. Added a b s t (blocks 1 n (cellsOf owners table ends held i first cells))) j parts h k X
-
-  pub locals-added : (a b c d : List ℕ) (s t u parts : ℕ) → Added a b 0 s (cellsOf owners table ends held i first cells 17) → Added b c s t (cellsOf owners table ends held i first cells 18)
-      → Added c d t u (blocks 1 parts (cellsOf owners table ends held i first cells)) → Added a d 0 u (localsOf owners table ends held i first cells parts)
-  unfolding localsOf
-  locals-added a b c d s t u parts X Y Z = add-both a b d 0 s u _ _ X (add-both b c d s t u _ _ Y Z)
 
 -- ---- the numbers of a class, and the local order by classes
 
@@ -215,28 +136,3 @@ pub added-take : (a b : List ℕ) (n : ℕ) (ws : List ℕ) → Added a b 0 n ws
 added-take a b n ws X l h =
     let e : n ≡ length ws = omega (arith, X .count) in
     ap₂ (λ k (xs : List ℕ). take k xs) e (X .text (omega arith) ∙ over-front a ws) ∙ take-append-seam ws (drop (length ws) a)
-
--- ---- the cells, by their numbers
-
--- ---- a cell that another part holds
-
-pub self-elsewhere : (held : Bytes) (i q j : ℕ) → i ≡ j → false ≡ elsewhereAt held i q j
-unfolding elsewhereAt
-self-elsewhere held i q j e = sym (ap (λ b. not b && heldAt held j q) (eq-eqb i j e))
-
-pub other-elsewhere : (held : Bytes) (i q j : ℕ) (b : Bool) → (i ≡ j → ⊥) → b ≡ heldAt held j q → b ≡ elsewhereAt held i q j
-unfolding elsewhereAt
-other-elsewhere held i q j b n e = e ∙ sym (ap (λ c. not c && heldAt held j q) (ne-eqb i j n))
-
-module _ (held : Bytes) (i q k : ℕ) (b : Bool) (e : b ≡ elsewhereAt held i q (k + 1)) where
-  at-one : b ≡ elsewhereAt held i q (1 + k)
-  at-one = let z : k + 1 ≡ 1 + k = omega arith in e ∙ ap (elsewhereAt held i q) z
-
-  pub elsewhere-found : (parts : ℕ) → k < parts → b ≡ true → true ≡ some 1 parts (elsewhereAt held i q)
-  elsewhere-found parts h t = sym (some-has 1 (elsewhereAt held i q) parts k h (sym at-one ∙ t))
-
-  pub elsewhere-turn : some 1 k (elsewhereAt held i q) ≡ false → b ≡ false → some 1 (k + 1) (elsewhereAt held i q) ≡ false
-  elsewhere-turn s t = some-more 1 (elsewhereAt held i q) k s (sym at-one ∙ t)
-
-pub elsewhere-end : (held : Bytes) (i q k parts : ℕ) → k ≤ parts → parts ≤ k → some 1 k (elsewhereAt held i q) ≡ false → false ≡ some 1 parts (elsewhereAt held i q)
-elsewhere-end held i q k parts g h s = sym (at-last (λ n. some 1 n (elsewhereAt held i q) ≡ false) k parts g h s)
