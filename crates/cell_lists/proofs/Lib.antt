@@ -1,3 +1,2 @@
-pub mod SortLaws
-pub mod CellLaws
+pub mod AddLaws
 pub mod ClassLists

@@ -16,8 +16,8 @@ use Rattle.layout.specs.WordLaws.{bytesOf-store}
 use Rattle.layout.specs.Answers.{answer}
 use Rattle.layout.specs.declared.Answer.{Answer}
 use Rattle.layout.specs.declared.Answer.the-variants.{Done, Refused}
-use Rattle.split.specs.Sorting.{Added}
-use Rattle.cell_lists.proofs.SortLaws.{added-take}
+use Rattle.split.specs.Classes.{Added}
+use Rattle.cell_lists.proofs.AddLaws.{added-take}
 use Rattle.part_lists.specs.Giving.{givenNumber, givenAnswer, givenOut}
 use Rattle.vocabulary.specs.RangeLaws.{at-last}
 

@@ -4,7 +4,7 @@ use mathlib.Core.List.{List}
 use Prim.Native.Nat.{ℕ}
 use Rattle.vocabulary.specs.Bytes.{Bytes}
 use Rattle.mesh.specs.Mesh.{firstCell, cellCount}
-use Rattle.split.specs.Sorting.{Added}
+use Rattle.split.specs.Classes.{Added}
 use Rattle.split.specs.Classes.{classCells, classOrder}
 use Rattle.part_lists.specs.Giving.{chosen}
 use Rattle.part_lists.specs.declared.lists.Wanted.{Wanted}

@@ -27,7 +27,7 @@ ghost use Rattle.layout.specs.Words.{bytesOf};
 ghost use Rattle.mesh.specs.Mesh.{top};
 ghost use Rattle.walks.specs.Walking.{Ground};
 ghost use Rattle.split.specs.Lists.{splitNumber, listAnswer, listOut};
-ghost use Rattle.split.specs.Sorting.{Added};
+ghost use Rattle.split.specs.Classes.{Added};
 ghost use Rattle.ranges.specs.Lowers.{rangeOf};
 ghost use Rattle.part_lists.specs.Giving.{meant, Names, rowOf, chosen, givenAnswer, givenOut, namedAnswer, namedOut};
 

@@ -12,10 +12,10 @@ use Rattle.vocabulary.specs.RangeLaws.{blocks-turn, blocks-start, blocks-cong, 
 use Rattle.vocabulary.specs.Lists.{joined}
 use Rattle.mesh.specs.Mesh.{top, counted, below, firstCell, cellCount}
 use Rattle.split.specs.Split.{Split, splitOf, interior, halo, imports, exports, holdsLower, touches, another, isCopied, isShared, isExposed, isPrivate}
-use Rattle.split.specs.Sorting.{Added}
+use Rattle.split.specs.Classes.{Added}
 use Rattle.split.specs.Classes.{Classed, Prepared, classCells, partCells}
 use Rattle.ranges.specs.Lowers.{Lowered, rangeOf, rowRange}
-use Rattle.cell_lists.proofs.SortLaws.{added-fits, added-take, class-few}
+use Rattle.cell_lists.proofs.AddLaws.{added-fits, added-take, class-few}
 use Rattle.cell_lists.proofs.ClassLists.{row-cells, interior-is, halo-is, imports-are, part-imports}
 use Rattle.ranges.proofs.LowerLaws.{Sorts, sort-tells, row-range, range-is}
 use Rattle.text.specs.Listing.{ascii, spaced, line, lineUnlessEmpty, dimensionText, partText}

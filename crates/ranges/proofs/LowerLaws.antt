@@ -27,9 +27,9 @@ use Rattle.mesh.proofs.DimensionLaws.{below-next}
 use Rattle.split.specs.Split.{range, Split, splitOf, ownerAt, owns, holds, held, inside, cellsAt, holdsLower, touches, another}
 use Rattle.split.specs.SplitLaws.{map-facts}
 use Rattle.split.specs.Classes.{classIn, holderCount, heldOne, Classed, Prepared, ofClass, classCells}
-use Rattle.split.specs.Sorting.{Added}
+use Rattle.split.specs.Classes.{Added}
 use Rattle.split.proofs.HoldLaws.{class-zero}
-use Rattle.cell_lists.proofs.SortLaws.{add-none}
+use Rattle.cell_lists.proofs.AddLaws.{add-none}
 use Rattle.cell_lists.proofs.ClassLists.{class-at}
 use Rattle.ranges.specs.Lowers.{sideAt, someSide, lowerClass, trailClass, elementClass, Trailed, Lowered, rangeOf, rowRange}
 

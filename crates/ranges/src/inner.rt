@@ -15,7 +15,7 @@ ghost use Rattle.mesh.specs.Accepted.{Accepted};
 ghost use Rattle.links.specs.Links.{trail};
 ghost use Rattle.walks.specs.Walking.{Ground};
 ghost use Rattle.split.specs.Classes.{heldOne};
-ghost use Rattle.split.specs.Sorting.{Added};
+ghost use Rattle.split.specs.Classes.{Added};
 ghost use Rattle.ranges.specs.Lowers.{sideAt, someSide, trailClass, Trailed, Lowered, rowRange};
 
 // The classes of a lower element.

@@ -1,64 +1,19 @@
 // Which cells the cells of each row reach, whatever the rows are.
 use layout::byte_at;
 use layout::put_number_at;
-use links::inner::invert;
-use mesh::inner::cell_count;
-use mesh::inner::elements_of;
-use mesh::inner::first_cell;
-use mesh::inner::record_count;
 use visits::inner::entry;
 use walks::inner::MeshSizes;
 use walks::inner::through_one;
 use walks::inner::walk;
 ghost use mathlib.Core.Path.{_≡_};
-ghost use mathlib.Core.Bool.{true, false};
 ghost use Prim.Native.Nat.{_+_, _<_, _≤_};
-ghost use lib.ListN.{length, set};
-ghost use Rattle.vocabulary.specs.Bytes.{byteAt};
-ghost use Rattle.vocabulary.specs.Ranges.{isUpTo, every, total};
-ghost use Rattle.mesh.specs.Mesh.{top, cellCount};
-ghost use Rattle.mesh.specs.Walks.{bad10};
-ghost use Rattle.mesh.specs.Accepted.{Accepted};
+ghost use lib.ListN.{length};
+ghost use Rattle.vocabulary.specs.Ranges.{total};
 ghost use Rattle.walks.specs.Walking.{throughOne};
-ghost use Rattle.reach_rows.specs.Rows.{rowMarks, rowReach, Rowed, Marks, layerOf, layersAt, Site, Space, layerOne, layerCount, reachCount};
+ghost use Rattle.reach_rows.specs.Rows.{Rowed, Site, Space, layerOne, layerCount, reachCount};
 
 // The room for a number of each element; none is numbered 0.
 const NUMBERS: usize = 2001;
-
-// The room for an entry of each record of the cells' chains; none is numbered 0.
-const ENTRIES: usize = 12001;
-
-// The places in a row.
-const PLACES: usize = 2000;
-
-// Sets the byte at `at` to 1, where there is one.
-fn mark(held: &mut [u8], at: usize)
-    ensures { λ _. ⌜ now (held .exit) ≡ set (now (held .entry)) at 1 ⌝ }
-{
-    if at < held.len() {
-        held[at] = 1;
-    }
-}
-
-// Marks place q in the row from `base` on, if that cell has a layer.
-fn mark_place(layers: &[u16], first: usize, base: usize, q: usize, held: &mut [u8])
-    requires { ⌜ (first < 65536) × (q < 65536) × (base < 1048576) ⌝ }
-    ensures { λ _. ⌜ Marks (now (held .entry)) (now (held .exit)) (layerOf (now (layers .entry)) first base q) ⌝ }
-{
-    if entry(layers, first + q) != 0 {
-        mark(held, base + q);
-    }
-}
-
-// Marks in the row from `base` on the cells that have a layer.
-fn mark_row(layers: &[u16], first: usize, cells: usize, base: usize, held: &mut [u8])
-    requires { ⌜ (first < 65536) × (cells < 65536) × (base < 1048576) ⌝ }
-    ensures { λ _. ⌜ Marks (now (held .entry)) (now (held .exit)) (layersAt (now (layers .entry)) first base cells) ⌝ }
-{
-    for q in 0..cells {
-        mark_place(layers, first, base, q, held);
-    }
-}
 
 // Adds the cell at place q to the k cells in a list, if it is of row i.
 fn add_cell(rows: &[u8], i: usize, first: usize, q: usize, list: &mut [u16], k: usize) -> usize
@@ -82,134 +37,6 @@ fn row_cells(rows: &[u8], i: usize, first: usize, cells: usize, list: &mut [u16]
         n = add_cell(rows, i, first, q, list, n);
     }
     n
-}
-
-// Marks in row i the cells that the cells of row i reach, by walks from all of them at once.
-fn mark_reach(
-    m: &[u8],
-    sizes: MeshSizes,
-    st: &[u8],
-    n: usize,
-    single: bool,
-    cell: &[u16],
-    prev: &[u16],
-    last: &[u16],
-    rows: &[u8],
-    i: usize,
-    v: usize,
-    marks: &mut [u16],
-    from: &mut [u16],
-    found: &mut [u16],
-    held: &mut [u8],
-)
-    requires { ⌜ Site (now m) (now st) (now cell) (now prev) (now last) (sizes .elements) (sizes .records) (sizes .first) (sizes .cells) n × (single ≡ throughOne (now st)) × (i ≤ 16)
-        × (v ≤ 60000) × Space v (now marks) (now from) (now found) ⌝ }
-    ensures { λ _. ⌜ Marks (now (held .entry)) (now (held .exit)) (rowReach (now (m .entry)) (now (st .entry)) (now (rows .entry)) i)
-        × Space (v + (n + 1)) (now (marks .exit)) (now (from .exit)) (now (found .exit)) ⌝ }
-{
-    let s = row_cells(rows, i, sizes.first, sizes.cells, from);
-    let mut layers = [0u16; NUMBERS];
-    walk(
-        m,
-        sizes,
-        st,
-        single,
-        cell,
-        prev,
-        last,
-        s,
-        n,
-        v,
-        marks,
-        from,
-        found,
-        &mut layers,
-    );
-    mark_row(&layers, sizes.first, sizes.cells, PLACES * i, held);
-}
-
-// Marks in the rows from 1 on, as many as `count`, what their cells reach.
-fn mark_all(
-    m: &[u8],
-    e: usize,
-    r: usize,
-    st: &[u8],
-    n: usize,
-    cell: &[u16],
-    prev: &[u16],
-    last: &[u16],
-    first: usize,
-    cells: usize,
-    rows: &[u8],
-    count: usize,
-    held: &mut [u8],
-)
-    requires { ⌜ Site (now m) (now st) (now cell) (now prev) (now last) e r first cells n × (count ≤ 16) × (every 0 (cellCount (now m)) (λ k. isUpTo count (byteAt (now rows) k)) ≡ true) ⌝ }
-    ensures { λ _. ⌜ Marks (now (held .entry)) (now (held .exit)) (rowMarks (now (m .entry)) (now (st .entry)) (now (rows .entry)) (cellCount (now (m .entry)))) ⌝ }
-{
-    let single = through_one(st);
-    let sizes = MeshSizes {
-        elements: e,
-        records: r,
-        first,
-        cells,
-    };
-    let mut marks = [0u16; NUMBERS];
-    let mut from = [0u16; NUMBERS];
-    let mut found = [0u16; NUMBERS];
-    let mut v = 1;
-    for i in 0..count {
-        mark_reach(
-            m,
-            sizes,
-            st,
-            n,
-            single,
-            cell,
-            prev,
-            last,
-            rows,
-            i + 1,
-            v,
-            &mut marks,
-            &mut from,
-            &mut found,
-            held,
-        );
-        v += n + 1;
-    }
-}
-
-// Marks what the cells reach under an accepted stencil. The byte of `rows` at a cell's place tells its row, from 1 to `count`; a row has 2,000
-// bytes, one a place, and one that is not there is not marked.
-pub fn mark_reaches(m: &[u8], st: &[u8], rows: &[u8], count: usize, held: &mut [u8])
-    requires { ⌜ Accepted (now m) × (bad10 (top (now m)) (now st) ≡ false) × (count ≤ 16) × (every 0 (cellCount (now m)) (λ k. isUpTo count (byteAt (now rows) k)) ≡ true) ⌝ }
-    ensures { λ _. ⌜ Marks (now (held .entry)) (now (held .exit)) (rowMarks (now (m .entry)) (now (st .entry)) (now (rows .entry)) (cellCount (now (m .entry)))) ⌝ }
-{
-    let e = elements_of(m);
-    let r = record_count(m);
-    let first = first_cell(m);
-    let cells = cell_count(m);
-    let n = st.len() - 1;
-    let mut cell = [0u16; ENTRIES];
-    let mut prev = [0u16; ENTRIES];
-    let mut last = [0u16; NUMBERS];
-    invert(m, e, r, first, cells, &mut cell, &mut prev, &mut last);
-    mark_all(
-        m,
-        e,
-        r,
-        st,
-        n,
-        &cell,
-        &prev,
-        &last,
-        first,
-        cells,
-        rows,
-        count,
-        held,
-    );
 }
 
 // One if place q has a layer.

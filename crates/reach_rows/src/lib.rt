@@ -1,2 +1,2 @@
-// Which cells the cells of each part reach, as marks in rows: all that stands here, in `inner`, supposes an accepted mesh and stencil.
+// How many cells the cells of each part reach: all that stands here, in `inner`, supposes an accepted mesh and stencil.
 pub mod inner;

@@ -15,7 +15,7 @@ use Rattle.vocabulary.specs.Ranges.{every, some}
 use Rattle.vocabulary.specs.RangeLaws.{last-or, some-next, at-last}
 use Rattle.vocabulary.specs.ListLaws.{and-left, and-right, or-nothing, not-both}
 use Rattle.layout.specs.Words.{wordAt}
-use Rattle.split.specs.Sorting.{ownsAt, entryOwned, insideAt}
+use Rattle.split.specs.Classes.{ownsAt, entryOwned, insideAt}
 use Rattle.split.specs.Classes.{hasEntry, reachHas, entryIs, reachedAt, classAt, Classed, Cleared, Marked}
 
 -- ---- a cleared row

@@ -24,7 +24,7 @@ use Rattle.reach_rows.specs.Rows.{walkedTo, rowCells, reachCount}
 use Rattle.split.specs.Split.{Split, splitOf, ownerAt, owns, owned, reaches, holds, held, inside}
 use Rattle.split.specs.SplitLaws.{Cell, map-facts, own-held, split-own}
 use Rattle.split.specs.Lists.{bad8, bad12}
-use Rattle.split.specs.Sorting.{ownsAt, insideAt}
+use Rattle.split.specs.Classes.{ownsAt, insideAt}
 use Rattle.split.specs.Classes.{classIn, holderCount, hasEntry, reachHas, reachedAt, classAt, heldBy, partHeld, Holders}
 
 -- some of the numbers whose places pass, and some of a list

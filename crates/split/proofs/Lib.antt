@@ -2,7 +2,6 @@ pub mod MapLaws
 pub mod ClassLaws
 pub mod HolderLaws
 pub mod HoldLaws
-pub mod HeldLaws
 pub mod PreparedLaws
 pub mod UnitLaws
 pub mod PassedLaws

@@ -19,7 +19,7 @@ use Rattle.mesh.specs.Mesh.{top, firstCell, cellCount, meshTests, meshNumber}
 use Rattle.mesh.specs.Walks.{bad10}
 use Rattle.split.specs.Split.{splitOf, ownerAt, owns, owned}
 use Rattle.split.specs.Lists.{bad8, bad9, splitTests, splitNumber}
-use Rattle.split.specs.Sorting.{ownerRight, ownsAt}
+use Rattle.split.specs.Classes.{ownerRight, ownsAt}
 use Rattle.split.proofs.PassedLaws.{mapTests}
 
 pub part-told : (parts i : ℕ) → 1 ≤ i → leb i parts ≡ isUpTo parts i

@@ -6,8 +6,8 @@ use mathlib.Core.List.{List, [], _∷_, _++_}
 use Prim.Native.Nat.{ℕ, _+_, _-_, _*_, _≤_, _<_}
 use lib.Dec.{eqb, ltb}
 use lib.ListN.{length, getD}
-use Rattle.vocabulary.specs.Bytes.{Bytes, byteAt}
-use Rattle.vocabulary.specs.Ranges.{some, blocks, total}
+use Rattle.vocabulary.specs.Bytes.{Bytes, byteAt, over}
+use Rattle.vocabulary.specs.Ranges.{isUpTo, every, some, blocks, total}
 use Rattle.layout.specs.Words.{wordAt}
 use Rattle.mesh.specs.Mesh.{top, firstCell, cellCount}
 use Rattle.mesh.specs.Walks.{Near, reach, bad10}
@@ -15,7 +15,6 @@ use Rattle.mesh.specs.Accepted.{Accepted}
 use Rattle.reaches.specs.Tables.{entryCount, Ends}
 use Rattle.split.specs.Split.{Split, splitOf, owns, holds, inside}
 use Rattle.split.specs.Lists.{bad8}
-use Rattle.split.specs.Sorting.{ownsAt, insideAt}
 
 -- what part i makes of cell c: 17 is interior, 18 halo, a part's number imported from that part, and 0 not held
 unfoldable pub classIn : Split → ℕ → ℕ → ℕ
@@ -26,6 +25,21 @@ unfoldable pub holderCount : Split → ℕ → ℕ
 holderCount S c = total 1 (S .parts) (λ j. cond (holds S j c) 1 0)
 
 -- ---- by the owners and the table of the reaches
+
+-- the cell at place k has a part for its owner, or part i
+unfoldable pub ownerRight : ℕ → Bytes → ℕ → Bool
+ownerRight parts owners k = isUpTo parts (byteAt owners k)
+
+unfoldable pub ownsAt : Bytes → ℕ → ℕ → Bool
+ownsAt owners i k = eqb (byteAt owners k) i
+
+-- the cell of entry t of the table belongs to part i
+unfoldable pub entryOwned : Bytes → Bytes → ℕ → ℕ → Bool
+entryOwned owners table i t = ownsAt owners i (wordAt table (2 * t))
+
+-- all in the reach of the cell at place q do
+unfoldable pub insideAt : Bytes → Bytes → List ℕ → ℕ → ℕ → Bool
+insideAt owners table ends i q = every (getD ends q 0) (getD ends (q + 1) 0 - getD ends q 0) (entryOwned owners table i)
 
 -- one of n entries from a on is the cell at place x; one of the reach of the cell at place q is
 unfoldable pub hasEntry : Bytes → ℕ → ℕ → ℕ → Bool
@@ -121,6 +135,13 @@ ofClass class first k q = cond (eqb (byteAt class q) k) ((first + q) ∷ []) []
 unfoldable pub classCells : Bytes → ℕ → ℕ → ℕ → List ℕ
 classCells class first cells k = blocks 0 cells (ofClass class first k)
 
+-- how many there are
+unfoldable pub placeCount : Bytes → ℕ → ℕ → ℕ
+placeCount class k q = cond (eqb (byteAt class q) k) 1 0
+
+unfoldable pub classCount : Bytes → ℕ → ℕ → ℕ
+classCount class cells k = total 0 cells (placeCount class k)
+
 -- the same for part j, by the tables
 unfoldable pub partCells : Bytes → Bytes → List ℕ → ℕ → ℕ → ℕ → ℕ → List ℕ
 partCells owners table ends j first cells k = blocks 0 cells (λ q. cond (eqb (classAt owners table ends j cells q) k) ((first + q) ∷ []) [])
@@ -128,3 +149,9 @@ partCells owners table ends j first cells k = blocks 0 cells (λ q. cond (eqb (c
 -- the local order: interior, halo, and the imports by their owners
 unfoldable pub classOrder : Bytes → ℕ → ℕ → ℕ → List ℕ
 classOrder class first cells parts = classCells class first cells 17 ++ (classCells class first cells 18 ++ blocks 1 parts (classCells class first cells))
+
+-- a list to which the numbers ws were added after the first s, which makes t of them; nothing is said of the list where they do not fit
+pub record Added (before after : List ℕ) (s t : ℕ) (ws : List ℕ) : Type 0 where
+  pub size : length after ≡ length before
+  pub count : t ≡ s + length ws
+  pub text : t ≤ length before → after ≡ over before s ws

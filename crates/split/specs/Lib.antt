@@ -2,5 +2,4 @@ pub mod Split
 pub mod Numbering
 pub mod Lists
 pub mod SplitLaws
-pub mod Sorting
 pub mod Classes

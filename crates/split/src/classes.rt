@@ -6,7 +6,7 @@ ghost use mathlib.Core.Path.{_≡_};
 ghost use mathlib.Core.Bool.{_&&_, cond};
 ghost use Prim.Native.Nat.{_+_, _≤_, _<_};
 ghost use lib.ListN.{length, set};
-ghost use Rattle.split.specs.Sorting.{entryOwned, insideAt};
+ghost use Rattle.split.specs.Classes.{entryOwned, insideAt};
 ghost use Rattle.split.specs.Classes.{entryIs, reachHas, Classed, Cleared, Marked};
 
 // The most cells that a mesh has.

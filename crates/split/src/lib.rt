@@ -4,7 +4,6 @@ mod holders;
 pub mod inner;
 mod maps;
 mod preparing;
-mod tables;
 mod units;
 
 pub use maps::bad_map;

@@ -10,7 +10,7 @@ ghost use lib.ListN.{length};
 ghost use Rattle.vocabulary.specs.Ranges.{isUpTo, every, some};
 ghost use Rattle.split.specs.Split.{splitOf};
 ghost use Rattle.split.specs.Lists.{bad8, bad9, splitNumber};
-ghost use Rattle.split.specs.Sorting.{ownerRight, ownsAt};
+ghost use Rattle.split.specs.Classes.{ownerRight, ownsAt};
 
 // Whether i is one of the parts.
 pub fn is_part(parts: u32, i: u32) -> bool

@@ -13,8 +13,10 @@ use Rattle.vocabulary.specs.RangeLaws.{total-grows, blocks-turn, blocks-sized, 
 use Rattle.vocabulary.specs.CountLaws.{total-double}
 use Rattle.layout.specs.Words.{wordAt}
 use Rattle.split.specs.Split.{globalOf}
-use Rattle.split.specs.Sorting.{cellsOf, Added}
-use Rattle.cell_lists.proofs.SortLaws.{added-take}
+use Rattle.split.specs.Classes.{Added}
+use Rattle.split.specs.Classes.{partCells, classCells, classCount, Classed}
+use Rattle.cell_lists.proofs.AddLaws.{added-take, class-count}
+use Rattle.cell_lists.proofs.ClassLists.{row-cells}
 use Rattle.start_lists.proofs.PutLaws.{put-as, put-none, put-both}
 use Rattle.start_lists.specs.Starting.{Put, localIn, placeAt, rowSize, partCount, endsOf, Counted, Before, entryWords, rowEnds, rowWords, Row, Rows, sentEnds, sentWords}
 
@@ -29,64 +31,69 @@ module _ (table : Bytes) (ends : List ℕ) (first : ℕ) (order : List ℕ) (l q
   pub size-some : to - from ≡ rowSize table ends first order l
   size-some = sym size-is
 
-module _ (which : ℕ) (owners table : Bytes) (ends : List ℕ) (held : Bytes) (i first cells : ℕ) (order : List ℕ) (k n : ℕ) where
-  pub count-got : which ≡ 0 → n ≡ length (cellsOf owners table ends held i first cells k) → n ≡ partCount which owners table ends held i first cells order k
+module _ (which : ℕ) (owners table : Bytes) (ends : List ℕ) (i first cells : ℕ) (order : List ℕ) (k n : ℕ) where
+  pub count-got : which ≡ 0 → n ≡ length (partCells owners table ends i first cells k) → n ≡ partCount which owners table ends i first cells order k
   unfolding partCount
   count-got e q = rw e q
 
-  pub count-sent : which ≡ 1 → n ≡ length (cellsOf owners table ends held k first cells i) → n ≡ partCount which owners table ends held i first cells order k
+  pub count-sent : which ≡ 1 → n ≡ length (partCells owners table ends k first cells i) → n ≡ partCount which owners table ends i first cells order k
   unfolding partCount
   count-sent e q = rw e q
 
-pub count-row : (which : ℕ) (owners table : Bytes) (ends : List ℕ) (held : Bytes) (i first cells : ℕ) (order : List ℕ) (k n : ℕ) → (which ≡ 0 → ⊥) → (which ≡ 1 → ⊥)
-    → n ≡ rowSize table ends first order k → n ≡ partCount which owners table ends held i first cells order k
+pub count-row : (which : ℕ) (owners table : Bytes) (ends : List ℕ) (i first cells : ℕ) (order : List ℕ) (k n : ℕ) → (which ≡ 0 → ⊥) → (which ≡ 1 → ⊥)
+    → n ≡ rowSize table ends first order k → n ≡ partCount which owners table ends i first cells order k
 unfolding partCount
-count-row zero owners table ends held i first cells order k n a b q = absurd (a refl)
-count-row (suc zero) owners table ends held i first cells order k n a b q = absurd (b refl)
-count-row (suc (suc which)) owners table ends held i first cells order k n a b q = q
+count-row zero owners table ends i first cells order k n a b q = absurd (a refl)
+count-row (suc zero) owners table ends i first cells order k n a b q = absurd (b refl)
+count-row (suc (suc which)) owners table ends i first cells order k n a b q = q
+
+-- what a row counts
+pub got-told : (owners table : Bytes) (ends : List ℕ) (i first cells k n : ℕ) (class : Bytes) → cells ≤ 2000 → Classed owners table ends i cells class → n ≡ classCount class cells k
+    → n ≡ length (partCells owners table ends i first cells k)
+got-told owners table ends i first cells k n class few C e = e ∙ sym (class-count class k first cells) ∙ ap length (row-cells owners table ends i first cells k class few C)
 
 -- ---- ends
 
-module _ (which : ℕ) (owners table : Bytes) (ends : List ℕ) (held : Bytes) (i first cells : ℕ) (order : List ℕ) (base : ℕ) where
-  end-zero : endsOf which owners table ends held i first cells order base 0 ≡ base
+module _ (which : ℕ) (owners table : Bytes) (ends : List ℕ) (i first cells : ℕ) (order : List ℕ) (base : ℕ) where
+  end-zero : endsOf which owners table ends i first cells order base 0 ≡ base
   unfolding endsOf total
   end-zero = let e : base + 0 ≡ base = omega arith in e
 
   -- one number more
-  end-more : (k : ℕ) → endsOf which owners table ends held i first cells order base (suc k) ≡ endsOf which owners table ends held i first cells order base k + partCount which owners table ends held i first cells order (1 + k)
+  end-more : (k : ℕ) → endsOf which owners table ends i first cells order base (suc k) ≡ endsOf which owners table ends i first cells order base k + partCount which owners table ends i first cells order (1 + k)
   unfolding endsOf total
   end-more k = omega arith
 
   -- the first ends of a table, and a cell of it
-  pub counted-less : (k n : ℕ) → k ≤ n → Counted which owners table ends held i first cells order base n → Counted which owners table ends held i first cells order base k
+  pub counted-less : (k n : ℕ) → k ≤ n → Counted which owners table ends i first cells order base n → Counted which owners table ends i first cells order base k
   unfolding endsOf
-  counted-less k n h C = record { last = omega (arith, C .last, total-grows 1 (partCount which owners table ends held i first cells order) k n h); cell = λ j a b w. C .cell j a (omega arith) w }
+  counted-less k n h C = record { last = omega (arith, C .last, total-grows 1 (partCount which owners table ends i first cells order) k n h); cell = λ j a b w. C .cell j a (omega arith) w }
 
-  pub counted-cell : (k : ℕ) → Counted which owners table ends held i first cells order base k → (k ≡ 0 → ⊥) → 2 ≤ which → first ≤ getD order (k - 1) 0
+  pub counted-cell : (k : ℕ) → Counted which owners table ends i first cells order base k → (k ≡ 0 → ⊥) → 2 ≤ which → first ≤ getD order (k - 1) 0
   counted-cell k C z w = C .cell k (omega arith) (omega arith) w
 
-  pub next-first : (k : ℕ) → k ≡ 0 → Counted which owners table ends held i first cells order base k → (base ≡ endsOf which owners table ends held i first cells order base k) × (base < 65536)
+  pub next-first : (k : ℕ) → k ≡ 0 → Counted which owners table ends i first cells order base k → (base ≡ endsOf which owners table ends i first cells order base k) × (base < 65536)
   next-first k e C =
-      let p : base ≡ endsOf which owners table ends held i first cells order base k = sym (ap (endsOf which owners table ends held i first cells order base) e ∙ end-zero) in (p, omega (arith, p, C .last))
+      let p : base ≡ endsOf which owners table ends i first cells order base k = sym (ap (endsOf which owners table ends i first cells order base) e ∙ end-zero) in (p, omega (arith, p, C .last))
 
-  pub next-more : (k e x : ℕ) → (k ≡ 0 → ⊥) → Counted which owners table ends held i first cells order base k → Before which owners table ends held i first cells order base k e
-      → x ≡ partCount which owners table ends held i first cells order k → (e + x ≡ endsOf which owners table ends held i first cells order base k) × (e + x < 65536)
+  pub next-more : (k e x : ℕ) → (k ≡ 0 → ⊥) → Counted which owners table ends i first cells order base k → Before which owners table ends i first cells order base k e
+      → x ≡ partCount which owners table ends i first cells order k → (e + x ≡ endsOf which owners table ends i first cells order base k) × (e + x < 65536)
   next-more k e x z C B q =
       let j : 1 + (k - 1) ≡ k = omega arith in
       let j₂ : suc (k - 1) ≡ k = omega arith in
-      let p : e + x ≡ endsOf which owners table ends held i first cells order base k =
-      ap₂ _+_ (B .is (omega arith)) (q ∙ ap (partCount which owners table ends held i first cells order) (sym j))
+      let p : e + x ≡ endsOf which owners table ends i first cells order base k =
+      ap₂ _+_ (B .is (omega arith)) (q ∙ ap (partCount which owners table ends i first cells order) (sym j))
       ∙ sym (end-more (k - 1))
-      ∙ ap (endsOf which owners table ends held i first cells order base) j₂ in (p, omega (arith, p, C .last))
+      ∙ ap (endsOf which owners table ends i first cells order base) j₂ in (p, omega (arith, p, C .last))
 
-  pub before-none : (e : ℕ) → Before which owners table ends held i first cells order base 0 e
+  pub before-none : (e : ℕ) → Before which owners table ends i first cells order base 0 e
   before-none e = record { is = λ h. let no : ⊥ = omega arith in absurd no }
 
-  pub before-next : (k e : ℕ) → e ≡ endsOf which owners table ends held i first cells order base k → Before which owners table ends held i first cells order base (k + 1) e
-  before-next k e p = record { is = λ h. let q : k ≡ k + 1 - 1 = omega arith in p ∙ ap (endsOf which owners table ends held i first cells order base) q }
+  pub before-next : (k e : ℕ) → e ≡ endsOf which owners table ends i first cells order base k → Before which owners table ends i first cells order base (k + 1) e
+  before-next k e p = record { is = λ h. let q : k ≡ k + 1 - 1 = omega arith in p ∙ ap (endsOf which owners table ends i first cells order base) q }
 
-  pub end-last : (k n e : ℕ) → k ≤ n + 1 → n + 1 ≤ k → Before which owners table ends held i first cells order base k e → e ≡ endsOf which owners table ends held i first cells order base n
-  end-last k n e g h B = let q : k - 1 ≡ n = omega arith in B .is (omega arith) ∙ ap (endsOf which owners table ends held i first cells order base) q
+  pub end-last : (k n e : ℕ) → k ≤ n + 1 → n + 1 ≤ k → Before which owners table ends i first cells order base k e → e ≡ endsOf which owners table ends i first cells order base n
+  end-last k n e g h B = let q : k - 1 ≡ n = omega arith in B .is (omega arith) ∙ ap (endsOf which owners table ends i first cells order base) q
 
 pub two-up : (which : ℕ) → (which ≡ 0 → ⊥) → (which ≡ 1 → ⊥) → 2 ≤ which
 two-up zero a b = absurd (a refl)
@@ -199,17 +206,21 @@ module _ (local : List ℕ) where
 
 -- ---- exports in local numbers
 
-module _ (owners table : Bytes) (ends : List ℕ) (held : Bytes) (i first cells : ℕ) (local : List ℕ) where
-  pub sent-put : (a b : Bytes) (s t j k : ℕ) (x y : List ℕ) → Added x y 0 k (cellsOf owners table ends held j first cells i) → length x ≡ 2000 → k ≤ 2000
-      → Put a b s t (map (localIn local) (take k y)) → Put a b s t (sentWords owners table ends held i first cells local j)
-  unfolding sentWords
-  sent-put a b s t j k x y A l h P =
-      put-as a b s t _ _ (ap (map (localIn local)) (added-take x y k (cellsOf owners table ends held j first cells i) A l (omega (arith, A .count)))) P
+pub sent-count : (owners table : Bytes) (ends : List ℕ) (i first cells j k : ℕ) (x y : List ℕ) (class : Bytes) → cells ≤ 2000 → Classed owners table ends j cells class
+    → Added x y 0 k (classCells class first cells i) → k ≡ length (partCells owners table ends j first cells i)
+sent-count owners table ends i first cells j k x y class few C A = omega (arith, A .count, ap length (row-cells owners table ends j first cells i class few C))
 
-  pub sent-long : (j : ℕ) → length (sentWords owners table ends held i first cells local j) ≡ length (cellsOf owners table ends held j first cells i)
+module _ (owners table : Bytes) (ends : List ℕ) (i first cells : ℕ) (local : List ℕ) where
+  pub sent-put : (a b : Bytes) (s t j k : ℕ) (x y : List ℕ) (class : Bytes) → cells ≤ 2000 → Classed owners table ends j cells class → Added x y 0 k (classCells class first cells i) → length x ≡ 2000
+      → k ≤ 2000 → Put a b s t (map (localIn local) (take k y)) → Put a b s t (sentWords owners table ends i first cells local j)
   unfolding sentWords
-  sent-long j = length-map (cellsOf owners table ends held j first cells i) (localIn local)
+  sent-put a b s t j k x y class few C A l h P =
+      put-as a b s t _ _ (ap (map (localIn local)) (added-take x y k (classCells class first cells i) A l (omega (arith, A .count)) ∙ row-cells owners table ends j first cells i class few C)) P
 
-  pub all-long : length (blocks 1 16 (sentWords owners table ends held i first cells local)) ≡ sentEnds owners table ends held i first cells 16
+  pub sent-long : (j : ℕ) → length (sentWords owners table ends i first cells local j) ≡ length (partCells owners table ends j first cells i)
+  unfolding sentWords
+  sent-long j = length-map (partCells owners table ends j first cells i) (localIn local)
+
+  pub all-long : length (blocks 1 16 (sentWords owners table ends i first cells local)) ≡ sentEnds owners table ends i first cells 16
   unfolding sentEnds
-  all-long = blocks-sized 1 (sentWords owners table ends held i first cells local) (λ j. length (cellsOf owners table ends held j first cells i)) 16 sent-long
+  all-long = blocks-sized 1 (sentWords owners table ends i first cells local) (λ j. length (partCells owners table ends j first cells i)) 16 sent-long

@@ -21,53 +21,53 @@ use Rattle.start_lists.proofs.StartCounts.{rows-long, all-long}
 pub head-count : (long i steps kind first cells : ℕ) (v a b : Bytes) (t : ℕ) → Put a b 0 t ((long ∷ i ∷ steps ∷ kind ∷ []) ++ (listed 0 5 (wordAt v) ++ (first ∷ cells ∷ []))) → t ≡ 11
 head-count long i steps kind first cells v a b t P = omega (arith, P .count, length-append (listed 0 5 (wordAt v)) (first ∷ cells ∷ []), listed-length 0 (wordAt v) 5)
 
-module _ (owners table : Bytes) (ends : List ℕ) (held : Bytes) (i first cells : ℕ) (order : List ℕ) where
+module _ (owners table : Bytes) (ends : List ℕ) (i first cells : ℕ) (order : List ℕ) where
   -- the three tables of ends
-  pub got-is : (owned j : ℕ) → endsOf 0 owners table ends held i first cells order owned j ≡ gotEnds owners table ends held i first cells owned j
+  pub got-is : (owned j : ℕ) → endsOf 0 owners table ends i first cells order owned j ≡ gotEnds owners table ends i first cells owned j
   unfolding endsOf gotEnds partCount
   got-is owned j = refl
 
-  pub sent-is : (j : ℕ) → endsOf 1 owners table ends held i first cells order 0 j ≡ sentEnds owners table ends held i first cells j
+  pub sent-is : (j : ℕ) → endsOf 1 owners table ends i first cells order 0 j ≡ sentEnds owners table ends i first cells j
   unfolding endsOf sentEnds partCount
   sent-is j = zero-add _
 
-  pub reached-is : (j : ℕ) → endsOf 2 owners table ends held i first cells order 0 j ≡ rowEnds table ends first order j
+  pub reached-is : (j : ℕ) → endsOf 2 owners table ends i first cells order 0 j ≡ rowEnds table ends first order j
   unfolding endsOf rowEnds partCount
   reached-is j = zero-add _
 
-  module _ (n owned : ℕ) (F : Fit owners table ends held i first cells order n owned) where
-    pub long-told : (reached sent : ℕ) → reached ≡ endsOf 2 owners table ends held i first cells order 0 owned → sent ≡ endsOf 1 owners table ends held i first cells order 0 16
-        → (46 + n + owned + 2 * reached + sent ≡ 46 + n + owned + 2 * rowEnds table ends first order owned + sentEnds owners table ends held i first cells 16) × (46 + n + owned + 2 * reached + sent < 65536)
+  module _ (n owned : ℕ) (F : Fit owners table ends i first cells order n owned) where
+    pub long-told : (reached sent : ℕ) → reached ≡ endsOf 2 owners table ends i first cells order 0 owned → sent ≡ endsOf 1 owners table ends i first cells order 0 16
+        → (46 + n + owned + 2 * reached + sent ≡ 46 + n + owned + 2 * rowEnds table ends first order owned + sentEnds owners table ends i first cells 16) × (46 + n + owned + 2 * reached + sent < 65536)
     long-told reached sent e q = (omega (arith, reached-is owned, sent-is 16), omega (arith, reached-is owned, sent-is 16, F .long))
 
-  module _ (n : ℕ) (local : List ℕ) (owned long steps kind : ℕ) (v : Bytes) (le : long ≡ 46 + n + owned + 2 * rowEnds table ends first order owned + sentEnds owners table ends held i first cells 16) where
+  module _ (n : ℕ) (local : List ℕ) (owned long steps kind : ℕ) (v : Bytes) (le : long ≡ 46 + n + owned + 2 * rowEnds table ends first order owned + sentEnds owners table ends i first cells 16) where
     words-are : ((long ∷ i ∷ steps ∷ kind ∷ []) ++ (listed 0 5 (wordAt v) ++ (first ∷ cells ∷ [])))
-        ++ ((listed 0 17 (endsOf 0 owners table ends held i first cells order owned) ++ listed 0 17 (endsOf 1 owners table ends held i first cells order 0))
-        ++ (take n order ++ (listed 0 (owned + 1) (endsOf 2 owners table ends held i first cells order 0) ++ (blocks 1 owned (rowWords table ends first order local) ++ blocks 1 16 (sentWords owners table ends held i first cells local)))))
-        ≡ numberedWords owners table ends held i first cells order n local owned steps kind v
+        ++ ((listed 0 17 (endsOf 0 owners table ends i first cells order owned) ++ listed 0 17 (endsOf 1 owners table ends i first cells order 0))
+        ++ (take n order ++ (listed 0 (owned + 1) (endsOf 2 owners table ends i first cells order 0) ++ (blocks 1 owned (rowWords table ends first order local) ++ blocks 1 16 (sentWords owners table ends i first cells local)))))
+        ≡ numberedWords owners table ends i first cells order n local owned steps kind v
     unfolding numberedWords
     words-are =
-        ap₂ (λ x (gs : List ℕ). ((x ∷ i ∷ steps ∷ kind ∷ []) ++ (listed 0 5 (wordAt v) ++ (first ∷ cells ∷ []))) ++ ((gs ++ listed 0 17 (endsOf 1 owners table ends held i first cells order 0)) ++ (take n order ++ (listed 0 (owned + 1) (endsOf 2 owners table ends held i first cells order 0) ++ (blocks 1 owned (rowWords table ends first order local) ++ blocks 1 16 (sentWords owners table ends held i first cells local))))))
-        le (listed-cong 0 (endsOf 0 owners table ends held i first cells order owned) (gotEnds owners table ends held i first cells owned) 17 (λ k h. got-is owned (0 + k)))
-        ∙ ap₂ (λ (ss rs : List ℕ). ((first-word ∷ i ∷ steps ∷ kind ∷ []) ++ (listed 0 5 (wordAt v) ++ (first ∷ cells ∷ []))) ++ ((listed 0 17 (gotEnds owners table ends held i first cells owned) ++ ss) ++ (take n order ++ (rs ++ (blocks 1 owned (rowWords table ends first order local) ++ blocks 1 16 (sentWords owners table ends held i first cells local))))))
-        (listed-cong 0 (endsOf 1 owners table ends held i first cells order 0) (sentEnds owners table ends held i first cells) 17 (λ k h. sent-is (0 + k)))
-        (listed-cong 0 (endsOf 2 owners table ends held i first cells order 0) (rowEnds table ends first order) (owned + 1) (λ k h. reached-is (0 + k)))
-        ∙ ap (λ (xs : List ℕ). first-word ∷ i ∷ steps ∷ kind ∷ xs) (tail-is (listed 0 5 (wordAt v)) (first ∷ cells ∷ []) (listed 0 17 (gotEnds owners table ends held i first cells owned)) (listed 0 17 (sentEnds owners table ends held i first cells)) (take n order ++ (listed 0 (owned + 1) (rowEnds table ends first order) ++ (blocks 1 owned (rowWords table ends first order local) ++ blocks 1 16 (sentWords owners table ends held i first cells local)))))
+        ap₂ (λ x (gs : List ℕ). ((x ∷ i ∷ steps ∷ kind ∷ []) ++ (listed 0 5 (wordAt v) ++ (first ∷ cells ∷ []))) ++ ((gs ++ listed 0 17 (endsOf 1 owners table ends i first cells order 0)) ++ (take n order ++ (listed 0 (owned + 1) (endsOf 2 owners table ends i first cells order 0) ++ (blocks 1 owned (rowWords table ends first order local) ++ blocks 1 16 (sentWords owners table ends i first cells local))))))
+        le (listed-cong 0 (endsOf 0 owners table ends i first cells order owned) (gotEnds owners table ends i first cells owned) 17 (λ k h. got-is owned (0 + k)))
+        ∙ ap₂ (λ (ss rs : List ℕ). ((first-word ∷ i ∷ steps ∷ kind ∷ []) ++ (listed 0 5 (wordAt v) ++ (first ∷ cells ∷ []))) ++ ((listed 0 17 (gotEnds owners table ends i first cells owned) ++ ss) ++ (take n order ++ (rs ++ (blocks 1 owned (rowWords table ends first order local) ++ blocks 1 16 (sentWords owners table ends i first cells local))))))
+        (listed-cong 0 (endsOf 1 owners table ends i first cells order 0) (sentEnds owners table ends i first cells) 17 (λ k h. sent-is (0 + k)))
+        (listed-cong 0 (endsOf 2 owners table ends i first cells order 0) (rowEnds table ends first order) (owned + 1) (λ k h. reached-is (0 + k)))
+        ∙ ap (λ (xs : List ℕ). first-word ∷ i ∷ steps ∷ kind ∷ xs) (tail-is (listed 0 5 (wordAt v)) (first ∷ cells ∷ []) (listed 0 17 (gotEnds owners table ends i first cells owned)) (listed 0 17 (sentEnds owners table ends i first cells)) (take n order ++ (listed 0 (owned + 1) (rowEnds table ends first order) ++ (blocks 1 owned (rowWords table ends first order local) ++ blocks 1 16 (sentWords owners table ends i first cells local)))))
       where
         first-word : ℕ
-        first-word = 46 + n + owned + 2 * rowEnds table ends first order owned + sentEnds owners table ends held i first cells 16
+        first-word = 46 + n + owned + 2 * rowEnds table ends first order owned + sentEnds owners table ends i first cells 16
 
         tail-is : (ws fs gs ss rs : List ℕ) → (ws ++ fs) ++ ((gs ++ ss) ++ rs) ≡ ws ++ (fs ++ (gs ++ (ss ++ rs)))
         tail-is ws fs gs ss rs = append-assoc ws fs ((gs ++ ss) ++ rs) ∙ ap (λ x. ws ++ (fs ++ x)) (append-assoc gs ss rs)
 
-    pub words-long : n ≤ length order → length (numberedWords owners table ends held i first cells order n local owned steps kind v) ≡ long
+    pub words-long : n ≤ length order → length (numberedWords owners table ends i first cells order n local owned steps kind v) ≡ long
     unfolding numberedWords
     words-long h =
         let H = blocks 1 owned (rowWords table ends first order local) in
-        let I = blocks 1 16 (sentWords owners table ends held i first cells local) in
+        let I = blocks 1 16 (sentWords owners table ends i first cells local) in
         let G = listed 0 (owned + 1) (rowEnds table ends first order) in
-        let E = listed 0 17 (sentEnds owners table ends held i first cells) in
-        let D = listed 0 17 (gotEnds owners table ends held i first cells owned) in
+        let E = listed 0 17 (sentEnds owners table ends i first cells) in
+        let D = listed 0 17 (gotEnds owners table ends i first cells owned) in
         let W = listed 0 5 (wordAt v) in
         omega (
           arith,
@@ -79,34 +79,34 @@ module _ (owners table : Bytes) (ends : List ℕ) (held : Bytes) (i first cells 
           length-append G (H ++ I),
           length-append H I,
           listed-length 0 (wordAt v) 5,
-          listed-length 0 (gotEnds owners table ends held i first cells owned) 17,
-          listed-length 0 (sentEnds owners table ends held i first cells) 17,
+          listed-length 0 (gotEnds owners table ends i first cells owned) 17,
+          listed-length 0 (sentEnds owners table ends i first cells) 17,
           listed-length 0 (rowEnds table ends first order) (owned + 1),
           length-take-le n order h,
           rows-long table ends first order local owned,
-          all-long owners table ends held i first cells local,
+          all-long owners table ends i first cells local,
         )
 
     pub lists-put : (a b c d : Bytes) (t u w : ℕ) → 90 ≤ length a → Put a b 0 t ((long ∷ i ∷ steps ∷ kind ∷ []) ++ (listed 0 5 (wordAt v) ++ (first ∷ cells ∷ [])))
-        → Put b c t u (listed 0 17 (endsOf 0 owners table ends held i first cells order owned) ++ listed 0 17 (endsOf 1 owners table ends held i first cells order 0))
-        → Put c d u w (take n order ++ (listed 0 (owned + 1) (endsOf 2 owners table ends held i first cells order 0) ++ (blocks 1 owned (rowWords table ends first order local) ++ blocks 1 16 (sentWords owners table ends held i first cells local))))
-        → Put a d 0 w (numberedWords owners table ends held i first cells order n local owned steps kind v)
+        → Put b c t u (listed 0 17 (endsOf 0 owners table ends i first cells order owned) ++ listed 0 17 (endsOf 1 owners table ends i first cells order 0))
+        → Put c d u w (take n order ++ (listed 0 (owned + 1) (endsOf 2 owners table ends i first cells order 0) ++ (blocks 1 owned (rowWords table ends first order local) ++ blocks 1 16 (sentWords owners table ends i first cells local))))
+        → Put a d 0 w (numberedWords owners table ends i first cells order n local owned steps kind v)
     lists-put a b c d t u w room P Q R =
         let te : t ≡ 11 = head-count long i steps kind first cells v a b t P in
         let lb : length b ≡ length a = put-length a b 0 t _ P (omega arith) in
         put-as a d 0 w _ _ words-are
-        (put-both a b d 0 t w _ _ P (put-both b c d t u w _ _ Q R (omega (arith, Q .count, length-append (listed 0 17 (endsOf 0 owners table ends held i first cells order owned)) (listed 0 17 (endsOf 1 owners table ends held i first cells order 0)), listed-length 0 (endsOf 0 owners table ends held i first cells order owned) 17, listed-length 0 (endsOf 1 owners table ends held i first cells order 0) 17))) (omega arith))
+        (put-both a b d 0 t w _ _ P (put-both b c d t u w _ _ Q R (omega (arith, Q .count, length-append (listed 0 17 (endsOf 0 owners table ends i first cells order owned)) (listed 0 17 (endsOf 1 owners table ends i first cells order 0)), listed-length 0 (endsOf 0 owners table ends i first cells order owned) 17, listed-length 0 (endsOf 1 owners table ends i first cells order 0) 17))) (omega arith))
 
-  pub borders-count : (a b : Bytes) (s t owned : ℕ) → Put a b s t (listed 0 17 (endsOf 0 owners table ends held i first cells order owned) ++ listed 0 17 (endsOf 1 owners table ends held i first cells order 0)) → t ≡ s + 34
+  pub borders-count : (a b : Bytes) (s t owned : ℕ) → Put a b s t (listed 0 17 (endsOf 0 owners table ends i first cells order owned) ++ listed 0 17 (endsOf 1 owners table ends i first cells order 0)) → t ≡ s + 34
   borders-count a b s t owned P =
-      omega (arith, P .count, length-append (listed 0 17 (endsOf 0 owners table ends held i first cells order owned)) (listed 0 17 (endsOf 1 owners table ends held i first cells order 0)), listed-length 0 (endsOf 0 owners table ends held i first cells order owned) 17, listed-length 0 (endsOf 1 owners table ends held i first cells order 0) 17)
+      omega (arith, P .count, length-append (listed 0 17 (endsOf 0 owners table ends i first cells order owned)) (listed 0 17 (endsOf 1 owners table ends i first cells order 0)), listed-length 0 (endsOf 0 owners table ends i first cells order owned) 17, listed-length 0 (endsOf 1 owners table ends i first cells order 0) 17)
 
 -- the lists by the local numbers of the order
-pub lists-numbered : (a b : Bytes) (s t : ℕ) (owners table : Bytes) (ends : List ℕ) (held : Bytes) (i first cells : ℕ) (order : List ℕ)
+pub lists-numbered : (a b : Bytes) (s t : ℕ) (owners table : Bytes) (ends : List ℕ) (i first cells : ℕ) (order : List ℕ)
     (n owned steps kind : ℕ) (v : Bytes) (local : List ℕ) → local ≡ numbersOf order n
-    → Put a b s t (numberedWords owners table ends held i first cells order n local owned steps kind v) → Put a b s t (startWords owners table ends held i first cells order n owned steps kind v)
-lists-numbered a b s t owners table ends held i first cells order n owned steps kind v local e P =
-    put-as a b s t _ _ (ap (λ l. numberedWords owners table ends held i first cells order n l owned steps kind v) e) P
+    → Put a b s t (numberedWords owners table ends i first cells order n local owned steps kind v) → Put a b s t (startWords owners table ends i first cells order n owned steps kind v)
+lists-numbered a b s t owners table ends i first cells order n owned steps kind v local e P =
+    put-as a b s t _ _ (ap (λ l. numberedWords owners table ends i first cells order n l owned steps kind v) e) P
 
 -- ---- the depths
 

@@ -1,4 +1,4 @@
--- How start finds the lists of a part: from the owners, the table of the reaches with its ends, the matrix of the held cells, and the part's
+-- How start finds the lists of a part: from the owners, the table of the reaches with its ends, and the part's
 -- local order. No public contract rests on this page; the laws in proofs/ tie it to the definitions of Start. Assumes nothing.
 use mathlib.Core.Path.{_≡_}
 use mathlib.Core.List.{List, [], _∷_, _++_, map}
@@ -9,7 +9,7 @@ use Rattle.vocabulary.specs.Ranges.{listed, blocks, total}
 use Rattle.layout.specs.Words.{wordAt, bytesOf}
 use Rattle.depths.specs.Depths.{four}
 use Rattle.split.specs.Numbering.{numbering}
-use Rattle.split.specs.Sorting.{cellsOf}
+use Rattle.split.specs.Classes.{partCells}
 
 -- the local number of a cell, in the array that has them
 unfoldable pub localIn : List ℕ → ℕ → ℕ
@@ -19,13 +19,13 @@ localIn local c = getD local c 0
 abbrev pub numbersOf : List ℕ → ℕ → List ℕ
 numbersOf order n = numbering 0 (take n order) (replicate 2001 0)
 
-module _ (owners table : Bytes) (ends : List ℕ) (held : Bytes) (i first cells : ℕ) where
+module _ (owners table : Bytes) (ends : List ℕ) (i first cells : ℕ) where
   -- what part i imports from j, and exports to j
   abbrev pub gotFrom : ℕ → List ℕ
-  gotFrom j = cellsOf owners table ends held i first cells j
+  gotFrom j = partCells owners table ends i first cells j
 
   abbrev pub sentFrom : ℕ → List ℕ
-  sentFrom j = cellsOf owners table ends held j first cells i
+  sentFrom j = partCells owners table ends j first cells i
 
   -- ends of the imports after `owned` cells, and of the exports
   unfoldable pub gotEnds : ℕ → ℕ → ℕ
@@ -59,21 +59,21 @@ module _ (table : Bytes) (ends : List ℕ) (first : ℕ) (order : List ℕ) wher
 
 -- all words of the lists of part i, of which n cells are held and `owned` owned, for a stencil of `steps` steps and a rule, by an array of local
 -- numbers, and by that of the order
-unfoldable pub numberedWords : Bytes → Bytes → List ℕ → Bytes → ℕ → ℕ → ℕ → List ℕ → ℕ → List ℕ → ℕ → ℕ → ℕ → Bytes → List ℕ
-numberedWords owners table ends held i first cells order n local owned steps kind v =
-    ((46 + n + owned + 2 * rowEnds table ends first order owned + sentEnds owners table ends held i first cells 16) ∷ i ∷ steps ∷ kind ∷ [])
+unfoldable pub numberedWords : Bytes → Bytes → List ℕ → ℕ → ℕ → ℕ → List ℕ → ℕ → List ℕ → ℕ → ℕ → ℕ → Bytes → List ℕ
+numberedWords owners table ends i first cells order n local owned steps kind v =
+    ((46 + n + owned + 2 * rowEnds table ends first order owned + sentEnds owners table ends i first cells 16) ∷ i ∷ steps ∷ kind ∷ [])
     ++ (listed 0 5 (wordAt v)
     ++ ((first ∷ cells ∷ [])
-    ++ (listed 0 17 (gotEnds owners table ends held i first cells owned)
-    ++ (listed 0 17 (sentEnds owners table ends held i first cells)
+    ++ (listed 0 17 (gotEnds owners table ends i first cells owned)
+    ++ (listed 0 17 (sentEnds owners table ends i first cells)
     ++ (take n order
     ++ (listed 0 (owned + 1) (rowEnds table ends first order)
     ++ (blocks 1 owned (rowWords table ends first order local)
-    ++ blocks 1 16 (sentWords owners table ends held i first cells local))))))))
+    ++ blocks 1 16 (sentWords owners table ends i first cells local))))))))
 
-abbrev pub startWords : Bytes → Bytes → List ℕ → Bytes → ℕ → ℕ → ℕ → List ℕ → ℕ → ℕ → ℕ → ℕ → Bytes → List ℕ
-startWords owners table ends held i first cells order n owned steps kind v =
-    numberedWords owners table ends held i first cells order n (numbersOf order n) owned steps kind v
+abbrev pub startWords : Bytes → Bytes → List ℕ → ℕ → ℕ → ℕ → List ℕ → ℕ → ℕ → ℕ → ℕ → Bytes → List ℕ
+startWords owners table ends i first cells order n owned steps kind v =
+    numberedWords owners table ends i first cells order n (numbersOf order n) owned steps kind v
 
 -- the words ws stand in b from word s on, which makes t of them, and nothing else has changed
 pub record Put (before after : Bytes) (s t : ℕ) (ws : List ℕ) : Type 0 where
@@ -81,23 +81,23 @@ pub record Put (before after : Bytes) (s t : ℕ) (ws : List ℕ) : Type 0 where
   pub text : after ≡ over before (2 * s) (bytesOf ws)
 
 -- what is counted of a number k: 0 what is imported from part k, 1 what is exported to it, and otherwise the reach of local cell k
-unfoldable pub partCount : ℕ → Bytes → Bytes → List ℕ → Bytes → ℕ → ℕ → ℕ → List ℕ → ℕ → ℕ
-partCount zero owners table ends held i first cells order k = length (gotFrom owners table ends held i first cells k)
-partCount (suc zero) owners table ends held i first cells order k = length (sentFrom owners table ends held i first cells k)
-partCount (suc (suc which)) owners table ends held i first cells order k = rowSize table ends first order k
+unfoldable pub partCount : ℕ → Bytes → Bytes → List ℕ → ℕ → ℕ → ℕ → List ℕ → ℕ → ℕ
+partCount zero owners table ends i first cells order k = length (gotFrom owners table ends i first cells k)
+partCount (suc zero) owners table ends i first cells order k = length (sentFrom owners table ends i first cells k)
+partCount (suc (suc which)) owners table ends i first cells order k = rowSize table ends first order k
 
 -- a table of ends, by what is counted
-unfoldable pub endsOf : ℕ → Bytes → Bytes → List ℕ → Bytes → ℕ → ℕ → ℕ → List ℕ → ℕ → ℕ → ℕ
-endsOf which owners table ends held i first cells order base j = base + total 1 j (partCount which owners table ends held i first cells order)
+unfoldable pub endsOf : ℕ → Bytes → Bytes → List ℕ → ℕ → ℕ → ℕ → List ℕ → ℕ → ℕ → ℕ
+endsOf which owners table ends i first cells order base j = base + total 1 j (partCount which owners table ends i first cells order)
 
 -- the last of n + 1 ends is a word, and the reaches that are counted are those of cells
-pub record Counted (which : ℕ) (owners table : Bytes) (ends : List ℕ) (held : Bytes) (i first cells : ℕ) (order : List ℕ) (base n : ℕ) : Type 0 where
-  pub last : endsOf which owners table ends held i first cells order base n < 65536
+pub record Counted (which : ℕ) (owners table : Bytes) (ends : List ℕ) (i first cells : ℕ) (order : List ℕ) (base n : ℕ) : Type 0 where
+  pub last : endsOf which owners table ends i first cells order base n < 65536
   pub cell : (k : ℕ) → 1 ≤ k → k ≤ n → 2 ≤ which → first ≤ getD order (k - 1) 0
 
 -- e is the end before the one at k, if there is one
-pub record Before (which : ℕ) (owners table : Bytes) (ends : List ℕ) (held : Bytes) (i first cells : ℕ) (order : List ℕ) (base k e : ℕ) : Type 0 where
-  pub is : 1 ≤ k → e ≡ endsOf which owners table ends held i first cells order base (k - 1)
+pub record Before (which : ℕ) (owners table : Bytes) (ends : List ℕ) (i first cells : ℕ) (order : List ℕ) (base k e : ℕ) : Type 0 where
+  pub is : 1 ≤ k → e ≡ endsOf which owners table ends i first cells order base (k - 1)
 
 -- local cell l is a cell, and the numbers of the cells in its reach are words
 pub record Row (table : Bytes) (ends : List ℕ) (first : ℕ) (order : List ℕ) (l : ℕ) : Type 0 where
@@ -108,19 +108,20 @@ pub record Rows (table : Bytes) (ends : List ℕ) (first : ℕ) (order : List �
   pub each : (l : ℕ) → 1 ≤ l → l ≤ owned → Row table ends first order l
 
 -- what the lists of a part keep to, so that every one of their words is a word
-pub record Fit (owners table : Bytes) (ends : List ℕ) (held : Bytes) (i first cells : ℕ) (order : List ℕ) (n owned : ℕ) : Type 0 where
+pub record Fit (owners table : Bytes) (ends : List ℕ) (i first cells : ℕ) (order : List ℕ) (n owned : ℕ) : Type 0 where
   pub part : i < 65536
+  pub part-few : i ≤ 16
   pub first-small : first < 65536
   pub cells-fit : first + cells ≤ 65536
   pub cells-few : cells ≤ 2000
   pub order-few : n ≤ 2000
   pub order-there : n ≤ length order
   pub owned-few : owned ≤ n
-  pub got : Counted 0 owners table ends held i first cells order owned 16
-  pub sent : Counted 1 owners table ends held i first cells order 0 16
-  pub reached : Counted 2 owners table ends held i first cells order 0 owned
+  pub got : Counted 0 owners table ends i first cells order owned 16
+  pub sent : Counted 1 owners table ends i first cells order 0 16
+  pub reached : Counted 2 owners table ends i first cells order 0 owned
   pub near : Rows table ends first order owned
-  pub long : 46 + n + owned + 2 * rowEnds table ends first order owned + sentEnds owners table ends held i first cells 16 < 65536
+  pub long : 46 + n + owned + 2 * rowEnds table ends first order owned + sentEnds owners table ends i first cells 16 < 65536
 
 -- the depth of local cell l in a field
 unfoldable pub startDepth : Bytes → ℕ → List ℕ → ℕ → Bytes

@@ -1,6 +1,6 @@
-// The lists of a part as the words of its state, from the owners, the table of the reaches with its ends, the matrix of the held cells, and the
-// part's local order.
-use cell_lists::inner::add_cells;
+// The lists of a part as the words of its state, from the owners, the table of the reaches with its ends, and the part's local order.
+use cell_lists::inner::add_class;
+use cell_lists::inner::count_class;
 use cell_numbers::Global;
 use cell_numbers::Local;
 use cell_numbers::inner::cell_at;
@@ -9,6 +9,8 @@ use layout::inner::copy;
 use layout::inner::put_word;
 use layout::number_at;
 use layout::word_at;
+use split::inner::MOST_CELLS;
+use split::inner::classify;
 use split::inner::number_cells;
 use split::inner::to_global;
 use split::inner::to_local;
@@ -19,7 +21,7 @@ ghost use lib.ListN.{length, getD, take};
 ghost use Rattle.vocabulary.specs.Bytes.{over};
 ghost use Rattle.vocabulary.specs.Ranges.{listed, blocks};
 ghost use Rattle.layout.specs.Words.{wordAt};
-ghost use Rattle.split.specs.Sorting.{cellsOf};
+ghost use Rattle.split.specs.Classes.{partCells};
 ghost use Rattle.start_lists.specs.Starting.{Put, localIn, rowSize, partCount, endsOf, Counted, Before, entryWords, rowEnds, rowWords, sentEnds, sentWords, Row, Rows, Fit, numberedWords, startWords, startDepth, Cells};
 
 // Writes w as word s, and gives how many words there are then.
@@ -63,22 +65,22 @@ fn put_weights(b: &mut [u8], s: usize, v: &[u8], n: usize) -> usize
     t
 }
 
-// How many cells part i imports from j.
-pub fn got_count(
+// How many cells are of class k for part i.
+fn got_count(
     owners: &[u8],
     table: &[u8],
     ends: &[u16],
-    held: &[u8],
     i: usize,
     first: usize,
     cells: usize,
-    j: usize,
+    k: usize,
 ) -> usize
-    requires { ⌜ (i < 65536) × (first + cells ≤ 65536) × (cells ≤ 2000) ⌝ }
-    ensures { λ n. ⌜ (n ≡ length (cellsOf (now (owners .entry)) (now (table .entry)) (now (ends .entry)) (now (held .entry)) i first cells j)) × (n ≤ 2000) ⌝ }
+    requires { ⌜ cells ≤ 2000 ⌝ }
+    ensures { λ n. ⌜ (n ≡ length (partCells (now (owners .entry)) (now (table .entry)) (now (ends .entry)) i first cells k)) × (n ≤ 2000) ⌝ }
 {
-    let mut list = [0u16; 2000];
-    add_cells(owners, table, ends, held, i, first, cells, j, &mut list, 0)
+    let mut class = [0u8; MOST_CELLS];
+    classify(owners, table, ends, cells, i, &mut class);
+    count_class(&class, cells, k)
 }
 
 // The index of local cell l among the mesh's cells.
@@ -106,7 +108,6 @@ fn part_count(
     owners: &[u8],
     table: &[u8],
     ends: &[u16],
-    held: &[u8],
     i: usize,
     first: usize,
     cells: usize,
@@ -114,11 +115,11 @@ fn part_count(
     k: usize,
 ) -> usize
     requires { ⌜ (i < 65536) × (first + cells ≤ 65536) × (cells ≤ 2000) × (1 ≤ k) × (k < 65536) × (2 ≤ which → first ≤ getD (now order) (k - 1) 0) ⌝ }
-    ensures { λ n. ⌜ (n ≡ partCount which (now (owners .entry)) (now (table .entry)) (now (ends .entry)) (now (held .entry)) i first cells (now (order .entry)) k) × (n < 65536) ⌝ }
+    ensures { λ n. ⌜ (n ≡ partCount which (now (owners .entry)) (now (table .entry)) (now (ends .entry)) i first cells (now (order .entry)) k) × (n < 65536) ⌝ }
 {
     match which {
-        0 => got_count(owners, table, ends, held, i, first, cells, k),
-        1 => got_count(owners, table, ends, held, k, first, cells, i),
+        0 => got_count(owners, table, ends, i, first, cells, k),
+        1 => got_count(owners, table, ends, k, first, cells, i),
         _ => row_size(table, ends, first, order, Local(k as u16)),
     }
 }
@@ -129,7 +130,6 @@ fn next_end(
     owners: &[u8],
     table: &[u8],
     ends: &[u16],
-    held: &[u8],
     i: usize,
     first: usize,
     cells: usize,
@@ -138,13 +138,13 @@ fn next_end(
     e: usize,
     k: usize,
 ) -> usize
-    requires { ⌜ (i < 65536) × (first + cells ≤ 65536) × (cells ≤ 2000) × Counted which (now owners) (now table) (now ends) (now held) i first cells (now order) base k × Before which (now owners) (now table) (now ends) (now held) i first cells (now order) base k e × (k < 65536) ⌝ }
-    ensures { λ r. ⌜ (r ≡ endsOf which (now (owners .entry)) (now (table .entry)) (now (ends .entry)) (now (held .entry)) i first cells (now (order .entry)) base k) × (r < 65536) ⌝ }
+    requires { ⌜ (i < 65536) × (first + cells ≤ 65536) × (cells ≤ 2000) × Counted which (now owners) (now table) (now ends) i first cells (now order) base k × Before which (now owners) (now table) (now ends) i first cells (now order) base k e × (k < 65536) ⌝ }
+    ensures { λ r. ⌜ (r ≡ endsOf which (now (owners .entry)) (now (table .entry)) (now (ends .entry)) i first cells (now (order .entry)) base k) × (r < 65536) ⌝ }
 {
     if k == 0 {
         return base;
     }
-    let x = part_count(which, owners, table, ends, held, i, first, cells, order, k);
+    let x = part_count(which, owners, table, ends, i, first, cells, order, k);
     e + x
 }
 
@@ -156,7 +156,6 @@ fn put_ends(
     owners: &[u8],
     table: &[u8],
     ends: &[u16],
-    held: &[u8],
     i: usize,
     first: usize,
     cells: usize,
@@ -164,8 +163,8 @@ fn put_ends(
     base: usize,
     n: usize,
 ) -> usize
-    requires { ⌜ (2 * (s + n + 1) ≤ length (now b)) × (s < 65536) × (n < 65535) × (i < 65536) × (first + cells ≤ 65536) × (cells ≤ 2000) × Counted which (now owners) (now table) (now ends) (now held) i first cells (now order) base n ⌝ }
-    ensures { λ t. ⌜ Put (now (b .entry)) (now (b .exit)) s t (listed 0 (n + 1) (endsOf which (now (owners .entry)) (now (table .entry)) (now (ends .entry)) (now (held .entry)) i first cells (now (order .entry)) base)) ⌝ }
+    requires { ⌜ (2 * (s + n + 1) ≤ length (now b)) × (s < 65536) × (n < 65535) × (i < 65536) × (first + cells ≤ 65536) × (cells ≤ 2000) × Counted which (now owners) (now table) (now ends) i first cells (now order) base n ⌝ }
+    ensures { λ t. ⌜ Put (now (b .entry)) (now (b .exit)) s t (listed 0 (n + 1) (endsOf which (now (owners .entry)) (now (table .entry)) (now (ends .entry)) i first cells (now (order .entry)) base)) ⌝ }
 {
     let mut e = 0;
     let mut t = s;
@@ -175,7 +174,6 @@ fn put_ends(
             owners,
             table,
             ends,
-            held,
             i,
             first,
             cells,
@@ -195,7 +193,6 @@ fn last_end(
     owners: &[u8],
     table: &[u8],
     ends: &[u16],
-    held: &[u8],
     i: usize,
     first: usize,
     cells: usize,
@@ -203,8 +200,8 @@ fn last_end(
     base: usize,
     n: usize,
 ) -> usize
-    requires { ⌜ (n < 65535) × (i < 65536) × (first + cells ≤ 65536) × (cells ≤ 2000) × Counted which (now owners) (now table) (now ends) (now held) i first cells (now order) base n ⌝ }
-    ensures { λ e. ⌜ e ≡ endsOf which (now (owners .entry)) (now (table .entry)) (now (ends .entry)) (now (held .entry)) i first cells (now (order .entry)) base n ⌝ }
+    requires { ⌜ (n < 65535) × (i < 65536) × (first + cells ≤ 65536) × (cells ≤ 2000) × Counted which (now owners) (now table) (now ends) i first cells (now order) base n ⌝ }
+    ensures { λ e. ⌜ e ≡ endsOf which (now (owners .entry)) (now (table .entry)) (now (ends .entry)) i first cells (now (order .entry)) base n ⌝ }
 {
     let mut e = 0;
     for k in 0..n + 1 {
@@ -213,7 +210,6 @@ fn last_end(
             owners,
             table,
             ends,
-            held,
             i,
             first,
             cells,
@@ -301,7 +297,6 @@ fn put_sent_to(
     owners: &[u8],
     table: &[u8],
     ends: &[u16],
-    held: &[u8],
     i: usize,
     first: usize,
     cells: usize,
@@ -309,10 +304,12 @@ fn put_sent_to(
     j: usize,
     list: &mut [u16],
 ) -> usize
-    requires { ⌜ (2 * (s + length (cellsOf (now owners) (now table) (now ends) (now held) j first cells i)) ≤ length (now b)) × (s < 65536) × (j < 65536) × (first + cells ≤ 65536) × (cells ≤ 2000) × (length (now list) ≡ 2000) ⌝ }
-    ensures { λ u. ⌜ Put (now (b .entry)) (now (b .exit)) s u (sentWords (now (owners .entry)) (now (table .entry)) (now (ends .entry)) (now (held .entry)) i first cells (now (local .entry)) j) × (length (now (list .exit)) ≡ 2000) ⌝ }
+    requires { ⌜ (2 * (s + length (partCells (now owners) (now table) (now ends) j first cells i)) ≤ length (now b)) × (s < 65536) × (i ≤ 16) × (first + cells ≤ 65536) × (cells ≤ 2000) × (length (now list) ≡ 2000) ⌝ }
+    ensures { λ u. ⌜ Put (now (b .entry)) (now (b .exit)) s u (sentWords (now (owners .entry)) (now (table .entry)) (now (ends .entry)) i first cells (now (local .entry)) j) × (length (now (list .exit)) ≡ 2000) ⌝ }
 {
-    let k = add_cells(owners, table, ends, held, j, first, cells, i, list, 0);
+    let mut class = [0u8; MOST_CELLS];
+    classify(owners, table, ends, cells, j, &mut class);
+    let k = add_class(&class, first, cells, i as u8, list, 0);
     put_locals(b, s, list, k, local)
 }
 
@@ -323,32 +320,18 @@ fn put_sent(
     owners: &[u8],
     table: &[u8],
     ends: &[u16],
-    held: &[u8],
     i: usize,
     first: usize,
     cells: usize,
     local: &[u16],
     list: &mut [u16],
 ) -> usize
-    requires { ⌜ (2 * (s + sentEnds (now owners) (now table) (now ends) (now held) i first cells 16) ≤ length (now b)) × (s + sentEnds (now owners) (now table) (now ends) (now held) i first cells 16 < 65536) × (first + cells ≤ 65536) × (cells ≤ 2000) × (length (now list) ≡ 2000) ⌝ }
-    ensures { λ u. ⌜ Put (now (b .entry)) (now (b .exit)) s u (blocks 1 16 (sentWords (now (owners .entry)) (now (table .entry)) (now (ends .entry)) (now (held .entry)) i first cells (now (local .entry)))) ⌝ }
+    requires { ⌜ (2 * (s + sentEnds (now owners) (now table) (now ends) i first cells 16) ≤ length (now b)) × (s + sentEnds (now owners) (now table) (now ends) i first cells 16 < 65536) × (first + cells ≤ 65536) × (cells ≤ 2000) × (length (now list) ≡ 2000) × (i ≤ 16) ⌝ }
+    ensures { λ u. ⌜ Put (now (b .entry)) (now (b .exit)) s u (blocks 1 16 (sentWords (now (owners .entry)) (now (table .entry)) (now (ends .entry)) i first cells (now (local .entry)))) ⌝ }
 {
     let mut u = s;
     for j in 1..17 {
-        u = put_sent_to(
-            b,
-            u,
-            owners,
-            table,
-            ends,
-            held,
-            i,
-            first,
-            cells,
-            local,
-            j,
-            list,
-        );
+        u = put_sent_to(b, u, owners, table, ends, i, first, cells, local, j, list);
     }
     u
 }
@@ -383,15 +366,14 @@ fn put_borders(
     owners: &[u8],
     table: &[u8],
     ends: &[u16],
-    held: &[u8],
     i: usize,
     first: usize,
     cells: usize,
     order: &[u16],
     owned: usize,
 ) -> usize
-    requires { ⌜ (2 * (s + 34) ≤ length (now b)) × (s < 60000) × (i < 65536) × (first + cells ≤ 65536) × (cells ≤ 2000) × Counted 0 (now owners) (now table) (now ends) (now held) i first cells (now order) owned 16 × Counted 1 (now owners) (now table) (now ends) (now held) i first cells (now order) 0 16 ⌝ }
-    ensures { λ t. ⌜ Put (now (b .entry)) (now (b .exit)) s t (listed 0 17 (endsOf 0 (now (owners .entry)) (now (table .entry)) (now (ends .entry)) (now (held .entry)) i first cells (now (order .entry)) owned) ++ listed 0 17 (endsOf 1 (now (owners .entry)) (now (table .entry)) (now (ends .entry)) (now (held .entry)) i first cells (now (order .entry)) 0)) ⌝ }
+    requires { ⌜ (2 * (s + 34) ≤ length (now b)) × (s < 60000) × (i < 65536) × (first + cells ≤ 65536) × (cells ≤ 2000) × Counted 0 (now owners) (now table) (now ends) i first cells (now order) owned 16 × Counted 1 (now owners) (now table) (now ends) i first cells (now order) 0 16 ⌝ }
+    ensures { λ t. ⌜ Put (now (b .entry)) (now (b .exit)) s t (listed 0 17 (endsOf 0 (now (owners .entry)) (now (table .entry)) (now (ends .entry)) i first cells (now (order .entry)) owned) ++ listed 0 17 (endsOf 1 (now (owners .entry)) (now (table .entry)) (now (ends .entry)) i first cells (now (order .entry)) 0)) ⌝ }
 {
     let t = put_ends(
         b,
@@ -400,7 +382,6 @@ fn put_borders(
         owners,
         table,
         ends,
-        held,
         i,
         first,
         cells,
@@ -408,21 +389,7 @@ fn put_borders(
         owned,
         16,
     );
-    put_ends(
-        b,
-        t,
-        1,
-        owners,
-        table,
-        ends,
-        held,
-        i,
-        first,
-        cells,
-        order,
-        0,
-        16,
-    )
+    put_ends(b, t, 1, owners, table, ends, i, first, cells, order, 0, 16)
 }
 
 // Writes the local order, the reaches with their ends, and the exports.
@@ -432,7 +399,6 @@ fn put_entries(
     owners: &[u8],
     table: &[u8],
     ends: &[u16],
-    held: &[u8],
     i: usize,
     first: usize,
     cells: usize,
@@ -442,8 +408,8 @@ fn put_entries(
     owned: usize,
     list: &mut [u16],
 ) -> usize
-    requires { ⌜ (2 * (s + n + owned + 1 + 2 * rowEnds (now table) (now ends) first (now order) owned + sentEnds (now owners) (now table) (now ends) (now held) i first cells 16) ≤ length (now b)) × (s + n + owned + 1 + 2 * rowEnds (now table) (now ends) first (now order) owned + sentEnds (now owners) (now table) (now ends) (now held) i first cells 16 < 65536) × (i < 65536) × (first + cells ≤ 65536) × (cells ≤ 2000) × (n ≤ length (now order)) × (length (now list) ≡ 2000) × Counted 2 (now owners) (now table) (now ends) (now held) i first cells (now order) 0 owned × Rows (now table) (now ends) first (now order) owned ⌝ }
-    ensures { λ t. ⌜ Put (now (b .entry)) (now (b .exit)) s t (take n (now (order .entry)) ++ (listed 0 (owned + 1) (endsOf 2 (now (owners .entry)) (now (table .entry)) (now (ends .entry)) (now (held .entry)) i first cells (now (order .entry)) 0) ++ (blocks 1 owned (rowWords (now (table .entry)) (now (ends .entry)) first (now (order .entry)) (now (local .entry))) ++ blocks 1 16 (sentWords (now (owners .entry)) (now (table .entry)) (now (ends .entry)) (now (held .entry)) i first cells (now (local .entry)))))) ⌝ }
+    requires { ⌜ (2 * (s + n + owned + 1 + 2 * rowEnds (now table) (now ends) first (now order) owned + sentEnds (now owners) (now table) (now ends) i first cells 16) ≤ length (now b)) × (s + n + owned + 1 + 2 * rowEnds (now table) (now ends) first (now order) owned + sentEnds (now owners) (now table) (now ends) i first cells 16 < 65536) × (i < 65536) × (first + cells ≤ 65536) × (cells ≤ 2000) × (n ≤ length (now order)) × (length (now list) ≡ 2000) × Counted 2 (now owners) (now table) (now ends) i first cells (now order) 0 owned × Rows (now table) (now ends) first (now order) owned × (i ≤ 16) ⌝ }
+    ensures { λ t. ⌜ Put (now (b .entry)) (now (b .exit)) s t (take n (now (order .entry)) ++ (listed 0 (owned + 1) (endsOf 2 (now (owners .entry)) (now (table .entry)) (now (ends .entry)) i first cells (now (order .entry)) 0) ++ (blocks 1 owned (rowWords (now (table .entry)) (now (ends .entry)) first (now (order .entry)) (now (local .entry))) ++ blocks 1 16 (sentWords (now (owners .entry)) (now (table .entry)) (now (ends .entry)) i first cells (now (local .entry)))))) ⌝ }
 {
     let t = put_list(b, s, order, n);
     let u = put_ends(
@@ -453,7 +419,6 @@ fn put_entries(
         owners,
         table,
         ends,
-        held,
         i,
         first,
         cells,
@@ -462,19 +427,7 @@ fn put_entries(
         owned,
     );
     let w = put_rows(b, u, table, ends, first, order, local, owned);
-    put_sent(
-        b,
-        w,
-        owners,
-        table,
-        ends,
-        held,
-        i,
-        first,
-        cells,
-        local,
-        list,
-    )
+    put_sent(b, w, owners, table, ends, i, first, cells, local, list)
 }
 
 // How many words the lists have.
@@ -482,7 +435,6 @@ pub fn lists_length(
     owners: &[u8],
     table: &[u8],
     ends: &[u16],
-    held: &[u8],
     i: usize,
     first: usize,
     cells: usize,
@@ -490,23 +442,11 @@ pub fn lists_length(
     n: usize,
     owned: usize,
 ) -> usize
-    requires { ⌜ Fit (now owners) (now table) (now ends) (now held) i first cells (now order) n owned ⌝ }
-    ensures { λ r. ⌜ (r ≡ 46 + n + owned + 2 * rowEnds (now (table .entry)) (now (ends .entry)) first (now (order .entry)) owned + sentEnds (now (owners .entry)) (now (table .entry)) (now (ends .entry)) (now (held .entry)) i first cells 16) × (r < 65536) ⌝ }
+    requires { ⌜ Fit (now owners) (now table) (now ends) i first cells (now order) n owned ⌝ }
+    ensures { λ r. ⌜ (r ≡ 46 + n + owned + 2 * rowEnds (now (table .entry)) (now (ends .entry)) first (now (order .entry)) owned + sentEnds (now (owners .entry)) (now (table .entry)) (now (ends .entry)) i first cells 16) × (r < 65536) ⌝ }
 {
-    let reached = last_end(
-        2,
-        owners,
-        table,
-        ends,
-        held,
-        i,
-        first,
-        cells,
-        order,
-        0,
-        owned,
-    );
-    let sent = last_end(1, owners, table, ends, held, i, first, cells, order, 0, 16);
+    let reached = last_end(2, owners, table, ends, i, first, cells, order, 0, owned);
+    let sent = last_end(1, owners, table, ends, i, first, cells, order, 0, 16);
     46 + n + owned + 2 * reached + sent
 }
 
@@ -520,7 +460,6 @@ fn put_pieces(
     owners: &[u8],
     table: &[u8],
     ends: &[u16],
-    held: &[u8],
     i: usize,
     first: usize,
     cells: usize,
@@ -530,30 +469,17 @@ fn put_pieces(
     owned: usize,
     list: &mut [u16],
 ) -> usize
-    requires { ⌜ Fit (now owners) (now table) (now ends) (now held) i first cells (now order) n owned × (long ≡ 46 + n + owned + 2 * rowEnds (now table) (now ends) first (now order) owned + sentEnds (now owners) (now table) (now ends) (now held) i first cells 16) × (2 * long ≤ length (now b)) × (steps < 65536) × (kind < 65536) × (length (now list) ≡ 2000) ⌝ }
-    ensures { λ t. ⌜ Put (now (b .entry)) (now (b .exit)) 0 t (numberedWords (now (owners .entry)) (now (table .entry)) (now (ends .entry)) (now (held .entry)) i first cells (now (order .entry)) n (now (local .entry)) owned steps kind (now (v .entry))) ⌝ }
+    requires { ⌜ Fit (now owners) (now table) (now ends) i first cells (now order) n owned × (long ≡ 46 + n + owned + 2 * rowEnds (now table) (now ends) first (now order) owned + sentEnds (now owners) (now table) (now ends) i first cells 16) × (2 * long ≤ length (now b)) × (steps < 65536) × (kind < 65536) × (length (now list) ≡ 2000) ⌝ }
+    ensures { λ t. ⌜ Put (now (b .entry)) (now (b .exit)) 0 t (numberedWords (now (owners .entry)) (now (table .entry)) (now (ends .entry)) i first cells (now (order .entry)) n (now (local .entry)) owned steps kind (now (v .entry))) ⌝ }
 {
     let s = put_head(b, long, i, steps, kind, v, first, cells);
-    let t = put_borders(
-        b,
-        s,
-        owners,
-        table,
-        ends,
-        held,
-        i,
-        first,
-        cells,
-        order,
-        owned,
-    );
+    let t = put_borders(b, s, owners, table, ends, i, first, cells, order, owned);
     put_entries(
         b,
         t,
         owners,
         table,
         ends,
-        held,
         i,
         first,
         cells,
@@ -575,7 +501,6 @@ pub fn put_lists(
     owners: &[u8],
     table: &[u8],
     ends: &[u16],
-    held: &[u8],
     i: usize,
     first: usize,
     cells: usize,
@@ -584,8 +509,8 @@ pub fn put_lists(
     owned: usize,
     list: &mut [u16],
 ) -> usize
-    requires { ⌜ Fit (now owners) (now table) (now ends) (now held) i first cells (now order) n owned × (long ≡ 46 + n + owned + 2 * rowEnds (now table) (now ends) first (now order) owned + sentEnds (now owners) (now table) (now ends) (now held) i first cells 16) × (2 * long ≤ length (now b)) × (steps < 65536) × (kind < 65536) × (length (now list) ≡ 2000) ⌝ }
-    ensures { λ t. ⌜ Put (now (b .entry)) (now (b .exit)) 0 t (startWords (now (owners .entry)) (now (table .entry)) (now (ends .entry)) (now (held .entry)) i first cells (now (order .entry)) n owned steps kind (now (v .entry))) ⌝ }
+    requires { ⌜ Fit (now owners) (now table) (now ends) i first cells (now order) n owned × (long ≡ 46 + n + owned + 2 * rowEnds (now table) (now ends) first (now order) owned + sentEnds (now owners) (now table) (now ends) i first cells 16) × (2 * long ≤ length (now b)) × (steps < 65536) × (kind < 65536) × (length (now list) ≡ 2000) ⌝ }
+    ensures { λ t. ⌜ Put (now (b .entry)) (now (b .exit)) 0 t (startWords (now (owners .entry)) (now (table .entry)) (now (ends .entry)) i first cells (now (order .entry)) n owned steps kind (now (v .entry))) ⌝ }
 {
     let mut local = [0u16; 2001];
     number_cells(order, n, &mut local);
@@ -598,7 +523,6 @@ pub fn put_lists(
         owners,
         table,
         ends,
-        held,
         i,
         first,
         cells,

@@ -28,10 +28,11 @@ use Rattle.round.specs.Rounds.{schemeOf, depthIn, bad14}
 use Rattle.split.specs.Split.{splitOf, interior, halo, locals, globalOf}
 use Rattle.split.specs.SplitLaws.{own-count}
 use Rattle.split.specs.Lists.{bad12, splitTests, sizeTests, splitNumber, sizesNumber}
-use Rattle.split.specs.Sorting.{cellsOf, localsOf, Added, Prepared}
+use Rattle.split.specs.Classes.{Added}
+use Rattle.split.specs.Classes.{Classed, Prepared, classCount, classOrder}
 use Rattle.split.proofs.PassedLaws.{Passed, twice, passed-facts}
-use Rattle.cell_lists.proofs.CellLaws.{interior-is, halo-is, locals-are, locals-few}
-use Rattle.cell_lists.proofs.SortLaws.{added-fits, added-take}
+use Rattle.cell_lists.proofs.ClassLists.{interior-is, halo-is, order-is as cells-order, locals-few}
+use Rattle.cell_lists.proofs.AddLaws.{added-fits, added-take, class-count}
 use Rattle.starts.specs.Start.{ownedIn, reachEnds, listsLong, stateSize, sizeNumber, sizeAnswer, firstState, startTests, startNumber, startAnswer, startState}
 use Rattle.start_lists.specs.Starting.{Put, rowEnds, sentEnds, startWords, startDepth, Fit, Cells}
 use Rattle.starts.specs.Planning.{Planned}
@@ -42,8 +43,8 @@ use Rattle.mesh.proofs.AcceptedLaws.{cells-few, cells-fit}
 
 -- ---- the plan
 
-module _ (m : Bytes) (parts : ℕ) (owners : Bytes) (i : ℕ) (st table : Bytes) (ends : List ℕ) (held : Bytes) (sn : splitNumber m parts owners (i ∷ i ∷ []) st ≡ 0)
-    (zn : sizesNumber m parts owners st ≡ 0) (R : Prepared m parts owners st table ends held) where
+module _ (m : Bytes) (parts : ℕ) (owners : Bytes) (i : ℕ) (st table : Bytes) (ends : List ℕ) (holders : Bytes) (sn : splitNumber m parts owners (i ∷ i ∷ []) st ≡ 0)
+    (zn : sizesNumber m parts owners st ≡ 0) (R : Prepared m parts owners st table ends holders) where
   P : Passed m parts owners i i st
   P = passed-facts m parts owners i i st sn
 
@@ -63,41 +64,41 @@ module _ (m : Bytes) (parts : ℕ) (owners : Bytes) (i : ℕ) (st table : Bytes)
     pub plan-bounds : (i < 65536) × (first + cells ≤ 65536) × (cells ≤ 2000) × (parts ≤ 16)
     plan-bounds = (omega (arith, P .i-in .1), cells-fit m first cells (P .mesh) fe ce, cells-few m cells (P .mesh) ce, P .few)
 
-    module _ (a order : List ℕ) (n inner outer : ℕ) (X : Added a order 0 n (localsOf owners table ends held i first cells parts)) (room : length a ≡ 2000)
-        (ie : inner ≡ length (cellsOf owners table ends held i first cells 17)) (he : outer ≡ length (cellsOf owners table ends held i first cells 18)) where
-      words-is : localsOf owners table ends held i first cells parts ≡ locals (splitOf m parts owners st) i
-      words-is = ap₂ (λ x y. localsOf owners table ends held i x y parts) fe ce ∙ locals-are m parts owners st table ends held R i (P .i-in .1)
+    module _ (class : Bytes) (C : Classed owners table ends i cells class) (a order : List ℕ) (n inner outer : ℕ) (X : Added a order 0 n (classOrder class first cells parts)) (room : length a ≡ 2000)
+        (ie : inner ≡ classCount class cells 17) (he : outer ≡ classCount class cells 18) where
+      words-is : classOrder class first cells parts ≡ locals (splitOf m parts owners st) i
+      words-is = cells-order m parts owners st table ends holders R i first cells fe ce class C
 
-      few : length (localsOf owners table ends held i first cells parts) ≤ 2000
-      few = omega (arith, ap length words-is, locals-few m parts owners st table ends held R i)
+      few : length (classOrder class first cells parts) ≤ 2000
+      few = omega (arith, ap length words-is, locals-few m parts owners st table ends holders R i)
 
       order-is : take n order ≡ locals (splitOf m parts owners st) i
-      order-is = added-take a order n (localsOf owners table ends held i first cells parts) X room few ∙ words-is
+      order-is = added-take a order n (classOrder class first cells parts) X room few ∙ words-is
 
       held-is : n ≡ length (locals (splitOf m parts owners st) i)
       held-is = omega (arith, X .count, ap length words-is)
 
       owned-is : inner + outer ≡ ownedIn (splitOf m parts owners st) i
       owned-is =
-          ap₂ _+_ (ie ∙ ap length (ap₂ (λ x y. cellsOf owners table ends held i x y 17) fe ce ∙ interior-is m parts owners st table ends held R i (P .i-in .1)))
-          (he ∙ ap length (ap₂ (λ x y. cellsOf owners table ends held i x y 18) fe ce ∙ halo-is m parts owners st table ends held R i (P .i-in .1)))
+          ap₂ _+_ (ie ∙ sym (class-count class 17 first cells) ∙ ap length (interior-is m parts owners st table ends holders R i first cells fe ce class C))
+          (he ∙ sym (class-count class 18 first cells) ∙ ap length (halo-is m parts owners st table ends holders R i first cells fe ce class C))
           ∙ sym (length-append (interior (splitOf m parts owners st) i) (halo (splitOf m parts owners st) i))
           ∙ own-count (splitOf m parts owners st) i
 
-      pub plan-fit : Fit owners table ends held i first cells order n (inner + outer)
+      pub plan-fit : Fit owners table ends i first cells order n (inner + outer)
       plan-fit =
-          fit-from m parts owners st table ends held R i (P .i-in .0) (P .i-in .1) first cells fe ce order n (inner + outer) order-is held-is owned-is
-          (added-fits a order n (localsOf owners table ends held i first cells parts) X room few) twelve thirteen
+          fit-from m parts owners st table ends holders R i (P .i-in .0) (P .i-in .1) first cells fe ce order n (inner + outer) order-is held-is owned-is
+          (added-fits a order n (classOrder class first cells parts) X room few) twelve thirteen
 
-      pub plan-made : (long : ℕ) → long ≡ 46 + n + (inner + outer) + 2 * rowEnds table ends first order (inner + outer) + sentEnds owners table ends held i first cells 16
-          → Planned m parts owners i st table ends held order n (inner + outer) long
+      pub plan-made : (long : ℕ) → long ≡ 46 + n + (inner + outer) + 2 * rowEnds table ends first order (inner + outer) + sentEnds owners table ends i first cells 16
+          → Planned m parts owners i st table ends order n (inner + outer) long
       plan-made long le = record {
         order-is = order-is;
         held-is = held-is;
         owned-is = owned-is;
-        fit = fit-from m parts owners st table ends held R i (P .i-in .0) (P .i-in .1) (firstCell m) (cellCount m) refl refl order n (inner + outer) order-is held-is owned-is
-            (added-fits a order n (localsOf owners table ends held i first cells parts) X room few) twelve thirteen;
-        long-is = le ∙ ap₂ (λ x y. 46 + n + (inner + outer) + 2 * rowEnds table ends x order (inner + outer) + sentEnds owners table ends held i x y 16) fe ce;
+        fit = fit-from m parts owners st table ends holders R i (P .i-in .0) (P .i-in .1) (firstCell m) (cellCount m) refl refl order n (inner + outer) order-is held-is owned-is
+            (added-fits a order n (classOrder class first cells parts) X room few) twelve thirteen;
+        long-is = le ∙ ap₂ (λ x y. 46 + n + (inner + outer) + 2 * rowEnds table ends x order (inner + outer) + sentEnds owners table ends i x y 16) fe ce;
       }
 
 -- ---- the bytes
@@ -148,8 +149,8 @@ module _ (m : Bytes) (parts : ℕ) (owners : Bytes) (i : ℕ) (st : Bytes) where
         answer-refused n (stateSize m parts owners i st) z
         ∙ ap (λ k. answer k (stateSize m parts owners i st)) (e ∙ sym (firstOf-right (splitTests m parts owners (i ∷ []) st) (sizeTests m parts owners st) (split-passed sn)))
 
-    module _ (zn : sizesNumber m parts owners st ≡ 0) (table : Bytes) (ends : List ℕ) (held : Bytes) (R : Prepared m parts owners st table ends held) (order : List ℕ) (n owned long : ℕ)
-        (Q : Planned m parts owners i st table ends held order n owned long) where
+    module _ (zn : sizesNumber m parts owners st ≡ 0) (table : Bytes) (ends : List ℕ) (holders : Bytes) (R : Prepared m parts owners st table ends holders) (order : List ℕ) (n owned long : ℕ)
+        (Q : Planned m parts owners i st table ends order n owned long) where
       I : (1 ≤ i) × (i ≤ 16)
       I = passed-facts m parts owners i i st sn .i-in
 
@@ -161,9 +162,9 @@ module _ (m : Bytes) (parts : ℕ) (owners : Bytes) (i : ℕ) (st : Bytes) where
             Q .long-is,
             Q .held-is,
             Q .owned-is,
-            row-ends m parts owners st table ends held R i (I .0) (I .1) (firstCell m) (cellCount m) refl refl order n owned (Q .order-is) (Q .held-is) (Q .owned-is) owned (omega arith),
+            row-ends m parts owners st table ends holders R i (I .0) (I .1) (firstCell m) (cellCount m) refl refl order n owned (Q .order-is) (Q .held-is) (Q .owned-is) owned (omega arith),
             ap (reachEnds (splitOf m parts owners st) i (locals (splitOf m parts owners st) i)) (Q .owned-is),
-            sent-ends m parts owners st table ends held R i (I .0) (I .1) (firstCell m) (cellCount m) refl refl 16 (omega arith),
+            sent-ends m parts owners st table ends holders R i (I .0) (I .1) (firstCell m) (cellCount m) refl refl 16 (omega arith),
           )
 
       size-is : 2 * long + 34 + 4 * n ≡ stateSize m parts owners i st
@@ -238,10 +239,10 @@ module _ (m : Bytes) (parts : ℕ) (owners : Bytes) (i : ℕ) (st : Bytes) (kind
         pub start-14 : u ≡ true → Answered (Refused 14) b
         start-14 t = refused 14 (in-rest ∙ simp (fourteen, t)) (λ z. omega (arith, z))
 
-        module _ (uf : u ≡ false) (table : Bytes) (ends : List ℕ) (held : Bytes) (R : Prepared m parts owners st table ends held) (order : List ℕ) (n owned long : ℕ)
-            (Q : Planned m parts owners i st table ends held order n owned long) where
+        module _ (uf : u ≡ false) (table : Bytes) (ends : List ℕ) (holders : Bytes) (R : Prepared m parts owners st table ends holders) (order : List ℕ) (n owned long : ℕ)
+            (Q : Planned m parts owners i st table ends order n owned long) where
           size : 2 * long + 34 + 4 * n ≡ stateSize m parts owners i st
-          size = size-is m parts owners i st sn zn table ends held R order n owned long Q
+          size = size-is m parts owners i st sn zn table ends holders R order n owned long Q
 
           I₂ : (1 ≤ i) × (i ≤ 16)
           I₂ = passed-facts m parts owners i i st sn .i-in
@@ -250,33 +251,33 @@ module _ (m : Bytes) (parts : ℕ) (owners : Bytes) (i : ℕ) (st : Bytes) (kind
           start-16 h = refused 16 (in-rest ∙ simp (fourteen, uf, lt-ltb (length b) (stateSize m parts owners i st) (omega (arith, size)))) (λ z. omega (arith, z))
 
           module _ (first : ℕ) (fe : first ≡ firstCell m) where
-            pub start-fit : Fit owners table ends held i first cells order n owned
-            start-fit = subst₂ (λ x y. Fit owners table ends held i x y order n owned) (sym fe) (sym ce) (Q .fit)
+            pub start-fit : Fit owners table ends i first cells order n owned
+            start-fit = subst₂ (λ x y. Fit owners table ends i x y order n owned) (sym fe) (sym ce) (Q .fit)
 
-            pub start-long : long ≡ 46 + n + owned + 2 * rowEnds table ends first order owned + sentEnds owners table ends held i first cells 16
-            start-long = Q .long-is ∙ ap₂ (λ x y. 46 + n + owned + 2 * rowEnds table ends x order owned + sentEnds owners table ends held i x y 16) (sym fe) (sym ce)
+            pub start-long : long ≡ 46 + n + owned + 2 * rowEnds table ends first order owned + sentEnds owners table ends i first cells 16
+            start-long = Q .long-is ∙ ap₂ (λ x y. 46 + n + owned + 2 * rowEnds table ends x order owned + sentEnds owners table ends i x y 16) (sym fe) (sym ce)
 
             pub start-cells : Cells f first order n
             start-cells =
-                cells-from m parts owners st table ends held R i (I₂ .0) (I₂ .1) first cells fe ce order n owned (Q .order-is) (Q .held-is) (Q .owned-is) f (sym ue ∙ uf)
+                cells-from m parts owners st table ends holders R i (I₂ .0) (I₂ .1) first cells fe ce order n owned (Q .order-is) (Q .held-is) (Q .owned-is) f (sym ue ∙ uf)
 
             -- the depths of the held cells
             depth-is : (l : ℕ) → 1 ≤ l → l ≤ n → startDepth f first order l ≡ depthIn (schemeOf m st kind v) f (globalOf (locals (splitOf m parts owners st) i) l)
             unfolding startDepth depthIn schemeOf globalOf
             depth-is l h k =
                 ap₂ (λ x y. four f (4 * (x - y)))
-                (order-at m parts owners st table ends held R i (I₂ .0) (I₂ .1) first cells fe ce order n owned (Q .order-is) (Q .held-is) (Q .owned-is) (l - 1) (omega arith)) fe
+                (order-at m parts owners st table ends holders R i (I₂ .0) (I₂ .1) first cells fe ce order n owned (Q .order-is) (Q .held-is) (Q .owned-is) (l - 1) (omega arith)) fe
 
-            state-is : bytesOf (startWords owners table ends held i first cells order n owned (steps st) kind v) ++ (replicate 34 0 ++ blocks 1 n (startDepth f first order)) ≡ firstState m parts owners i st kind v f
+            state-is : bytesOf (startWords owners table ends i first cells order n owned (steps st) kind v) ++ (replicate 34 0 ++ blocks 1 n (startDepth f first order)) ≡ firstState m parts owners i st kind v f
             unfolding firstState
             state-is =
                 ap₂ (λ (ws : List ℕ) (ds : Bytes). bytesOf ws ++ (replicate 34 0 ++ ds))
-                (start-words m parts owners st table ends held R i (I₂ .0) (I₂ .1) first cells fe ce order n owned (Q .order-is) (Q .held-is) (Q .owned-is) kind v)
+                (start-words m parts owners st table ends holders R i (I₂ .0) (I₂ .1) first cells fe ce order n owned (Q .order-is) (Q .held-is) (Q .owned-is) kind v)
                 (blocks-cong 1 (startDepth f first order) (λ l. depthIn (schemeOf m st kind v) f (globalOf (locals (splitOf m parts owners st) i) l)) n (λ k h. depth-is (1 + k) (omega arith) (omega arith))
                 ∙ ap (λ k. blocks 1 k (λ l. depthIn (schemeOf m st kind v) f (globalOf (locals (splitOf m parts owners st) i) l))) (Q .held-is))
 
             pub start-done : 2 * long + 34 + 4 * n ≤ length b → (y : Bytes)
-                → y ≡ over b 0 (bytesOf (startWords owners table ends held i first cells order n owned (length st - 1) kind v) ++ (replicate 34 0 ++ blocks 1 n (startDepth f first order)))
+                → y ≡ over b 0 (bytesOf (startWords owners table ends i first cells order n owned (length st - 1) kind v) ++ (replicate 34 0 ++ blocks 1 n (startDepth f first order)))
                 → Answered (Done (2 * long + 34 + 4 * n)) y
             unfolding steps
             start-done h y e =

@@ -12,30 +12,31 @@ use Rattle.round.specs.Rounds.{bad14}
 use Rattle.round.specs.RoundLaws.{field-length}
 use Rattle.split.specs.Split.{splitOf, locals}
 use Rattle.split.specs.Lists.{bad12}
-use Rattle.split.specs.Sorting.{Prepared}
+use Rattle.split.specs.Classes.{Prepared}
 use Rattle.starts.specs.Start.{ownedIn}
 use Rattle.start_lists.specs.Starting.{Fit, Cells}
 use Rattle.start_lists.proofs.StartLists.{got-is, sent-is, reached-is}
 use Rattle.starts.proofs.StartWords.{got-all, sent-few, ends-few, long-few, order-few, own-few, order-low, cell-at, entry-high}
 
-module _ (m : Bytes) (parts : ℕ) (owners st table : Bytes) (ends : List ℕ) (held : Bytes) (R : Prepared m parts owners st table ends held)
+module _ (m : Bytes) (parts : ℕ) (owners st table : Bytes) (ends : List ℕ) (holders : Bytes) (R : Prepared m parts owners st table ends holders)
     (i : ℕ) (low : 1 ≤ i) (high : i ≤ 16) (first cells : ℕ) (fe : first ≡ firstCell m) (ce : cells ≡ cellCount m)
     (order : List ℕ) (n own : ℕ) (oe : take n order ≡ locals (splitOf m parts owners st) i) (ne : n ≡ length (locals (splitOf m parts owners st) i)) (we : own ≡ ownedIn (splitOf m parts owners st) i) where
   cells-in : first + cells ≤ 2001
   cells-in = omega (arith, R .mesh .cells-in, R .mesh .sizes .n-high)
 
   low-at : (l : ℕ) → 1 ≤ l → l ≤ n → first ≤ getD order (l - 1) 0
-  low-at l h k = order-low m parts owners st table ends held R i low high first cells fe ce order n own oe ne we (l - 1) (omega arith)
+  low-at l h k = order-low m parts owners st table ends holders R i low high first cells fe ce order n own oe ne we (l - 1) (omega arith)
 
   own-le : own ≤ n
-  own-le = own-few m parts owners st table ends held R i low high first cells fe ce order n own oe ne we
+  own-le = own-few m parts owners st table ends holders R i low high first cells fe ce order n own oe ne we
 
   n-few : n ≤ 2000
-  n-few = order-few m parts owners st table ends held R i low high first cells fe ce order n own oe ne we
+  n-few = order-few m parts owners st table ends holders R i low high first cells fe ce order n own oe ne we
 
-  pub fit-from : n ≤ length order → bad12 (splitOf m parts owners st) ≡ false → bad13 m st ≡ false → Fit owners table ends held i first cells order n own
+  pub fit-from : n ≤ length order → bad12 (splitOf m parts owners st) ≡ false → bad13 m st ≡ false → Fit owners table ends i first cells order n own
   fit-from there twelve thirteen = record {
     part = omega arith;
+    part-few = high;
     first-small = omega (arith, cells-in);
     cells-fit = omega (arith, cells-in);
     cells-few = omega (arith, cells-in, fe);
@@ -43,24 +44,24 @@ module _ (m : Bytes) (parts : ℕ) (owners st table : Bytes) (ends : List ℕ) (
     order-there = there;
     owned-few = own-le;
     got = record {
-      last = omega (arith, got-is owners table ends held i first cells order own 16, got-all m parts owners st table ends held R i low high first cells fe ce order n own oe ne we, n-few);
+      last = omega (arith, got-is owners table ends i first cells order own 16, got-all m parts owners st table ends holders R i low high first cells fe ce order n own oe ne we, n-few);
       cell = λ k a b w. let no : ⊥ = omega arith in absurd no;
     };
     sent = record {
-      last = omega (arith, sent-is owners table ends held i first cells order 16, sent-few m parts owners st table ends held R i low high first cells fe ce twelve 16 (omega arith));
+      last = omega (arith, sent-is owners table ends i first cells order 16, sent-few m parts owners st table ends holders R i low high first cells fe ce twelve 16 (omega arith));
       cell = λ k a b w. let no : ⊥ = omega arith in absurd no;
     };
     reached = record {
-      last = omega (arith, reached-is owners table ends held i first cells order own, ends-few m parts owners st table ends held R i low high first cells fe ce order n own oe ne we thirteen own (omega arith));
+      last = omega (arith, reached-is owners table ends i first cells order own, ends-few m parts owners st table ends holders R i low high first cells fe ce order n own oe ne we thirteen own (omega arith));
       cell = λ k a b w. low-at k a (omega (arith, own-le));
     };
     near = record {
       each = λ l h k. record {
         cell = low-at l h (omega (arith, own-le));
-        near = λ t p q. omega (arith, entry-high m parts owners st table ends held R i low high first cells fe ce order n own oe ne we l h k t p q);
+        near = λ t p q. omega (arith, entry-high m parts owners st table ends holders R i low high first cells fe ce order n own oe ne we l h k t p q);
       };
     };
-    long = omega (arith, long-few m parts owners st table ends held R i low high first cells fe ce order n own oe ne we twelve thirteen);
+    long = omega (arith, long-few m parts owners st table ends holders R i low high first cells fe ce order n own oe ne we twelve thirteen);
   }
 
   -- the held cells are cells of an accepted field
@@ -68,6 +69,6 @@ module _ (m : Bytes) (parts : ℕ) (owners st table : Bytes) (ends : List ℕ) (
   cells-from f fourteen = record {
     each = λ l h k. (
       low-at l h k,
-      omega (arith, low-at l h k, cell-at m parts owners st table ends held R i low high first cells fe ce order n own oe ne we (l - 1) (omega arith) .1, field-length cells f fourteen),
+      omega (arith, low-at l h k, cell-at m parts owners st table ends holders R i low high first cells fe ce order n own oe ne we (l - 1) (omega arith) .1, field-length cells f fourteen),
     );
   }

@@ -26,8 +26,8 @@ use Rattle.split.specs.SplitLaws.{map-facts, Cell, ownCells, split-reach, split
 use Rattle.split.specs.Numbering.{numbering}
 use Rattle.split.proofs.UnitLaws.{numbered}
 use Rattle.split.specs.Lists.{bad12}
-use Rattle.split.specs.Sorting.{cellsOf, Prepared}
-use Rattle.cell_lists.proofs.CellLaws.{imports-are, locals-few}
+use Rattle.split.specs.Classes.{partCells, Prepared}
+use Rattle.cell_lists.proofs.ClassLists.{part-imports, locals-few}
 use Rattle.starts.specs.Start.{ownedIn, reachOf, importEnds, exportEnds, reachEnds, reachWords, exportWords, listsLong, listsWords}
 use Rattle.start_lists.specs.Starting.{localIn, numbersOf, gotEnds, sentEnds, sentWords, placeAt, rowSize, rowEnds, entryWords, rowWords, numberedWords, startWords}
 
@@ -104,7 +104,7 @@ module _ (S : Split) (i : ℕ) where
       let g : reachEnds S i (locals S i) l ≤ reachEnds S i (locals S i) (ownedIn S i) = unfold reachEnds in total-grows 1 (λ k. length (reachOf S i (locals S i) k)) l (ownedIn S i) h in
       omega (arith, owned-part)
 
-module _ (m : Bytes) (parts : ℕ) (owners st table : Bytes) (ends : List ℕ) (held′ : Bytes) (R : Prepared m parts owners st table ends held′) where
+module _ (m : Bytes) (parts : ℕ) (owners st table : Bytes) (ends : List ℕ) (holders : Bytes) (R : Prepared m parts owners st table ends holders) where
   abbrev S : Split
   S = splitOf m parts owners st
 
@@ -171,29 +171,29 @@ module _ (m : Bytes) (parts : ℕ) (owners st table : Bytes) (ends : List ℕ) (
 
     -- ---- imports and exports
 
-    cells-are : (k j : ℕ) → k ≤ 16 → 1 ≤ j → j ≤ 16 → cellsOf owners table ends held′ k first cells j ≡ imports S k j
-    cells-are k j h l q = ap₂ (λ f c. cellsOf owners table ends held′ k f c j) fe ce ∙ imports-are m parts owners st table ends held′ R k h j l q
+    cells-are : (k j : ℕ) → k ≤ 16 → 1 ≤ j → j ≤ 16 → partCells owners table ends k first cells j ≡ imports S k j
+    cells-are k j h l q = part-imports m parts owners st table ends holders R j k first cells fe ce l q
 
-    pub sent-ends : (j : ℕ) → j ≤ 16 → sentEnds owners table ends held′ i first cells j ≡ exportEnds S i L j
+    pub sent-ends : (j : ℕ) → j ≤ 16 → sentEnds owners table ends i first cells j ≡ exportEnds S i L j
     unfolding sentEnds exportEnds exports
-    sent-ends j h = total-agree (λ k. length (cellsOf owners table ends held′ k first cells i)) (λ k. length (exports S i k)) 16 j h (λ k l q. ap length (cells-are k i q low high))
+    sent-ends j h = total-agree (λ k. length (partCells owners table ends k first cells i)) (λ k. length (exports S i k)) 16 j h (λ k l q. ap length (cells-are k i q low high))
 
-    pub sent-few : bad12 S ≡ false → (j : ℕ) → j ≤ 16 → sentEnds owners table ends held′ i first cells j ≤ 4096
+    pub sent-few : bad12 S ≡ false → (j : ℕ) → j ≤ 16 → sentEnds owners table ends i first cells j ≤ 4096
     sent-few e j h =
         let g : exportEnds S i L j ≤ total 1 16 (λ k. length (exports S i k)) = unfold exportEnds in total-grows 1 (λ k. length (exports S i k)) j 16 h in
         omega (arith, sent-ends j h, exports-few e i low)
 
     module _ (order : List ℕ) (n own : ℕ) (oe : take n order ≡ locals S i) (ne : n ≡ length (locals S i)) (we : own ≡ ownedIn S i) where
-      pub got-ends : (j : ℕ) → j ≤ 16 → gotEnds owners table ends held′ i first cells own j ≡ importEnds S i L j
+      pub got-ends : (j : ℕ) → j ≤ 16 → gotEnds owners table ends i first cells own j ≡ importEnds S i L j
       unfolding gotEnds importEnds
-      got-ends j h = ap₂ _+_ we (total-agree (λ k. length (cellsOf owners table ends held′ i first cells k)) (λ k. length (imports S i k)) 16 j h (λ k l q. ap length (cells-are i k high l q)))
+      got-ends j h = ap₂ _+_ we (total-agree (λ k. length (partCells owners table ends i first cells k)) (λ k. length (imports S i k)) 16 j h (λ k l q. ap length (cells-are i k high l q)))
 
       -- all imports are all that is held
-      pub got-all : gotEnds owners table ends held′ i first cells own 16 ≡ n
+      pub got-all : gotEnds owners table ends i first cells own 16 ≡ n
       unfolding importEnds
       got-all = omega (arith, got-ends 16 (omega arith), order-length S i, import-total S (split-reach m parts owners st) owner-in i few-parts)
 
-      pub got-few : (j : ℕ) → j ≤ 16 → gotEnds owners table ends held′ i first cells own j ≤ n
+      pub got-few : (j : ℕ) → j ≤ 16 → gotEnds owners table ends i first cells own j ≤ n
       unfolding importEnds
       got-few j h = omega (arith, got-all, got-ends 16 (omega arith), got-ends j h, total-grows 1 (λ k. length (imports S i k)) j 16 h)
 
@@ -203,7 +203,7 @@ module _ (m : Bytes) (parts : ℕ) (owners st table : Bytes) (ends : List ℕ) (
       order-at k h = sym (getD-take n order k 0 h) ∙ ap (λ xs. getD xs k 0) oe
 
       pub order-few : n ≤ 2000
-      order-few = omega (arith, locals-few m parts owners st table ends held′ R i)
+      order-few = omega (arith, locals-few m parts owners st table ends holders R i)
 
       pub own-few : own ≤ n
       own-few = omega (arith, order-length S i)
@@ -228,7 +228,7 @@ module _ (m : Bytes) (parts : ℕ) (owners st table : Bytes) (ends : List ℕ) (
           let few : c ≤ 2000 = omega (arith, order-high (localOf L c - 1) k, order-at (localOf L c - 1) k, e) in
           ap (λ cs. getD (numbering 0 cs (replicate 2001 0)) c 0) oe ∙ numbered L (replicate 2001 0) c h (omega (arith, length-replicate {A = ℕ} 2001 0))
 
-      pub sent-words : (j : ℕ) → 1 ≤ j → j ≤ 16 → sentWords owners table ends held′ i first cells (numbersOf order n) j ≡ exportWords S i L j
+      pub sent-words : (j : ℕ) → 1 ≤ j → j ≤ 16 → sentWords owners table ends i first cells (numbersOf order n) j ≡ exportWords S i L j
       unfolding sentWords exportWords exports
       sent-words j l h =
           ap (map (localIn (numbersOf order n))) (cells-are j i h low high)
@@ -312,26 +312,26 @@ module _ (m : Bytes) (parts : ℕ) (owners st table : Bytes) (ends : List ℕ) (
 
       -- ---- all words
 
-      head-is : 46 + n + own + 2 * rowEnds table ends first order own + sentEnds owners table ends held′ i first cells 16 ≡ listsLong S i L
+      head-is : 46 + n + own + 2 * rowEnds table ends first order own + sentEnds owners table ends i first cells 16 ≡ listsLong S i L
       unfolding listsLong
       head-is = omega (arith, row-ends own (omega arith), ap (reachEnds S i L) we, sent-ends 16 (omega arith))
 
       -- the count of all words
       pub long-few : bad12 S ≡ false → bad13 m st ≡ false
-          → 46 + n + own + 2 * rowEnds table ends first order own + sentEnds owners table ends held′ i first cells 16 ≤ 24142
+          → 46 + n + own + 2 * rowEnds table ends first order own + sentEnds owners table ends i first cells 16 ≤ 24142
       long-few e f = omega (arith, order-few, own-few, ends-few f own (omega arith), sent-few e 16 (omega arith))
 
-      pub start-words : (kind : ℕ) (v : Bytes) → startWords owners table ends held′ i first cells order n own (steps st) kind v ≡ listsWords S i L (steps st) kind v
+      pub start-words : (kind : ℕ) (v : Bytes) → startWords owners table ends i first cells order n own (steps st) kind v ≡ listsWords S i L (steps st) kind v
       unfolding numberedWords listsWords splitOf
       start-words kind v =
           ap₂ _++_ (ap (λ x. x ∷ i ∷ steps st ∷ kind ∷ []) head-is)
           (ap (λ xs. listed 0 5 (wordAt v) ++ xs)
           (ap₂ _++_ (ap₂ (λ x y. x ∷ y ∷ []) fe ce)
-          (ap₂ _++_ (listed-cong 0 (gotEnds owners table ends held′ i first cells own) (importEnds S i L) 17 (λ j h. got-ends (0 + j) (omega arith)))
-          (ap₂ _++_ (listed-cong 0 (sentEnds owners table ends held′ i first cells) (exportEnds S i L) 17 (λ j h. sent-ends (0 + j) (omega arith)))
+          (ap₂ _++_ (listed-cong 0 (gotEnds owners table ends i first cells own) (importEnds S i L) 17 (λ j h. got-ends (0 + j) (omega arith)))
+          (ap₂ _++_ (listed-cong 0 (sentEnds owners table ends i first cells) (exportEnds S i L) 17 (λ j h. sent-ends (0 + j) (omega arith)))
           (ap₂ _++_ oe
           (ap₂ _++_
           (listed-cong 0 (rowEnds table ends first order) (reachEnds S i L) (own + 1) (λ j h. row-ends (0 + j) (omega arith)) ∙ ap (λ x. listed 0 (x + 1) (reachEnds S i L)) we)
           (ap₂ _++_
           (blocks-cong 1 (rowWords table ends first order (numbersOf order n)) (reachWords S i L) own (λ j h. row-words (1 + j) (omega arith) (omega arith)) ∙ ap (λ x. blocks 1 x (reachWords S i L)) we)
-          (blocks-cong 1 (sentWords owners table ends held′ i first cells (numbersOf order n)) (exportWords S i L) 16 (λ j h. sent-words (1 + j) (omega arith) (omega arith))))))))))
+          (blocks-cong 1 (sentWords owners table ends i first cells (numbersOf order n)) (exportWords S i L) 16 (λ j h. sent-words (1 + j) (omega arith) (omega arith))))))))))

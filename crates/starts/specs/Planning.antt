@@ -10,9 +10,9 @@ use Rattle.start_lists.specs.Starting.{rowEnds, sentEnds, Fit}
 use Rattle.starts.specs.Start.{ownedIn}
 
 -- the plan of part i: its local order, how many cells it holds and owns, and how long its lists are
-pub record Planned (m : Bytes) (parts : ℕ) (owners : Bytes) (i : ℕ) (st table : Bytes) (ends : List ℕ) (held : Bytes) (order : List ℕ) (n owned long : ℕ) : Type 0 where
+pub record Planned (m : Bytes) (parts : ℕ) (owners : Bytes) (i : ℕ) (st table : Bytes) (ends : List ℕ) (order : List ℕ) (n owned long : ℕ) : Type 0 where
   pub order-is : take n order ≡ locals (splitOf m parts owners st) i
   pub held-is : n ≡ length (locals (splitOf m parts owners st) i)
   pub owned-is : owned ≡ ownedIn (splitOf m parts owners st) i
-  pub fit : Fit owners table ends held i (firstCell m) (cellCount m) order n owned
-  pub long-is : long ≡ 46 + n + owned + 2 * rowEnds table ends (firstCell m) order owned + sentEnds owners table ends held i (firstCell m) (cellCount m) 16
+  pub fit : Fit owners table ends i (firstCell m) (cellCount m) order n owned
+  pub long-is : long ≡ 46 + n + owned + 2 * rowEnds table ends (firstCell m) order owned + sentEnds owners table ends i (firstCell m) (cellCount m) 16

@@ -1,16 +1,18 @@
 // Start and state size.
-use cell_lists::inner::HALO;
-use cell_lists::inner::INTERIOR;
-use cell_lists::inner::add_locals;
+use cell_lists::inner::add_order;
+use cell_lists::inner::count_class;
 use layout::Answer;
 use mesh::inner::cell_count;
 use mesh::inner::first_cell;
 use parts::inner::clear;
 use round::bad_field;
 use rules::bad_rule;
-use split::inner::sizes_number;
+use split::inner::HALO;
+use split::inner::INTERIOR;
+use split::inner::MOST_CELLS;
+use split::inner::classify;
+use split::inner::prepare;
 use split::split_number;
-use start_lists::inner::got_count;
 use start_lists::inner::lists_length;
 use start_lists::inner::put_cells;
 use start_lists::inner::put_lists;
@@ -25,7 +27,7 @@ ghost use Rattle.layout.specs.Words.{bytesOf};
 ghost use Rattle.mesh.specs.Walks.{steps};
 ghost use Rattle.rules.specs.Rules.{bad11};
 ghost use Rattle.split.specs.Lists.{splitNumber, sizesNumber};
-ghost use Rattle.split.specs.Sorting.{Prepared};
+ghost use Rattle.split.specs.Classes.{Prepared};
 ghost use Rattle.starts.specs.Start.{sizeAnswer, startAnswer, startState};
 ghost use Rattle.start_lists.specs.Starting.{rowEnds, sentEnds, startWords, startDepth, Fit, Cells};
 ghost use Rattle.starts.specs.Planning.{Planned};
@@ -47,7 +49,6 @@ fn put_state(
     owners: &[u8],
     table: &[u8],
     ends: &[u16],
-    held: &[u8],
     i: usize,
     first: usize,
     cells: usize,
@@ -57,8 +58,8 @@ fn put_state(
     f: &[u8],
     list: &mut [u16],
 )
-    requires { ⌜ Fit (now owners) (now table) (now ends) (now held) i first cells (now order) n owned × (long ≡ 46 + n + owned + 2 * rowEnds (now table) (now ends) first (now order) owned + sentEnds (now owners) (now table) (now ends) (now held) i first cells 16) × (2 * long + 34 + 4 * n ≤ length (now b)) × (steps < 65536) × (kind < 65536) × (length (now list) ≡ 2000) × Cells (now f) first (now order) n ⌝ }
-    ensures { λ _. ⌜ now (b .exit) ≡ over (now (b .entry)) 0 (bytesOf (startWords (now (owners .entry)) (now (table .entry)) (now (ends .entry)) (now (held .entry)) i first cells (now (order .entry)) n owned steps kind (now (v .entry))) ++ (replicate 34 0 ++ blocks 1 n (startDepth (now (f .entry)) first (now (order .entry))))) ⌝ }
+    requires { ⌜ Fit (now owners) (now table) (now ends) i first cells (now order) n owned × (long ≡ 46 + n + owned + 2 * rowEnds (now table) (now ends) first (now order) owned + sentEnds (now owners) (now table) (now ends) i first cells 16) × (2 * long + 34 + 4 * n ≤ length (now b)) × (steps < 65536) × (kind < 65536) × (length (now list) ≡ 2000) × Cells (now f) first (now order) n ⌝ }
+    ensures { λ _. ⌜ now (b .exit) ≡ over (now (b .entry)) 0 (bytesOf (startWords (now (owners .entry)) (now (table .entry)) (now (ends .entry)) i first cells (now (order .entry)) n owned steps kind (now (v .entry))) ++ (replicate 34 0 ++ blocks 1 n (startDepth (now (f .entry)) first (now (order .entry))))) ⌝ }
 {
     put_lists(
         b,
@@ -69,7 +70,6 @@ fn put_state(
         owners,
         table,
         ends,
-        held,
         i,
         first,
         cells,
@@ -91,18 +91,20 @@ fn make_plan(
     st: &[u8],
     table: &[u8],
     ends: &[u16],
-    held: &[u8],
+    holders: &[u8],
+    class: &mut [u8],
     order: &mut [u16],
 ) -> Plan
-    requires { ⌜ (splitNumber (now m) parts (now owners) (i ∷ i ∷ []) (now st) ≡ 0) × (sizesNumber (now m) parts (now owners) (now st) ≡ 0) × Prepared (now m) parts (now owners) (now st) (now table) (now ends) (now held) × (length (now order) ≡ 2000) ⌝ }
-    ensures { λ p. ⌜ Planned (now (m .entry)) parts (now (owners .entry)) i (now (st .entry)) (now (table .entry)) (now (ends .entry)) (now (held .entry)) (now (order .exit)) (p .held) (p .owned) (p .long) ⌝ }
+    requires { ⌜ (splitNumber (now m) parts (now owners) (i ∷ i ∷ []) (now st) ≡ 0) × (sizesNumber (now m) parts (now owners) (now st) ≡ 0) × Prepared (now m) parts (now owners) (now st) (now table) (now ends) (now holders) × (length (now class) ≡ 2000) × (length (now order) ≡ 2000) ⌝ }
+    ensures { λ p. ⌜ Planned (now (m .entry)) parts (now (owners .entry)) i (now (st .entry)) (now (table .entry)) (now (ends .entry)) (now (order .exit)) (p .held) (p .owned) (p .long) ⌝ }
 {
     let first = first_cell(m);
     let cells = cell_count(m);
-    let n = add_locals(owners, table, ends, held, i, first, cells, parts, order);
-    let inner = got_count(owners, table, ends, held, i, first, cells, INTERIOR);
-    let owned = inner + got_count(owners, table, ends, held, i, first, cells, HALO);
-    let long = lists_length(owners, table, ends, held, i, first, cells, order, n, owned);
+    classify(owners, table, ends, cells, i, class);
+    let n = add_order(class, first, cells, parts, order);
+    let inner = count_class(class, cells, INTERIOR as usize);
+    let owned = inner + count_class(class, cells, HALO as usize);
+    let long = lists_length(owners, table, ends, i, first, cells, order, n, owned);
     Plan {
         held: n,
         owned,
@@ -119,13 +121,14 @@ fn size_from(
     st: &[u8],
     table: &[u8],
     ends: &[u16],
-    held: &[u8],
+    holders: &[u8],
+    class: &mut [u8],
     order: &mut [u16],
 ) -> Answer
-    requires { ⌜ (splitNumber (now m) parts (now owners) (i ∷ i ∷ []) (now st) ≡ 0) × (sizesNumber (now m) parts (now owners) (now st) ≡ 0) × Prepared (now m) parts (now owners) (now st) (now table) (now ends) (now held) × (length (now order) ≡ 2000) ⌝ }
+    requires { ⌜ (splitNumber (now m) parts (now owners) (i ∷ i ∷ []) (now st) ≡ 0) × (sizesNumber (now m) parts (now owners) (now st) ≡ 0) × Prepared (now m) parts (now owners) (now st) (now table) (now ends) (now holders) × (length (now class) ≡ 2000) × (length (now order) ≡ 2000) ⌝ }
     ensures { λ r. ⌜ r ≡ sizeAnswer (now (m .entry)) parts (now (owners .entry)) i (now (st .entry)) ⌝ }
 {
-    let p = make_plan(m, parts, owners, i, st, table, ends, held, order);
+    let p = make_plan(m, parts, owners, i, st, table, ends, holders, class, order);
     Answer::Done((2 * p.long + 34 + 4 * p.held) as u32)
 }
 
@@ -134,11 +137,27 @@ fn size_passed(m: &[u8], parts: u32, owners: &[u8], i: u32, st: &[u8]) -> Answer
     requires { ⌜ splitNumber (now m) parts (now owners) (i ∷ i ∷ []) (now st) ≡ 0 ⌝ }
     ensures { λ r. ⌜ r ≡ sizeAnswer (now (m .entry)) parts (now (owners .entry)) i (now (st .entry)) ⌝ }
 {
+    let mut cell = [0u16; 12001];
+    let mut prev = [0u16; 12001];
+    let mut last = [0u16; 2001];
     let mut table = [0u8; 32000];
     let mut ends = [0u16; 2001];
-    let mut held = [0u8; 34000];
+    let mut holders = [0u8; MOST_CELLS];
+    let mut class = [0u8; MOST_CELLS];
     let mut order = [0u16; 2000];
-    let number = sizes_number(m, parts, owners, st, &mut table, &mut ends, &mut held);
+    let number = prepare(
+        m,
+        parts,
+        owners,
+        st,
+        &mut cell,
+        &mut prev,
+        &mut last,
+        &mut table,
+        &mut ends,
+        &mut holders,
+        &mut class,
+    );
     if number != 0 {
         return Answer::Refused(number);
     }
@@ -150,7 +169,8 @@ fn size_passed(m: &[u8], parts: u32, owners: &[u8], i: u32, st: &[u8]) -> Answer
         st,
         &table,
         &ends,
-        &held,
+        &holders,
+        &mut class,
         &mut order,
     )
 }
@@ -178,12 +198,13 @@ fn start_from(
     f: &[u8],
     table: &[u8],
     ends: &[u16],
-    held: &[u8],
+    holders: &[u8],
+    class: &mut [u8],
     order: &mut [u16],
     list: &mut [u16],
     b: &mut [u8],
 ) -> Answer
-    requires { ⌜ (splitNumber (now m) parts (now owners) (i ∷ i ∷ []) (now st) ≡ 0) × (sizesNumber (now m) parts (now owners) (now st) ≡ 0) × Prepared (now m) parts (now owners) (now st) (now table) (now ends) (now held) × (length (now order) ≡ 2000) × (bad11 kind (steps (now st)) (now v) ≡ false) × (length (now list) ≡ 2000) ⌝ }
+    requires { ⌜ (splitNumber (now m) parts (now owners) (i ∷ i ∷ []) (now st) ≡ 0) × (sizesNumber (now m) parts (now owners) (now st) ≡ 0) × Prepared (now m) parts (now owners) (now st) (now table) (now ends) (now holders) × (length (now class) ≡ 2000) × (length (now order) ≡ 2000) × (bad11 kind (steps (now st)) (now v) ≡ false) × (length (now list) ≡ 2000) ⌝ }
     ensures { λ r. ⌜ (r ≡ startAnswer (now (m .entry)) parts (now (owners .entry)) i (now (st .entry)) kind (now (v .entry)) (now (f .entry)) (now (b .entry))) × (now (b .exit) ≡ startState (now (m .entry)) parts (now (owners .entry)) i (now (st .entry)) kind (now (v .entry)) (now (f .entry)) (now (b .entry))) ⌝ }
 {
     let first = first_cell(m);
@@ -191,7 +212,7 @@ fn start_from(
     if bad_field(cells, f) {
         return Answer::Refused(14);
     }
-    let p = make_plan(m, parts, owners, i, st, table, ends, held, order);
+    let p = make_plan(m, parts, owners, i, st, table, ends, holders, class, order);
     let long = p.long;
     let n = p.held;
     let owned = p.owned;
@@ -208,7 +229,6 @@ fn start_from(
         owners,
         table,
         ends,
-        held,
         i,
         first,
         cells,
@@ -236,12 +256,28 @@ fn start_passed(
     requires { ⌜ (splitNumber (now m) parts (now owners) (i ∷ i ∷ []) (now st) ≡ 0) × (bad11 kind (steps (now st)) (now v) ≡ false) ⌝ }
     ensures { λ r. ⌜ (r ≡ startAnswer (now (m .entry)) parts (now (owners .entry)) i (now (st .entry)) kind (now (v .entry)) (now (f .entry)) (now (b .entry))) × (now (b .exit) ≡ startState (now (m .entry)) parts (now (owners .entry)) i (now (st .entry)) kind (now (v .entry)) (now (f .entry)) (now (b .entry))) ⌝ }
 {
+    let mut cell = [0u16; 12001];
+    let mut prev = [0u16; 12001];
+    let mut last = [0u16; 2001];
     let mut table = [0u8; 32000];
     let mut ends = [0u16; 2001];
-    let mut held = [0u8; 34000];
+    let mut holders = [0u8; MOST_CELLS];
+    let mut class = [0u8; MOST_CELLS];
     let mut order = [0u16; 2000];
     let mut list = [0u16; 2000];
-    let number = sizes_number(m, parts, owners, st, &mut table, &mut ends, &mut held);
+    let number = prepare(
+        m,
+        parts,
+        owners,
+        st,
+        &mut cell,
+        &mut prev,
+        &mut last,
+        &mut table,
+        &mut ends,
+        &mut holders,
+        &mut class,
+    );
     if number != 0 {
         return Answer::Refused(number);
     }
@@ -256,7 +292,8 @@ fn start_passed(
         f,
         &table,
         &ends,
-        &held,
+        &holders,
+        &mut class,
         &mut order,
         &mut list,
         b,

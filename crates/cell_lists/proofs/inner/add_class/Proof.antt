@@ -4,8 +4,8 @@ use Prim.Native.Nat.{_+_, _-_, _≤_}
 use lib.ListN.{length}
 use Rattle.vocabulary.specs.Ranges.{blocks}
 use Rattle.split.specs.Classes.{ofClass}
-use Rattle.split.specs.Sorting.{Added}
-use Rattle.cell_lists.proofs.SortLaws.{add-start, add-turn, class-end}
+use Rattle.split.specs.Classes.{Added}
+use Rattle.cell_lists.proofs.AddLaws.{add-start, add-turn, class-end}
 use borrow.Author.Needs.{needs}
 use Rattle.cell_lists.proofs.inner.add_class.Statement.{statement}
 use Rattle.cell_lists.proofs.inner.add_class.Tie as tie

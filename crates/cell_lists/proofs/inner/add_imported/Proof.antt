@@ -4,8 +4,8 @@ use Prim.Native.Nat.{_+_, _-_, _*_, _≤_}
 use lib.ListN.{length}
 use Rattle.vocabulary.specs.Ranges.{blocks}
 use Rattle.split.specs.Classes.{classCells}
-use Rattle.split.specs.Sorting.{Added}
-use Rattle.cell_lists.proofs.SortLaws.{imported-start, imported-turn, imported-end}
+use Rattle.split.specs.Classes.{Added}
+use Rattle.cell_lists.proofs.AddLaws.{imported-start, imported-turn, imported-end}
 use borrow.Author.Needs.{needs}
 use Rattle.cell_lists.proofs.inner.add_imported.Statement.{statement}
 use Rattle.cell_lists.proofs.inner.add_imported.Tie as tie

@@ -1,5 +1,5 @@
 -- `cell_lists::inner::add_order` meets its contract. Assumes nothing.
-use Rattle.cell_lists.proofs.SortLaws.{order-added}
+use Rattle.cell_lists.proofs.AddLaws.{order-added}
 use borrow.Author.Needs.{needs}
 use Rattle.cell_lists.proofs.inner.add_order.Statement.{statement}
 use Rattle.cell_lists.proofs.inner.add_order.Tie as tie

@@ -1,6 +1,6 @@
 -- `cell_lists::inner::add_place` meets its contract. Assumes nothing.
 use Rattle.split.specs.Classes.{ofClass}
-use Rattle.cell_lists.proofs.SortLaws.{sort-skips, sort-adds}
+use Rattle.cell_lists.proofs.AddLaws.{sort-skips, sort-adds}
 use borrow.Author.Needs.{needs}
 use Rattle.cell_lists.proofs.inner.add_place.Statement.{statement}
 use Rattle.cell_lists.proofs.inner.add_place.Tie as tie

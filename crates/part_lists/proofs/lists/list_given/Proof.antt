@@ -1,7 +1,7 @@
 -- `part_lists::lists::list_given` meets its contract. Assumes nothing.
 use mathlib.Core.Path.{refl}
 use native.Mathlib.Omega.{arith}
-use Rattle.cell_lists.proofs.SortLaws.{added-fits}
+use Rattle.cell_lists.proofs.AddLaws.{added-fits}
 use Rattle.part_lists.proofs.GivingLaws.{given-answer, given-out}
 use borrow.Author.Needs.{needs}
 use Rattle.part_lists.proofs.lists.list_given.Statement.{statement}

@@ -5,7 +5,7 @@ use Prim.Native.Nat.{_-_, _≤_}
 use lib.ListN.{length}
 use Rattle.vocabulary.specs.Ranges.{every}
 use Rattle.vocabulary.specs.RangeLaws.{every-none, every-end}
-use Rattle.split.specs.Sorting.{ownerRight}
+use Rattle.split.specs.Classes.{ownerRight}
 use Rattle.split.proofs.MapLaws.{owner-wrong, owner-turn}
 use borrow.Author.Needs.{needs}
 use Rattle.split.proofs.maps.owners_right.Statement.{statement}

@@ -4,7 +4,7 @@ use mathlib.Core.Bool.{false}
 use Prim.Native.Nat.{_-_, _≤_}
 use Rattle.vocabulary.specs.Ranges.{some}
 use Rattle.vocabulary.specs.RangeLaws.{some-start, some-end}
-use Rattle.split.specs.Sorting.{ownsAt}
+use Rattle.split.specs.Classes.{ownsAt}
 use Rattle.split.proofs.MapLaws.{owns-found, owns-turn}
 use borrow.Author.Needs.{needs}
 use Rattle.split.proofs.maps.owns_some.Statement.{statement}

@@ -9,10 +9,10 @@ use Rattle.start_lists.proofs.inner.last_end.Statement.{statement}
 use Rattle.start_lists.proofs.inner.last_end.Tie as tie
 
 abbrev Inv-loop : tie.InvT-loop
-Inv-loop which owners table ends held i first cells order base n e₀ k₀ k-end e k = (k-end ≡ n + 1) × (k ≤ n + 1) × Before which owners table ends held i first cells order base k e
+Inv-loop which owners table ends i first cells order base n e₀ k₀ k-end e k = (k-end ≡ n + 1) × (k ≤ n + 1) × Before which owners table ends i first cells order base k e
 
 abbrev μ-loop : tie.MeasureT-loop
-μ-loop which owners table ends held i first cells order base n e₀ k₀ k-end e k = k-end - k
+μ-loop which owners table ends i first cells order base n e₀ k₀ k-end e k = k-end - k
 
 pub last-end-spec : {M : Type 1} → statement M
 last-end-spec =
@@ -22,7 +22,7 @@ last-end-spec =
     μ-loop
     (λ c. search needs)
     (λ c. (refl, search needs, search before-none))
-    (λ c κs. (search needs, search needs, search needs, counted-less _ _ _ _ _ _ _ _ _ _ _ _ (omega (arith, c .before .loop .inv .0, c .loop-test .taken)) (c .before .before .before .before .before .before .before .pre .4), c .before .loop .inv .2, search needs))
+    (λ c κs. (search needs, search needs, search needs, counted-less _ _ _ _ _ _ _ _ _ _ _ (omega (arith, c .before .loop .inv .0, c .loop-test .taken)) (c .before .before .before .before .before .before .pre .4), c .before .loop .inv .2, search needs))
     (λ c. search needs)
     (λ c. search needs)
     (λ c. (search needs, search needs, search before-next))

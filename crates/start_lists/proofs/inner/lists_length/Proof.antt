@@ -15,4 +15,4 @@ lists-length-spec =
     (λ c. search needs)
     (λ c. search needs)
     (λ c. search needs)
-    (λ c. long-told _ _ _ _ _ _ _ _ _ _ (c .before .before .before .before .before .before .before .pre) _ _ (c .before .last-end .ensures) (c .last-end2 .ensures)))
+    (λ c. long-told _ _ _ _ _ _ _ _ _ (c .before .before .before .before .before .before .pre) _ _ (c .before .last-end .ensures) (c .last-end2 .ensures)))

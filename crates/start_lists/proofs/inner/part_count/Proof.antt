@@ -11,7 +11,7 @@ part-count-spec =
     (λ c κs. search needs)
     (λ c κs. search needs)
     (λ c. search needs)
-    (λ c κs. (search needs, c .before .before .before .before .before .before .pre .5 (search two-up)))
+    (λ c κs. (search needs, c .before .before .before .before .before .pre .5 (search two-up)))
     (λ c. (search count-got, search needs))
     (λ c. (search count-sent, search needs))
     (λ c. (search count-row, search needs)))

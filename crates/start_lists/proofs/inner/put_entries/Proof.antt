@@ -12,7 +12,7 @@ put-entries-spec =
     (tie.spec
     (λ c κs. search needs)
     (λ c κs.
-    let start = c .before .before .before .before .before .before .before .before .before .before .before .before .before in
+    let start = c .before .before .before .before .before .before .before .before .before .before .before .before in
     let put-list = c .before .before .before .put-list in
     let b = c .before .before .b in (
       omega (arith, start .pre .0, list-count _ _ _ _ _ _ (put-list .ensures) (start .pre .5), b .given),
@@ -28,7 +28,7 @@ put-entries-spec =
       start .pre .7,
     ))
     (λ c κs.
-    let start = c .before .before .before .before .before .before .before .before .before .before .before .before .before .before .before .before .before in
+    let start = c .before .before .before .before .before .before .before .before .before .before .before .before .before .before .before .before in
     let put-list = c .before .before .before .before .before .before .before .put-list in
     let put-ends = c .before .before .before .put-ends in
     let b = c .before .before .before .before .before .before .b in
@@ -39,7 +39,7 @@ put-entries-spec =
       start .pre .8,
     ))
     (λ c κs.
-    let start = c .before .before .before .before .before .before .before .before .before .before .before .before .before .before .before .before .before .before .before .before .before .before in
+    let start = c .before .before .before .before .before .before .before .before .before .before .before .before .before .before .before .before .before .before .before .before .before in
     let put-list = c .before .before .before .before .before .before .before .before .before .before .before .before .put-list in
     let put-ends = c .before .before .before .before .before .before .before .before .put-ends in
     let put-rows = c .before .before .before .before .put-rows in
@@ -66,11 +66,12 @@ put-entries-spec =
       start .pre .3,
       start .pre .4,
       start .pre .6,
+      start .pre .9,
     ))
     (λ c. search needs)
     (λ c. search needs)
     (λ c.
-    let start = c .before .before .before .before .before .before .before .before .before .before .before .before .before .before .before .before .before .before .before .before .before .before .before .before .before .before .before in
+    let start = c .before .before .before .before .before .before .before .before .before .before .before .before .before .before .before .before .before .before .before .before .before .before .before .before .before .before in
     let put-list = c .before .before .before .before .before .before .before .before .before .before .before .before .before .before .before .before .before .put-list in
     let put-ends = c .before .before .before .before .before .before .before .before .before .before .before .before .before .put-ends in
     let put-rows = c .before .before .before .before .before .before .before .before .before .put-rows in
@@ -81,5 +82,5 @@ put-entries-spec =
       list-count _ _ _ _ _ _ (put-list .ensures) (start .pre .5),
       words-count _ _ _ _ _ _ (put-ends .ensures),
       many-count _ _ _ (rows-long _ _ _ _ _ _) _ _ _ _ (put-rows .ensures),
-      many-count _ _ _ (all-long _ _ _ _ _ _ _ _) _ _ _ _ (put-sent .ensures),
+      many-count _ _ _ (all-long _ _ _ _ _ _ _) _ _ _ _ (put-sent .ensures),
     )) (put-list .ensures) (put-ends .ensures) (put-rows .ensures) (put-sent .ensures)))

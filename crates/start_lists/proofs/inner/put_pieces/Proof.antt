@@ -10,7 +10,7 @@ put-pieces-spec =
     tie.close
     (tie.spec
     (λ c κs.
-    let start = c .before .before .before .before .before .before .before .before .before .before in (
+    let start = c .before .before .before .before .before .before .before .before .before in (
       omega (arith, start .pre .1, start .pre .2),
       omega (arith, start .pre .1, start .pre .0 .long),
       start .pre .0 .part,
@@ -20,7 +20,7 @@ put-pieces-spec =
       omega (arith, start .pre .0 .cells-few),
     ))
     (λ c κs.
-    let start = c .before .before .before .before .before .before .before .before .before .before .before .before .before .before in
+    let start = c .before .before .before .before .before .before .before .before .before .before .before .before .before in
     let put-head = c .before .before .before .put-head in
     let b = c .before .before .b in (
       omega (arith, start .pre .1, start .pre .2, head-count _ _ _ _ _ _ _ _ _ _ (put-head .ensures), b .given),
@@ -35,7 +35,7 @@ put-pieces-spec =
       start .pre .0 .sent,
     ))
     (λ c κs.
-    let start = c .before .before .before .before .before .before .before .before .before .before .before .before .before .before .before .before .before .before .before in
+    let start = c .before .before .before .before .before .before .before .before .before .before .before .before .before .before .before .before .before .before in
     let put-head = c .before .before .before .before .before .before .before .before .put-head in
     let put-borders = c .before .before .before .before .put-borders in
     let b = c .before .before .before .before .before .before .before .b in
@@ -45,7 +45,7 @@ put-pieces-spec =
         start .pre .1,
         start .pre .2,
         head-count _ _ _ _ _ _ _ _ _ _ (put-head .ensures),
-        borders-count _ _ _ _ _ _ _ _ _ _ _ _ _ (put-borders .ensures),
+        borders-count _ _ _ _ _ _ _ _ _ _ _ _ (put-borders .ensures),
         b .given,
         b2 .given,
       ),
@@ -53,7 +53,7 @@ put-pieces-spec =
         arith,
         start .pre .0 .long,
         head-count _ _ _ _ _ _ _ _ _ _ (put-head .ensures),
-        borders-count _ _ _ _ _ _ _ _ _ _ _ _ _ (put-borders .ensures),
+        borders-count _ _ _ _ _ _ _ _ _ _ _ _ (put-borders .ensures),
       ),
       start .pre .0 .part,
       start .pre .0 .cells-fit,
@@ -62,12 +62,13 @@ put-pieces-spec =
       start .pre .5,
       start .pre .0 .reached,
       start .pre .0 .near,
+      start .pre .0 .part-few,
     ))
     (λ c. search needs)
     (λ c. search needs)
     (λ c.
-    let start = c .before .before .before .before .before .before .before .before .before .before .before .before .before .before .before .before .before .before .before .before .before .before .before .before in
+    let start = c .before .before .before .before .before .before .before .before .before .before .before .before .before .before .before .before .before .before .before .before .before .before .before in
     let put-head = c .before .before .before .before .before .before .before .before .before .before .before .before .before .put-head in
     let put-borders = c .before .before .before .before .before .before .before .before .before .put-borders in
     let put-entries = c .before .before .before .before .put-entries in
-    lists-put _ _ _ _ _ _ _ _ _ _ _ _ _ _ _ (start .pre .1) _ _ _ _ _ _ _ (omega (arith, start .pre .1, start .pre .2)) (put-head .ensures) (put-borders .ensures) (put-entries .ensures)))
+    lists-put _ _ _ _ _ _ _ _ _ _ _ _ _ _ (start .pre .1) _ _ _ _ _ _ _ (omega (arith, start .pre .1, start .pre .2)) (put-head .ensures) (put-borders .ensures) (put-entries .ensures)))

@@ -11,11 +11,11 @@ use Rattle.start_lists.proofs.inner.put_sent.Statement.{statement}
 use Rattle.start_lists.proofs.inner.put_sent.Tie as tie
 
 abbrev Inv-loop : tie.InvT-loop
-Inv-loop b₀ s owners table ends held i first cells local list₀ u₀ j₀ b list u j = (1 ≤ j) × (j ≤ 17) × (length b ≡ length b₀) × (length list ≡ 2000) × Put b₀ b s u
-    (blocks 1 (j - 1) (sentWords owners table ends held i first cells local))
+Inv-loop b₀ s owners table ends i first cells local list₀ u₀ j₀ b list u j = (1 ≤ j) × (j ≤ 17) × (length b ≡ length b₀) × (length list ≡ 2000) × Put b₀ b s u
+    (blocks 1 (j - 1) (sentWords owners table ends i first cells local))
 
 abbrev μ-loop : tie.MeasureT-loop
-μ-loop b₀ s owners table ends held i first cells local list₀ u₀ j₀ b list u j = 17 - j
+μ-loop b₀ s owners table ends i first cells local list₀ u₀ j₀ b list u j = 17 - j
 
 pub put-sent-spec : {M : Type 1} → statement M
 put-sent-spec =
@@ -26,14 +26,14 @@ put-sent-spec =
     (λ c. (search needs, search needs, search needs, search needs, search many-start))
     (λ c κs.
     let w =
-    many-room _ 16 _ (all-long _ _ _ _ _ _ _ _) _ (sent-long _ _ _ _ _ _ _ _) _ _ _ _ _ (c .before .before .before .loop .inv .0) (c .before .before .loop-test .taken)
-    (c .before .before .before .before .before .before .before .before .before .before .before .pre .0)
-    (c .before .before .before .before .before .before .before .before .before .before .before .pre .1) (c .before .before .before .loop .inv .2) (c .before .before .before .loop .inv .4) in (
+    many-room _ 16 _ (all-long _ _ _ _ _ _ _) _ (sent-long _ _ _ _ _ _ _) _ _ _ _ _ (c .before .before .before .loop .inv .0) (c .before .before .loop-test .taken)
+    (c .before .before .before .before .before .before .before .before .before .before .pre .0)
+    (c .before .before .before .before .before .before .before .before .before .before .pre .1) (c .before .before .before .loop .inv .2) (c .before .before .before .loop .inv .4) in (
       w .0,
       w .1,
-      search needs,
-      c .before .before .before .before .before .before .before .before .before .before .before .pre .2,
-      c .before .before .before .before .before .before .before .before .before .before .before .pre .3,
+      c .before .before .before .before .before .before .before .before .before .before .pre .5,
+      c .before .before .before .before .before .before .before .before .before .before .pre .2,
+      c .before .before .before .before .before .before .before .before .before .before .pre .3,
       c .before .before .before .loop .inv .3,
     ))
     (λ c. search needs)
@@ -42,12 +42,12 @@ put-sent-spec =
     let put-sent-to = c .before .before .before .before .put-sent-to in
     let loop = c .before .before .before .before .before .before .before .before .loop in
     let loop-test = c .before .before .before .before .before .before .before .loop-test in
-    let start = c .before .before .before .before .before .before .before .before .before .before .before .before .before .before .before .before in (
+    let start = c .before .before .before .before .before .before .before .before .before .before .before .before .before .before .before in (
       search needs,
       search needs,
       search needs,
       put-sent-to .ensures .1,
-      many-turn _ 16 _ (all-long _ _ _ _ _ _ _ _) _ _ _ _ _ _ _ (loop .inv .0) (loop-test .taken) (start .pre .0) (loop .inv .4) (put-sent-to .ensures .0),
+      many-turn _ 16 _ (all-long _ _ _ _ _ _ _) _ _ _ _ _ _ _ (loop .inv .0) (loop-test .taken) (start .pre .0) (loop .inv .4) (put-sent-to .ensures .0),
     ))
     (λ c. search needs)
     (λ c. search needs)

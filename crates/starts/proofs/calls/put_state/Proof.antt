@@ -18,9 +18,9 @@ put-state-spec =
     (λ c. search needs)
     (λ c. search needs)
     (λ c.
-    let start = c .before .before .before .before .before .before .before .before .before .before .before .before .before .before .before .before .before .before .before .before .before .before .before .before in
+    let start = c .before .before .before .before .before .before .before .before .before .before .before .before .before .before .before .before .before .before .before .before .before .before .before in
     let put-lists = c .before .before .before .before .before .before .before .before .before .before .before .before .put-lists in
     let clear = c .before .before .before .before .before .before .clear in
     let put-cells = c .before .before .put-cells in
-    state-put _ _ _ _ _ _ _ _ _ _ _ (start .pre .2) (words-long _ _ _ _ _ _ _ _ _ _ _ _ _ _ _ (start .pre .1) (start .pre .0 .order-there)) (put-lists .ensures)
+    state-put _ _ _ _ _ _ _ _ _ _ _ (start .pre .2) (words-long _ _ _ _ _ _ _ _ _ _ _ _ _ _ (start .pre .1) (start .pre .0 .order-there)) (put-lists .ensures)
     (clear .ensures) (put-cells .ensures)))

@@ -1,6 +1,5 @@
 -- `starts::calls::size_passed` meets its contract. Assumes nothing.
 use mathlib.Core.Path.{refl, sym, _∙_}
-use Rattle.vocabulary.specs.ListLaws.{zeros}
 use Rattle.split.proofs.PassedLaws.{passed-facts}
 use Rattle.starts.proofs.PlanLaws.{size-sizes}
 use borrow.Author.Needs.{needs}
@@ -14,11 +13,16 @@ size-passed-spec =
     (λ c. search needs)
     (λ c. search needs)
     (λ c. search needs)
-    (λ c κs. (passed-facts _ _ _ _ _ _ (c .before .before .before .before .before .before .pre) .mesh, passed-facts _ _ _ _ _ _ (c .before .before .before .before .before .before .pre) .map, passed-facts _ _ _ _ _ _ (c .before .before .before .before .before .before .pre) .stencil, refl, refl, zeros 34000))
-    (λ c. size-sizes _ _ _ _ _ (c .before .before .before .before .before .before .before .before .before .before .before .pre) _ (c .before .before .before .before .sizes-number .ensures .0) (c .if1 .taken))
     (λ c. search needs)
     (λ c. search needs)
     (λ c. search needs)
     (λ c. search needs)
-    (λ c κs. (c .before .before .before .before .before .before .before .before .before .before .before .before .before .before .before .pre, (sym (c .before .before .before .before .before .before .before .before .sizes-number .ensures .0) ∙ c .before .before .before .before .if1 .left), c .before .before .before .before .before .before .before .before .sizes-number .ensures .1 (c .before .before .before .before .if1 .left), refl))
+    (λ c κs. let f = passed-facts _ _ _ _ _ _ (c .before .before .before .before .before .before .before .before .before .before .pre) in (f .mesh, f .map, f .stencil, refl, refl, refl, refl, refl, refl, refl))
+    (λ c. size-sizes _ _ _ _ _ (c .before .before .before .before .before .before .before .before .before .before .before .before .before .before .before .before .before .before .before .pre) _ (c .before .before .before .before .before .before .before .before .prepare .ensures .0) (c .if1 .taken))
+    (λ c. search needs)
+    (λ c. search needs)
+    (λ c. search needs)
+    (λ c. search needs)
+    (λ c. search needs)
+    (λ c κs. (c .before .before .before .before .before .before .before .before .before .before .before .before .before .before .before .before .before .before .before .before .before .before .before .before .pre, (sym (c .before .before .before .before .before .before .before .before .before .before .before .before .before .prepare .ensures .0) ∙ c .before .before .before .before .before .if1 .left), c .before .before .before .before .before .before .before .before .before .before .before .before .before .prepare .ensures .1 (c .before .before .before .before .before .if1 .left), search needs, search needs))
     (λ c. search needs))

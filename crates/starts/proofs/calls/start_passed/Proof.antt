@@ -1,6 +1,5 @@
 -- `starts::calls::start_passed` meets its contract. Assumes nothing.
 use mathlib.Core.Path.{refl, sym, _∙_}
-use Rattle.vocabulary.specs.ListLaws.{zeros}
 use Rattle.split.proofs.PassedLaws.{passed-facts}
 use Rattle.starts.proofs.PlanLaws.{start-sizes}
 use borrow.Author.Needs.{needs}
@@ -14,13 +13,18 @@ start-passed-spec =
     (λ c. search needs)
     (λ c. search needs)
     (λ c. search needs)
-    (λ c κs. (passed-facts _ _ _ _ _ _ (c .before .before .before .before .before .before .before .before .before .pre .0) .mesh, passed-facts _ _ _ _ _ _ (c .before .before .before .before .before .before .before .before .before .pre .0) .map, passed-facts _ _ _ _ _ _ (c .before .before .before .before .before .before .before .before .before .pre .0) .stencil, refl, refl, zeros 34000))
-    (λ c. start-sizes _ _ _ _ _ _ _ _ _ (c .before .before .before .before .before .before .before .before .before .before .before .before .before .before .pre .0) (c .before .before .before .before .before .before .before .before .before .before .before .before .before .before .pre .1) _ (c .before .before .before .before .sizes-number .ensures .0) (c .if1 .taken))
+    (λ c. search needs)
+    (λ c. search needs)
+    (λ c. search needs)
+    (λ c. search needs)
+    (λ c κs. let f = passed-facts _ _ _ _ _ _ (c .before .before .before .before .before .before .before .before .before .before .before .before .before .pre .0) in (f .mesh, f .map, f .stencil, refl, refl, refl, refl, refl, refl, refl))
+    (λ c. start-sizes _ _ _ _ _ _ _ _ _ (c .before .before .before .before .before .before .before .before .before .before .before .before .before .before .before .before .before .before .before .before .before .before .pre .0) (c .before .before .before .before .before .before .before .before .before .before .before .before .before .before .before .before .before .before .before .before .before .before .pre .1) _ (c .before .before .before .before .before .before .before .before .prepare .ensures .0) (c .if1 .taken))
     (λ c. search needs)
     (λ c. search needs)
     (λ c. search needs)
     (λ c. search needs)
     (λ c. search needs)
-    (λ c κs. (c .before .before .before .before .before .before .before .before .before .before .before .before .before .before .before .before .before .before .before .before .pre .0, (sym (c .before .before .before .before .before .before .before .before .before .before .sizes-number .ensures .0) ∙ c .before .before .before .before .before .before .if1 .left), c .before .before .before .before .before .before .before .before .before .before .sizes-number .ensures .1 (c .before .before .before .before .before .before .if1 .left), refl, c .before .before .before .before .before .before .before .before .before .before .before .before .before .before .before .before .before .before .before .before .pre .1, refl))
+    (λ c. search needs)
+    (λ c κs. (c .before .before .before .before .before .before .before .before .before .before .before .before .before .before .before .before .before .before .before .before .before .before .before .before .before .before .before .before .before .pre .0, (sym (c .before .before .before .before .before .before .before .before .before .before .before .before .before .before .before .prepare .ensures .0) ∙ c .before .before .before .before .before .before .before .if1 .left), c .before .before .before .before .before .before .before .before .before .before .before .before .before .before .before .prepare .ensures .1 (c .before .before .before .before .before .before .before .if1 .left), search needs, search needs, c .before .before .before .before .before .before .before .before .before .before .before .before .before .before .before .before .before .before .before .before .before .before .before .before .before .before .before .before .before .pre .1, search needs))
     (λ c. search needs)
     (λ c. search needs))
