@@ -38,6 +38,13 @@ pub record Grown (before : List ℕ) (n : ℕ) (after : List ℕ) (s : ℕ) : Ty
   pub more : n ≤ s
   pub front : take n after ≡ take n before
 
+-- what is gathered after the first n numbers of `before`: there are s numbers then, and they are the ones that pass
+pub record Added (v : ℕ) (marks before : List ℕ) (n : ℕ) (found : List ℕ) (s : ℕ) (p : ℕ → Bool) : Type 0 where
+  pub gathered : Gathered v marks found s
+  pub all : Toward found s [] p
+  pub few : s ≤ 2000
+  pub grown : Grown before n found s
+
 -- what a step down gathers from the j-th of the cells in `from`: the elements of its chain after lo and up to hi
 unfoldable pub down : Bytes → ℕ → ℕ → List ℕ → ℕ → List ℕ
 down m lo hi from j = between lo hi (chain m (getD from j 0))

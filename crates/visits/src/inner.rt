@@ -7,7 +7,7 @@ ghost use mathlib.Core.Path.{_≡_};
 ghost use lib.ListN.{length, getD, take};
 ghost use mathlib.Core.List.{[], _∷_, map};
 ghost use Prim.Native.Nat.{ℕ, _+_, _<_, _≤_};
-ghost use Rattle.visits.specs.Visits.{Gathered, Toward, with, between, down, up, Grown, Upward};
+ghost use Rattle.visits.specs.Visits.{Gathered, Toward, with, between, down, up, Added, Upward};
 ghost use Rattle.links.specs.Links.{trail};
 ghost use Rattle.vocabulary.specs.Lists.{All};
 ghost use Rattle.vocabulary.specs.Ranges.{blocks};
@@ -26,8 +26,8 @@ pub fn entry(list: &[u16], i: usize) -> usize
 // Gathers y, unless it bears the mark v.
 pub fn visit(v: u16, y: usize, marks: &mut [u16], found: &mut [u16], n: usize) -> usize
     requires { ⌜ Gathered v (now marks) (now found) n × (n ≤ 2000) × (1 ≤ y) × (y ≤ 2000) ⌝ }
-    ensures { λ r. ⌜ Gathered v (now (marks .exit)) (now (found .exit)) r × Toward (now (found .exit)) r [] (with (now (found .entry)) n (y ∷ [])) × (r ≤ 2000)
-        × Grown (now (found .entry)) n (now (found .exit)) r ⌝ }
+    ensures { λ r. ⌜ Added v (now (marks .exit)) (now (found .entry)) n (now (found .exit)) r
+        (with (now (found .entry)) n (y ∷ [])) ⌝ }
 {
     if number_at(marks, y) == v {
         return n;
@@ -48,8 +48,8 @@ fn visit_between(
     n: usize,
 ) -> usize
     requires { ⌜ (hi ≤ 2000) × Gathered v (now marks) (now found) n × (n ≤ 2000) ⌝ }
-    ensures { λ s. ⌜ Gathered v (now (marks .exit)) (now (found .exit)) s × Toward (now (found .exit)) s [] (with (now (found .entry)) n (between lo hi (y ∷ []))) × (s ≤ 2000)
-        × Grown (now (found .entry)) n (now (found .exit)) s ⌝ }
+    ensures { λ s. ⌜ Added v (now (marks .exit)) (now (found .entry)) n (now (found .exit)) s
+        (with (now (found .entry)) n (between lo hi (y ∷ []))) ⌝ }
 {
     if y <= lo {
         return n;
@@ -74,9 +74,8 @@ pub fn visit_chain(
     n: usize,
 ) -> usize
     requires { ⌜ (e ≡ elements (now m)) × (e ≤ 2000) × (r ≤ 12000) × (h < 65536) × (hi ≤ 2000) × Gathered v (now marks) (now found) n × (n ≤ 2000) ⌝ }
-    ensures { λ s. ⌜ Gathered v (now (marks .exit)) (now (found .exit)) s
-        × Toward (now (found .exit)) s [] (with (now (found .entry)) n (between lo hi (map (elementIn (now (m .entry))) (follow (now (m .entry)) (r + 1) h)))) × (s ≤ 2000)
-        × Grown (now (found .entry)) n (now (found .exit)) s ⌝ }
+    ensures { λ s. ⌜ Added v (now (marks .exit)) (now (found .entry)) n (now (found .exit)) s
+        (with (now (found .entry)) n (between lo hi (map (elementIn (now (m .entry))) (follow (now (m .entry)) (r + 1) h)))) ⌝ }
 {
     let mut i = h;
     let mut s = n;
@@ -102,9 +101,8 @@ pub fn visit_trail(
     n: usize,
 ) -> usize
     requires { ⌜ All (λ y. (1 ≤ y) × (y ≤ 2000)) (trail (now cell) (now prev) 12001 t) × Gathered v (now marks) (now found) n × (n ≤ 2000) ⌝ }
-    ensures { λ s. ⌜ Gathered v (now (marks .exit)) (now (found .exit)) s
-        × Toward (now (found .exit)) s [] (with (now (found .entry)) n (trail (now (cell .entry)) (now (prev .entry)) 12001 t)) × (s ≤ 2000)
-        × Grown (now (found .entry)) n (now (found .exit)) s ⌝ }
+    ensures { λ s. ⌜ Added v (now (marks .exit)) (now (found .entry)) n (now (found .exit)) s
+        (with (now (found .entry)) n (trail (now (cell .entry)) (now (prev .entry)) 12001 t)) ⌝ }
 {
     let mut i = t;
     let mut s = n;
@@ -133,9 +131,8 @@ pub fn step_down(
     base: usize,
 ) -> usize
     requires { ⌜ (e ≡ elements (now m)) × (e ≤ 2000) × (r ≡ recordCount (now m)) × (r ≤ 12000) × (hi ≤ 2000) × Gathered v (now marks) (now found) base × (base ≤ 2000) ⌝ }
-    ensures { λ s. ⌜ Gathered v (now (marks .exit)) (now (found .exit)) s
-        × Toward (now (found .exit)) s [] (with (now (found .entry)) base (blocks 0 n (down (now (m .entry)) lo hi (now (from .entry))))) × (s ≤ 2000)
-        × Grown (now (found .entry)) base (now (found .exit)) s ⌝ }
+    ensures { λ s. ⌜ Added v (now (marks .exit)) (now (found .entry)) base (now (found .exit)) s
+        (with (now (found .entry)) base (blocks 0 n (down (now (m .entry)) lo hi (now (from .entry))))) ⌝ }
 {
     let mut s = base;
     for j in 0..n {
@@ -170,9 +167,8 @@ pub fn step_up(
     base: usize,
 ) -> usize
     requires { ⌜ Upward (now cell) (now prev) (now last) (now from) n × Gathered v (now marks) (now found) base × (base ≤ 2000) ⌝ }
-    ensures { λ s. ⌜ Gathered v (now (marks .exit)) (now (found .exit)) s
-        × Toward (now (found .exit)) s [] (with (now (found .entry)) base (blocks 0 n (up (now (cell .entry)) (now (prev .entry)) (now (last .entry)) (now (from .entry))))) × (s ≤ 2000)
-        × Grown (now (found .entry)) base (now (found .exit)) s ⌝ }
+    ensures { λ s. ⌜ Added v (now (marks .exit)) (now (found .entry)) base (now (found .exit)) s
+        (with (now (found .entry)) base (blocks 0 n (up (now (cell .entry)) (now (prev .entry)) (now (last .entry)) (now (from .entry))))) ⌝ }
 {
     let mut s = base;
     for j in 0..n {

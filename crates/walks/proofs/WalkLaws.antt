@@ -25,7 +25,7 @@ use Rattle.mesh.proofs.DimensionLaws.{below-more}
 use Rattle.mesh.specs.WalkLaws.{below-grows}
 use Rattle.walks.proofs.StepLaws.{someOf-like, step-from, step-to}
 use Rattle.walks.proofs.NoteLaws.{begin}
-use Rattle.visits.specs.Visits.{Gathered, Toward, Grown}
+use Rattle.visits.specs.Visits.{Gathered, Toward, Added}
 use Rattle.walks.specs.Walking.{Ground, Cells, Lowers, Sided, stepped, alike, throughOne, metBefore, newly}
 use Rattle.walks.specs.Walking.{markAt, startsAmong, orAmong, firstMark, layerMark, noted, Noted, among, cellsAmong, walkedFrom}
 use Rattle.walks.specs.Walking.{Walk, Within, Widened, Departed, Arrived}
@@ -290,7 +290,7 @@ apart z xs ys e = go (isIn z xs) refl (isIn z ys) refl ∙ ap (λ b. b && not (i
 
 module _ (m st : Bytes) (cell prev last cs : List ℕ) (single : Bool) (j v n base s n′ low high low′ high′ met′ : ℕ) (marks marks′ from from′ found found′ layers layers′ : List ℕ)
     (G : Ground m st cell prev last) (C : All (Cell m) cs) (se : single ≡ throughOne st) (h : suc j < length st) (W : Walk m st single cs j v marks from found layers n base)
-    (T : Gathered (markAt single v j) marks′ found′ s × Toward found′ s [] (orAmong found base (stepped m (byteAt st (suc j)) from n)) × (s ≤ 2000) × Grown found base found′ s)
+    (T : Added (markAt single v j) marks′ found base found′ s (orAmong found base (stepped m (byteAt st (suc j)) from n)))
     (A : Arrived (suc j) single found′ base s from from′ layers layers′ low high n′ low′ high′ met′) where
   abbrev level : List ℕ
   level = take n′ (drop base found′)
@@ -304,12 +304,12 @@ module _ (m st : Bytes) (cell prev last cs : List ℕ) (single : Bool) (j v n ba
 
   whole : take s found′ ≡ take base found ++ level
   whole =
-      let q : base + n′ ≡ s = omega (arith, A .count, T .3 .more) in
-      ap (λ x. take x found′) (sym q) ∙ take-add base n′ found′ ∙ ap (λ l. l ++ level) (T .3 .front)
+      let q : base + n′ ≡ s = omega (arith, A .count, T .grown .more) in
+      ap (λ x. take x found′) (sym q) ∙ take-add base n′ found′ ∙ ap (λ l. l ++ level) (T .grown .front)
 
   found-all : (z : ℕ) → isIn z (take s found′) ≡ (single && M z) || isIn z (stepTo m (byteAt st (suc j)) (take n from))
   unfolding isIn orAmong stepped
-  found-all z = sym (or-nothing (isIn z (take s found′))) ∙ T .1 .each z ∙ ap (λ b. b || isIn z (stepTo m (byteAt st (suc j)) (take n from))) (W .told z)
+  found-all z = sym (or-nothing (isIn z (take s found′))) ∙ T .all .each z ∙ ap (λ b. b || isIn z (stepTo m (byteAt st (suc j)) (take n from))) (W .told z)
 
   -- a step from what is new reaches what is new
   reaches : (z : ℕ) (b c : Bool) → single ≡ b → M z ≡ c → ((b && c) || isIn z (stepTo m (byteAt st (suc j)) (take n from))) && not (b && c) ≡ R z && not (b && c)
@@ -323,16 +323,16 @@ module _ (m st : Bytes) (cell prev last cs : List ℕ) (single : Bool) (j v n ba
   ends : (z : ℕ) → isIn z (take n′ from′) ≡ newly single m st cs (suc j) z
   ends z =
       ap (isIn z) (A .moved)
-      ∙ apart z (take base found) level (ap repeats (sym whole) ∙ T .0 .once)
+      ∙ apart z (take base found) level (ap repeats (sym whole) ∙ T .gathered .once)
       ∙ ap₂ (λ a b. a && not b) (ap (isIn z) (sym whole) ∙ found-all z) (W .told z)
       ∙ reaches z single (M z) refl refl
       ∙ (unfold newly in refl)
 
   gathered : (b : Bool) → single ≡ b → Gathered (markAt b v (suc j)) marks′ found′ (cond b s 0)
   unfolding markAt
-  gathered true p = subst (λ b. Gathered (markAt b v j) marks′ found′ s) p (T .0)
+  gathered true p = subst (λ b. Gathered (markAt b v j) marks′ found′ s) p (T .gathered)
   gathered false p =
-      let g : Gathered (v + j) marks′ found′ s = subst (λ b. Gathered (markAt b v j) marks′ found′ s) p (T .0) in
+      let g : Gathered (v + j) marks′ found′ s = subst (λ b. Gathered (markAt b v j) marks′ found′ s) p (T .gathered) in
       begin (v + suc j) marks′ found′ (record { size = g .size; each = λ y. omega (arith, g .top y) }) (g .room)
 
   told : (z : ℕ) (b : Bool) → single ≡ b → isIn z (take (cond b s 0) found′) ≡ b && metBefore m st cs (suc (suc j)) z
@@ -382,11 +382,11 @@ module _ (m st : Bytes) (cell prev last cs : List ℕ) (single : Bool) (j v n ba
   }
     where
       length-level : length level ≡ n′
-      length-level = omega (arith, length-take n′ (drop base found′), length-drop base found′, T .0 .room, T .2, A .count)
+      length-level = omega (arith, length-take n′ (drop base found′), length-drop base found′, T .gathered .room, T .few, A .count)
 
 walk-more : (m st : Bytes) (cell prev last cs : List ℕ) (single : Bool) (k v n base s n′ low high low′ high′ met′ : ℕ) (marks marks′ from from′ found found′ layers layers′ : List ℕ)
     → Ground m st cell prev last → All (Cell m) cs → single ≡ throughOne st → k < length st → (k ≡ 0 → ⊥) → Walk m st single cs (k - 1) v marks from found layers n base
-    → Gathered (markAt single v (k - 1)) marks′ found′ s × Toward found′ s [] (orAmong found base (stepped m (byteAt st k) from n)) × (s ≤ 2000) × Grown found base found′ s
+    → Added (markAt single v (k - 1)) marks′ found base found′ s (orAmong found base (stepped m (byteAt st k) from n))
     → Arrived k single found′ base s from from′ layers layers′ low high n′ low′ high′ met′ → Walk m st single cs k v marks′ from′ found′ layers′ n′ met′
 walk-more m st cell prev last cs single zero v n base s n′ low high low′ high′ met′ marks marks′ from from′ found found′ layers layers′ G C se h z W T A = absurd (z refl)
 walk-more m st cell prev last cs single (suc j) v n base s n′ low high low′ high′ met′ marks marks′ from from′ found found′ layers layers′ G C se h z W T A =
@@ -396,6 +396,9 @@ walk-more m st cell prev last cs single (suc j) v n base s n′ low high low′ 
 -- what the calls of a walk suppose
 pub gathered-as : (x y n : ℕ) (marks found : List ℕ) → x ≡ y → Gathered y marks found n → Gathered x marks found n
 gathered-as x y n marks found e G = rw e G
+
+pub added-as : (x y base s : ℕ) (marks before found : List ℕ) (p : ℕ → Bool) → x ≡ y → Added x marks before base found s p → Added y marks before base found s p
+added-as x y base s marks before found p e A = rw (← e) A
 
 pub notes-room : (m st : Bytes) (cs : List ℕ) (single : Bool) (k w n met v s : ℕ) (marks₀ from found₀ marks found layers : List ℕ) → Walk m st single cs k w marks₀ from found₀ layers n met
     → Gathered v marks found s → All (λ y. y < length layers) (take s found)
@@ -496,7 +499,7 @@ ends-none m st cell prev last single e s k v n met low high met′ marks from fo
 pub ends-more : (m st : Bytes) (cell prev last cs : List ℕ) (single : Bool) (k v n base s n′ low high low′ high′ met′ : ℕ) (marks marks′ from from′ found found′ layers layers′ : List ℕ)
     → Ground m st cell prev last → All (Cell m) cs → single ≡ throughOne st → k < length st → (k ≡ 0 → ⊥)
     → Walk m st single cs (k - 1) v marks from found layers n base × Within m layers low high
-    → Gathered (markAt single v (k - 1)) marks′ found′ s × Toward found′ s [] (orAmong found base (stepped m (byteAt st k) from n)) × (s ≤ 2000) × Grown found base found′ s
+    → Added (markAt single v (k - 1)) marks′ found base found′ s (orAmong found base (stepped m (byteAt st k) from n))
     → Arrived k single found′ base s from from′ layers layers′ low high n′ low′ high′ met′
     → Walk m st single cs k v marks′ from′ found′ layers′ n′ met′ × Within m layers′ low′ high′
 ends-more m st cell prev last cs single k v n base s n′ low high low′ high′ met′ marks marks′ from from′ found found′ layers layers′ G C se h z W T A = (here, inside (eqb (k % 2) 1) refl)

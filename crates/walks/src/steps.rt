@@ -18,7 +18,7 @@ ghost use Rattle.vocabulary.specs.Bytes.{byteAt};
 ghost use Rattle.vocabulary.specs.Lists.{All, Zeros};
 ghost use Rattle.mesh.specs.Mesh.{top};
 ghost use Rattle.mesh.specs.Accepted.{Accepted};
-ghost use Rattle.visits.specs.Visits.{Gathered, Toward, Grown};
+ghost use Rattle.visits.specs.Visits.{Gathered, Toward, Added};
 ghost use Rattle.walks.specs.Walking.{Ground, Sized, Cells, Lowers, Sided, stepped, alike, throughOne, markAt, startsAmong, orAmong, Noted, among, Walk, Within, Widened, Departed, Arrived};
 
 // The sizes of a mesh: how many elements, records and cells it has, and its first cell.
@@ -42,9 +42,8 @@ pub fn walk_down(
     base: usize,
 ) -> usize
     requires { ⌜ Accepted (now m) × Sized (now m) sizes × (a < top (now m)) × Cells (now m) (now from) n × Gathered v (now marks) (now found) base × (base ≤ 2000) ⌝ }
-    ensures { λ s. ⌜ Gathered v (now (marks .exit)) (now (found .exit)) s
-        × Toward (now (found .exit)) s [] (orAmong (now (found .entry)) base (stepped (now (m .entry)) a (now (from .entry)) n)) × (s ≤ 2000)
-        × Grown (now (found .entry)) base (now (found .exit)) s ⌝ }
+    ensures { λ s. ⌜ Added v (now (marks .exit)) (now (found .entry)) base (now (found .exit)) s
+        (orAmong (now (found .entry)) base (stepped (now (m .entry)) a (now (from .entry)) n)) ⌝ }
 {
     let lo = below_of(m, a);
     let hi = below_of(m, a + 1);
@@ -78,9 +77,8 @@ pub fn walk_up(
     base: usize,
 ) -> usize
     requires { ⌜ Ground (now m) (now st) (now cell) (now prev) (now last) × Lowers (now m) (now from) n × Gathered v (now marks) (now found) base × (base ≤ 2000) ⌝ }
-    ensures { λ s. ⌜ Gathered v (now (marks .exit)) (now (found .exit)) s
-        × Toward (now (found .exit)) s [] (orAmong (now (found .entry)) base (stepped (now (m .entry)) (top (now (m .entry))) (now (from .entry)) n)) × (s ≤ 2000)
-        × Grown (now (found .entry)) base (now (found .exit)) s ⌝ }
+    ensures { λ s. ⌜ Added v (now (marks .exit)) (now (found .entry)) base (now (found .exit)) s
+        (orAmong (now (found .entry)) base (stepped (now (m .entry)) (top (now (m .entry))) (now (from .entry)) n)) ⌝ }
 {
     step_up(cell, prev, last, from, n, v, marks, found, base)
 }
@@ -123,9 +121,8 @@ fn step(
 ) -> usize
     requires { ⌜ Ground (now m) (now st) (now cell) (now prev) (now last) × Sized (now m) sizes × (k < length (now st)) × Sided (now m) k (now from) n
         × Gathered v (now marks) (now found) base × (base ≤ 2000) ⌝ }
-    ensures { λ s. ⌜ Gathered v (now (marks .exit)) (now (found .exit)) s
-        × Toward (now (found .exit)) s [] (orAmong (now (found .entry)) base (stepped (now (m .entry)) (byteAt (now (st .entry)) k) (now (from .entry)) n)) × (s ≤ 2000)
-        × Grown (now (found .entry)) base (now (found .exit)) s ⌝ }
+    ensures { λ s. ⌜ Added v (now (marks .exit)) (now (found .entry)) base (now (found .exit)) s
+        (orAmong (now (found .entry)) base (stepped (now (m .entry)) (byteAt (now (st .entry)) k) (now (from .entry)) n)) ⌝ }
 {
     if k % 2 == 1 {
         let a = byte_at(st, k) as usize;

@@ -40,8 +40,8 @@ step-down-spec =
           (c .before .before .before .before .before .before .before .before .before .before .loop .inv .6)
           (down-is _ _ _ _ _ _ _ _ (c .before .before .before .before .before .before .before .before .before .before .before .before .before .before .before .pre .2)
           (c .before .before .before .before .before .before .before .before .entry .ensures .0) (c .before .before .before .before .before .before .before .head-of .ensures .0))
-          (c .before .before .before .before .visit-chain .ensures .1),
+          (c .before .before .before .before .visit-chain .ensures .all),
     ))
     (λ c. search needs)
     (λ c. search needs)
-    (λ c. (search needs, search step-end, search needs, search needs)))
+    (λ c. record { gathered = search needs; all = search step-end; few = search needs; grown = search needs }))

@@ -39,8 +39,8 @@ step-up-spec =
       step-turn _ _ _ _ _ _ _ _ _
           (c .before .before .before .before .before .before .before .before .before .before .loop .inv .6)
           (up-is _ _ _ _ _ _ _ (c .before .before .before .before .before .before .before .before .entry .ensures .0)
-          (c .before .before .before .before .before .before .before .entry2 .ensures .0)) (c .before .before .before .before .visit-trail .ensures .1),
+          (c .before .before .before .before .before .before .before .entry2 .ensures .0)) (c .before .before .before .before .visit-trail .ensures .all),
     ))
     (λ c. search needs)
     (λ c. search needs)
-    (λ c. (search needs, search step-end, search needs, search needs)))
+    (λ c. record { gathered = search needs; all = search step-end; few = search needs; grown = search needs }))

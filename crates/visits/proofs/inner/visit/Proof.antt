@@ -10,11 +10,11 @@ visit-spec =
     (tie.spec
     (λ c κs. search needs)
     (λ c. search needs)
-    (λ c. (search needs, search visit-old, search needs, search grown-none))
+    (λ c. record { gathered = search needs; all = search visit-old; few = search needs; grown = search grown-none })
     (λ c κs. search needs)
     (λ c. search needs)
     (λ c κs. search needs)
     (λ c. search needs)
     (λ c. search needs)
     (λ c. search needs)
-    (λ c. (search visit-new, search visit-adds, search visit-few, search grown-new)))
+    (λ c. record { gathered = search visit-new; all = search visit-adds; few = search visit-few; grown = search grown-new }))

@@ -8,9 +8,9 @@ pub visit-between-spec : {M : Type 1} → statement M
 visit-between-spec =
     tie.close
     (tie.spec
-    (λ c. (search needs, search between-low, search needs, search grown-none))
-    (λ c. (search needs, search between-high, search needs, search grown-none))
+    (λ c. record { gathered = search needs; all = search between-low; few = search needs; grown = search grown-none })
+    (λ c. record { gathered = search needs; all = search between-high; few = search needs; grown = search grown-none })
     (λ c κs. search needs)
     (λ c. search needs)
     (λ c. search needs)
-    (λ c. (search needs, search between-yes, search needs, search needs)))
+    (λ c. record { gathered = search needs; all = search between-yes; few = search needs; grown = search needs }))

@@ -1,7 +1,6 @@
 -- `walks::steps::walk` meets its contract: by the number of steps, which falls. Assumes nothing.
-use Rattle.walks.proofs.WalkLaws.{walk-sides, gathered-as, notes-room, cells-fit, cells-small, ends-none, ends-more}
+use Rattle.walks.proofs.WalkLaws.{walk-sides, gathered-as, added-as, notes-room, cells-fit, cells-small, ends-none, ends-more}
 use Rattle.visits.proofs.VisitLaws.{few}
-use mathlib.Core.Path.{sym}
 use native.Mathlib.Omega.{arith}
 use borrow.Author.Needs.{needs}
 use Prim.Native.Nat.{ℕ, _<_}
@@ -105,12 +104,12 @@ pub +walk-spec : {M : Type 1} → statement M
     let at-walk = at-step .before .before .before .before .before .before .before .before .before .before .before .before .before in
     let start = at-walk .before .before .before .before .before .before .before .before .before .before .before .before .before .before .before in (
       start .pre .1 .5,
-      at-step .step .ensures .3 .more,
-      at-step .step .ensures .0 .count,
-      at-step .step .ensures .0 .room,
+      at-step .step .ensures .grown .more,
+      at-step .step .ensures .gathered .count,
+      at-step .step .ensures .gathered .room,
       at-walk .walk .ensures .0 .room,
-      notes-room _ _ _ _ _ _ _ _ _
-          _ _ _ _ _ _ _ (at-walk .walk .ensures .0) (at-step .step .ensures .0),
+      notes-room
+          _ _ _ _ _ _ _ _ _ _ _ _ _ _ _ _ (at-walk .walk .ensures .0) (at-step .step .ensures .gathered),
     ))
     (λ c. search needs)
     (λ c. search needs)
@@ -124,9 +123,4 @@ pub +walk-spec : {M : Type 1} → statement M
     let at-if1 = at-walk .before .before .before .before .before in
     let start = at-if1 .before .before .before .before .before .before .before .before .before .before in
     ends-more _ _ _ _ _ _ _ _ _ _ _ _ _ _ _ _ _ _ _ _ _ _ _ _ _ _ (start .pre .1 .0) (start .pre .1 .3 .each) (start .pre .1 .2) (start .pre .1 .4) (at-if1 .if1 .left)
-    (at-walk .walk .ensures) (
-      gathered-as _ _ _ _ _ (sym (at-mark-at .mark-at .ensures .0)) (at-step .step .ensures .0),
-      at-step .step .ensures .1,
-      at-step .step .ensures .2,
-      at-step .step .ensures .3,
-    ) (at-arrive .arrive .ensures))
+    (at-walk .walk .ensures) (added-as _ _ _ _ _ _ _ _ (at-mark-at .mark-at .ensures .0) (at-step .step .ensures)) (at-arrive .arrive .ensures))

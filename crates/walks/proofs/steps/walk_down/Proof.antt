@@ -14,4 +14,4 @@ walk-down-spec =
     (λ c κs. (search needs, search needs, search needs, search needs, search low-enough, search needs, search needs))
     (λ c. search needs)
     (λ c. search needs)
-    (λ c. (search needs, search gone-down, search needs, search needs)))
+    (λ c. record { gathered = search needs; all = search gone-down; few = search needs; grown = search needs }))

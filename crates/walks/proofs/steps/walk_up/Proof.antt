@@ -11,4 +11,4 @@ walk-up-spec =
     (λ c κs. (search upwards, search needs, search needs))
     (λ c. search needs)
     (λ c. search needs)
-    (λ c. (search needs, search gone-up, search needs, search needs)))
+    (λ c. record { gathered = search needs; all = search gone-up; few = search needs; grown = search needs }))
