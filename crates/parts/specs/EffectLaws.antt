@@ -197,6 +197,11 @@ module _ (L : Lists) (d : ℕ) (b out : Bytes) where
   abbrev cell : ℕ → ℕ
   cell l = L .global l - L .first
 
+  -- the depth that is put last stands in the field
+  collect-put : (n : ℕ) → 4 * cell (suc n) + 4 ≤ length (collectedIn L d b n out) → four (collectedIn L d b (suc n) out) (4 * cell (suc n)) ≡ depthAt d b (suc n)
+  unfolding collectedIn
+  collect-put n r = four-stored (collectedIn L d b n out) (4 * cell (suc n)) (depthAt d b (suc n)) (length-four b (depthPlace d (suc n))) (omega arith)
+
   pub collect-length : (n : ℕ) → ((l : ℕ) → 1 ≤ l → l ≤ n → 4 * cell l + 4 ≤ length out) → length (collectedIn L d b n out) ≡ length out
   unfolding collectedIn
   collect-length zero r = refl
@@ -236,9 +241,8 @@ module _ (L : Lists) (d : ℕ) (b out : Bytes) where
       go (below q) ih = four-before (collectedIn L d b n out) (4 * cell (suc n)) (depthAt d b (suc n)) room (4 * cell l) (omega arith) ∙ ih (earlier (omega arith))
       go (inside t q p) ih =
           let same : cell l ≡ cell (suc n) = omega arith in
-          let lf = length-four b (depthPlace d (suc n)) in
           subst (λ c. four (over (collectedIn L d b n out) (4 * cell (suc n)) (depthAt d b (suc n))) (4 * c) ≡ Y c) (sym same)
-          (four-stored (collectedIn L d b n out) (4 * cell (suc n)) (depthAt d b (suc n)) lf (omega (arith, room)) ∙ v (suc n) (omega arith) (omega arith))
+          (collect-put n (omega (arith, room, length-four b (depthPlace d (suc n)))) ∙ v (suc n) (omega arith) (omega arith))
       go (above q) ih =
           four-after (collectedIn L d b n out) (4 * cell (suc n)) (depthAt d b (suc n)) room (4 * cell l) (omega (arith, length-four b (depthPlace d (suc n)))) ∙ ih (earlier (omega arith))
 

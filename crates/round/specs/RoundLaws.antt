@@ -3,7 +3,7 @@
 use mathlib.Core.Path.{_≡_, refl, sym, ap, _∙_}
 use mathlib.Core.Bool.{Bool, true, false, not}
 use mathlib.Core.List.{List, [], _∷_, map}
-use Prim.Native.Nat.{ℕ, zero, suc, _+_, _-_, _*_, _≤_}
+use Prim.Native.Nat.{ℕ, zero, suc, _+_, _-_, _*_, _≤_, _<_}
 use native.Mathlib.Nat.{zero-add}
 use native.Mathlib.Omega.{arith}
 use lib.Dec.{eqb, ltb}
@@ -79,6 +79,14 @@ module _ (m st : Bytes) (kind : ℕ) (v f : Bytes) where
   unfolding newIn schemeOf depthIn
   new-four c = new-length kind v _ _ (length-four f _)
 
+  -- the depth of each cell after a round: its new depth by the field before the round
+  round-at : (j : ℕ) → j < schemeOf m st kind v .cells
+      → four (round (schemeOf m st kind v) f) (4 * j) ≡ newIn (schemeOf m st kind v) f (schemeOf m st kind v .first + j)
+  unfolding round
+  round-at j h =
+      let S : Scheme = schemeOf m st kind v in
+      fours-at (S .first) (S .cells) (newIn S f) (λ i _. new-four (S .first + i)) j h
+
   olds-small : (e : bad14 (schemeOf m st kind v .cells) f ≡ false) (ns : List Near) → All (Small 1200000) (oldsIn (schemeOf m st kind v) f ns)
   unfolding oldsIn depthIn
   olds-small e [] = tt
@@ -100,7 +108,7 @@ module _ (m st : Bytes) (kind : ℕ) (v f : Bytes) where
       (λ i h.
       let q : 0 + 4 * (0 + i) ≡ 4 * i = omega arith in
       range-intro _
-      (rw (q, ← depth-four, fours-at (S .first) n (newIn S f) (λ j k. new-four (S .first + j)) i h) (new-ranged e (S .first + i)))))
+      (rw (q, ← depth-four, round-at i h) (new-ranged e (S .first + i)))))
 
 pub undivided-good : (m st : Bytes) (kind : ℕ) (v f : Bytes) (k : ℕ) → bad14 (schemeOf m st kind v .cells) f ≡ false
     → bad14 (schemeOf m st kind v .cells) (undivided (schemeOf m st kind v) f k) ≡ false
