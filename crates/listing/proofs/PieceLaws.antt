@@ -1,7 +1,7 @@
 -- The input cut into its pieces, and what is printed for them. Assumes nothing.
-use mathlib.Core.Path.{_≡_, refl, sym, ap, ap₂, _∙_, subst}
-use mathlib.Core.Bool.{Bool, true, false, not, _&&_, _||_, cond}
-use mathlib.Core.List.{[], _∷_, _++_}
+use mathlib.Core.Path.{_≡_, sym, ap, ap₂, _∙_, subst}
+use mathlib.Core.Bool.{Bool, cond}
+use mathlib.Core.List.{[], _∷_}
 use Prim.Native.Nat.{ℕ, _+_, _-_, _*_, _≤_, _<_}
 use native.Mathlib.Omega.{arith}
 use lib.Dec.{eqb}
@@ -9,16 +9,15 @@ use lib.ListN.{length, take, drop, length-drop, drop-of-length-le}
 use lib.Seq.{length-take-le, take-all, take-length, drop-length, drop-drop}
 use borrow.Author.Tests.{lt-ltb, le-ltb, eq-eqb, ne-eqb}
 use Rattle.vocabulary.specs.Bytes.{Bytes, byteAt}
-use Rattle.vocabulary.specs.Ranges.{isUpTo, blocks}
-use Rattle.vocabulary.specs.RangeLaws.{upTo-true, upTo-intro}
-use Rattle.vocabulary.specs.Lists.{everyOf, joined}
-use Rattle.vocabulary.specs.Tests.{refuse, firstOf}
+use Rattle.vocabulary.specs.Ranges.{blocks}
+use Rattle.vocabulary.specs.Lists.{joined}
+use Rattle.vocabulary.specs.Tests.{firstOf}
 use Rattle.vocabulary.specs.TestLaws.{firstOf-append}
-use Rattle.mesh.specs.Mesh.{top, elements, recordCount, cellCount, meshLength, meshTests}
-use Rattle.mesh.specs.Walks.{bad10}
+use Rattle.mesh.specs.Mesh.{elements, recordCount, cellCount, meshLength}
 use Rattle.split.specs.Split.{splitOf}
-use Rattle.split.specs.Lists.{bad8, bad9, splitTests, sizeTests, splitNumber, sizesNumber}
-use Rattle.split.proofs.PassedLaws.{tests-numbered}
+use Rattle.split.specs.Lists.{splitTests, sizeTests, splitNumber, sizesNumber}
+use Rattle.split.proofs.PassedLaws.{tests-are}
+use Rattle.split.specs.SplitLaws.{split-numbered}
 use Rattle.text.specs.Listing.{ascii, line, splitText, meshPiece, mapPiece, partsPiece, ownersPiece, lastPiece, stencilPiece, listingNumber, listText}
 use Rattle.text.specs.Printing.{Printed}
 use Rattle.range_text.specs.Lines.{partOf}
@@ -93,24 +92,11 @@ module _ (a z : Bytes) (t : ℕ) (b : Bytes) where
 -- ---- the number
 
 module _ (m : Bytes) (parts : ℕ) (owners st : Bytes) where
-  -- any map has part 1
-  first-part : bad8 m parts owners (1 ∷ 1 ∷ []) ≡ bad8 m parts owners []
-  unfolding bad8 everyOf
-  first-part = ap (λ b. b || not (eqb (length owners) (cellCount m)) || not (everyOf owners (isUpTo parts))) (go (isUpTo 16 parts) refl)
-    where
-      go : (x : Bool) → isUpTo 16 parts ≡ x → not x || not (isUpTo parts 1 && (isUpTo parts 1 && true)) ≡ not x || false
-      go true e = ap (λ y. not (y && (y && true))) (upTo-intro parts 1 (omega arith) (upTo-true 16 parts e .0))
-      go false e = refl
-
-  pub tests-are : splitTests m parts owners (1 ∷ 1 ∷ []) st ≡ splitTests m parts owners [] st
-  unfolding splitTests
-  tests-are = ap (λ b. meshTests m ++ (refuse 8 b ∷ refuse 9 (bad9 (splitOf m parts owners st)) ∷ refuse 10 (bad10 (top m) st) ∷ [])) first-part
-
   number-is : piecesNumber m parts owners st ≡ cond (eqb (splitNumber m parts owners (1 ∷ 1 ∷ []) st) 0) (sizesNumber m parts owners st) (splitNumber m parts owners (1 ∷ 1 ∷ []) st)
   unfolding piecesNumber splitNumber sizesNumber
   number-is =
-      firstOf-append (splitTests m parts owners [] st) (sizeTests m parts owners st) (tests-numbered m parts owners [] st)
-      ∙ ap (λ ts. cond (eqb (firstOf ts) 0) (firstOf (sizeTests m parts owners st)) (firstOf ts)) (sym tests-are)
+      firstOf-append (splitTests m parts owners [] st) (sizeTests m parts owners st) (split-numbered m parts owners [] st)
+      ∙ ap (λ ts. cond (eqb (firstOf ts) 0) (firstOf (sizeTests m parts owners st)) (firstOf ts)) (sym (tests-are m parts owners st))
 
   module _ (a z : Bytes) (t : ℕ) where
     refused : (n : ℕ) → (n ≡ 0 → ⊥) → piecesNumber m parts owners st ≡ n → Printed a z 0 t (line b-refused (n ∷ [])) → Printed a z 0 t (piecesText m parts owners st)

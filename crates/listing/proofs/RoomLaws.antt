@@ -8,27 +8,26 @@ use native.Mathlib.Omega.{arith}
 use lib.Dec.{eqb, ltb}
 use lib.ListN.{length, take, drop, length-append}
 use lib.Seq.{take-all, take-append-seam}
-use borrow.Author.Tests.{ltb-true, ltb-false, lt-ltb, eqb-true}
+use borrow.Author.Tests.{ltb-false, lt-ltb, eqb-true}
 use Rattle.vocabulary.specs.Bytes.{Bytes, over}
 use Rattle.vocabulary.specs.ByteLaws.{over-front}
 use Rattle.vocabulary.specs.Ranges.{picked, blocks, total}
 use Rattle.vocabulary.specs.RangeLaws.{picked-all, picked-length-le, blocks-length, total-mono, total-bound}
 use Rattle.vocabulary.specs.Lists.{All, joined}
-use Rattle.vocabulary.specs.ListLaws.{and-true, cond-has}
+use Rattle.vocabulary.specs.ListLaws.{and-true}
 use Rattle.vocabulary.specs.Tests.{Test, firstOf}
-use Rattle.vocabulary.specs.TestLaws.{passed, passed-append}
-use Rattle.mesh.specs.Mesh.{top, counted, below, firstCell, cellCount, meshTests}
+use Rattle.vocabulary.specs.TestLaws.{first-small, small-append}
+use Rattle.mesh.specs.Mesh.{top, counted, below, firstCell, cellCount}
 use Rattle.mesh.specs.WalkLaws.{below-grows}
 use Rattle.mesh.specs.Accepted.{Accepted}
 use Rattle.split.specs.Split.{Split, splitOf, held, holds, owns, inside as inside-of, imports, exports, interior, halo, range, touches, holdsLower, another, isPrivate, isExposed, isShared, isCopied}
-use Rattle.split.specs.SplitLaws.{map-facts, own-count, order-length, local-held, split-reach, split-own, split-owner}
-use Rattle.split.specs.Lists.{bad8, bad12, splitTests, sizeTests, splitNumber}
-use Rattle.split.proofs.PassedLaws.{tests-numbered, passed-facts}
+use Rattle.split.specs.SplitLaws.{split-parted, split-small, sizes-fine, sizes-small, map-facts, own-count, order-length, local-held, split-reach, split-own, split-owner}
+use Rattle.split.specs.Lists.{bad8, bad12, splitTests, sizeTests, splitNumber, sizesNumber}
+use Rattle.split.proofs.PassedLaws.{tests-are, passed-facts}
 use Rattle.text.specs.Listing.{ascii, digits, decimal, spaced, line, lineUnlessEmpty, dimensionText, partText, splitText, meshPiece, partsPiece, ownersPiece, stencilPiece, listingNumber, listText}
 use Rattle.text.specs.Printing.{fitting, Printed}
 use Rattle.listing.specs.Pieces.{Listed, piecesNumber, piecesText}
 use Rattle.text.proofs.PrintLaws.{room}
-use Rattle.listing.proofs.PieceLaws.{tests-are}
 
 -- ---- numbers of at most four digits
 
@@ -299,21 +298,13 @@ module _ (m : Bytes) (parts : ℕ) (owners st : Bytes) (A : Accepted m) (right :
 
 -- ---- any input
 
--- numbers below 100
-abbrev below-100 : List Test → Bool
-below-100 [] = true
-below-100 (t ∷ ts) = ltb (t .number) 100 && below-100 ts
-
-first-small : (ts : List Test) → below-100 ts ≡ true → firstOf ts < 100
-first-small [] h = omega arith
-first-small (t ∷ ts) h =
-    let p = and-true (ltb (t .number) 100) (below-100 ts) h in
-    cond-has (λ n. n < 100) (t .holds) (t .number) (firstOf ts) (λ e. ltb-true (t .number) 100 (p .0)) (λ e. first-small ts (p .1))
-
 module _ (m : Bytes) (parts : ℕ) (owners st : Bytes) where
   number-small : piecesNumber m parts owners st < 10000
-  unfolding piecesNumber splitTests sizeTests meshTests
-  number-small = omega (arith, first-small (splitTests m parts owners [] st ++ sizeTests m parts owners st) refl)
+  unfolding piecesNumber
+  number-small =
+      let ts : List Test = splitTests m parts owners [] st in
+      let us : List Test = sizeTests m parts owners st in
+      omega (arith, first-small (ts ++ us) (small-append ts us (split-small m parts owners [] st) (sizes-small m parts owners st)))
 
   accepted-length : piecesNumber m parts owners st ≡ 0 → length (splitText m (splitOf m parts owners st)) ≤ 657500
   accepted-length e =
@@ -323,16 +314,10 @@ module _ (m : Bytes) (parts : ℕ) (owners st : Bytes) where
     where
       both : piecesNumber m parts owners st ≡ 0 → (splitNumber m parts owners (1 ∷ 1 ∷ []) st ≡ 0) × (bad12 (splitOf m parts owners st) ≡ false)
       both z =
-          let q = parted z in (
+          let q = split-parted m parts owners [] st (sizeTests m parts owners st) (unfold piecesNumber in z) in (
             (unfold splitNumber in ap firstOf (tests-are m parts owners st) ∙ q .0),
-            later (q .1),
+            sizes-fine m parts owners st (unfold sizesNumber in q .1) .0,
           )
-        where
-          parted : piecesNumber m parts owners st ≡ 0 → (firstOf (splitTests m parts owners [] st) ≡ 0) × (firstOf (sizeTests m parts owners st) ≡ 0)
-          parted y = passed-append (splitTests m parts owners [] st) (sizeTests m parts owners st) (tests-numbered m parts owners [] st) (unfold piecesNumber in y)
-
-          later : firstOf (sizeTests m parts owners st) ≡ 0 → bad12 (splitOf m parts owners st) ≡ false
-          later y = unfold sizeTests in passed (sizeTests m parts owners st) tt y .0
 
   pieces-length : length (piecesText m parts owners st) ≤ 700000
   unfolding piecesText

@@ -12,7 +12,7 @@ use Rattle.vocabulary.specs.Ranges.{isUpTo, some}
 use Rattle.vocabulary.specs.RangeLaws.{some-at, some-witness, blocks-each, blocks-all}
 use Rattle.vocabulary.specs.Lists.{isIn, repeats, someOf, All}
 use Rattle.vocabulary.specs.ListLaws.{or-false, and-true, All-map, All-split, All-both, All-getD, someOf-false, isIn-at, once-few, repeats-parts}
-use Rattle.vocabulary.specs.TestLaws.{passed}
+use Rattle.vocabulary.specs.TestLaws.{holdsOf, passed-by}
 use Rattle.mesh.specs.Mesh.{top, counted, below, elements, recordCount, firstCell, cellCount, dimension, headOf, elementIn, follow, records, chain, allRecords, wrongCount, headed, wrongIn, wrongAt, leaves, unclosed, bare, bad1, bad2, bad3, bad4, bad5, bad6, bad7, meshLength, meshTests, meshNumber}
 use Rattle.mesh.specs.Meet.{Sizes}
 use Rattle.mesh.specs.Accepted.{Element, Cell, Accepted}
@@ -34,8 +34,8 @@ record Passed (m : Bytes) : Type 0 where
 all-passed : (m : Bytes) → meshNumber m ≡ 0 → Passed m
 unfolding meshNumber meshTests
 all-passed m e =
-    let a = passed (meshTests m) tt e in
-    record { one = a .0; two = a .1 .0; three = a .1 .1 .0; four = a .1 .1 .1 .0; five = a .1 .1 .1 .1 .0; six = a .1 .1 .1 .1 .1 .0; seven = a .1 .1 .1 .1 .1 .1 .0 }
+    let by : (n : ℕ) → holdsOf n (meshTests m) ≡ false = λ n. passed-by n (meshTests m) tt e in
+    record { one = by 1; two = by 2; three = by 3; four = by 4; five = by 5; six = by 6; seven = by 7 }
 
 -- a test that fails at every number from 1 to n, at one of them
 at-one : (p : ℕ → Bool) (n x : ℕ) → some 1 n p ≡ false → 1 ≤ x → x ≤ n → p x ≡ false

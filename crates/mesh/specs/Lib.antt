@@ -3,3 +3,4 @@ pub mod Walks
 pub mod Meet
 pub mod Accepted
 pub mod WalkLaws
+pub mod MeshLaws

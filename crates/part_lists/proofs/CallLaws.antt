@@ -3,12 +3,12 @@ use mathlib.Core.Path.{_≡_, refl, sym, ap, ap₂, _∙_, subst}
 use mathlib.Core.Bool.{cond}
 use mathlib.Core.List.{List, [], _∷_, _++_}
 use Prim.Native.Nat.{ℕ, _+_, _*_, _≤_}
-use lib.Dec.{T, eqb, ltb}
+use lib.Dec.{eqb, ltb}
 use lib.ListN.{length}
 use borrow.Author.Tests.{eq-eqb, ne-eqb}
 use Rattle.vocabulary.specs.Bytes.{Bytes, over}
 use Rattle.vocabulary.specs.Tests.{refuse, firstOf}
-use Rattle.vocabulary.specs.TestLaws.{numbered, firstOf-append}
+use Rattle.vocabulary.specs.TestLaws.{firstOf-append}
 use Rattle.layout.specs.Words.{bytesOf}
 use Rattle.layout.specs.Answers.{answer}
 use Rattle.layout.specs.AnswerLaws.{refuses}
@@ -16,7 +16,8 @@ use Rattle.layout.specs.declared.Answer.{Answer}
 use Rattle.layout.specs.declared.Answer.the-variants.{Refused}
 use Rattle.split.specs.Split.{splitOf}
 use Rattle.split.specs.Lists.{splitTests, sizeTests, splitNumber, sizesNumber, others, listOf, listWords, listTests, listNumber, listAnswer, listOut}
-use Rattle.split.proofs.PassedLaws.{tests-numbered, twice, passed-facts}
+use Rattle.split.proofs.PassedLaws.{twice, passed-facts}
+use Rattle.split.specs.SplitLaws.{split-numbered, sizes-numbered}
 use Rattle.mesh.specs.Mesh.{cellCount}
 use Rattle.split.specs.Classes.{Classed, Prepared}
 use Rattle.part_lists.specs.Giving.{meant, Names, rowOf, chosen, givenNumber, givenAnswer, givenOut, namedWords, namedTests, namedAnswer, namedOut}
@@ -33,12 +34,9 @@ module _ (w : Wanted) (m : Bytes) (parts : ℕ) (owners : Bytes) (i j k : ℕ) (
       (splitNumber m parts owners (i ∷ j ∷ []) st)
   unfolding namedTests splitNumber sizesNumber givenNumber
   number-is =
-      firstOf-append (splitTests m parts owners (i ∷ j ∷ []) st) _ (tests-numbered m parts owners (i ∷ j ∷ []) st)
+      firstOf-append (splitTests m parts owners (i ∷ j ∷ []) st) _ (split-numbered m parts owners (i ∷ j ∷ []) st)
       ∙ ap (λ n. cond (eqb (firstOf (splitTests m parts owners (i ∷ j ∷ []) st)) 0) n (firstOf (splitTests m parts owners (i ∷ j ∷ []) st)))
-      (firstOf-append (sizeTests m parts owners st) (refuse 16 (ltb (length out) (2 * length (namedWords w m parts owners i j k st))) ∷ []) sized)
-    where
-      sized : T (numbered (sizeTests m parts owners st))
-      sized = unfold sizeTests in tt
+      (firstOf-append (sizeTests m parts owners st) (refuse 16 (ltb (length out) (2 * length (namedWords w m parts owners i j k st))) ∷ []) (sizes-numbered m parts owners st))
 
   module _ (n : ℕ) (h : n ≡ 0 → ⊥) (e : firstOf (namedTests w m parts owners i j k st out) ≡ n) where
     refusing : (Refused n ≡ namedAnswer w m parts owners i j k st out) × (out ≡ namedOut w m parts owners i j k st out)

@@ -1,6 +1,6 @@
 -- What calls go by: the room that the test 20 says a state has, and what an accepted message says of itself. Assumes nothing.
 use mathlib.Core.Path.{_≡_}
-use mathlib.Core.Bool.{true, not, _&&_, _||_}
+use mathlib.Core.Bool.{false, true, not, _&&_, _||_}
 use mathlib.Core.List.{List, [], _∷_, map}
 use Prim.Native.Nat.{ℕ, _+_, _-_, _*_, _≤_}
 use native.Mathlib.Omega.{arith}
@@ -13,7 +13,7 @@ use Rattle.vocabulary.specs.ListLaws.{and-true, or-false}
 use Rattle.vocabulary.specs.Ranges.{isUpTo, every}
 use Rattle.vocabulary.specs.RangeLaws.{upTo-true}
 use Rattle.vocabulary.specs.Tests.{firstOf}
-use Rattle.vocabulary.specs.TestLaws.{passed}
+use Rattle.vocabulary.specs.TestLaws.{holdsOf, passed-by}
 use Rattle.depths.specs.Depths.{rangedAt}
 use Rattle.depths.specs.DepthLaws.{length-four}
 use Rattle.messages.specs.Messages.{fromIn, toIn, roundIn, countIn, bad15}
@@ -50,10 +50,10 @@ pub record Taken (L : Lists) (d : ℕ) (b x : Bytes) : Type 0 where
 pub taken-facts : (L : Lists) (d : ℕ) (b x : Bytes) → firstOf (takeTestsIn L d b x) ≡ 0 → Taken L d b x
 unfolding takeTestsIn bad15 importsFrom
 taken-facts L d b x e =
-    let a = passed (takeTestsIn L d b x) tt e in
-    let m = or-false (ltb (length x) 8 || not (eqb (length x) (8 + 4 * countIn x))) (not (every 0 (countIn x) (rangedAt x 8))) (a .0) in
+    let by : (n : ℕ) → holdsOf n (takeTestsIn L d b x) ≡ false = λ n. passed-by n (takeTestsIn L d b x) tt e in
+    let m = or-false (ltb (length x) 8 || not (eqb (length x) (8 + 4 * countIn x))) (not (every 0 (countIn x) (rangedAt x 8))) (by 15) in
     let n = or-false (ltb (length x) 8) (not (eqb (length x) (8 + 4 * countIn x))) (m .0) in
-    let p = or-false (not (eqb (toIn x) (L .part)) || not (isUpTo 16 (fromIn x) && ltb 0 (L .imported (fromIn x)))) (not (eqb (countIn x) (L .imported (fromIn x)))) (a .1 .1 .0) in
+    let p = or-false (not (eqb (toIn x) (L .part)) || not (isUpTo 16 (fromIn x) && ltb 0 (L .imported (fromIn x)))) (not (eqb (countIn x) (L .imported (fromIn x)))) (by 21) in
     let q = or-false (not (eqb (toIn x) (L .part))) (not (isUpTo 16 (fromIn x) && ltb 0 (L .imported (fromIn x)))) (p .0) in
     let r = and-true (isUpTo 16 (fromIn x)) (ltb 0 (L .imported (fromIn x))) (not-false _ (q .1)) in
     let u = upTo-true 16 (fromIn x) (r .0) in
@@ -64,7 +64,7 @@ taken-facts L d b x e =
       from-least = u .0;
       from-most = u .1;
       count-is = eqb-true _ _ (not-false _ (p .1));
-      now = eqb-true _ _ (not-false _ (a .1 .1 .1 .0));
+      now = eqb-true _ _ (not-false _ (by 22));
     }
 
 -- what is sent is four bytes a depth

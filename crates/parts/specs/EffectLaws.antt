@@ -15,10 +15,10 @@ use Rattle.vocabulary.specs.Bytes.{Bytes, byteAt, over}
 use Rattle.vocabulary.specs.ByteLaws.{Place, below, inside, above, place, over-length, over-in, over-before, over-after}
 use Rattle.vocabulary.specs.Lists.{joined}
 use Rattle.vocabulary.specs.ListLaws.{and-intro, getD-map-any}
-use Rattle.vocabulary.specs.Ranges.{isUpTo, blocks}
+use Rattle.vocabulary.specs.Ranges.{isUpTo}
 use Rattle.vocabulary.specs.RangeLaws.{every-in, upTo-intro}
 use Rattle.vocabulary.specs.Tests.{firstOf}
-use Rattle.vocabulary.specs.TestLaws.{passed}
+use Rattle.vocabulary.specs.TestLaws.{passed-by}
 use Rattle.layout.specs.Words.{word, wordBytes, bytesOf}
 use Rattle.layout.specs.WordLaws.{word-same, word-in, word-left, word-back, length-wordBytes, length-bytesOf, wordAt-first}
 use Rattle.depths.specs.Depths.{four}
@@ -185,9 +185,8 @@ module _ (L : Lists) (d : ℕ) (b : Bytes) (w : Room L d b) (new4 : (l : ℕ) �
 pub advance-taken : (L : Lists) (d : ℕ) (b : Bytes) → firstOf (advanceTestsIn L d b) ≡ 0 → (j : ℕ) → 1 ≤ j → j ≤ 16 → 0 < L .imported j → byteAt b (takenPlace d j) ≡ 1
 unfolding advanceTestsIn allTaken importsFrom
 advance-taken L d b e j h k l =
-    let a = passed (advanceTestsIn L d b) tt e in
     let p : ℕ → Bool = λ j. not (isUpTo 16 j && ltb 0 (L .imported j)) || eqb (byteAt b (takenPlace d j)) 1 in
-    let t : not (isUpTo 16 j && ltb 0 (L .imported j)) || eqb (byteAt b (takenPlace d j)) 1 ≡ true = every-in 1 p 16 j (not-false _ (a .1 .0)) h (omega arith) in
+    let t : not (isUpTo 16 j && ltb 0 (L .imported j)) || eqb (byteAt b (takenPlace d j)) 1 ≡ true = every-in 1 p 16 j (not-false _ (passed-by 24 (advanceTestsIn L d b) tt e)) h (omega arith) in
     let on : isUpTo 16 j && ltb 0 (L .imported j) ≡ true = and-intro (isUpTo 16 j) (ltb 0 (L .imported j)) (upTo-intro 16 j h k) (lt-ltb _ _ l) in
     eqb-true _ _ (rw on at t)
 

@@ -2,19 +2,16 @@
 -- Assumes nothing.
 use mathlib.Core.Path.{_≡_, refl, sym, ap, _∙_}
 use mathlib.Core.Bool.{false}
-use mathlib.Core.List.{List, [], _∷_}
+use mathlib.Core.List.{List}
 use Prim.Native.Nat.{ℕ, zero, suc, _*_}
-use lib.Dec.{ltb}
 use lib.ListN.{length}
 use Rattle.vocabulary.specs.Bytes.{Bytes, over}
 use Rattle.vocabulary.specs.ByteLaws.{over-whole}
-use Rattle.vocabulary.specs.Lists.{All}
-use Rattle.vocabulary.specs.Tests.{Test, refuse, firstOf}
-use Rattle.vocabulary.specs.TestLaws.{passed, passed-append, firstOf-right, none-holds}
-use Rattle.mesh.specs.Mesh.{top, cellCount, meshTests}
-use Rattle.mesh.specs.Walks.{steps, bad10, bad13}
-use Rattle.rules.specs.Rules.{bad11}
-use Rattle.round.specs.Rounds.{schemeOf, round, undivided, bad14, roundTests, roundNumber, roundOut}
+use Rattle.vocabulary.specs.Tests.{Test, firstOf}
+use Rattle.vocabulary.specs.TestLaws.{holdsOf, passed-by, none-holds}
+use Rattle.mesh.specs.Mesh.{cellCount, meshNumber}
+use Rattle.mesh.specs.MeshLaws.{mesh-parted, mesh-then}
+use Rattle.round.specs.Rounds.{schemeOf, round, undivided, bad14, laterTests, roundTests, roundNumber, roundOut}
 use Rattle.round.specs.RoundLaws.{undivided-good, field-length}
 
 -- the fields that k calls with the buffer `out` leave
@@ -25,42 +22,31 @@ calls m st kind v f out (suc k) = roundOut m st kind v (calls m st kind v f out 
 module _ (m st : Bytes) (kind : ℕ) (v out : Bytes) where
   -- the tests after those of the mesh
   abbrev later : Bytes → List Test
-  later g =
-      refuse 10 (bad10 (top m) st)
-      ∷ refuse 11 (bad11 kind (steps st) v)
-      ∷ refuse 13 (bad13 m st)
-      ∷ refuse 14 (bad14 (cellCount m) g)
-      ∷ refuse 16 (ltb (length out) (4 * cellCount m))
-      ∷ []
+  later g = laterTests m st kind v g out
 
   round-done : (g : Bytes) → roundNumber m st kind v g out ≡ 0 → roundOut m st kind v g out ≡ over out 0 (round (schemeOf m st kind v) g)
   unfolding roundOut
   round-done g e = simp e
 
   module _ (f : Bytes) (room : length out ≡ 4 * cellCount m) (first : roundNumber m st kind v f out ≡ 0) where
-    halves : (firstOf (meshTests m) ≡ 0) × (firstOf (later f) ≡ 0)
-    unfolding roundNumber roundTests meshTests
-    halves = passed-append (meshTests m) (later f) tt first
+    halves : (meshNumber m ≡ 0) × (firstOf (later f) ≡ 0)
+    unfolding roundNumber roundTests
+    halves = mesh-parted m (later f) first
 
-    mesh-passed : All (λ t. t .holds ≡ false) (meshTests m)
-    unfolding meshTests
-    mesh-passed = passed (meshTests m) tt (halves .0)
-
-    later-passed : All (λ t. t .holds ≡ false) (later f)
-    later-passed = passed (later f) tt (halves .1)
+    later-passed : (n : ℕ) → holdsOf n (later f) ≡ false
+    later-passed n = passed-by n (later f) tt (halves .1)
 
     field-kept : (k : ℕ) → bad14 (cellCount m) (undivided (schemeOf m st kind v) f k) ≡ false
     unfolding schemeOf
-    field-kept k = undivided-good m st kind v f k (later-passed .1 .1 .1 .0)
+    field-kept k = undivided-good m st kind v f k (later-passed 14)
 
     -- no test but 14 looks at the field, so every one of the calls is accepted
     pub accepted-again : (k : ℕ) → roundNumber m st kind v (undivided (schemeOf m st kind v) f k) out ≡ 0
     unfolding roundNumber roundTests
     accepted-again k =
-        let a = later-passed in
         let g : Bytes = undivided (schemeOf m st kind v) f k in
-        firstOf-right (meshTests m) (later g) mesh-passed
-        ∙ none-holds (later g) (a .0, (a .1 .0, (a .1 .1 .0, (field-kept k, (a .1 .1 .1 .1 .0, tt)))))
+        mesh-then m (later g) (halves .0)
+        ∙ none-holds (later g) (later-passed 10, (later-passed 11, (later-passed 13, (field-kept k, (later-passed 16, tt)))))
 
     round-length : (k : ℕ) → length (round (schemeOf m st kind v) (undivided (schemeOf m st kind v) f k)) ≡ length out
     unfolding undivided

@@ -14,17 +14,16 @@ use mir.Val.{toZ, ofZ}
 use lib.ListN.{length, getD, length-map}
 use borrow.Author.Tests.{lt-ltb, le-ltb}
 use Rattle.vocabulary.specs.Bytes.{Bytes, over}
-use Rattle.vocabulary.specs.Lists.{All}
 use Rattle.vocabulary.specs.ListLaws.{All-getD, getD-map-any}
 use Rattle.vocabulary.specs.Ranges.{listed, blocks}
 use Rattle.vocabulary.specs.RangeLaws.{listed-back, blocks-moved}
-use Rattle.vocabulary.specs.TestLaws.{passed, firstOf-left, firstOf-right}
 use Rattle.depths.specs.Depths.{four, depthBytes}
 use Rattle.depths.specs.DepthLaws.{length-four, fours-store}
 use Rattle.layout.specs.AnswerLaws.{refuses, accepts}
 use Rattle.layout.specs.declared.Answer.{Answer}
 use Rattle.layout.specs.declared.Answer.the-variants.{Done, Refused}
-use Rattle.mesh.specs.Mesh.{top, firstCell, cellCount, meshTests, meshNumber}
+use Rattle.mesh.specs.Mesh.{top, firstCell, cellCount, meshNumber}
+use Rattle.mesh.specs.MeshLaws.{mesh-then, mesh-refuses}
 use Rattle.mesh.specs.Walks.{Near, reach, steps, bad10, bad13}
 use Rattle.mesh.specs.WalkLaws.{reach-in, reach-own, reach-layers}
 use Rattle.reaches.specs.Tables.{Tabled}
@@ -173,39 +172,35 @@ module _ (m st : Bytes) (kind : ℕ) (v f out : Bytes) where
       let n : kindNumber k ≡ kind = sym (known-number kind k (sym e ∙ q)) in
       (g .0 ∙ ap (λ i. roundAnswer m st i v f out) n, g .1 ∙ ap (λ i. roundOut m st i v f out) n)
 
-  mesh-passed : meshNumber m ≡ 0 → All (λ t. t .holds ≡ false) (meshTests m)
-  unfolding meshNumber meshTests
-  mesh-passed e = passed (meshTests m) tt e
-
   -- tests after those of an accepted mesh
   module _ (mesh : meshNumber m ≡ 0) where
     number-10 : bad10 (top m) st ≡ true → roundNumber m st kind v f out ≡ 10
     unfolding roundNumber roundTests
-    number-10 a = firstOf-right (meshTests m) _ (mesh-passed mesh) ∙ simp a
+    number-10 a = mesh-then m _ mesh ∙ simp a
 
     module _ (ten : bad10 (top m) st ≡ false) where
       number-11 : bad11 kind (steps st) v ≡ true → roundNumber m st kind v f out ≡ 11
       unfolding roundNumber roundTests
-      number-11 a = firstOf-right (meshTests m) _ (mesh-passed mesh) ∙ simp (ten, a)
+      number-11 a = mesh-then m _ mesh ∙ simp (ten, a)
 
       module _ (eleven : bad11 kind (steps st) v ≡ false) where
         number-13 : bad13 m st ≡ true → roundNumber m st kind v f out ≡ 13
         unfolding roundNumber roundTests
-        number-13 a = firstOf-right (meshTests m) _ (mesh-passed mesh) ∙ simp (ten, eleven, a)
+        number-13 a = mesh-then m _ mesh ∙ simp (ten, eleven, a)
 
         module _ (thirteen : bad13 m st ≡ false) where
           number-14 : bad14 (cellCount m) f ≡ true → roundNumber m st kind v f out ≡ 14
           unfolding roundNumber roundTests
-          number-14 a = firstOf-right (meshTests m) _ (mesh-passed mesh) ∙ simp (ten, eleven, thirteen, a)
+          number-14 a = mesh-then m _ mesh ∙ simp (ten, eleven, thirteen, a)
 
           module _ (fourteen : bad14 (cellCount m) f ≡ false) where
             number-last : (x : Bool) → ltb (length out) (4 * cellCount m) ≡ x → roundNumber m st kind v f out ≡ cond x 16 0
             unfolding roundNumber roundTests
-            number-last x a = firstOf-right (meshTests m) _ (mesh-passed mesh) ∙ simp (ten, eleven, thirteen, fourteen, a)
+            number-last x a = mesh-then m _ mesh ∙ simp (ten, eleven, thirteen, fourteen, a)
 
   number-mesh : (n : ℕ) → n ≡ meshNumber m → (n ≡ 0 → ⊥) → roundNumber m st kind v f out ≡ n
-  unfolding roundNumber roundTests meshNumber
-  number-mesh n e z = firstOf-left (meshTests m) _ (λ q. z (e ∙ q)) ∙ sym e
+  unfolding roundNumber roundTests
+  number-mesh n e z = mesh-refuses m _ (λ q. z (e ∙ q)) ∙ sym e
 
   pub told-mesh : (n : ℕ) → n ≡ meshNumber m → (n ≡ 0 → ⊥) → Answered (Refused n) out
   told-mesh n e z = refused n (number-mesh n e z) z

@@ -62,15 +62,18 @@ undivided S f (suc k) = round S (undivided S f k)
 
 -- ---- the call: mesh m, stencil st, rule kind and weights v, field f, output
 
-unfoldable pub roundTests : Bytes → Bytes → ℕ → Bytes → Bytes → Bytes → List Test
-roundTests m st kind v f out =
-    meshTests m
-    ++ (refuse 10 (bad10 (top m) st)
+-- what it tries after the mesh
+abbrev pub laterTests : Bytes → Bytes → ℕ → Bytes → Bytes → Bytes → List Test
+laterTests m st kind v f out =
+    refuse 10 (bad10 (top m) st)
     ∷ refuse 11 (bad11 kind (steps st) v)
     ∷ refuse 13 (bad13 m st)
     ∷ refuse 14 (bad14 (cellCount m) f)
     ∷ refuse 16 (ltb (length out) (4 * cellCount m))
-    ∷ [])
+    ∷ []
+
+unfoldable pub roundTests : Bytes → Bytes → ℕ → Bytes → Bytes → Bytes → List Test
+roundTests m st kind v f out = meshTests m ++ laterTests m st kind v f out
 
 unfoldable pub roundNumber : Bytes → Bytes → ℕ → Bytes → Bytes → Bytes → ℕ
 roundNumber m st kind v f out = firstOf (roundTests m st kind v f out)

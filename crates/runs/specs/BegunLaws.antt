@@ -17,7 +17,8 @@ use Rattle.vocabulary.specs.Tests.{allOf}
 use Rattle.vocabulary.specs.TestLaws.{allOf-intro}
 use Rattle.depths.specs.Depths.{four}
 use Rattle.depths.specs.DepthLaws.{depth-four}
-use Rattle.mesh.specs.Mesh.{top, below, elements, recordCount, firstCell, cellCount, bad1, bad2, wrongCount, meshTests}
+use Rattle.mesh.specs.Mesh.{top, below, elements, recordCount, firstCell, cellCount, bad1, bad2, wrongCount}
+use Rattle.mesh.specs.MeshLaws.{mesh-sized}
 use Rattle.mesh.specs.Walks.{Near, steps}
 use Rattle.mesh.specs.WalkLaws.{reach-own, below-grows, steps-even, reach-layers}
 use Rattle.rules.specs.Rules.{bad11}
@@ -79,13 +80,13 @@ module _ (I : Inputs) (R : Ready I) (i : ℕ) (part : Part (I .parts) i) where
   owned-is = owned-back S i order n k v
 
   order-few : length order ≤ 2000
-  unfolding meshTests held splitOf
+  unfolding held splitOf
   order-few =
       omega (
         arith,
         local-held S (reach-inside I R) (owner-inside I R) (split-own (I .mesh) (I .parts) (I .owners) (I .stencil)) i,
         picked-length-le (firstCell (I .mesh)) (holds S i) (cellCount (I .mesh)),
-        cells-few (I .mesh) (R .mesh-good .0) (R .mesh-good .1 .0),
+        cells-few (I .mesh) (mesh-sized (I .mesh) (R .mesh-good) .0) (mesh-sized (I .mesh) (R .mesh-good) .1),
       )
 
   import-rises : rises 16 (importEnd st) ≡ true

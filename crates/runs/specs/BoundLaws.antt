@@ -1,16 +1,15 @@
 -- How long a state is at most. Assumes nothing.
 use mathlib.Core.Path.{_≡_}
-use mathlib.Core.List.{[], _∷_, _++_}
+use mathlib.Core.List.{[], _∷_}
 use Prim.Native.Nat.{ℕ, _<_, _≤_}
 use native.Mathlib.Omega.{arith}
 use lib.ListN.{length}
 use Rattle.vocabulary.specs.Bytes.{Bytes, byteAt}
 use Rattle.vocabulary.specs.Ranges.{total}
-use Rattle.vocabulary.specs.TestLaws.{passed}
-use Rattle.mesh.specs.Mesh.{cellCount, meshTests}
+use Rattle.mesh.specs.Mesh.{cellCount}
 use Rattle.split.specs.Split.{Split, splitOf, exports}
-use Rattle.split.specs.Lists.{splitTests, sizeTests}
-use Rattle.split.specs.SplitLaws.{map-facts, split-reach, split-own, split-owner, order-length, local-held, export-total}
+use Rattle.split.specs.Lists.{sizeTests}
+use Rattle.split.specs.SplitLaws.{split-parted, split-fine, map-facts, split-reach, split-own, split-owner, order-length, local-held, export-total}
 use Rattle.starts.specs.Start.{reachEnds, exportEnds, listsLong, stateSize, sizeNumber}
 use Rattle.runs.specs.Run.{StateBound}
 
@@ -21,11 +20,11 @@ unfolding splitOf
 exports-few m owners st parts i few f = export-total (splitOf m parts owners st) (split-reach m parts owners st) (split-owner m parts owners st f) i few
 
 pub state-bound : StateBound
-unfolding StateBound sizeNumber splitTests meshTests sizeTests stateSize listsLong reachEnds exportEnds
+unfolding StateBound sizeNumber stateSize listsLong reachEnds exportEnds
 state-bound m owners st parts i e =
     let S : Split = splitOf m parts owners st in
-    let a = passed (splitTests m parts owners (i ∷ []) st ++ sizeTests m parts owners st) tt e in
-    let b = map-facts m parts owners (i ∷ []) (a .1 .1 .1 .1 .1 .1 .1 .0) in
+    let a = split-parted m parts owners (i ∷ []) st (sizeTests m parts owners st) e in
+    let b = map-facts m parts owners (i ∷ []) (split-fine m parts owners (i ∷ []) st (a .0) .map) in
     omega (
       arith,
       order-length S i,

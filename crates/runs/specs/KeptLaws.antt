@@ -15,7 +15,7 @@ use Rattle.vocabulary.specs.ByteLaws.{Place, below, inside, above, place, over-
 use Rattle.vocabulary.specs.ListLaws.{cond-has, All-map, All-of-map}
 use Rattle.vocabulary.specs.Ranges.{every}
 use Rattle.vocabulary.specs.RangeLaws.{every-intro}
-use Rattle.vocabulary.specs.TestLaws.{passed}
+use Rattle.vocabulary.specs.TestLaws.{passed-by}
 use Rattle.layout.specs.WordLaws.{word-set}
 use Rattle.depths.specs.Depths.{four, depthFrom, depthOf, rangedAt}
 use Rattle.depths.specs.DepthLaws.{length-four, four-set, depth-four, range-intro, ranged-size}
@@ -190,4 +190,4 @@ pub advance-kept : (b : Bytes) → isState b ≡ true → isState (advanceState 
 unfolding advanceState advanceNumber advanceTestsIn
 advance-kept b s =
     cond-has (λ y. isState y ≡ true) (eqb (advanceNumber b) 0) (advancedIn (listsOf b) (dynamic b) b) b
-    (λ e. advanced b s (leb-false 60000 (roundAt b (dynamic b)) (passed (advanceTestsIn (listsOf b) (dynamic b) b) tt (eqb-true _ 0 e) .1 .1 .1 .0))) (λ e. s)
+    (λ e. advanced b s (leb-false 60000 (roundAt b (dynamic b)) (passed-by 26 (advanceTestsIn (listsOf b) (dynamic b) b) tt (eqb-true _ 0 e)))) (λ e. s)

@@ -16,21 +16,22 @@ use Rattle.vocabulary.specs.Lists.{All}
 use Rattle.vocabulary.specs.ListLaws.{All-map, All-getD, map-cong, map-map, getD-map-any, At, All-of-map, map-id}
 use Rattle.vocabulary.specs.Ranges.{blocks, total}
 use Rattle.vocabulary.specs.RangeLaws.{total-last, total-fit}
-use Rattle.vocabulary.specs.TestLaws.{passed}
+use Rattle.vocabulary.specs.Tests.{Test, refuse}
+use Rattle.vocabulary.specs.TestLaws.{passed-by, passed-append}
 use Rattle.layout.specs.Words.{word}
 use Rattle.layout.specs.WordLaws.{wordAt-first}
 use Rattle.depths.specs.Depths.{four}
 use Rattle.depths.specs.DepthLaws.{length-four, four-left, four-past, fours-length, fours-at}
-use Rattle.mesh.specs.Mesh.{top, cellCount, meshTests}
+use Rattle.mesh.specs.Mesh.{top, cellCount, meshNumber}
 use Rattle.mesh.specs.Walks.{Near, reach, steps, bad10}
 use Rattle.mesh.specs.WalkLaws.{steps-few}
 use Rattle.rules.specs.Rules.{newDepth, bad11}
 use Rattle.round.specs.Rounds.{schemeOf, depthIn, undivided, bad14}
 use Rattle.split.specs.Split.{Split, splitOf, ownerAt, owned, imports, exports, locals, localOf, globalOf}
-use Rattle.split.specs.Lists.{splitTests, sizeTests}
-use Rattle.split.specs.SplitLaws.{map-facts, split-reach, split-owner, Cell, order-length, own-is, own-has, own-local, local-back, own-first, import-own, import-at, local-cases, reach-held, import-total, ownCells, own-count}
+use Rattle.split.specs.Lists.{sizeTests}
+use Rattle.split.specs.SplitLaws.{split-parted, split-fine, sizes-parted, map-facts, split-reach, split-owner, Cell, order-length, own-is, own-has, own-local, local-back, own-first, import-own, import-at, local-cases, reach-held, import-total, ownCells, own-count}
 use Rattle.states.specs.State.{LocalNear, Lists, listsIn, dynamic, roundAt, takenPlace, depthPlace}
-use Rattle.starts.specs.Start.{ownedIn, importEnds, listsWords, stateSize, firstState, startTests, startNumber, startState}
+use Rattle.starts.specs.Start.{ownedIn, importEnds, listsWords, stateSize, firstState, lastTests, startTests, startNumber, startState}
 use Rattle.runs.specs.FormLaws.{front, words-length, front-length, part-back, kind-back, first-back, cells-back, owned-back, held-back, global-back, import-back, reach-back, exports-back, weights-back}
 use Rattle.runs.specs.Run.{Inputs, schemeIn, ownerIn, startNumberIn, startStateIn}
 use Rattle.runs.specs.RunLaws.{Part, Parted, Block, Good, globally}
@@ -39,7 +40,7 @@ use Rattle.runs.specs.WorldLaws.{ownerOf}
 -- ---- what an accepted start says of its inputs
 
 pub record Ready (I : Inputs) : Type 0 where
-  pub mesh-good : All (λ t. t .holds ≡ false) (meshTests (I .mesh))
+  pub mesh-good : meshNumber (I .mesh) ≡ 0
   pub few-parts : I .parts ≤ 16
   pub owners-in : (k : ℕ) → k < cellCount (I .mesh) → (1 ≤ ownerIn I k) × (ownerIn I k ≤ I .parts)
   pub stencil-good : bad10 (top (I .mesh)) (I .stencil) ≡ false
@@ -53,23 +54,30 @@ pub record Begun (I : Inputs) (i : ℕ) (buffer : Bytes) : Type 0 where
   pub room : stateSize (I .mesh) (I .parts) (I .owners) i (I .stencil) ≤ length buffer
 
 pub started-facts : (I : Inputs) (i : ℕ) (buffer : Bytes) → startNumberIn I i buffer ≡ 0 → Begun I i buffer
-unfolding startNumberIn startNumber startTests splitTests meshTests sizeTests ownerAt
+unfolding startNumberIn startNumber startTests ownerAt
 started-facts I i buffer e =
-    let a = passed (startTests (I .mesh) (I .parts) (I .owners) i (I .stencil) (I .kind) (I .weights) (I .field) buffer) tt e in
-    let b = map-facts (I .mesh) (I .parts) (I .owners) (i ∷ []) (a .1 .1 .1 .1 .1 .1 .1 .0) in
-    let c = a .1 .1 .1 .1 .1 .1 .1 .1 .1 in
+    let m : Bytes = I .mesh in
+    let st : Bytes = I .stencil in
+    let last : List Test = lastTests m (I .parts) (I .owners) i st (I .kind) (I .weights) (I .field) buffer in
+    let later : List Test = sizeTests m (I .parts) (I .owners) st ++ last in
+    let eleven : Test = refuse 11 (bad11 (I .kind) (steps st) (I .weights)) in
+    let p = split-parted m (I .parts) (I .owners) (i ∷ []) st (eleven ∷ later) e in
+    let q = passed-append (eleven ∷ []) later tt (p .1) in
+    let z = sizes-parted m (I .parts) (I .owners) st last (q .1) in
+    let a = split-fine m (I .parts) (I .owners) (i ∷ []) st (p .0) in
+    let b = map-facts m (I .parts) (I .owners) (i ∷ []) (a .map) in
     record {
       inputs = record {
-        mesh-good = (a .0, (a .1 .0, (a .1 .1 .0, (a .1 .1 .1 .0, (a .1 .1 .1 .1 .0, (a .1 .1 .1 .1 .1 .0, (a .1 .1 .1 .1 .1 .1 .0, tt)))))));
+        mesh-good = a .mesh;
         few-parts = b .few;
         owners-in = b .owner-in;
-        stencil-good = c .0;
-        short = steps-few (top (I .mesh)) (I .stencil) (c .0);
-        rule = c .1 .0;
-        field-good = c .1 .1 .1 .1 .0;
+        stencil-good = a .stencil;
+        short = steps-few (top m) st (a .stencil);
+        rule = passed-by 11 (eleven ∷ []) tt (q .0);
+        field-good = passed-by 14 last tt (z .1);
       };
       part = b .named-in .0;
-      room = ltb-false _ _ (c .1 .1 .1 .1 .1 .0);
+      room = ltb-false _ _ (passed-by 16 last tt (z .1));
     }
 
 -- ---- the lists of all parts are as a run needs them

@@ -16,7 +16,7 @@ use Rattle.vocabulary.specs.Lists.{All}
 use Rattle.vocabulary.specs.ListLaws.{and-true, cond-has, mem-all}
 use Rattle.vocabulary.specs.Ranges.{isUpTo}
 use Rattle.vocabulary.specs.Tests.{firstOf}
-use Rattle.vocabulary.specs.TestLaws.{passed}
+use Rattle.vocabulary.specs.TestLaws.{passed-by}
 use Rattle.vocabulary.specs.RangeLaws.{upTo-true}
 use Rattle.depths.specs.Depths.{four}
 use Rattle.mesh.specs.Mesh.{cellCount}
@@ -68,18 +68,17 @@ pub on-states : (b : Bytes) → ((j : ℕ) (out : Bytes) → writeNumber b j out
     × (advanceNumber b ≡ 0 → isState b ≡ true) × ((k : ℕ) (f : Bytes) → collectNumber b k f ≡ 0 → isState b ≡ true)
 unfolding writeNumber writeTestsIn takeNumber takeTestsIn advanceNumber advanceTestsIn collectNumber collectTestsIn
 on-states b = (
-  λ j out e. not-20 b (passed (writeTestsIn (listsOf b) (dynamic b) b j out) tt e .0),
-  λ x e. not-20 b (passed (takeTestsIn (listsOf b) (dynamic b) b x) tt e .1 .0),
-  λ e. not-20 b (passed (advanceTestsIn (listsOf b) (dynamic b) b) tt e .0),
-  λ k f e. not-20 b (passed (collectTestsIn (listsOf b) (dynamic b) b k f) tt e .0),
+  λ j out e. not-20 b (passed-by 20 (writeTestsIn (listsOf b) (dynamic b) b j out) tt e),
+  λ x e. not-20 b (passed-by 20 (takeTestsIn (listsOf b) (dynamic b) b x) tt e),
+  λ e. not-20 b (passed-by 20 (advanceTestsIn (listsOf b) (dynamic b) b) tt e),
+  λ k f e. not-20 b (passed-by 20 (collectTestsIn (listsOf b) (dynamic b) b k f) tt e),
 )
 
 -- and a write's is to a number from 1 to 16
 pub write-part : (b : Bytes) (j : ℕ) (out : Bytes) → writeNumber b j out ≡ 0 → (1 ≤ j) × (j ≤ 16)
 unfolding writeNumber writeTestsIn exportsTo
 write-part b j out e =
-    let a = passed (writeTestsIn (listsOf b) (dynamic b) b j out) tt e in
-    upTo-true 16 j (and-true (isUpTo 16 j) (ltb 0 (length (listsOf b .exports j))) (not-false _ (a .1 .0)) .0)
+    upTo-true 16 j (and-true (isUpTo 16 j) (ltb 0 (length (listsOf b .exports j))) (not-false _ (passed-by 27 (writeTestsIn (listsOf b) (dynamic b) b j out) tt e)) .0)
 
 -- the message that an accepted write gives
 pub written-is : (b : Bytes) (j : ℕ) (out : Bytes) → writeNumber b j out ≡ 0 → take (length (message b j)) (writeOut b j out) ≡ message b j
@@ -210,12 +209,12 @@ module _ (I : Inputs) (front : ℕ → Bytes) where
 
       same-round : k ≡ rd
       unfolding collectTestsIn
-      same-round = eqb-true _ _ (not-false _ (passed (collectTestsIn (listsAt i) (length (front i)) b k f) tt e .1 .0)) ∙ g .round-is
+      same-round = eqb-true _ _ (not-false _ (passed-by 28 (collectTestsIn (listsAt i) (length (front i)) b k f) tt e)) ∙ g .round-is
 
       wide : 4 * schemeIn I .cells ≤ length f
       unfolding collectTestsIn
       wide =
-          let h : 4 * listsAt i .cells ≤ length f = ltb-false _ _ (passed (collectTestsIn (listsAt i) (length (front i)) b k f) tt e .1 .1 .0) in
+          let h : 4 * listsAt i .cells ≤ length f = ltb-false _ _ (passed-by 16 (collectTestsIn (listsAt i) (length (front i)) b k f) tt e) in
           omega (arith, S .cells-are i part)
 
       index : (l : ℕ) → 1 ≤ l → l ≤ listsAt i .owned → listsAt i .global l - listsAt i .first < schemeIn I .cells

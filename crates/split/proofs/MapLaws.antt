@@ -14,13 +14,12 @@ use Rattle.vocabulary.specs.RangeLaws.{every-at, every-intro, some-has, some-wi
 use Rattle.vocabulary.specs.Lists.{everyOf}
 use Rattle.vocabulary.specs.ListLaws.{everyOf-at, everyOf-fails, everyOf-intro, All-intro, same-test}
 use Rattle.vocabulary.specs.Tests.{firstOf}
-use Rattle.vocabulary.specs.TestLaws.{passed, firstOf-left, firstOf-right}
-use Rattle.mesh.specs.Mesh.{top, firstCell, cellCount, meshTests, meshNumber}
+use Rattle.mesh.specs.Mesh.{top, firstCell, cellCount, meshNumber}
+use Rattle.mesh.specs.MeshLaws.{mesh-then, mesh-refuses}
 use Rattle.mesh.specs.Walks.{bad10}
 use Rattle.split.specs.Split.{splitOf, ownerAt, owns, owned}
-use Rattle.split.specs.Lists.{bad8, bad9, splitTests, splitNumber}
+use Rattle.split.specs.Lists.{bad8, bad9, mapTests, splitTests, splitNumber}
 use Rattle.split.specs.Classes.{ownerRight, ownsAt}
-use Rattle.split.proofs.PassedLaws.{mapTests}
 
 pub part-told : (parts i : ℕ) → 1 ≤ i → leb i parts ≡ isUpTo parts i
 unfolding isUpTo
@@ -127,13 +126,13 @@ named-fine m parts owners i j e f g = ap₂ (λ x y. not (isUpTo 16 parts) || no
 
 module _ (m : Bytes) (parts : ℕ) (owners : Bytes) (i j : ℕ) (st : Bytes) (n : ℕ) (ne : n ≡ meshNumber m) where
   pub split-mesh : (n ≡ 0 → ⊥) → n ≡ splitNumber m parts owners (i ∷ j ∷ []) st
-  unfolding splitNumber splitTests meshNumber
-  split-mesh h = ne ∙ sym (firstOf-left (meshTests m) _ (λ z. h (ne ∙ z)))
+  unfolding splitNumber splitTests
+  split-mesh h = ne ∙ sym (mesh-refuses m _ (λ z. h (ne ∙ z)))
 
   module _ (z : n ≡ 0) where
     later : splitNumber m parts owners (i ∷ j ∷ []) st ≡ firstOf (mapTests m parts owners (i ∷ j ∷ []) st)
-    unfolding splitNumber splitTests meshNumber meshTests
-    later = firstOf-right (meshTests m) (mapTests m parts owners (i ∷ j ∷ []) st) (passed (meshTests m) tt (sym ne ∙ z))
+    unfolding splitNumber splitTests
+    later = mesh-then m (mapTests m parts owners (i ∷ j ∷ []) st) (sym ne ∙ z)
 
     eighth : bad8 m parts owners (i ∷ j ∷ []) ≡ true → 8 ≡ splitNumber m parts owners (i ∷ j ∷ []) st
     eighth e = sym (later ∙ ap (λ t. cond t 8 (cond (bad9 (splitOf m parts owners st)) 9 (cond (bad10 (top m) st) 10 0))) e)

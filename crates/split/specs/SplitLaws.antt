@@ -6,7 +6,7 @@ use mathlib.Core.Bool.{Bool, true, false, not, _&&_, _||_}
 use mathlib.Core.List.{List, [], _++_, append-assoc}
 use Prim.Native.Nat.{ℕ, _+_, _-_, _<_, _≤_}
 use native.Mathlib.Omega.{arith}
-use lib.Dec.{eqb, ltb}
+use lib.Dec.{T, eqb, ltb}
 use lib.ListN.{length, getD, length-append, List·getD-append}
 use lib.Seq.{getD-append-add}
 use borrow.Author.Tests.{eqb-true, eqb-false, eq-eqb, ne-eqb, ltb-true, ltb-false, not-false, not-true}
@@ -17,11 +17,79 @@ use Rattle.vocabulary.specs.ListLaws.{repeats-none, repeats-once, and-true, and
 use Rattle.vocabulary.specs.Ranges.{isUpTo, picked, blocks, total}
 use Rattle.vocabulary.specs.RangeLaws.{picked-all, picked-in, picked-passes, picked-none, picked-cong, picked-rises, blocks-all, blocks-cases, blocks-at, blocks-have, blocks-length, upTo-true}
 use Rattle.vocabulary.specs.CountLaws.{picked-halves, total-short, picked-shared}
-use Rattle.mesh.specs.Mesh.{firstCell, cellCount}
-use Rattle.mesh.specs.Walks.{reach}
+use Rattle.vocabulary.specs.Tests.{Test, firstOf}
+use Rattle.vocabulary.specs.TestLaws.{numbered, numbered-append, small, small-append, passed-by, passed-append, firstOf-after, firstOf-left}
+use Rattle.mesh.specs.Mesh.{top, firstCell, cellCount, meshTests, meshNumber}
+use Rattle.mesh.specs.MeshLaws.{mesh-numbered, mesh-small, mesh-parted}
+use Rattle.mesh.specs.Walks.{bad10, bad13, reach}
 use Rattle.mesh.specs.WalkLaws.{reach-in, reach-own}
 use Rattle.split.specs.Split.{Split, splitOf, ownerAt, owns, owned, reaches, holds, held, imports, exports, inside, interior, halo, locals, localOf, globalOf}
-use Rattle.split.specs.Lists.{bad8}
+use Rattle.split.specs.Lists.{bad8, bad9, bad12, mapTests, splitTests, sizeTests, splitNumber, sizesNumber}
+
+-- ---- the tests of a mesh, a part map and a stencil, so that no other crate opens their lists
+
+-- none of the tests up to 10 holds
+pub record Fine (m : Bytes) (parts : ℕ) (owners : Bytes) (named : List ℕ) (st : Bytes) : Type 0 where
+  pub mesh : meshNumber m ≡ 0
+  pub map : bad8 m parts owners named ≡ false
+  pub shares : bad9 (splitOf m parts owners st) ≡ false
+  pub stencil : bad10 (top m) st ≡ false
+
+module _ (m : Bytes) (parts : ℕ) (owners : Bytes) (named : List ℕ) (st : Bytes) where
+  pub split-numbered : T (numbered (splitTests m parts owners named st))
+  unfolding splitTests
+  split-numbered = numbered-append (meshTests m) (mapTests m parts owners named st) (mesh-numbered m) tt
+
+  pub split-small : small (splitTests m parts owners named st) ≡ true
+  unfolding splitTests
+  split-small = small-append (meshTests m) (mapTests m parts owners named st) (mesh-small m) refl
+
+  pub split-fine : splitNumber m parts owners named st ≡ 0 → Fine m parts owners named st
+  unfolding splitNumber splitTests
+  split-fine e =
+      let ts : List Test = mapTests m parts owners named st in
+      let p = mesh-parted m ts e in
+      record { mesh = p .0; map = passed-by 8 ts tt (p .1); shares = passed-by 9 ts tt (p .1); stencil = passed-by 10 ts tt (p .1) }
+
+  -- tests that come after them
+  module _ (us : List Test) where
+    pub split-parted : firstOf (splitTests m parts owners named st ++ us) ≡ 0 → (splitNumber m parts owners named st ≡ 0) × (firstOf us ≡ 0)
+    unfolding splitNumber
+    split-parted e = passed-append (splitTests m parts owners named st) us split-numbered e
+
+    pub split-then : splitNumber m parts owners named st ≡ 0 → firstOf (splitTests m parts owners named st ++ us) ≡ firstOf us
+    unfolding splitNumber
+    split-then e = firstOf-after (splitTests m parts owners named st) us split-numbered e
+
+    pub split-refuses : splitNumber m parts owners named st ≢ 0 → firstOf (splitTests m parts owners named st ++ us) ≡ splitNumber m parts owners named st
+    unfolding splitNumber
+    split-refuses n = firstOf-left (splitTests m parts owners named st) us n
+
+module _ (m : Bytes) (parts : ℕ) (owners st : Bytes) where
+  pub sizes-numbered : T (numbered (sizeTests m parts owners st))
+  unfolding sizeTests
+  sizes-numbered = tt
+
+  pub sizes-small : small (sizeTests m parts owners st) ≡ true
+  unfolding sizeTests
+  sizes-small = refl
+
+  pub sizes-fine : sizesNumber m parts owners st ≡ 0 → (bad12 (splitOf m parts owners st) ≡ false) × (bad13 m st ≡ false)
+  unfolding sizesNumber sizeTests
+  sizes-fine e = (passed-by 12 (sizeTests m parts owners st) tt e, passed-by 13 (sizeTests m parts owners st) tt e)
+
+  module _ (us : List Test) where
+    pub sizes-parted : firstOf (sizeTests m parts owners st ++ us) ≡ 0 → (sizesNumber m parts owners st ≡ 0) × (firstOf us ≡ 0)
+    unfolding sizesNumber
+    sizes-parted e = passed-append (sizeTests m parts owners st) us sizes-numbered e
+
+    pub sizes-then : sizesNumber m parts owners st ≡ 0 → firstOf (sizeTests m parts owners st ++ us) ≡ firstOf us
+    unfolding sizesNumber
+    sizes-then e = firstOf-after (sizeTests m parts owners st) us sizes-numbered e
+
+    pub sizes-refuse : sizesNumber m parts owners st ≢ 0 → firstOf (sizeTests m parts owners st ++ us) ≡ sizesNumber m parts owners st
+    unfolding sizesNumber
+    sizes-refuse n = firstOf-left (sizeTests m parts owners st) us n
 
 -- ---- a split whose reaches stay among the cells and whose cells belong to its parts
 

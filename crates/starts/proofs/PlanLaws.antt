@@ -4,16 +4,13 @@ use mathlib.Core.Bool.{Bool, true, false, cond}
 use mathlib.Core.List.{List, [], _∷_, _++_}
 use Prim.Native.Nat.{ℕ, _+_, _-_, _*_, _≤_, _<_}
 use native.Mathlib.Omega.{arith}
-use lib.Dec.{ltb}
 use lib.ListN.{length, take, replicate, length-append}
 use borrow.Author.Tests.{lt-ltb, le-ltb}
 use Rattle.vocabulary.specs.Bytes.{Bytes, over}
 use Rattle.vocabulary.specs.ByteLaws.{over-more}
-use Rattle.vocabulary.specs.Lists.{All}
 use Rattle.vocabulary.specs.Ranges.{blocks}
 use Rattle.vocabulary.specs.RangeLaws.{blocks-cong}
 use Rattle.vocabulary.specs.Tests.{Test, refuse, firstOf}
-use Rattle.vocabulary.specs.TestLaws.{passed, none-holds, firstOf-left, firstOf-right}
 use Rattle.layout.specs.Words.{bytesOf}
 use Rattle.layout.specs.WordLaws.{length-bytesOf}
 use Rattle.depths.specs.Depths.{four}
@@ -21,19 +18,19 @@ use Rattle.layout.specs.Answers.{answer}
 use Rattle.layout.specs.AnswerLaws.{answer-done, answer-refused, refuses, accepts}
 use Rattle.layout.specs.declared.Answer.{Answer}
 use Rattle.layout.specs.declared.Answer.the-variants.{Done, Refused}
-use Rattle.mesh.specs.Mesh.{firstCell, cellCount, meshTests}
+use Rattle.mesh.specs.Mesh.{firstCell, cellCount}
 use Rattle.mesh.specs.Walks.{steps, bad13}
 use Rattle.rules.specs.Rules.{bad11}
 use Rattle.round.specs.Rounds.{schemeOf, depthIn, bad14}
 use Rattle.split.specs.Split.{splitOf, interior, halo, locals, globalOf}
-use Rattle.split.specs.SplitLaws.{own-count}
-use Rattle.split.specs.Lists.{bad12, splitTests, sizeTests, splitNumber, sizesNumber}
+use Rattle.split.specs.SplitLaws.{own-count, split-then, split-refuses, sizes-fine, sizes-then, sizes-refuse}
+use Rattle.split.specs.Lists.{bad12, sizeTests, splitNumber, sizesNumber}
 use Rattle.split.specs.Classes.{Added}
 use Rattle.split.specs.Classes.{Classed, Prepared, classCount, classOrder}
 use Rattle.split.proofs.PassedLaws.{Passed, twice, passed-facts}
 use Rattle.cell_lists.proofs.ClassLists.{interior-is, halo-is, order-is as cells-order, locals-few}
 use Rattle.cell_lists.proofs.AddLaws.{added-fits, added-take, class-count}
-use Rattle.starts.specs.Start.{ownedIn, reachEnds, listsLong, stateSize, sizeNumber, sizeAnswer, firstState, startTests, startNumber, startAnswer, startState}
+use Rattle.starts.specs.Start.{ownedIn, reachEnds, listsLong, stateSize, sizeNumber, sizeAnswer, firstState, lastTests, startTests, startNumber, startAnswer, startState}
 use Rattle.start_lists.specs.Starting.{Put, rowEnds, sentEnds, startWords, startDepth, Fit, Cells}
 use Rattle.starts.specs.Planning.{Planned}
 use Rattle.start_lists.proofs.PutLaws.{put-length}
@@ -48,17 +45,11 @@ module _ (m : Bytes) (parts : ℕ) (owners : Bytes) (i : ℕ) (st table : Bytes)
   P : Passed m parts owners i i st
   P = passed-facts m parts owners i i st sn
 
-  sizes-passed : All (λ t. t .holds ≡ false) (sizeTests m parts owners st)
-  unfolding sizesNumber sizeTests
-  sizes-passed = passed (sizeTests m parts owners st) tt zn
-
   twelve : bad12 (splitOf m parts owners st) ≡ false
-  unfolding sizeTests
-  twelve = sizes-passed .0
+  twelve = sizes-fine m parts owners st zn .0
 
   thirteen : bad13 m st ≡ false
-  unfolding sizeTests
-  thirteen = sizes-passed .1 .0
+  thirteen = sizes-fine m parts owners st zn .1
 
   module _ (first cells : ℕ) (fe : first ≡ firstCell m) (ce : cells ≡ cellCount m) where
     pub plan-bounds : (i < 65536) × (first + cells ≤ 65536) × (cells ≤ 2000) × (parts ≤ 16)
@@ -121,33 +112,25 @@ state-put b x y z t long n ws f first order room le P ye ze =
 -- ---- one part named twice is one part named
 
 module _ (m : Bytes) (parts : ℕ) (owners : Bytes) (i : ℕ) (st : Bytes) where
-  number-once : splitNumber m parts owners (i ∷ i ∷ []) st ≡ firstOf (splitTests m parts owners (i ∷ []) st)
+  number-once : splitNumber m parts owners (i ∷ i ∷ []) st ≡ splitNumber m parts owners (i ∷ []) st
   unfolding splitNumber
   number-once = ap firstOf (twice m parts owners i st)
-
-  split-passed : splitNumber m parts owners (i ∷ i ∷ []) st ≡ 0 → All (λ t. t .holds ≡ false) (splitTests m parts owners (i ∷ []) st)
-  unfolding splitTests meshTests
-  split-passed e = passed (splitTests m parts owners (i ∷ []) st) tt (sym number-once ∙ e)
-
-  sizes-out : sizesNumber m parts owners st ≡ 0 → All (λ t. t .holds ≡ false) (sizeTests m parts owners st)
-  unfolding sizesNumber sizeTests
-  sizes-out e = passed (sizeTests m parts owners st) tt e
 
   -- ---- state size
 
   pub size-split : (n : ℕ) → n ≡ splitNumber m parts owners (i ∷ i ∷ []) st → (n ≡ 0 → ⊥) → Refused n ≡ sizeAnswer m parts owners i st
   unfolding sizeAnswer sizeNumber
   size-split n e z =
-      let q : n ≡ firstOf (splitTests m parts owners (i ∷ []) st) = e ∙ number-once in
+      let q : n ≡ splitNumber m parts owners (i ∷ []) st = e ∙ number-once in
       answer-refused n (stateSize m parts owners i st) z
-      ∙ ap (λ k. answer k (stateSize m parts owners i st)) (q ∙ sym (firstOf-left (splitTests m parts owners (i ∷ []) st) (sizeTests m parts owners st) (λ w. z (q ∙ w))))
+      ∙ ap (λ k. answer k (stateSize m parts owners i st)) (q ∙ sym (split-refuses m parts owners (i ∷ []) st (sizeTests m parts owners st) (λ w. z (q ∙ w))))
 
   module _ (sn : splitNumber m parts owners (i ∷ i ∷ []) st ≡ 0) where
     pub size-sizes : (n : ℕ) → n ≡ sizesNumber m parts owners st → (n ≡ 0 → ⊥) → Refused n ≡ sizeAnswer m parts owners i st
     unfolding sizeAnswer sizeNumber sizesNumber
     size-sizes n e z =
         answer-refused n (stateSize m parts owners i st) z
-        ∙ ap (λ k. answer k (stateSize m parts owners i st)) (e ∙ sym (firstOf-right (splitTests m parts owners (i ∷ []) st) (sizeTests m parts owners st) (split-passed sn)))
+        ∙ ap (λ k. answer k (stateSize m parts owners i st)) (e ∙ sym (split-then m parts owners (i ∷ []) st (sizeTests m parts owners st) (sym number-once ∙ sn)))
 
     module _ (zn : sizesNumber m parts owners st ≡ 0) (table : Bytes) (ends : List ℕ) (holders : Bytes) (R : Prepared m parts owners st table ends holders) (order : List ℕ) (n owned long : ℕ)
         (Q : Planned m parts owners i st table ends order n owned long) where
@@ -172,11 +155,11 @@ module _ (m : Bytes) (parts : ℕ) (owners : Bytes) (i : ℕ) (st : Bytes) where
       size-is = omega (arith, long-is, Q .held-is)
 
       pub size-done : Done (2 * long + 34 + 4 * n) ≡ sizeAnswer m parts owners i st
-      unfolding sizeAnswer sizeNumber
+      unfolding sizeAnswer sizeNumber sizesNumber
       size-done =
           ap Done size-is
           ∙ answer-done _ (stateSize m parts owners i st)
-          (firstOf-right (splitTests m parts owners (i ∷ []) st) (sizeTests m parts owners st) (split-passed sn) ∙ none-holds (sizeTests m parts owners st) (sizes-out zn))
+          (split-then m parts owners (i ∷ []) st (sizeTests m parts owners st) (sym number-once ∙ sn) ∙ zn)
 
       pub size-small : 2 * long + 34 + 4 * n < 1000000
       size-small = omega (arith, Q .long-is, Q .fit .long, Q .fit .order-few)
@@ -195,16 +178,16 @@ module _ (m : Bytes) (parts : ℕ) (owners : Bytes) (i : ℕ) (st : Bytes) (kind
   unfolding startAnswer startState
   done = accepts (startNumber m parts owners i st kind v f b) (stateSize m parts owners i st) (over b 0 (firstState m parts owners i st kind v f)) b
 
-  -- the tests after 10, and those after 13
+  -- the tests after 13, and those after 10
   abbrev rest : List Test
-  rest = refuse 14 (bad14 (cellCount m) f) ∷ refuse 16 (ltb (length b) (stateSize m parts owners i st)) ∷ []
+  rest = lastTests m parts owners i st kind v f b
 
   abbrev later : List Test
   later = refuse 11 (bad11 kind (steps st) v) ∷ sizeTests m parts owners st ++ rest
 
-  number-split : (n : ℕ) → n ≡ firstOf (splitTests m parts owners (i ∷ []) st) → (n ≡ 0 → ⊥) → startNumber m parts owners i st kind v f b ≡ n
+  number-split : (n : ℕ) → n ≡ splitNumber m parts owners (i ∷ []) st → (n ≡ 0 → ⊥) → startNumber m parts owners i st kind v f b ≡ n
   unfolding startNumber startTests
-  number-split n q z = firstOf-left (splitTests m parts owners (i ∷ []) st) later (λ w. z (q ∙ w)) ∙ sym q
+  number-split n q z = split-refuses m parts owners (i ∷ []) st later (λ w. z (q ∙ w)) ∙ sym q
 
   pub start-split : (n : ℕ) → n ≡ splitNumber m parts owners (i ∷ i ∷ []) st → (n ≡ 0 → ⊥) → Answered (Refused n) b
   start-split n e z = refused n (number-split n (e ∙ number-once m parts owners i st) z) z
@@ -212,7 +195,7 @@ module _ (m : Bytes) (parts : ℕ) (owners : Bytes) (i : ℕ) (st : Bytes) (kind
   module _ (sn : splitNumber m parts owners (i ∷ i ∷ []) st ≡ 0) where
     in-later : startNumber m parts owners i st kind v f b ≡ firstOf later
     unfolding startNumber startTests
-    in-later = firstOf-right (splitTests m parts owners (i ∷ []) st) later (split-passed m parts owners i st sn)
+    in-later = split-then m parts owners (i ∷ []) st later (sym (number-once m parts owners i st) ∙ sn)
 
     pub start-11 : (u : Bool) → u ≡ bad11 kind (length st - 1) v → u ≡ true → Answered (Refused 11) b
     unfolding steps
@@ -223,15 +206,14 @@ module _ (m : Bytes) (parts : ℕ) (owners : Bytes) (i : ℕ) (st : Bytes) (kind
       in-sizes = in-later ∙ ap (λ t. cond t 11 (firstOf (sizeTests m parts owners st ++ rest))) eleven
 
       number-sizes : (n : ℕ) → n ≡ sizesNumber m parts owners st → (n ≡ 0 → ⊥) → startNumber m parts owners i st kind v f b ≡ n
-      unfolding sizesNumber
-      number-sizes n e z = in-sizes ∙ firstOf-left (sizeTests m parts owners st) rest (λ w. z (e ∙ w)) ∙ sym e
+      number-sizes n e z = in-sizes ∙ sizes-refuse m parts owners st rest (λ w. z (e ∙ w)) ∙ sym e
 
       pub start-sizes : (n : ℕ) → n ≡ sizesNumber m parts owners st → (n ≡ 0 → ⊥) → Answered (Refused n) b
       start-sizes n e z = refused n (number-sizes n e z) z
 
       module _ (zn : sizesNumber m parts owners st ≡ 0) (cells : ℕ) (ce : cells ≡ cellCount m) (u : Bool) (ue : u ≡ bad14 cells f) where
         in-rest : startNumber m parts owners i st kind v f b ≡ firstOf rest
-        in-rest = in-sizes ∙ firstOf-right (sizeTests m parts owners st) rest (sizes-out m parts owners i st zn)
+        in-rest = in-sizes ∙ sizes-then m parts owners st rest zn
 
         fourteen : bad14 (cellCount m) f ≡ u
         fourteen = ap (λ k. bad14 k f) (sym ce) ∙ sym ue

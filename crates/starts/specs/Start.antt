@@ -93,14 +93,12 @@ module _ (m : Bytes) (parts : ℕ) (owners : Bytes) (i : ℕ) (st : Bytes) where
         bytesOf (listsWords S i order (steps st) kind v)
         ++ (replicate 34 0 ++ blocks 1 (length order) (λ l. depthIn (schemeOf m st kind v) f (globalOf order l)))
 
+    -- what start tries after 13
+    abbrev pub lastTests : Bytes → List Test
+    lastTests state = refuse 14 (bad14 (cellCount m) f) ∷ refuse 16 (ltb (length state) stateSize) ∷ []
+
     unfoldable pub startTests : Bytes → List Test
-    startTests state =
-        splitTests m parts owners (i ∷ []) st
-        ++ (refuse 11 (bad11 kind (steps st) v)
-        ∷ sizeTests m parts owners st
-        ++ (refuse 14 (bad14 (cellCount m) f)
-        ∷ refuse 16 (ltb (length state) stateSize)
-        ∷ []))
+    startTests state = splitTests m parts owners (i ∷ []) st ++ (refuse 11 (bad11 kind (steps st) v) ∷ sizeTests m parts owners st ++ lastTests state)
 
     unfoldable pub startNumber : Bytes → ℕ
     startNumber state = firstOf (startTests state)

@@ -6,9 +6,9 @@ use mathlib.Core.List.{List, [], _∷_, _++_}
 use Prim.Native.Nat.{ℕ, _<_}
 use native.Mathlib.Omega.{arith}
 use lib.Dec.{T, eqb, ltb, ltb→lt}
-use borrow.Author.Tests.{eqb-true, eqb-false, not-true, not-false}
+use borrow.Author.Tests.{eqb-true, eqb-false, ltb-true, not-true, not-false}
 use Rattle.vocabulary.specs.Lists.{All}
-use Rattle.vocabulary.specs.ListLaws.{and-true, and-intro, and-all}
+use Rattle.vocabulary.specs.ListLaws.{and-true, and-intro, and-all, cond-has}
 use Rattle.vocabulary.specs.Tests.{Test, firstOf, allOf}
 
 -- tests made one after the other, where the answer r of a call stands in for the test t: the first that holds gives the number,
@@ -51,6 +51,19 @@ passed (t ∷ ts) p e = go (t .holds) refl (λ q. passed ts q)
         let n : ⊥ = omega arith in absurd n
     go false h ih = (h, ih (both (ltb 0 (t .number)) (numbered ts) p .1) (sym (ap (λ b. cond b (t .number) (firstOf ts)) h) ∙ e))
 
+-- whether the test with number n holds; false where no test has that number
+abbrev pub holdsOf : ℕ → List Test → Bool
+holdsOf n [] = false
+holdsOf n (t ∷ ts) = cond (eqb (t .number) n) (t .holds) (holdsOf n ts)
+
+none-of : (n : ℕ) (ts : List Test) → All (λ t. t .holds ≡ false) ts → holdsOf n ts ≡ false
+none-of n [] a = refl
+none-of n (t ∷ ts) a = cond-has (λ b. b ≡ false) (eqb (t .number) n) (t .holds) (holdsOf n ts) (λ _. a .0) (λ _. none-of n ts (a .1))
+
+-- accepted: the test with number n does not hold, wherever it stands
+pub passed-by : (n : ℕ) (ts : List Test) → T (numbered ts) → firstOf ts ≡ 0 → holdsOf n ts ≡ false
+passed-by n ts p e = none-of n ts (passed ts p e)
+
 -- no test holds: accepted
 pub none-holds : (ts : List Test) → All (λ t. t .holds ≡ false) ts → firstOf ts ≡ 0
 none-holds [] a = refl
@@ -60,6 +73,9 @@ none-holds (t ∷ ts) a = ap (λ b. cond b (t .number) (firstOf ts)) (a .0) ∙ 
 pub firstOf-right : (ts us : List Test) → All (λ t. t .holds ≡ false) ts → firstOf (ts ++ us) ≡ firstOf us
 firstOf-right [] us a = refl
 firstOf-right (t ∷ ts) us a = ap (λ b. cond b (t .number) (firstOf (ts ++ us))) (a .0) ∙ firstOf-right ts us (a .1)
+
+pub firstOf-after : (ts us : List Test) → T (numbered ts) → firstOf ts ≡ 0 → firstOf (ts ++ us) ≡ firstOf us
+firstOf-after ts us p e = firstOf-right ts us (passed ts p e)
 
 -- and where the first part answers, that is the answer
 pub firstOf-left : (ts us : List Test) → (firstOf ts ≡ 0 → ⊥) → firstOf (ts ++ us) ≡ firstOf ts
@@ -85,6 +101,30 @@ passed-append ts us p e = go (eqb (firstOf ts) 0) refl
     go : (b : Bool) → eqb (firstOf ts) 0 ≡ b → (firstOf ts ≡ 0) × (firstOf us ≡ 0)
     go true q = let z : firstOf ts ≡ 0 = eqb-true _ _ q in (z, sym (firstOf-right ts us (passed ts p z)) ∙ e)
     go false q = absurd (eqb-false _ _ q (sym (firstOf-left ts us (eqb-false _ _ q)) ∙ e))
+
+-- every number of tests in two parts is above 0
+pub numbered-append : (ts us : List Test) → T (numbered ts) → T (numbered us) → T (numbered (ts ++ us))
+numbered-append [] us p q = q
+numbered-append (t ∷ ts) us p q = go (ltb 0 (t .number)) p (λ r. numbered-append ts us r q)
+  where
+    go : (b : Bool) → T (b && numbered ts) → (T (numbered ts) → T (numbered (ts ++ us))) → T (b && numbered (ts ++ us))
+    go true h ih = ih h
+    go false h ih = absurd h
+
+-- every test's number has at most two digits: by `refl` of a list written out
+abbrev pub small : List Test → Bool
+small [] = true
+small (t ∷ ts) = ltb (t .number) 100 && small ts
+
+pub first-small : (ts : List Test) → small ts ≡ true → firstOf ts < 100
+first-small [] h = omega arith
+first-small (t ∷ ts) h =
+    let p = and-true (ltb (t .number) 100) (small ts) h in
+    cond-has (λ n. n < 100) (t .holds) (t .number) (firstOf ts) (λ e. ltb-true (t .number) 100 (p .0)) (λ e. first-small ts (p .1))
+
+pub small-append : (ts us : List Test) → small ts ≡ true → small us ≡ true → small (ts ++ us) ≡ true
+small-append [] us p q = q
+small-append (t ∷ ts) us p q = let r = and-true (ltb (t .number) 100) (small ts) p in and-intro (ltb (t .number) 100) (small (ts ++ us)) (r .0) (small-append ts us (r .1) q)
 
 pub allOf-true : (ts : List Bool) → allOf ts ≡ true → All (λ t. t ≡ true) ts
 allOf-true [] e = tt
