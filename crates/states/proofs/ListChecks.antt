@@ -3,16 +3,19 @@ use mathlib.Core.Path.{_≡_, refl, sym, ap, ap₂, _∙_}
 use mathlib.Core.Bool.{Bool, true, false, not, _&&_}
 use mathlib.Core.List.{List, [], _∷_, _++_}
 use Prim.Native.Nat.{ℕ, zero, suc, _+_, _-_, _*_, _/_, _%_, _≤_, _<_}
+use native.Mathlib.Nat.{zero-add}
 use native.Mathlib.Omega.{arith}
 use lib.Dec.{eqb, ltb, leb}
-use lib.ListN.{take, drop}
-use borrow.Author.Tests.{le-leb, lt-leb, eq-eqb, ne-eqb, not-true, not-false}
+use lib.ListN.{length, take, drop}
+use borrow.Author.Tests.{eqb-true, le-leb, lt-leb, eq-eqb, ne-eqb, not-true, not-false}
 use Rattle.vocabulary.specs.Bytes.{Bytes}
-use Rattle.vocabulary.specs.ListLaws.{and-all, and-right, and-assoc}
+use Rattle.vocabulary.specs.ListLaws.{and-all, and-true, and-left, and-right, and-assoc}
 use Rattle.vocabulary.specs.Ranges.{isUpTo, every, some}
-use Rattle.vocabulary.specs.ScanLaws.{some-start-from, some-stop-from, some-turn-from, some-end-from}
+use Rattle.vocabulary.specs.RangeLaws.{every-stop, every-turn, someOf-listed}
+use Rattle.vocabulary.specs.ScanLaws.{some-stop-from, some-end-from, every-stop-from, every-turn-from, every-end-from}
 use Rattle.vocabulary.specs.Tests.{allOf}
-use Rattle.layout.specs.Words.{wordAt}
+use Rattle.vocabulary.specs.TestLaws.{allOf-true}
+use Rattle.layout.specs.Words.{word, wordAt}
 use Rattle.rules.specs.Rules.{weightCount, bad11}
 use Rattle.rules.specs.Kinds.{kindNumber, ruleOf}
 use Rattle.rules.specs.declared.Kind.{Kind}
@@ -21,9 +24,9 @@ use Rattle.rules.specs.declared.Rule.{Rule}
 use Rattle.rules.specs.declared.Rule.the-variants.{Known, Unknown}
 use Rattle.rules.proofs.KindLaws.{known-number}
 use Rattle.rules.proofs.Refusals.{unknown-rule}
-use Rattle.states.specs.State.{LocalNear, partNumber, stepCount, ruleKind, weights, ownedCount, heldCount, reachEnd, reachCount, entryAt, exportAt, localReach, globalAt, globalFine, entryFine, ownFound, exportFine, listsTests}
-use Rattle.states.specs.Checks.{Counts, fineAt, ownEntry, headTests, endTests, entryTests}
-use Rattle.vocabulary.specs.RangeLaws.{someOf-listed}
+use Rattle.states.specs.State.{LocalNear, partNumber, stepCount, ruleKind, weights, ownedCount, heldCount, reachEnd, reachCount, rises, entryAt, exportAt, localReach, globalAt, globalFine, entryFine, ownFound, exportFine, listsTests}
+use Rattle.states.specs.StateLaws.{rises-grow}
+use Rattle.states.specs.Checks.{Counts, Fitting, Tested, riseAt, ownEntry, rowFine, headTests, endTests, entryTests}
 
 -- ---- a test of a range, asked with the count that stands in the lists
 
@@ -43,104 +46,184 @@ module _ (n x : ℕ) where
 
 -- ---- one place
 
-pub rises-told : (b : Bytes) (k x y : ℕ) → x ≡ wordAt b k → y ≡ wordAt b (k + 1) → leb x y ≡ leb (wordAt b k) (wordAt b (k + 1))
-rises-told b k x y e f = ap₂ leb e f
+pub word-told : (b : Bytes) (i r : ℕ) → r ≡ word b (2 * i) → r ≡ wordAt b i
+unfolding wordAt
+word-told b i r e = e
+
+-- ---- a table of ends
+
+module _ (b : Bytes) (a n j end next : ℕ) (ee : end ≡ wordAt b (a + j)) (ne : next ≡ wordAt b (a + (j + 1))) where
+  pub ends-fall : j < n → next < end → false ≡ every 0 n (riseAt b a)
+  unfolding riseAt
+  ends-fall h k = every-stop (riseAt b a) n j false h (simp (sym ee, sym ne, lt-leb _ _ k)) refl
+
+  pub ends-turn : every 0 j (riseAt b a) ≡ true → end ≤ next → every 0 (j + 1) (riseAt b a) ≡ true
+  unfolding riseAt
+  ends-turn i k = every-turn (riseAt b a) n j true i (simp (sym ee, sym ne, le-leb _ _ k)) refl
+
+pub ends-start : (b : Bytes) (a end : ℕ) → end ≡ wordAt b a → end ≡ wordAt b (a + 0)
+ends-start b a end e = e ∙ ap (wordAt b) (let p : a ≡ a + 0 = omega arith in p)
+
+-- ---- the held cells
 
 pub global-told : (b : Bytes) (l c first cells : ℕ) (r : Bool) → c ≡ globalAt b l → first ≡ wordAt b 9 → cells ≡ wordAt b 10 → r ≡ leb first c && ltb c (first + cells) → r ≡ globalFine b l
 global-told b l c first cells r ce fe ke e = e ∙ ap₂ (λ f n. leb f c && ltb c (f + n)) fe ke ∙ ap (λ x. leb (wordAt b 9) x && ltb x (wordAt b 9 + wordAt b 10)) ce
 
-module _ (b : Bytes) (held owned reached : ℕ) (C : Counts b held owned reached) where
-  module _ (t l : ℕ) (le : l ≡ wordAt b (46 + held + owned + 2 * t)) where
-    entry-local : (entryAt b t) .local ≡ l
-    entry-local = ap₂ (λ h o. wordAt b (46 + h + o + 2 * t)) (sym (C .held-is)) (sym (C .owned-is)) ∙ sym le
+-- ---- an entry of the reaches
 
-    module _ (layer : ℕ) (ye : layer ≡ wordAt b (46 + held + owned + 2 * t + 1)) where
-      entry-layer : (entryAt b t) .layer ≡ layer
-      entry-layer =
-          let p : 47 + heldCount b + ownedCount b + 2 * t ≡ 46 + held + owned + 2 * t + 1 = omega (arith, C .held-is, C .owned-is) in
-          ap (wordAt b) p ∙ sym ye
+module _ (b : Bytes) (at held n : ℕ) (T : Tested b at held n) (t l : ℕ) (le : l ≡ wordAt b (at + 2 * t)) where
+  entry-local : (entryAt b t) .local ≡ l
+  entry-local = ap (λ a. wordAt b (a + 2 * t)) (sym (T .at-is)) ∙ sym le
 
-      module _ (u : Bool) (ue : u ≡ isUpTo held l) where
-        entry-held : isUpTo (heldCount b) ((entryAt b t) .local) ≡ u
-        entry-held = ap₂ isUpTo (sym (C .held-is)) entry-local ∙ sym ue
+  module _ (layer : ℕ) (ye : layer ≡ wordAt b (at + 2 * t + 1)) where
+    entry-layer : (entryAt b t) .layer ≡ layer
+    entry-layer = let p : 47 + heldCount b + ownedCount b + 2 * t ≡ at + 2 * t + 1 = omega (arith, T .at-is) in ap (wordAt b) p ∙ sym ye
 
-        pub entry-outside : not u ≡ true → false ≡ entryFine b t
-        entry-outside z = simp (entry-held, not-true u z)
+    module _ (u : Bool) (ue : u ≡ isUpTo held l) where
+      entry-held : isUpTo (heldCount b) ((entryAt b t) .local) ≡ u
+      entry-held = ap₂ isUpTo (sym (T .held-is)) entry-local ∙ sym ue
 
-        pub entry-odd : not u ≡ false → (layer % 2 ≡ 0 → ⊥) → false ≡ entryFine b t
-        entry-odd z o = simp (entry-held, not-false u z, entry-layer, ne-eqb _ _ o)
+      pub entry-outside : not u ≡ true → false ≡ entryFine b t
+      entry-outside z = simp (entry-held, not-true u z)
 
-        pub entry-rest : (n : ℕ) → not u ≡ false → layer % 2 ≡ 0 → n ≡ wordAt b 2 → leb layer n ≡ entryFine b t
-        entry-rest n z o e = simp (entry-held, not-false u z, entry-layer, eq-eqb _ _ o, sym e)
+      pub entry-odd : not u ≡ false → (layer % 2 ≡ 0 → ⊥) → false ≡ entryFine b t
+      entry-odd z o = simp (entry-held, not-false u z, entry-layer, ne-eqb _ _ o)
 
-    pub own-other : (c : ℕ) → (l ≡ c → ⊥) → false ≡ ownEntry b c t
-    unfolding ownEntry
-    own-other c h = simp (entry-local, ne-eqb _ _ h)
+      pub entry-rest : not u ≡ false → layer % 2 ≡ 0 → leb layer n ≡ entryFine b t
+      entry-rest z o = simp (entry-held, not-false u z, entry-layer, eq-eqb _ _ o, sym (T .n-is))
 
-    pub own-same : (c layer : ℕ) → l ≡ c → layer ≡ wordAt b (46 + held + owned + 2 * t + 1) → eqb layer 0 ≡ ownEntry b c t
-    unfolding ownEntry
-    own-same c layer h e = simp (entry-local, entry-layer layer e, eq-eqb _ _ h)
+  pub own-other : (c : ℕ) → (l ≡ c → ⊥) → false ≡ ownEntry b c t
+  unfolding ownEntry
+  own-other c h = simp (entry-local, ne-eqb _ _ h)
 
-  module _ (t l : ℕ) (le : l ≡ wordAt b (46 + held + owned + 2 * reached + t)) where
-    export-local : exportAt b t ≡ l
-    export-local =
-        let p : 46 + heldCount b + ownedCount b + 2 * reachCount b + t ≡ 46 + held + owned + 2 * reached + t = omega (arith, C .held-is, C .owned-is, C .reached-is) in
-        ap (wordAt b) p ∙ sym le
+  pub own-same : (c layer : ℕ) → l ≡ c → layer ≡ wordAt b (at + 2 * t + 1) → eqb layer 0 ≡ ownEntry b c t
+  unfolding ownEntry
+  own-same c layer h e = simp (entry-local, entry-layer layer e, eq-eqb _ _ h)
 
-    pub export-told : (r : Bool) → r ≡ isUpTo owned l → r ≡ exportFine b t
-    export-told r e = e ∙ ap₂ isUpTo (C .owned-is) (sym export-local)
+-- ---- a row: p of all its entries, and q of some
 
--- ---- a cell in its own reach
+-- the first k, then j more
+every-split : (a : ℕ) (p : ℕ → Bool) (k j : ℕ) → every a (k + j) p ≡ every a k p && every (a + k) j p
+unfolding every
+every-split a p k zero = let e : k + 0 ≡ k = omega arith in ap (λ x. every a x p) e ∙ sym (and-all (every a k p))
+every-split a p k (suc j) =
+    let e : k + suc j ≡ suc (k + j) = omega arith in
+    let f : a + (k + j) ≡ a + k + j = omega arith in
+    ap (λ x. every a x p) e ∙ ap₂ _&&_ (every-split a p k j) (ap p f) ∙ and-assoc (every a k p) (every (a + k) j p) (p (a + k + j))
 
-module _ (b : Bytes) (held owned reached : ℕ) (C : Counts b held owned reached) (l from to : ℕ) (fe : from ≡ wordAt b (45 + held + (l - 1))) (te : to ≡ wordAt b (45 + held + l)) where
-  own-is : some from (to - from) (ownEntry b l) ≡ ownFound b l
-  unfolding ownEntry localReach
-  own-is =
-      ap₂ (λ x y. some x (y - x) (λ t. eqb ((entryAt b t) .local) l && eqb ((entryAt b t) .layer) 0)) fe te
-      ∙ ap (λ h. some (wordAt b (45 + h + (l - 1))) (wordAt b (45 + h + l) - wordAt b (45 + h + (l - 1))) (λ t. eqb ((entryAt b t) .local) l && eqb ((entryAt b t) .layer) 0)) (C .held-is)
-      ∙ sym (someOf-listed (λ (e : LocalNear). eqb (e .local) l && eqb (e .layer) 0) (entryAt b) (reachEnd b (l - 1)) (reachEnd b l - reachEnd b (l - 1)))
+module _ (p : ℕ → Bool) (from to t : ℕ) (low : from ≤ t) where
+  pub rest-wrong : (r : Bool) → t < to → r ≡ p t → not r ≡ true → false ≡ every from (to - from) p
+  rest-wrong r h e z = every-stop-from from p (to - from) t r e z low (omega arith)
 
-  pub own-start : some from (from - from) (ownEntry b l) ≡ false
-  own-start = some-start-from from (ownEntry b l)
+  pub rest-end : t ≤ to → to ≤ t → every from (t - from) p ≡ true → true ≡ every from (to - from) p
+  rest-end g h i = every-end-from from p (to - from) t i (omega arith) (omega arith)
 
-  pub own-stop : (t : ℕ) (r : Bool) → from ≤ t → t < to → r ≡ ownEntry b l t → r ≡ true → true ≡ ownFound b l
-  own-stop t r h k e z = some-stop-from from (ownEntry b l) (to - from) t r e z h (omega arith) ∙ own-is
+module _ (p q : ℕ → Bool) (from to : ℕ) where
+  pub row-wrong : (t : ℕ) (r : Bool) → r ≡ p t → not r ≡ true → from ≤ t → t < to → false ≡ every from (to - from) p && some from (to - from) q
+  row-wrong t r e z g h = sym (and-left _ (some from (to - from) q) (sym (rest-wrong p from to t g r h e z)))
 
-  pub own-turn : (t : ℕ) (r : Bool) → from ≤ t → some from (t - from) (ownEntry b l) ≡ false → r ≡ ownEntry b l t → r ≡ false → some from (t + 1 - from) (ownEntry b l) ≡ false
-  own-turn t r h i e z = some-turn-from from (ownEntry b l) t r h i e z
+  -- the own entry is found: what is left decides
+  pub row-found : (t : ℕ) (r s w : Bool) → every from (t - from) p ≡ true → r ≡ p t → not r ≡ false → s ≡ q t → s ≡ true → w ≡ every (t + 1) (to - (t + 1)) p → from ≤ t → t < to
+      → w ≡ every from (to - from) p && some from (to - from) q
+  row-found t r s w i e z f y we g h =
+      let k : to - from ≡ (t + 1 - from) + (to - (t + 1)) = omega arith in
+      let m : from + (t + 1 - from) ≡ t + 1 = omega arith in
+      let all : every from (to - from) p ≡ w = ap (λ x. every from x p) k ∙ every-split from p (t + 1 - from) (to - (t + 1))
+      ∙ ap₂ (λ x y. x && every y (to - (t + 1)) p) (every-turn-from from p t r g i e z) m ∙ sym we in
+      let one : some from (to - from) q ≡ true = sym (some-stop-from from q (to - from) t s f y g (omega arith)) in
+      sym (ap₂ _&&_ all one ∙ and-all w)
 
-  pub own-end : (t : ℕ) → from ≤ t → t ≤ from + (to - from) → to ≤ t → some from (t - from) (ownEntry b l) ≡ false → false ≡ ownFound b l
-  own-end t h k q i = some-end-from from (ownEntry b l) (to - from) t i k (omega arith) ∙ own-is
+  pub row-end : (t : ℕ) → some from (t - from) q ≡ false → t ≤ to → to ≤ t → from ≤ t → false ≡ every from (to - from) p && some from (to - from) q
+  row-end t i g h k = sym (and-right (every from (to - from) p) _ (sym (some-end-from from q (to - from) t i (omega arith) (omega arith))))
 
--- ---- the tests of a range, by number
+-- ---- the rows one after another, from 0 on
 
-module _ (b : Bytes) (which x : ℕ) (r : Bool) where
-  pub fine-0 : which ≡ 0 → r ≡ leb (wordAt b (11 + x)) (wordAt b (11 + x + 1)) → r ≡ fineAt which b x
-  unfolding fineAt
-  fine-0 e q = rw e (let p : 11 + x + 1 ≡ 11 + (x + 1) = omega arith in rw p at q)
+and-both : (a b c d : Bool) → (a && b) && (c && d) ≡ (a && c) && (b && d)
+and-both true true c d = refl
+and-both true false c d = sym (and-right c false refl)
+and-both false b c d = refl
 
-  pub fine-1 : which ≡ 1 → r ≡ leb (wordAt b (28 + x)) (wordAt b (28 + x + 1)) → r ≡ fineAt which b x
-  unfolding fineAt
-  fine-1 e q = rw e (let p : 28 + x + 1 ≡ 28 + (x + 1) = omega arith in rw p at q)
+-- p of every row's entries is p of all entries
+rows-are : (end : ℕ → ℕ) (p q : ℕ → Bool) → end 0 ≡ 0 → (n : ℕ) → ((j : ℕ) → j < n → end j ≤ end (j + 1))
+    → every 1 n (λ l. every (end (l - 1)) (end l - end (l - 1)) p && q l) ≡ every 0 (end n) p && every 1 n q
+unfolding every
+rows-are end p q z zero h = sym (ap (λ x. every 0 x p && true) z)
+rows-are end p q z (suc n) h =
+    let e : 1 + n - 1 ≡ n = omega arith in
+    let s : n + 1 ≡ suc n = omega arith in
+    let u : 1 + n ≡ suc n = omega arith in
+    let k : end (suc n) ≡ end n + (end (suc n) - end n) = omega (arith, h n (omega arith), ap end s) in
+    let w : every 0 (end (suc n)) p ≡ every 0 (end n) p && every (end n) (end (suc n) - end n) p =
+    ap (λ x. every 0 x p) k ∙ every-split 0 p (end n) (end (suc n) - end n)
+    ∙ ap (λ x. every 0 (end n) p && every x (end (suc n) - end n) p) (zero-add (end n)) in
+    ap₂ _&&_ (rows-are end p q z n (λ j l. h j (omega arith))) (ap₂ (λ x y. every (end x) (end y - end x) p && q (1 + n)) e u)
+    ∙ and-both (every 0 (end n) p) (every 1 n q) (every (end n) (end (suc n) - end n) p) (q (1 + n))
+    ∙ ap (λ x. x && (every 1 n q && q (1 + n))) (sym w)
 
-  pub fine-2 : (held : ℕ) → which ≡ 2 → held ≡ heldCount b → r ≡ leb (wordAt b (45 + held + x)) (wordAt b (45 + held + x + 1)) → r ≡ fineAt which b x
-  unfolding fineAt
-  fine-2 held e h q = rw e (let p : 45 + heldCount b + x + 1 ≡ 45 + heldCount b + (x + 1) = omega arith in rw p at (rw h at q))
+pub row-tested : (b : Bytes) (held owned reached n : ℕ) → Counts b held owned reached → n ≡ wordAt b 2 → Tested b (46 + held + owned) held n
+row-tested b held owned reached n C e = record { at-is = ap₂ (λ x y. 46 + x + y) (C .held-is) (C .owned-is); held-is = C .held-is; n-is = e }
 
--- a test whose number is known
-pub fine-as : (k : ℕ) (b : Bytes) (which x : ℕ) (r : Bool) → which ≡ k → r ≡ fineAt k b x → r ≡ fineAt which b x
-fine-as k b which x r e q = rw e q
+module _ (b : Bytes) (good : allOf (endTests b) ≡ true) where
+  reach-tests : (eqb (reachEnd b 0) 0 ≡ true) × (rises (ownedCount b) (reachEnd b) ≡ true)
+  reach-tests = and-true (eqb (reachEnd b 0) 0) (rises (ownedCount b) (reachEnd b)) (allOf-true (endTests b) good .1 .1 .0)
 
-pub fine-6 : (b : Bytes) (which x : ℕ) (r : Bool) → (which ≡ 0 → ⊥) → (which ≡ 1 → ⊥) → (which ≡ 2 → ⊥) → (which ≡ 3 → ⊥) → (which ≡ 4 → ⊥) → (which ≡ 5 → ⊥)
-    → r ≡ exportFine b x → r ≡ fineAt which b x
-unfolding fineAt
-fine-6 b zero x r a c d e f g q = absurd (a refl)
-fine-6 b (suc zero) x r a c d e f g q = absurd (c refl)
-fine-6 b (suc (suc zero)) x r a c d e f g q = absurd (d refl)
-fine-6 b (suc (suc (suc zero))) x r a c d e f g q = absurd (e refl)
-fine-6 b (suc (suc (suc (suc zero)))) x r a c d e f g q = absurd (f refl)
-fine-6 b (suc (suc (suc (suc (suc zero))))) x r a c d e f g q = absurd (g refl)
-fine-6 b (suc (suc (suc (suc (suc (suc k)))))) x r a c d e f g q = q
+  reach-grow : (i j : ℕ) → i ≤ j → j ≤ ownedCount b → reachEnd b i ≤ reachEnd b j
+  reach-grow = rises-grow (ownedCount b) (reachEnd b) (reach-tests .1)
+
+  -- the first row begins at 0
+  pub rows-start : 0 ≡ reachEnd b (1 - 1)
+  rows-start = sym (eqb-true _ _ (reach-tests .0))
+
+  rows-tests : every 1 (ownedCount b) (rowFine b) ≡ every 0 (reachCount b) (entryFine b) && every 1 (ownedCount b) (ownFound b)
+  unfolding rowFine
+  rows-tests =
+      rows-are (reachEnd b) (entryFine b) (ownFound b) (eqb-true _ _ (reach-tests .0)) (ownedCount b)
+      (λ j h. reach-grow j (j + 1) (omega arith) (omega arith))
+
+  module _ (owned : ℕ) (oe : owned ≡ ownedCount b) (r x : Bool) (e : r ≡ every 1 owned (rowFine b)) where
+    rows-here : r && x ≡ every 0 (reachCount b) (entryFine b) && (every 1 (ownedCount b) (ownFound b) && x)
+    rows-here =
+        ap (λ t. t && x) (e ∙ ap (λ k. every 1 k (rowFine b)) oe ∙ rows-tests)
+        ∙ and-assoc (every 0 (reachCount b) (entryFine b)) (every 1 (ownedCount b) (ownFound b)) x
+
+    pub rows-wrong : not r ≡ true → false ≡ every 0 (reachCount b) (entryFine b) && (every 1 (ownedCount b) (ownFound b) && x)
+    rows-wrong z = sym (ap (λ t. t && x) (not-true r z)) ∙ rows-here
+
+    pub rows-right : (y : Bool) → not r ≡ false → y ≡ x → y ≡ every 0 (reachCount b) (entryFine b) && (every 1 (ownedCount b) (ownFound b) && x)
+    rows-right y z q = q ∙ sym (ap (λ t. t && x) (not-false r z)) ∙ rows-here
+
+  module _ (held owned reached : ℕ) (F : Fitting b held owned reached) (l from to : ℕ) (low : 1 ≤ l) (high : l < 1 + owned) (te : to ≡ wordAt b (45 + held + l)) where
+    to-is : to ≡ reachEnd b l
+    to-is = te ∙ ap (λ h. wordAt b (45 + h + l)) (F .counts .held-is)
+
+    -- and the next where this one ends
+    pub rows-next : to ≡ reachEnd b (l + 1 - 1)
+    rows-next = to-is ∙ ap (reachEnd b) (let e : l ≡ l + 1 - 1 = omega arith in e)
+
+    pub row-rises : from ≡ reachEnd b (l - 1) → from ≤ to
+    row-rises fe = omega (arith, fe, to-is, F .counts .owned-is, reach-grow (l - 1) l (omega arith) (omega (arith, F .counts .owned-is)))
+
+    pub row-room : 2 * (46 + held + owned + 2 * to) ≤ length b
+    row-room = omega (arith, to-is, F .room, F .counts .reached-is, reach-grow l (ownedCount b) (omega (arith, F .counts .owned-is)) (omega arith))
+
+    pub row-told : (r : Bool) → from ≡ reachEnd b (l - 1) → r ≡ every from (to - from) (entryFine b) && some from (to - from) (ownEntry b l) → r ≡ rowFine b l
+    unfolding rowFine ownEntry localReach
+    row-told r fe e =
+        e
+        ∙ ap₂ (λ x y. every x (y - x) (entryFine b) && some x (y - x) (ownEntry b l)) fe to-is
+        ∙ ap (λ x. every (reachEnd b (l - 1)) (reachEnd b l - reachEnd b (l - 1)) (entryFine b) && x)
+        (sym (someOf-listed (λ (e : LocalNear). eqb (e .local) l && eqb (e .layer) 0) (entryAt b) (reachEnd b (l - 1)) (reachEnd b l - reachEnd b (l - 1))))
+
+-- ---- the exports
+
+module _ (b : Bytes) (held owned reached : ℕ) (C : Counts b held owned reached) (t l : ℕ) (le : l ≡ wordAt b (46 + held + owned + 2 * reached + t)) where
+  export-local : exportAt b t ≡ l
+  export-local =
+      let p : 46 + heldCount b + ownedCount b + 2 * reachCount b + t ≡ 46 + held + owned + 2 * reached + t = omega (arith, C .held-is, C .owned-is, C .reached-is) in
+      ap (wordAt b) p ∙ sym le
+
+  pub export-told : (r : Bool) → r ≡ isUpTo owned l → r ≡ exportFine b t
+  export-told r e = e ∙ ap₂ isUpTo (C .owned-is) (sym export-local)
 
 -- ---- the rule and the head
 
@@ -200,15 +283,18 @@ module _ (e x : ℕ) (c : x ≡ e) (r y : Bool) where
   first-right t z q = simp (sym c, eq-eqb _ _ z, q)
 
 module _ (b : Bytes) (held owned reached : ℕ) (C : Counts b held owned reached) where
-  module _ (y : ℕ) (ye : y ≡ wordAt b (45 + held)) (r z : Bool) where
+  module _ (y : ℕ) (ye : y ≡ wordAt b (45 + held)) where
     reach-end : y ≡ reachEnd b 0
     reach-end = ye ∙ ap (wordAt b) (let p : 45 + held ≡ 45 + heldCount b + 0 = omega (arith, C .held-is) in p)
 
-    pub reach-wrong : (y ≡ 0 → ⊥) → false ≡ (eqb (reachEnd b 0) 0 && r) && z
-    reach-wrong = first-wrong (reachEnd b 0) y reach-end r z
+    pub reach-wrong : (r z : Bool) → (y ≡ 0 → ⊥) → false ≡ (eqb (reachEnd b 0) 0 && r) && z
+    reach-wrong = first-wrong (reachEnd b 0) y reach-end
 
-    pub reach-right : (t : Bool) → y ≡ 0 → t ≡ r && z → t ≡ (eqb (reachEnd b 0) 0 && r) && z
-    reach-right = first-right (reachEnd b 0) y reach-end r z
+    pub reach-right : (r : Bool) → y ≡ 0 → r ≡ every 0 owned (riseAt b (45 + held)) → r ≡ (eqb (reachEnd b 0) 0 && rises (ownedCount b) (reachEnd b)) && true
+    unfolding riseAt rises
+    reach-right r z e =
+        first-right (reachEnd b 0) y reach-end (rises (ownedCount b) (reachEnd b)) true r z
+        (e ∙ ap₂ (λ h n. every 0 n (riseAt b (45 + h))) (C .held-is) (C .owned-is) ∙ sym (and-all (rises (ownedCount b) (reachEnd b))))
 
 -- ---- the three groups
 

@@ -14,7 +14,7 @@ use Rattle.layout.specs.Words.{word, wordAt}
 use Rattle.depths.specs.Depths.{rangedAt}
 use Rattle.states.specs.State.{heldCount, listsLength, listsTests, dynamicTests, flagsFine, isState}
 use Rattle.states.specs.StateLaws.{isStateAt, state-at}
-use Rattle.states.specs.Checks.{Counts}
+use Rattle.states.specs.Checks.{Counts, Fitting}
 
 -- ---- flags
 
@@ -58,6 +58,10 @@ counts b held owned reached h o r hs os rs = record {
   owned-small = os;
   reached-small = rs;
 }
+
+pub fitting : (b : Bytes) (held owned reached d sent : ℕ) → held ≡ wordAt b 27 → owned ≡ wordAt b 11 → reached ≡ wordAt b (45 + held + owned) → sent ≡ wordAt b 44
+    → held < 65536 → owned < 65536 → reached < 65536 → d ≡ length b → d ≡ 2 * (46 + held + owned + 2 * reached + sent) → Fitting b held owned reached
+fitting b held owned reached d sent h o r e hs os rs de fit = record { counts = counts b held owned reached h o r hs os rs; room = omega arith }
 
 module _ (st b : Bytes) (d held owned reached sent : ℕ) (he : held ≡ wordAt st 27) (oe : owned ≡ wordAt st 11) (re : reached ≡ wordAt st (45 + held + owned)) (se : sent ≡ wordAt st 44) where
   long-is : listsLength st ≡ 2 * (46 + held + owned + 2 * reached + sent)

@@ -1,12 +1,14 @@
--- How the code makes the tests of a state's lists: in three groups, and those that go over a range by one loop. No public contract rests on
+-- How the code makes the tests of a state's lists: in three groups, and the entries of the reaches row by row. No public contract rests on
 -- this page. Assumes nothing.
 use mathlib.Core.Path.{_≡_}
 use mathlib.Core.Bool.{Bool, not, _&&_}
 use mathlib.Core.List.{List, [], _∷_}
-use Prim.Native.Nat.{ℕ, zero, suc, _+_, _%_, _<_}
+use Prim.Native.Nat.{ℕ, _+_, _-_, _*_, _%_, _<_}
 use lib.Dec.{eqb, leb}
+use lib.ListN.{length}
 use Rattle.vocabulary.specs.Bytes.{Bytes}
 use Rattle.vocabulary.specs.Ranges.{isUpTo, every}
+use Rattle.layout.specs.Words.{wordAt}
 use Rattle.rules.specs.Rules.{bad11}
 use Rattle.states.specs.State.{partNumber, stepCount, ruleKind, weights, importEnd, ownedCount, heldCount, exportEnd, exportCount, reachEnd, reachCount, entryAt, globalFine, entryFine, ownFound, exportFine, rises}
 
@@ -34,19 +36,17 @@ entryTests b =
     ∷ every 0 (exportCount b) (exportFine b)
     ∷ []
 
--- what is tested at each number of a range, by the test's own number
-unfoldable pub fineAt : ℕ → Bytes → ℕ → Bool
-fineAt zero b x = leb (importEnd b x) (importEnd b (x + 1))
-fineAt (suc zero) b x = leb (exportEnd b x) (exportEnd b (x + 1))
-fineAt (suc (suc zero)) b x = leb (reachEnd b x) (reachEnd b (x + 1))
-fineAt (suc (suc (suc zero))) b x = globalFine b x
-fineAt (suc (suc (suc (suc zero)))) b x = entryFine b x
-fineAt (suc (suc (suc (suc (suc zero))))) b x = ownFound b x
-fineAt (suc (suc (suc (suc (suc (suc which)))))) b x = exportFine b x
+-- the end after the one at word a + j is at least as great
+unfoldable pub riseAt : Bytes → ℕ → ℕ → Bool
+riseAt b a j = leb (wordAt b (a + j)) (wordAt b (a + (j + 1)))
 
 -- entry t is that of cell l itself
 unfoldable pub ownEntry : Bytes → ℕ → ℕ → Bool
 ownEntry b l t = eqb ((entryAt b t) .local) l && eqb ((entryAt b t) .layer) 0
+
+-- the row of the owned cell l: its entries are fine, and its own is among them
+unfoldable pub rowFine : Bytes → ℕ → Bool
+rowFine b l = every (reachEnd b (l - 1)) (reachEnd b l - reachEnd b (l - 1)) (entryFine b) && ownFound b l
 
 -- the counts that stand in the lists
 pub record Counts (b : Bytes) (held owned reached : ℕ) : Type 0 where
@@ -56,3 +56,14 @@ pub record Counts (b : Bytes) (held owned reached : ℕ) : Type 0 where
   pub held-small : held < 65536
   pub owned-small : owned < 65536
   pub reached-small : reached < 65536
+
+-- lists as long as their counts say
+pub record Fitting (b : Bytes) (held owned reached : ℕ) : Type 0 where
+  pub counts : Counts b held owned reached
+  pub room : length b ≡ 2 * (46 + held + owned + 2 * reached + exportCount b)
+
+-- the word at which the entries of the reaches begin, and what they are tested by
+pub record Tested (b : Bytes) (at held n : ℕ) : Type 0 where
+  pub at-is : at ≡ 46 + heldCount b + ownedCount b
+  pub held-is : held ≡ heldCount b
+  pub n-is : n ≡ stepCount b

@@ -2,23 +2,23 @@
 use cell_numbers::Global;
 use cell_numbers::Local;
 use cell_numbers::inner::is_cell;
+use layout::inner::word_in;
 use layout::word_at;
 use rules::Kind;
 use rules::Rule;
 use rules::rule_of;
 use rules::wrong_weights;
 ghost use mathlib.Core.Path.{_≡_};
-ghost use mathlib.Core.Bool.{not};
+ghost use mathlib.Core.Bool.{true, not, _&&_};
 ghost use Prim.Native.Nat.{_+_, _-_, _*_, _<_, _≤_};
-ghost use lib.Dec.{leb};
 ghost use lib.ListN.{length, take, drop};
-ghost use Rattle.vocabulary.specs.Ranges.{isUpTo, every};
+ghost use Rattle.vocabulary.specs.Ranges.{isUpTo, every, some};
 ghost use Rattle.vocabulary.specs.Tests.{allOf};
 ghost use Rattle.layout.specs.Words.{wordAt};
 ghost use Rattle.rules.specs.Rules.{weightCount, bad11};
 ghost use Rattle.rules.specs.Kinds.{kindNumber};
-ghost use Rattle.states.specs.State.{globalAt, globalFine, entryFine, ownFound, exportFine, listsTests};
-ghost use Rattle.states.specs.Checks.{Counts, fineAt, ownEntry, headTests, endTests, entryTests};
+ghost use Rattle.states.specs.State.{exportCount, globalAt, globalFine, entryFine, exportFine, listsTests};
+ghost use Rattle.states.specs.Checks.{Fitting, Tested, riseAt, ownEntry, rowFine, headTests, endTests, entryTests};
 
 // Whether x is a number from 1 to n.
 pub fn up_to(n: usize, x: usize) -> bool
@@ -30,12 +30,12 @@ pub fn up_to(n: usize, x: usize) -> bool
     x <= n
 }
 
-// Whether the end after the one at word k is at least as great.
-fn rises_at(lists: &[u8], k: usize) -> bool
-    requires { ⌜ k < 1000000 ⌝ }
-    ensures { λ r. ⌜ r ≡ leb (wordAt (now (lists .entry)) k) (wordAt (now (lists .entry)) (k + 1)) ⌝ }
+// The word of index i, which is there.
+fn word_there(lists: &[u8], i: usize) -> usize
+    requires { ⌜ 2 * i + 1 < length (now lists) ⌝ }
+    ensures { λ r. ⌜ (r ≡ wordAt (now (lists .entry)) i) × (r < 65536) ⌝ }
 {
-    word_at(lists, k) <= word_at(lists, k + 1)
+    word_in(lists, 2 * i)
 }
 
 // How many entries belong to a number, by the ends at words k and k + 1.
@@ -55,92 +55,127 @@ pub fn global_of(lists: &[u8], l: Local) -> Global
     Global(word_at(lists, 44 + l.0 as usize) as u16)
 }
 
-fn global_fine(lists: &[u8], l: Local) -> bool
-    ensures { λ r. ⌜ r ≡ globalFine (now (lists .entry)) (l .0) ⌝ }
+// Whether the n + 1 ends from word a on never fall.
+fn ends_rise(lists: &[u8], a: usize, n: usize) -> bool
+    requires { ⌜ 2 * (a + n) + 1 < length (now lists) ⌝ }
+    ensures { λ r. ⌜ r ≡ every 0 n (riseAt (now (lists .entry)) a) ⌝ }
 {
-    is_cell(global_of(lists, l), word_at(lists, 9), word_at(lists, 10))
+    let mut end = word_there(lists, a);
+    for j in 0..n {
+        let next = word_there(lists, a + (j + 1));
+        if next < end {
+            return false;
+        }
+        end = next;
+    }
+    true
 }
 
-fn entry_fine(lists: &[u8], held: usize, owned: usize, reached: usize, t: usize) -> bool
-    requires { ⌜ Counts (now lists) held owned reached × (t < 65536) ⌝ }
+// Whether the held cells are the mesh's.
+fn globals_fine(lists: &[u8], held: usize) -> bool
+    requires { ⌜ (2 * (45 + held) ≤ length (now lists)) × (held < 65536) ⌝ }
+    ensures { λ r. ⌜ r ≡ every 1 held (globalFine (now (lists .entry))) ⌝ }
+{
+    let first = word_there(lists, 9);
+    let cells = word_there(lists, 10);
+    for l in 1..1 + held {
+        if !is_cell(global_of(lists, Local(l as u16)), first, cells) {
+            return false;
+        }
+    }
+    true
+}
+
+// Entry t of the reaches, whose entries begin at word `at`: a held cell, at an even layer of at most n.
+fn entry_fine(lists: &[u8], at: usize, held: usize, n: usize, t: usize) -> bool
+    requires { ⌜ Tested (now lists) at held n × (2 * (at + 2 * t) + 3 < length (now lists)) ⌝ }
     ensures { λ r. ⌜ r ≡ entryFine (now (lists .entry)) t ⌝ }
 {
-    let k = 46 + held + owned + 2 * t;
-    let l = word_at(lists, k);
-    let layer = word_at(lists, k + 1);
-    if !up_to(held, l) {
+    let layer = word_there(lists, at + 2 * t + 1);
+    if !up_to(held, word_there(lists, at + 2 * t)) {
         return false;
     }
     if layer % 2 != 0 {
         return false;
     }
-    layer <= word_at(lists, 2)
+    layer <= n
 }
 
 // Whether entry t is that of cell l itself.
-fn own_entry(lists: &[u8], held: usize, owned: usize, reached: usize, l: usize, t: usize) -> bool
-    requires { ⌜ Counts (now lists) held owned reached × (t < 65536) ⌝ }
+fn own_entry(lists: &[u8], at: usize, held: usize, n: usize, l: usize, t: usize) -> bool
+    requires { ⌜ Tested (now lists) at held n × (2 * (at + 2 * t) + 3 < length (now lists)) ⌝ }
     ensures { λ r. ⌜ r ≡ ownEntry (now (lists .entry)) l t ⌝ }
 {
-    let k = 46 + held + owned + 2 * t;
-    if word_at(lists, k) != l {
+    if word_there(lists, at + 2 * t) != l {
         return false;
     }
-    word_at(lists, k + 1) == 0
+    word_there(lists, at + 2 * t + 1) == 0
 }
 
-fn own_found(lists: &[u8], held: usize, owned: usize, reached: usize, l: usize) -> bool
-    requires { ⌜ Counts (now lists) held owned reached × (1 ≤ l) × (l < 65536) ⌝ }
-    ensures { λ r. ⌜ r ≡ ownFound (now (lists .entry)) l ⌝ }
+// Whether the entries from `from` up to `to` are fine.
+fn rest_fine(lists: &[u8], at: usize, held: usize, n: usize, from: usize, to: usize) -> bool
+    requires { ⌜ Tested (now lists) at held n × (from ≤ to) × (2 * (at + 2 * to) ≤ length (now lists)) ⌝ }
+    ensures { λ r. ⌜ r ≡ every from (to - from) (entryFine (now (lists .entry))) ⌝ }
 {
-    let from = word_at(lists, 45 + held + (l - 1));
-    let to = word_at(lists, 45 + held + l);
     for t in from..to {
-        if own_entry(lists, held, owned, reached, l, t) {
-            return true;
+        if !entry_fine(lists, at, held, n, t) {
+            return false;
+        }
+    }
+    true
+}
+
+// The same, and whether the entry of cell l itself is among them. Where it is found, only the entries after it are left to test.
+fn row_fine(
+    lists: &[u8],
+    at: usize,
+    held: usize,
+    n: usize,
+    l: usize,
+    from: usize,
+    to: usize,
+) -> bool
+    requires { ⌜ Tested (now lists) at held n × (from ≤ to) × (2 * (at + 2 * to) ≤ length (now lists)) ⌝ }
+    ensures { λ r. ⌜ r ≡ every from (to - from) (entryFine (now (lists .entry))) && some from (to - from) (ownEntry (now (lists .entry)) l) ⌝ }
+{
+    for t in from..to {
+        if !entry_fine(lists, at, held, n, t) {
+            return false;
+        }
+        if own_entry(lists, at, held, n, l, t) {
+            return rest_fine(lists, at, held, n, t + 1, to);
         }
     }
     false
 }
 
-fn export_fine(lists: &[u8], held: usize, owned: usize, reached: usize, t: usize) -> bool
-    requires { ⌜ Counts (now lists) held owned reached × (t < 65536) ⌝ }
-    ensures { λ r. ⌜ r ≡ exportFine (now (lists .entry)) t ⌝ }
+// The reaches of the owned cells, row by row. Their ends rise from 0 to `reached`, so the rows have all the entries.
+fn rows_fine(lists: &[u8], held: usize, owned: usize, reached: usize) -> bool
+    requires { ⌜ Fitting (now lists) held owned reached × (allOf (endTests (now lists)) ≡ true) ⌝ }
+    ensures { λ r. ⌜ r ≡ every 1 owned (rowFine (now (lists .entry))) ⌝ }
 {
-    up_to(owned, word_at(lists, 46 + held + owned + 2 * reached + t))
-}
-
-// What is tested at each number of a range, by the test's own number.
-fn fine_at(which: usize, lists: &[u8], held: usize, owned: usize, reached: usize, x: usize) -> bool
-    requires { ⌜ Counts (now lists) held owned reached × (x < 65536) × (which ≡ 5 → 1 ≤ x) ⌝ }
-    ensures { λ r. ⌜ r ≡ fineAt which (now (lists .entry)) x ⌝ }
-{
-    match which {
-        0 => rises_at(lists, 11 + x),
-        1 => rises_at(lists, 28 + x),
-        2 => rises_at(lists, 45 + held + x),
-        3 => global_fine(lists, Local(x as u16)),
-        4 => entry_fine(lists, held, owned, reached, x),
-        5 => own_found(lists, held, owned, reached, x),
-        _ => export_fine(lists, held, owned, reached, x),
+    let n = word_there(lists, 2);
+    let at = 46 + held + owned;
+    let mut from = 0;
+    for l in 1..1 + owned {
+        let to = word_there(lists, 45 + held + l);
+        if !row_fine(lists, at, held, n, l, from, to) {
+            return false;
+        }
+        from = to;
     }
+    true
 }
 
-// Whether a test holds at n numbers from a on.
-fn all_fine(
-    which: usize,
-    lists: &[u8],
-    held: usize,
-    owned: usize,
-    reached: usize,
-    a: usize,
-    n: usize,
-) -> bool
-    requires { ⌜ Counts (now lists) held owned reached × (a ≤ 1) × (n < 65536) × (which ≡ 5 → 1 ≤ a) ⌝ }
-    ensures { λ r. ⌜ r ≡ every a n (fineAt which (now (lists .entry))) ⌝ }
+// Whether the exported cells are owned.
+fn exports_fine(lists: &[u8], held: usize, owned: usize, reached: usize) -> bool
+    requires { ⌜ Fitting (now lists) held owned reached ⌝ }
+    ensures { λ r. ⌜ r ≡ every 0 (exportCount (now (lists .entry))) (exportFine (now (lists .entry))) ⌝ }
 {
-    for x in a..a + n {
-        if !fine_at(which, lists, held, owned, reached, x) {
+    let at = 46 + held + owned + 2 * reached;
+    let sent = word_there(lists, 44);
+    for t in 0..sent {
+        if !up_to(owned, word_there(lists, at + t)) {
             return false;
         }
     }
@@ -196,44 +231,41 @@ fn head_fine(lists: &[u8]) -> bool
 
 // The three tables of ends.
 fn ends_fine(lists: &[u8], held: usize, owned: usize, reached: usize) -> bool
-    requires { ⌜ Counts (now lists) held owned reached ⌝ }
+    requires { ⌜ Fitting (now lists) held owned reached ⌝ }
     ensures { λ r. ⌜ r ≡ allOf (endTests (now (lists .entry))) ⌝ }
 {
-    if !all_fine(0, lists, held, owned, reached, 0, 16) {
+    if !ends_rise(lists, 11, 16) {
         return false;
     }
-    if word_at(lists, 28) != 0 {
+    if word_there(lists, 28) != 0 {
         return false;
     }
-    if !all_fine(1, lists, held, owned, reached, 0, 16) {
+    if !ends_rise(lists, 28, 16) {
         return false;
     }
-    if word_at(lists, 45 + held) != 0 {
+    if word_there(lists, 45 + held) != 0 {
         return false;
     }
-    all_fine(2, lists, held, owned, reached, 0, owned)
+    ends_rise(lists, 45 + held, owned)
 }
 
 // The held cells, the reaches and the exports.
 fn entries_fine(lists: &[u8], held: usize, owned: usize, reached: usize) -> bool
-    requires { ⌜ Counts (now lists) held owned reached ⌝ }
+    requires { ⌜ Fitting (now lists) held owned reached × (allOf (endTests (now lists)) ≡ true) ⌝ }
     ensures { λ r. ⌜ r ≡ allOf (entryTests (now (lists .entry))) ⌝ }
 {
-    if !all_fine(3, lists, held, owned, reached, 1, held) {
+    if !globals_fine(lists, held) {
         return false;
     }
-    if !all_fine(4, lists, held, owned, reached, 0, reached) {
+    if !rows_fine(lists, held, owned, reached) {
         return false;
     }
-    if !all_fine(5, lists, held, owned, reached, 1, owned) {
-        return false;
-    }
-    all_fine(6, lists, held, owned, reached, 0, word_at(lists, 44))
+    exports_fine(lists, held, owned, reached)
 }
 
 // Whether the lists pass all their tests.
 pub fn lists_fine(lists: &[u8], held: usize, owned: usize, reached: usize) -> bool
-    requires { ⌜ Counts (now lists) held owned reached × (18 ≤ length (now lists)) ⌝ }
+    requires { ⌜ Fitting (now lists) held owned reached ⌝ }
     ensures { λ r. ⌜ r ≡ allOf (listsTests (now (lists .entry))) ⌝ }
 {
     if !head_fine(lists) {

@@ -1,14 +1,14 @@
 -- `states::lists::ends_fine` meets its contract. Assumes nothing.
-use Rattle.vocabulary.specs.TestLaws.{fails-here, passes-here, last-here}
+use Rattle.vocabulary.specs.TestLaws.{fails-here, passes-here}
 use Rattle.states.specs.State.{rises}
-use Rattle.states.specs.Checks.{fineAt}
-use Rattle.states.proofs.ListChecks.{counted-by, first-wrong, first-right, reach-wrong, reach-right}
+use Rattle.states.specs.Checks.{riseAt}
+use Rattle.states.proofs.ListChecks.{first-wrong, first-right, reach-wrong, reach-right}
 use borrow.Author.Needs.{needs}
 use Rattle.states.proofs.lists.ends_fine.Statement.{statement}
 use Rattle.states.proofs.lists.ends_fine.Tie as tie
 
 pub ends-fine-spec : {M : Type 1} → statement M
-unfolding fineAt rises
+unfolding riseAt rises
 ends-fine-spec =
     tie.close
     (tie.spec
@@ -21,5 +21,6 @@ ends-fine-spec =
     (λ c. search needs)
     (λ c κs. search needs)
     (λ c. search (passes-here, first-right, reach-wrong) depth 8 fits 4000)
+    (λ c. search needs)
     (λ c κs. search needs)
-    (λ c. search (passes-here, first-right, reach-right, last-here, counted-by) depth 8 fits 4000))
+    (λ c. search (passes-here, first-right, reach-right) depth 8 fits 4000))

@@ -1,4 +1,6 @@
 -- `states::lists::lists_fine` meets its contract. Assumes nothing.
+use mathlib.Core.Path.{sym, _∙_}
+use borrow.Author.Tests.{not-false}
 use Rattle.states.proofs.ListChecks.{lists-1, lists-2, lists-3}
 use borrow.Author.Needs.{needs}
 use Rattle.states.proofs.lists.lists_fine.Statement.{statement}
@@ -12,5 +14,5 @@ lists-fine-spec =
     (λ c. search lists-1)
     (λ c κs. search needs)
     (λ c. search lists-2)
-    (λ c κs. search needs)
+    (λ c κs. (search needs, sym (c .before .ends-fine .ensures) ∙ not-false _ (c .if2 .left)))
     (λ c. search lists-3))

@@ -1,5 +1,5 @@
 -- `states::state::state_fine` meets its contract. Assumes nothing.
-use Rattle.states.proofs.StateChecks.{counts, state-1, state-2, state-3}
+use Rattle.states.proofs.StateChecks.{fitting, state-1, state-2, state-3}
 use borrow.Author.Needs.{needs}
 use Rattle.states.proofs.state.state_fine.Statement.{statement}
 use Rattle.states.proofs.state.state_fine.Tie as tie
@@ -21,7 +21,7 @@ state-fine-spec =
     (λ c. search needs)
     (λ c. search needs)
     (λ c. search state-1)
-    (λ c κs. (search counts, search needs))
+    (λ c κs. search fitting)
     (λ c. search state-2)
     (λ c κs. search needs)
     (λ c. search state-3))
