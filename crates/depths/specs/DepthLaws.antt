@@ -18,7 +18,7 @@ use Rattle.vocabulary.specs.RangeLaws.{every-at, rows-length, rows-at, blocks-t
 use Rattle.vocabulary.specs.ByteLaws.{over-in, over-before, over-after, over-more}
 use Rattle.layout.specs.Words.{word}
 use Rattle.layout.specs.WordLaws.{word-same}
-use Rattle.depths.specs.Depths.{four, numberFrom, signed, unsigned, depthFrom, depthOf, numberBytes, depthBytes, inRange, rangedAt}
+use Rattle.depths.specs.Depths.{deepest, Valid, four, numberFrom, signed, unsigned, depthFrom, depthOf, numberBytes, depthBytes, inRange, rangedAt}
 
 -- ---- fours
 
@@ -267,16 +267,16 @@ depth-small (negsuc n) h = (omega arith, (omega arith, (omega arith, (omega arit
 
 -- ---- the range
 
-pub range-size : (z : ℤ) → inRange z ≡ true → natAbs z ≤ 1200000
+pub range-size : (z : ℤ) → inRange z ≡ true → natAbs z ≤ deepest
 unfolding inRange
 range-size z e = leb-true _ _ e
 
-pub range-intro : (z : ℤ) → natAbs z ≤ 1200000 → inRange z ≡ true
+pub range-intro : (z : ℤ) → natAbs z ≤ deepest → inRange z ≡ true
 unfolding inRange
 range-intro z h = le-leb _ _ h
 
 -- each of the depths in range
-pub ranged-size : (b : Bytes) (at n k : ℕ) → every 0 n (rangedAt b at) ≡ true → k < n → natAbs (depthFrom b (at + 4 * k)) ≤ 1200000
+pub ranged-size : (b : Bytes) (at n k : ℕ) → every 0 n (rangedAt b at) ≡ true → k < n → Valid b (at + 4 * k)
 unfolding rangedAt
 ranged-size b at n k e h =
     range-size (depthFrom b (at + 4 * k)) (ap (λ j. inRange (depthFrom b (at + 4 * j))) (sym (zero-add k)) ∙ every-at 0 (rangedAt b at) n k e h)

@@ -3,7 +3,7 @@
 -- number. Assumes nothing.
 use mathlib.Core.Bool.{Bool, cond}
 use mathlib.Core.List.{[], _∷_}
-use Prim.Native.Nat.{ℕ, _+_, _-_, _*_, _/_, _%_}
+use Prim.Native.Nat.{ℕ, _+_, _-_, _*_, _/_, _%_, _≤_}
 use lib.Dec.{ltb, leb}
 use lib.IntN.{ℤ, pos, negsuc, natAbs}
 use Rattle.vocabulary.specs.Bytes.{Bytes, byteAt}
@@ -40,9 +40,19 @@ unfoldable pub depthBytes : ℤ → Bytes
 depthBytes z = numberBytes (unsigned z)
 
 -- "from −1,200,000 to 1,200,000"
-unfoldable pub inRange : ℤ → Bool
-inRange z = leb (natAbs z) 1200000
+abbrev pub deepest : ℕ
+deepest = 1200000
 
--- of the depths that stand one after another from the place `at` on, the k-th is in range
+unfoldable pub inRange : ℤ → Bool
+inRange z = leb (natAbs z) deepest
+
+-- the four bytes from o on are a value that a field may hold; and the same as a fact
+abbrev pub validDepth : Bytes → ℕ → Bool
+validDepth b o = inRange (depthFrom b o)
+
+abbrev pub Valid : Bytes → ℕ → Type 0
+Valid b o = natAbs (depthFrom b o) ≤ deepest
+
+-- of the depths that stand one after another from the place `at` on, the k-th is valid
 unfoldable pub rangedAt : Bytes → ℕ → ℕ → Bool
-rangedAt b at k = inRange (depthFrom b (at + 4 * k))
+rangedAt b at k = validDepth b (at + 4 * k)

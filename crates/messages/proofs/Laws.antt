@@ -11,23 +11,23 @@ use Rattle.vocabulary.specs.Ranges.{every}
 use Rattle.vocabulary.specs.ByteLaws.{over-more}
 use Rattle.layout.specs.Words.{wordAt, wordBytes, bytesOf}
 use Rattle.depths.specs.Depths.{rangedAt}
-use Rattle.messages.specs.Messages.{bad15, reading}
+use Rattle.messages.specs.Messages.{headSize, messageSize, bad15, reading}
 use Rattle.messages.specs.Heads.{meant}
 use Rattle.messages.specs.declared.Reading.the-variants.{Message, Refused}
 
 -- ---- 15
 
 module _ (b : Bytes) where
-  pub too-short : length b < 8 → true ≡ bad15 b
+  pub too-short : length b < headSize → true ≡ bad15 b
   unfolding bad15
   too-short h = simp (lt-ltb _ _ h)
 
-  module _ (n : ℕ) (h : 8 ≤ length b) (e : n ≡ wordAt b 3) where
-    pub other-length : (length b ≡ 8 + 4 * n → ⊥) → true ≡ bad15 b
+  module _ (n : ℕ) (h : headSize ≤ length b) (e : n ≡ wordAt b 3) where
+    pub other-length : (length b ≡ messageSize n → ⊥) → true ≡ bad15 b
     unfolding bad15
     other-length k = simp (le-ltb _ _ h, sym e, ne-eqb _ _ k)
 
-    pub ranged-depths : (t : Bool) → length b ≡ 8 + 4 * n → t ≡ every 0 n (rangedAt b 8) → not t ≡ bad15 b
+    pub ranged-depths : (t : Bool) → length b ≡ messageSize n → t ≡ every 0 n (rangedAt b headSize) → not t ≡ bad15 b
     unfolding bad15
     ranged-depths t k r = simp (le-ltb _ _ h, sym e, eq-eqb _ _ k, sym r)
 
@@ -45,7 +45,7 @@ module _ (b : Bytes) (t : Bool) (r : t ≡ bad15 b) where
 
 -- ---- the four words of a head
 
-module _ (b x y z w : Bytes) (f g k n : ℕ) (h : 8 ≤ length b) where
+module _ (b x y z w : Bytes) (f g k n : ℕ) (h : headSize ≤ length b) where
   pub head-stores : x ≡ over b 0 (wordBytes f) → y ≡ over x 2 (wordBytes g) → z ≡ over y 4 (wordBytes k) → w ≡ over z 6 (wordBytes n)
       → w ≡ over b 0 (bytesOf (f ∷ g ∷ k ∷ n ∷ []))
   unfolding wordBytes bytesOf

@@ -7,7 +7,7 @@ use Rattle.vocabulary.specs.Bytes.{Bytes}
 use Rattle.vocabulary.specs.Ranges.{listed}
 use Rattle.vocabulary.specs.RangeLaws.{listed-length}
 use Rattle.depths.specs.Depths.{four}
-use Rattle.messages.specs.Messages.{fromIn, toIn, roundIn, countIn, bad15, read, refused, reading}
+use Rattle.messages.specs.Messages.{depthStart, fromIn, toIn, roundIn, countIn, bad15, read, refused, reading}
 use Rattle.messages.specs.Messages as paper
 use Rattle.messages.specs.MessageLaws.{messageIn, isRead, held, numbered}
 use Rattle.messages.specs.Heads.{meant}
@@ -21,7 +21,7 @@ module _ (b : Bytes) where
     from = h .from;
     to = h .to;
     round = h .round;
-    depths = listed 0 (h .count) (λ t. four b (8 + 4 * t));
+    depths = listed 0 (h .count) (λ t. four b (depthStart t));
   }
 
   -- the count is the number of depths, so it follows, too
@@ -40,7 +40,7 @@ module _ (b : Bytes) where
             ap (λ (x : paper.Message). x .from) same,
             ap (λ (x : paper.Message). x .to) same,
             ap (λ (x : paper.Message). x .round) same,
-            sym (listed-length 0 (λ t. four b (8 + 4 * t)) (h .count)) ∙ depths ∙ listed-length 0 (λ t. four b (8 + 4 * t)) (countIn b),
+            sym (listed-length 0 (λ t. four b (depthStart t)) (h .count)) ∙ depths ∙ listed-length 0 (λ t. four b (depthStart t)) (countIn b),
           )
 
   pub refusal-told : (n : ℕ) → meant b (Refused n) ≡ reading b → (bad15 b ≡ true) × (n ≡ 15)

@@ -3,7 +3,7 @@ use Prim.Native.Nat.{ℕ, _+_, _*_}
 use Rattle.vocabulary.specs.Bytes.{Bytes}
 use Rattle.vocabulary.specs.Ranges.{listed}
 use Rattle.depths.specs.Depths.{four}
-use Rattle.messages.specs.Messages.{read, refused}
+use Rattle.messages.specs.Messages.{depthStart, read, refused}
 use Rattle.messages.specs.Messages as paper
 use Rattle.messages.specs.declared.Reading.{Reading}
 use Rattle.messages.specs.declared.Reading.the-variants.{Message, Refused}
@@ -20,6 +20,6 @@ meant b (Message h) =
       from = h .from;
       to = h .to;
       round = h .round;
-      depths = listed 0 (h .count) (λ t. four b (8 + 4 * t));
+      depths = listed 0 (h .count) (λ t. four b (depthStart t));
     })
 meant b (Refused number) = refused number

@@ -19,7 +19,7 @@ use Rattle.layout.specs.Words.{wordAt, words, bytesOf}
 use Rattle.layout.specs.WordLaws.{word-same, wordAt-first, length-bytesOf, bytesOf-bytes, bytesOf-words, words-same}
 use Rattle.depths.specs.Depths.{four, depthOf, inRange, rangedAt}
 use Rattle.depths.specs.DepthLaws.{four-past, joined-at, joined-length, joined-fours, depth-four}
-use Rattle.messages.specs.Messages.{Message, encode, fromIn, toIn, roundIn, countIn, bad15, Reading, read, refused, reading}
+use Rattle.messages.specs.Messages.{headSize, depthStart, messageSize, depthsOf, Message, encode, fromIn, toIn, roundIn, countIn, bad15, Reading, read, refused, reading}
 
 -- a depth that may stand in a message: four bytes, in range
 abbrev pub Sound : Bytes → Type 0
@@ -37,7 +37,7 @@ module _ (x : Message) where
   encode-word k h = wordAt-first (wordsOf x) (joined (x .depths)) k h
 
   -- written to a buffer: its words, and the depths behind them
-  pub encode-over : (out : Bytes) → 8 ≤ length out
+  pub encode-over : (out : Bytes) → headSize ≤ length out
       → over (over out 0 (bytesOf (x .from ∷ x .to ∷ x .round ∷ length (x .depths) ∷ []))) 8 (joined (x .depths)) ≡ over out 0 (encode x)
   unfolding encode bytesOf
   encode-over out h = over-more out 0 (bytesOf (wordsOf x)) (omega arith) (joined (x .depths))
@@ -50,12 +50,12 @@ module _ (x : Message) where
       All-append (λ y. y < 256) (bytesOf (wordsOf x)) (joined (x .depths)) (bytesOf-bytes (wordsOf x) (p, (q, (r, (s, tt))))) (joined-all (λ y. y < 256) (x .depths) a)
 
   module _ (a : All (λ z. length z ≡ 4) (x .depths)) where
-    pub encode-length : length (encode x) ≡ 8 + 4 * length (x .depths)
+    pub encode-length : length (encode x) ≡ messageSize (length (x .depths))
     unfolding encode
     encode-length = omega (arith, length-append (bytesOf (wordsOf x)) (joined (x .depths)), length-bytesOf (wordsOf x), joined-length (x .depths) a)
 
     -- the t-th depth
-    pub encode-depth : (t : ℕ) → t < length (x .depths) → four (encode x) (8 + 4 * t) ≡ getD (x .depths) t []
+    pub encode-depth : (t : ℕ) → t < length (x .depths) → four (encode x) (depthStart t) ≡ getD (x .depths) t []
     unfolding encode
     encode-depth t h =
         ap (λ n. four (encode x) (n + 4 * t)) (sym (length-bytesOf (wordsOf x)))
@@ -70,46 +70,46 @@ module _ (x : Message) where
     pub encode-good : bad15 (encode x) ≡ false
     unfolding bad15 rangedAt
     encode-good =
-        let long : length (encode x) ≡ 8 + 4 * length (x .depths) = encode-length four-long in
-        let short : 8 ≤ length (encode x) = omega arith in
-        let ranged : every 0 (length (x .depths)) (rangedAt (encode x) 8) ≡ true =
-        every-intro 0 (rangedAt (encode x) 8) (length (x .depths))
+        let long : length (encode x) ≡ messageSize (length (x .depths)) = encode-length four-long in
+        let short : headSize ≤ length (encode x) = omega arith in
+        let ranged : every 0 (length (x .depths)) (rangedAt (encode x) headSize) ≡ true =
+        every-intro 0 (rangedAt (encode x) headSize) (length (x .depths))
         (λ t h.
-        ap (λ z. inRange z) (sym (depth-four (encode x) (8 + 4 * (0 + t))) ∙ ap (λ f. depthOf f) (ap (λ k. four (encode x) (8 + 4 * k)) (zero-add t) ∙ encode-depth four-long t h))
+        ap (λ z. inRange z) (sym (depth-four (encode x) (depthStart (0 + t))) ∙ ap (λ f. depthOf f) (ap (λ k. four (encode x) (depthStart k)) (zero-add t) ∙ encode-depth four-long t h))
         ∙ All-getD Sound (x .depths) t [] s h .1) in
         simp (encode-word 3 (omega arith), le-ltb _ _ short, eq-eqb _ _ long, ranged)
 
     pub read-back : reading (encode x) ≡ read x
     unfolding reading
     read-back =
-        let ds : listed 0 (length (x .depths)) (λ t. four (encode x) (8 + 4 * t)) ≡ x .depths =
-        listed-back 0 (λ t. four (encode x) (8 + 4 * t)) (x .depths) [] (λ t h. ap (λ k. four (encode x) (8 + 4 * k)) (zero-add t) ∙ encode-depth four-long t h) in
+        let ds : listed 0 (length (x .depths)) (λ t. four (encode x) (depthStart t)) ≡ x .depths =
+        listed-back 0 (λ t. four (encode x) (depthStart t)) (x .depths) [] (λ t h. ap (λ k. four (encode x) (depthStart k)) (zero-add t) ∙ encode-depth four-long t h) in
         simp (encode-good, encode-word 0 (omega arith), encode-word 1 (omega arith), encode-word 2 (omega arith), encode-word 3 (omega arith), ds)
 
 -- ---- what an accepted message has
 
 module _ (b : Bytes) (e : bad15 b ≡ false) where
-  parts15 : (ltb (length b) 8 ≡ false) × (not (eqb (length b) (8 + 4 * countIn b)) ≡ false) × (not (every 0 (countIn b) (rangedAt b 8)) ≡ false)
+  parts15 : (ltb (length b) headSize ≡ false) × (not (eqb (length b) (messageSize (countIn b))) ≡ false) × (not (every 0 (countIn b) (rangedAt b headSize)) ≡ false)
   unfolding bad15
   parts15 =
-      let p = or-false (ltb (length b) 8 || not (eqb (length b) (8 + 4 * countIn b))) (not (every 0 (countIn b) (rangedAt b 8))) e in
-      let q = or-false (ltb (length b) 8) (not (eqb (length b) (8 + 4 * countIn b))) (p .0) in
+      let p = or-false (ltb (length b) headSize || not (eqb (length b) (messageSize (countIn b)))) (not (every 0 (countIn b) (rangedAt b headSize))) e in
+      let q = or-false (ltb (length b) headSize) (not (eqb (length b) (messageSize (countIn b)))) (p .0) in
       (q .0, q .1, p .1)
 
-  pub good-long : 8 ≤ length b
+  pub good-long : headSize ≤ length b
   good-long = ltb-false _ _ (parts15 .0)
 
-  pub good-length : length b ≡ 8 + 4 * countIn b
+  pub good-length : length b ≡ messageSize (countIn b)
   good-length = eqb-true _ _ (not-false _ (parts15 .1))
 
-  pub good-ranged : every 0 (countIn b) (rangedAt b 8) ≡ true
+  pub good-ranged : every 0 (countIn b) (rangedAt b headSize) ≡ true
   good-ranged = not-false _ (parts15 .2)
 
   -- its depths are the bytes from 8 on
-  pub good-rest : take (4 * countIn b) (drop 8 b) ≡ drop 8 b
-  good-rest = take-all (4 * countIn b) (drop 8 b) (omega (arith, good-length, length-drop 8 b))
+  pub good-rest : take (4 * countIn b) (depthsOf b) ≡ depthsOf b
+  good-rest = take-all (4 * countIn b) (depthsOf b) (omega (arith, good-length, length-drop 8 b))
 
-  pub good-depths : joined (listed 0 (countIn b) (λ t. four b (8 + 4 * t))) ≡ drop 8 b
+  pub good-depths : joined (listed 0 (countIn b) (λ t. four b (depthStart t))) ≡ depthsOf b
   good-depths = joined-fours b 8 (countIn b) (omega (arith, good-length)) ∙ good-rest
 
 -- the message that they are read as
@@ -118,7 +118,7 @@ messageIn b = record {
   from = fromIn b;
   to = toIn b;
   round = roundIn b;
-  depths = listed 0 (countIn b) (λ t. four b (8 + 4 * t));
+  depths = listed 0 (countIn b) (λ t. four b (depthStart t));
 }
 
 pub good-reading : (b : Bytes) → bad15 b ≡ false → reading b ≡ read (messageIn b)
@@ -132,10 +132,10 @@ bad-reading b e = ap (λ t. cond t (refused 15) (read (messageIn b))) e
 -- ---- no other bytes are read as that message
 
 -- the first eight bytes
-front-back : (b : Bytes) → 8 ≤ length b → All (λ y. y < 256) b → bytesOf (fromIn b ∷ toIn b ∷ roundIn b ∷ countIn b ∷ []) ≡ take 8 b
+front-back : (b : Bytes) → headSize ≤ length b → All (λ y. y < 256) b → bytesOf (fromIn b ∷ toIn b ∷ roundIn b ∷ countIn b ∷ []) ≡ take 8 b
 unfolding words listed wordAt
 front-back b h a =
-    let bytes : All (λ y. y < 256) (take 8 b) = All-split (λ y. y < 256) (take 8 b) (drop 8 b) (subst (All (λ y. y < 256)) (sym (take-append-drop 8 b)) a) .0 in
+    let bytes : All (λ y. y < 256) (take 8 b) = All-split (λ y. y < 256) (take 8 b) (depthsOf b) (subst (All (λ y. y < 256)) (sym (take-append-drop 8 b)) a) .0 in
     let same : words b 0 4 ≡ words (take 8 b) 0 4 =
     words-same b (take 8 b) 0 0 4
     (λ i k. word-same b (take 8 b) (2 * (0 + i)) (2 * (0 + i)) (sym (getD-take 8 b (2 * (0 + i)) 0 (omega arith))) (sym (getD-take 8 b (2 * (0 + i) + 1) 0 (omega arith)))) in
@@ -144,7 +144,7 @@ front-back b h a =
 pub message-back : (b : Bytes) → bad15 b ≡ false → All (λ y. y < 256) b → encode (messageIn b) ≡ b
 unfolding encode
 message-back b e a =
-    let n : length (listed 0 (countIn b) (λ t. four b (8 + 4 * t))) ≡ countIn b = listed-length 0 (λ t. four b (8 + 4 * t)) (countIn b) in
+    let n : length (listed 0 (countIn b) (λ t. four b (depthStart t))) ≡ countIn b = listed-length 0 (λ t. four b (depthStart t)) (countIn b) in
     ap₂ (λ p q. p ++ q)
     (ap (λ k. bytesOf (fromIn b ∷ toIn b ∷ roundIn b ∷ k ∷ [])) n ∙ front-back b (good-long b e) a)
     (good-depths b e)

@@ -5,7 +5,7 @@ use mathlib.Core.Bool.{Bool, _||_, not, cond}
 use mathlib.Core.List.{List, [], _∷_, _++_}
 use Prim.Native.Nat.{ℕ, _+_, _*_}
 use lib.Dec.{eqb, ltb}
-use lib.ListN.{length}
+use lib.ListN.{length, drop}
 use Rattle.vocabulary.specs.Ranges.{every, listed}
 use Rattle.vocabulary.specs.Lists.{joined}
 use Rattle.vocabulary.specs.Bytes.{Bytes}
@@ -22,7 +22,17 @@ pub record Message : Type 0 where
 unfoldable pub encode : Message → Bytes
 encode x = bytesOf (x .from ∷ x .to ∷ x .round ∷ length (x .depths) ∷ []) ++ joined (x .depths)
 
--- the words of a message's bytes; its depths stand from byte 8 on
+-- the bytes of the four words before the depths; the place of depth t, from 0 on; the length of a message of n depths
+abbrev pub headSize : ℕ
+headSize = 8
+
+abbrev pub depthStart : ℕ → ℕ
+depthStart t = headSize + 4 * t
+
+abbrev pub messageSize : ℕ → ℕ
+messageSize n = headSize + 4 * n
+
+-- the words of a message's bytes, and all its depths
 abbrev pub fromIn : Bytes → ℕ
 fromIn b = wordAt b 0
 
@@ -35,12 +45,15 @@ roundIn b = wordAt b 2
 abbrev pub countIn : Bytes → ℕ
 countIn b = wordAt b 3
 
+abbrev pub depthsOf : Bytes → Bytes
+depthsOf b = drop headSize b
+
 -- "Message under 8 bytes, length not 8 + 4 × count, or a depth out of range."
 unfoldable pub bad15 : Bytes → Bool
 bad15 b =
-    ltb (length b) 8
-    || not (eqb (length b) (8 + 4 * countIn b))
-    || not (every 0 (countIn b) (rangedAt b 8))
+    ltb (length b) headSize
+    || not (eqb (length b) (messageSize (countIn b)))
+    || not (every 0 (countIn b) (rangedAt b headSize))
 
 -- "What reading gives is either the message or a refusal."
 pub data Reading : Type 0 where
@@ -54,5 +67,5 @@ reading b =
       from = fromIn b;
       to = toIn b;
       round = roundIn b;
-      depths = listed 0 (countIn b) (λ t. four b (8 + 4 * t));
+      depths = listed 0 (countIn b) (λ t. four b (depthStart t));
     }))

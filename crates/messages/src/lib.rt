@@ -7,7 +7,10 @@ ghost use mathlib.Core.Path.{_≡_};
 ghost use Rattle.messages.specs.Messages.{bad15, reading};
 ghost use Rattle.messages.specs.Heads.{numberOf, meant};
 
-// The words of a message. Its depths stay where they are, `count` of them from byte 8 on.
+// The bytes of the four words before the depths.
+pub const HEAD_SIZE: usize = 8;
+
+// The words of a message. Its depths stay where they are, `count` of them behind the words.
 pub struct Head {
     pub from: usize,
     pub to: usize,
@@ -25,14 +28,14 @@ pub enum Reading {
 fn bad_message(b: &[u8]) -> bool
     ensures { λ r. ⌜ r ≡ bad15 (now (b .entry)) ⌝ }
 {
-    if b.len() < 8 {
+    if b.len() < HEAD_SIZE {
         return true;
     }
     let count = word_at(b, 3);
-    if b.len() != 8 + 4 * count {
+    if b.len() != HEAD_SIZE + 4 * count {
         return true;
     }
-    !depths_in_range(b, 8, count)
+    !depths_in_range(b, HEAD_SIZE, count)
 }
 
 // Reads a message out of any bytes.

@@ -1,15 +1,14 @@
 -- How the code chooses a list and gives it. No public contract rests on this page; the laws in proofs/ tie it to the definitions. Assumes
 -- nothing.
 use mathlib.Core.Path.{_≡_}
-use mathlib.Core.Bool.{cond}
 use mathlib.Core.List.{List, [], _∷_, _++_}
 use Prim.Native.Nat.{ℕ, _*_}
-use lib.Dec.{eqb, ltb}
+use lib.Dec.{ltb}
 use lib.ListN.{length}
 use Rattle.vocabulary.specs.Bytes.{Bytes, over}
 use Rattle.vocabulary.specs.Tests.{Test, refuse, firstOf}
 use Rattle.layout.specs.Words.{bytesOf}
-use Rattle.layout.specs.Answers.{answer}
+use Rattle.layout.specs.Answers.{answer, ifAccepted}
 use Rattle.layout.specs.declared.Answer.{Answer}
 use Rattle.mesh.specs.Mesh.{firstCell, cellCount}
 use Rattle.split.specs.Split.{splitOf}
@@ -76,7 +75,7 @@ unfoldable pub givenAnswer : List ℕ → Bytes → Answer
 givenAnswer ws out = answer (givenNumber ws out) (length ws)
 
 unfoldable pub givenOut : List ℕ → Bytes → Bytes
-givenOut ws out = cond (eqb (givenNumber ws out) 0) (over out 0 (bytesOf ws)) out
+givenOut ws out = ifAccepted (givenNumber ws out) (over out 0 (bytesOf ws)) out
 
 -- the call, where it names the parts i and j
 module _ (w : Wanted) (m : Bytes) (parts : ℕ) (owners : Bytes) (i j k : ℕ) (st : Bytes) where
@@ -92,4 +91,4 @@ module _ (w : Wanted) (m : Bytes) (parts : ℕ) (owners : Bytes) (i j k : ℕ) (
   namedAnswer out = answer (firstOf (namedTests out)) (length namedWords)
 
   unfoldable pub namedOut : Bytes → Bytes
-  namedOut out = cond (eqb (firstOf (namedTests out)) 0) (over out 0 (bytesOf namedWords)) out
+  namedOut out = ifAccepted (firstOf (namedTests out)) (over out 0 (bytesOf namedWords)) out

@@ -16,7 +16,7 @@ use Rattle.vocabulary.specs.Tests.{firstOf}
 use Rattle.vocabulary.specs.TestLaws.{holdsOf, passed-by}
 use Rattle.depths.specs.Depths.{rangedAt}
 use Rattle.depths.specs.DepthLaws.{length-four}
-use Rattle.messages.specs.Messages.{fromIn, toIn, roundIn, countIn, bad15}
+use Rattle.messages.specs.Messages.{headSize, messageSize, fromIn, toIn, roundIn, countIn, bad15}
 use Rattle.states.specs.State.{Lists, listsIn, roundAt, stateLength, depthPlace}
 use Rattle.states.specs.StateLaws.{Whole}
 use Rattle.parts.specs.Calls.{importsFrom, depthAt, takeTestsIn}
@@ -39,8 +39,8 @@ room-of st d b w = record {
 
 -- what an accepted message says of itself
 pub record Taken (L : Lists) (d : ℕ) (b x : Bytes) : Type 0 where
-  pub size : length x ≡ 8 + 4 * countIn x
-  pub ranged : every 0 (countIn x) (rangedAt x 8) ≡ true
+  pub size : length x ≡ messageSize (countIn x)
+  pub ranged : every 0 (countIn x) (rangedAt x headSize) ≡ true
   pub to-is : toIn x ≡ L .part
   pub from-least : 1 ≤ fromIn x
   pub from-most : fromIn x ≤ 16
@@ -51,8 +51,8 @@ pub taken-facts : (L : Lists) (d : ℕ) (b x : Bytes) → firstOf (takeTestsIn L
 unfolding takeTestsIn bad15 importsFrom
 taken-facts L d b x e =
     let by : (n : ℕ) → holdsOf n (takeTestsIn L d b x) ≡ false = λ n. passed-by n (takeTestsIn L d b x) tt e in
-    let m = or-false (ltb (length x) 8 || not (eqb (length x) (8 + 4 * countIn x))) (not (every 0 (countIn x) (rangedAt x 8))) (by 15) in
-    let n = or-false (ltb (length x) 8) (not (eqb (length x) (8 + 4 * countIn x))) (m .0) in
+    let m = or-false (ltb (length x) headSize || not (eqb (length x) (messageSize (countIn x)))) (not (every 0 (countIn x) (rangedAt x headSize))) (by 15) in
+    let n = or-false (ltb (length x) headSize) (not (eqb (length x) (messageSize (countIn x)))) (m .0) in
     let p = or-false (not (eqb (toIn x) (L .part)) || not (isUpTo 16 (fromIn x) && ltb 0 (L .imported (fromIn x)))) (not (eqb (countIn x) (L .imported (fromIn x)))) (by 21) in
     let q = or-false (not (eqb (toIn x) (L .part))) (not (isUpTo 16 (fromIn x) && ltb 0 (L .imported (fromIn x)))) (p .0) in
     let r = and-true (isUpTo 16 (fromIn x)) (ltb 0 (L .imported (fromIn x))) (not-false _ (q .1)) in

@@ -3,19 +3,19 @@
 --
 -- "A call tries each number whose inputs it is given, in rising number, the first list first; only 16 comes last of all." "A refusal gives its
 -- number and zero for every count; all lent bytes stay."
-use mathlib.Core.Bool.{Bool, not, _&&_, _||_, cond}
+use mathlib.Core.Bool.{Bool, not, _&&_, _||_}
 use mathlib.Core.List.{List, [], _∷_, _++_, map}
 use Prim.Native.Nat.{ℕ, zero, suc, _+_, _-_, _*_}
 use lib.Dec.{eqb, ltb, leb}
-use lib.ListN.{length, set, drop, replicate}
+use lib.ListN.{length, set, replicate}
 use Rattle.vocabulary.specs.Ranges.{isUpTo, every, blocks}
 use Rattle.vocabulary.specs.Tests.{Test, refuse, firstOf}
 use Rattle.vocabulary.specs.Bytes.{Bytes, byteAt, over}
 use Rattle.layout.specs.Words.{wordBytes}
-use Rattle.layout.specs.Answers.{answer}
+use Rattle.layout.specs.Answers.{answer, ifAccepted}
 use Rattle.layout.specs.declared.Answer.{Answer}
 use Rattle.depths.specs.Depths.{four}
-use Rattle.messages.specs.Messages.{Message, encode, fromIn, toIn, roundIn, countIn, bad15}
+use Rattle.messages.specs.Messages.{depthsOf, Message, encode, fromIn, toIn, roundIn, countIn, bad15}
 use Rattle.states.specs.State.{Lists, listsOf, dynamic, bad20, roundAt, takenPlace, writtenPlace, depthPlace}
 
 -- the part imports from j, exports to j
@@ -70,7 +70,7 @@ module _ (L : Lists) (d : ℕ) (b : Bytes) where
 
   -- the flag is set, and the message's depths become those of the cells imported from there
   unfoldable pub takenIn : Bytes → Bytes
-  takenIn x = over (set b (takenPlace d (fromIn x)) 1) (depthPlace d (L .before (fromIn x) + 1)) (drop 8 x)
+  takenIn x = over (set b (takenPlace d (fromIn x)) 1) (depthPlace d (L .before (fromIn x) + 1)) (depthsOf x)
 
   -- ---- advance: "makes a round of the owned cells"
 
@@ -133,10 +133,10 @@ module _ (b : Bytes) where
   writeAnswer j out = answer (writeNumber j out) (length (message j))
 
   unfoldable pub writeState : ℕ → Bytes → Bytes
-  writeState j out = cond (eqb (writeNumber j out) 0) (writtenIn (listsOf b) (dynamic b) b j) b
+  writeState j out = ifAccepted (writeNumber j out) (writtenIn (listsOf b) (dynamic b) b j) b
 
   unfoldable pub writeOut : ℕ → Bytes → Bytes
-  writeOut j out = cond (eqb (writeNumber j out) 0) (over out 0 (message j)) out
+  writeOut j out = ifAccepted (writeNumber j out) (over out 0 (message j)) out
 
   unfoldable pub takeNumber : Bytes → ℕ
   takeNumber x = firstOf (takeTestsIn (listsOf b) (dynamic b) b x)
@@ -145,7 +145,7 @@ module _ (b : Bytes) where
   takeAnswer x = answer (takeNumber x) 0
 
   unfoldable pub takeState : Bytes → Bytes
-  takeState x = cond (eqb (takeNumber x) 0) (takenIn (listsOf b) (dynamic b) b x) b
+  takeState x = ifAccepted (takeNumber x) (takenIn (listsOf b) (dynamic b) b x) b
 
   unfoldable pub advanceNumber : ℕ
   advanceNumber = firstOf (advanceTestsIn (listsOf b) (dynamic b) b)
@@ -154,7 +154,7 @@ module _ (b : Bytes) where
   advanceAnswer = answer advanceNumber 0
 
   unfoldable pub advanceState : Bytes
-  advanceState = cond (eqb advanceNumber 0) (advancedIn (listsOf b) (dynamic b) b) b
+  advanceState = ifAccepted advanceNumber (advancedIn (listsOf b) (dynamic b) b) b
 
   unfoldable pub collectNumber : ℕ → Bytes → ℕ
   collectNumber k f = firstOf (collectTestsIn (listsOf b) (dynamic b) b k f)
@@ -164,4 +164,4 @@ module _ (b : Bytes) where
   collectAnswer k f = answer (collectNumber k f) (listsOf b .owned)
 
   unfoldable pub collectOut : ℕ → Bytes → Bytes
-  collectOut k f = cond (eqb (collectNumber k f) 0) (collectedIn (listsOf b) (dynamic b) b (listsOf b .owned) f) f
+  collectOut k f = ifAccepted (collectNumber k f) (collectedIn (listsOf b) (dynamic b) b (listsOf b .owned) f) f

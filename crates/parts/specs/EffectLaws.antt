@@ -23,7 +23,7 @@ use Rattle.layout.specs.Words.{word, wordBytes, bytesOf}
 use Rattle.layout.specs.WordLaws.{word-same, word-in, word-left, word-back, length-wordBytes, length-bytesOf, wordAt-first}
 use Rattle.depths.specs.Depths.{four}
 use Rattle.depths.specs.DepthLaws.{length-four, four-set, four-in, four-before, four-after, four-past, four-drop, four-stored, fours-length, fours-at, joined-at}
-use Rattle.messages.specs.Messages.{encode, fromIn, toIn, roundIn, countIn}
+use Rattle.messages.specs.Messages.{depthStart, depthsOf, encode, fromIn, toIn, roundIn, countIn}
 use Rattle.states.specs.State.{Lists, roundAt, takenPlace, depthPlace}
 use Rattle.states.specs.StateLaws.{Frame}
 use Rattle.parts.specs.Calls.{importsFrom, depthAt, messageTo, takenIn, allTaken, advanceTestsIn, newAt, newDepths, advancedIn, collectedIn, writeNumber, writeState, writeOut, takeNumber, takeState, advanceNumber, advanceState, collectNumber, collectOut}
@@ -39,24 +39,24 @@ module _ (L : Lists) (d : ℕ) (b x : Bytes) (w : Room L d b) (v : Taken L d b x
   abbrev at : ℕ
   at = depthPlace d (L .before (fromIn x) + 1)
 
-  pub load : length (drop 8 x) ≡ 4 * L .imported (fromIn x)
+  pub load : length (depthsOf x) ≡ 4 * L .imported (fromIn x)
   load = omega (arith, length-drop 8 x, v .size, v .count-is)
 
   flagged-length : length flagged ≡ length b
   flagged-length = length-set b (takenPlace d (fromIn x)) 1
 
-  pub take-room : at + length (drop 8 x) ≤ length flagged
+  pub take-room : at + length (depthsOf x) ≤ length flagged
   take-room = omega (arith, flagged-length, load, w .long, w .fits (fromIn x) (v .from-least) (v .from-most))
 
   -- below the depths only one flag changes
   pub take-flag : (i : ℕ) → i < d + 34 → i ≢ takenPlace d (fromIn x) → byteAt (takenIn L d b x) i ≡ byteAt b i
   unfolding takenIn
-  take-flag i h n = over-before flagged at (drop 8 x) take-room i (omega arith) ∙ getD-set-other b (takenPlace d (fromIn x)) i 1 0 n
+  take-flag i h n = over-before flagged at (depthsOf x) take-room i (omega arith) ∙ getD-set-other b (takenPlace d (fromIn x)) i 1 0 n
 
   pub take-frame : Frame d b (takenIn L d b x)
   unfolding takenIn
   take-frame = record {
-    same-length = over-length flagged at (drop 8 x) take-room ∙ flagged-length;
+    same-length = over-length flagged at (depthsOf x) take-room ∙ flagged-length;
     same = λ i h. take-flag i (omega arith) (omega arith);
   }
 
@@ -64,12 +64,12 @@ module _ (L : Lists) (d : ℕ) (b x : Bytes) (w : Room L d b) (v : Taken L d b x
   take-word = word-same (takenIn L d b x) b d d (take-flag d (omega arith) (omega (arith, v .from-least))) (take-flag (d + 1) (omega arith) (omega (arith, v .from-least)))
 
   -- the t-th depth, and any other depth
-  pub take-in : (t : ℕ) → t < L .imported (fromIn x) → four (takenIn L d b x) (depthPlace d (L .before (fromIn x) + 1 + t)) ≡ four x (8 + 4 * t)
+  pub take-in : (t : ℕ) → t < L .imported (fromIn x) → four (takenIn L d b x) (depthPlace d (L .before (fromIn x) + 1 + t)) ≡ four x (depthStart t)
   unfolding takenIn
   take-in t h =
       let p : depthPlace d (L .before (fromIn x) + 1 + t) ≡ at + 4 * t = omega arith in
       ap (λ o. four (takenIn L d b x) o) p
-      ∙ four-in flagged at (drop 8 x) take-room (4 * t) (omega (arith, load))
+      ∙ four-in flagged at (depthsOf x) take-room (4 * t) (omega (arith, load))
       ∙ four-drop 8 x (4 * t)
 
   flagged-four : (l : ℕ) → 1 ≤ l → four flagged (depthPlace d l) ≡ four b (depthPlace d l)
@@ -77,11 +77,11 @@ module _ (L : Lists) (d : ℕ) (b x : Bytes) (w : Room L d b) (v : Taken L d b x
 
   pub take-below : (l : ℕ) → 1 ≤ l → l < L .before (fromIn x) + 1 → four (takenIn L d b x) (depthPlace d l) ≡ four b (depthPlace d l)
   unfolding takenIn
-  take-below l h k = four-before flagged at (drop 8 x) take-room (depthPlace d l) (omega arith) ∙ flagged-four l h
+  take-below l h k = four-before flagged at (depthsOf x) take-room (depthPlace d l) (omega arith) ∙ flagged-four l h
 
   pub take-above : (l : ℕ) → 1 ≤ l → L .before (fromIn x) + 1 + L .imported (fromIn x) ≤ l → four (takenIn L d b x) (depthPlace d l) ≡ four b (depthPlace d l)
   unfolding takenIn
-  take-above l h k = four-after flagged at (drop 8 x) take-room (depthPlace d l) (omega (arith, load)) ∙ flagged-four l h
+  take-above l h k = four-after flagged at (depthsOf x) take-room (depthPlace d l) (omega (arith, load)) ∙ flagged-four l h
 
 -- ---- the message that a write gives
 
@@ -98,7 +98,7 @@ message-words L d b j =
       wordAt-first ws (joined ds) 3 (omega arith) ∙ length-map (L .exports j) (depthAt d b),
     )
 
-pub message-depth : (L : Lists) (d : ℕ) (b : Bytes) (j t : ℕ) → t < length (L .exports j) → four (messageTo L d b j) (8 + 4 * t) ≡ depthAt d b (getD (L .exports j) t 0)
+pub message-depth : (L : Lists) (d : ℕ) (b : Bytes) (j t : ℕ) → t < length (L .exports j) → four (messageTo L d b j) (depthStart t) ≡ depthAt d b (getD (L .exports j) t 0)
 unfolding messageTo encode
 message-depth L d b j t h =
     let ds : List Bytes = map (depthAt d b) (L .exports j) in

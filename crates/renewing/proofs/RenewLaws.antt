@@ -6,7 +6,7 @@ use Prim.Native.Nat.{ℕ, _+_, _-_, _*_, _≤_, _<_}
 use native.Mathlib.Nat.{zero-add}
 use native.Mathlib.Omega.{arith}
 use lib.Dec.{eqb}
-use lib.IntN.{ℤ, natAbs}
+use lib.IntN.{ℤ}
 use lib.Signed.{mag}
 use lib.ListN.{length, getD, take, drop}
 use lib.Seq.{length-take-le}
@@ -18,7 +18,7 @@ use Rattle.vocabulary.specs.ListLaws.{and-true, someOf-witness}
 use Rattle.vocabulary.specs.Ranges.{listed, blocks}
 use Rattle.vocabulary.specs.RangeLaws.{listed-map, listed-length, listed-at, listed-moved}
 use Rattle.layout.specs.Words.{word, wordAt}
-use Rattle.depths.specs.Depths.{four, depthFrom, depthBytes}
+use Rattle.depths.specs.Depths.{Valid, four, depthBytes}
 use Rattle.depths.specs.DepthLaws.{length-four, fours-store, ranged-size}
 use Rattle.rules.specs.Rules.{Old, newDepth, bad11, weightCount}
 use Rattle.rules.specs.RuleLaws.{rule-known, rule-light, rule-first, new-length}
@@ -60,10 +60,10 @@ module _ (st : Bytes) (d : ℕ) (b : Bytes) (o : Opened st d b) where
   few-entries : reachCount st ≤ 65535
   few-entries = omega (arith, w .lists-fit, o .place-small)
 
-  deep : (x : ℕ) → 1 ≤ x → x ≤ heldCount st → natAbs (depthFrom b (d + 30 + 4 * x)) ≤ 1200000
+  deep : (x : ℕ) → 1 ≤ x → x ≤ heldCount st → Valid b (d + 30 + 4 * x)
   deep x h k =
       let p : d + 34 + 4 * (x - 1) ≡ d + 30 + 4 * x = omega arith in
-      subst (λ y. natAbs (depthFrom b y) ≤ 1200000) p (ranged-size b (d + 34) (heldCount st) (x - 1) (w .ranged) (omega arith))
+      subst (λ y. Valid b y) p (ranged-size b (d + 34) (heldCount st) (x - 1) (w .ranged) (omega arith))
 
   own-witness : (l : ℕ) → ownFound st l ≡ true → (t : ℕ) × (t < reachEnd st l - reachEnd st (l - 1)) × ((entryAt st (reachEnd st (l - 1) + t)) .layer ≡ 0)
   unfolding localReach

@@ -17,7 +17,7 @@ use Rattle.vocabulary.specs.ListLaws.{or-false}
 use Rattle.vocabulary.specs.Ranges.{every, blocks}
 use Rattle.vocabulary.specs.RangeLaws.{every-intro}
 use Rattle.layout.specs.Words.{word}
-use Rattle.depths.specs.Depths.{four, numberFrom, signed, depthFrom, depthOf, rangedAt}
+use Rattle.depths.specs.Depths.{deepest, Valid, four, numberFrom, signed, depthFrom, depthOf, rangedAt}
 use Rattle.depths.specs.DepthLaws.{length-four, four-same, depth-same, depth-four, fours-length, fours-at, range-intro, ranged-size}
 use Rattle.mesh.specs.Walks.{Near}
 use Rattle.rules.specs.RuleLaws.{Small, new-small, new-length}
@@ -26,7 +26,7 @@ use Rattle.rules.specs.Update.{oldsAt}
 
 -- ---- an accepted field of n cells
 
-none-small : natAbs (depthFrom [] 0) ≤ 1200000
+none-small : Valid [] 0
 unfolding depthFrom signed numberFrom word
 none-small = omega arith
 
@@ -45,10 +45,10 @@ module _ (n : ℕ) (f : Bytes) where
     field-ranged = not-false (every 0 n (rangedAt f 0)) (or-false (not (eqb (length f) (4 * n))) (not (every 0 n (rangedAt f 0))) e .1)
 
     -- past the end every byte counts 0, so no depth is out of range
-    pub field-depth : (j : ℕ) → natAbs (depthFrom f (4 * j)) ≤ 1200000
+    pub field-depth : (j : ℕ) → Valid f (4 * j)
     field-depth j = go (ltb j n) refl
       where
-        go : (b : Bool) → ltb j n ≡ b → natAbs (depthFrom f (4 * j)) ≤ 1200000
+        go : (b : Bool) → ltb j n ≡ b → Valid f (4 * j)
         go true h = rw zero-add at (ranged-size f 0 n j field-ranged (ltb-true j n h))
         go false h =
             let k : n ≤ j = ltb-false j n h in
@@ -87,14 +87,14 @@ module _ (m st : Bytes) (kind : ℕ) (v f : Bytes) where
       let S : Scheme = schemeOf m st kind v in
       fours-at (S .first) (S .cells) (newIn S f) (λ i _. new-four (S .first + i)) j h
 
-  olds-small : (e : bad14 (schemeOf m st kind v .cells) f ≡ false) (ns : List Near) → All (Small 1200000) (oldsIn (schemeOf m st kind v) f ns)
+  olds-small : (e : bad14 (schemeOf m st kind v .cells) f ≡ false) (ns : List Near) → All (Small deepest) (oldsIn (schemeOf m st kind v) f ns)
   unfolding oldsIn depthIn
   olds-small e [] = tt
   olds-small e (x ∷ ns) = (rw depth-four (field-depth _ f e _), olds-small e ns)
 
-  new-ranged : bad14 (schemeOf m st kind v .cells) f ≡ false → (c : ℕ) → natAbs (depthOf (newIn (schemeOf m st kind v) f c)) ≤ 1200000
+  new-ranged : bad14 (schemeOf m st kind v .cells) f ≡ false → (c : ℕ) → natAbs (depthOf (newIn (schemeOf m st kind v) f c)) ≤ deepest
   unfolding newIn schemeOf depthIn
-  new-ranged e c = new-small v 1200000 kind _ _ (omega arith) (rw depth-four (field-depth _ f e _)) (olds-small e _)
+  new-ranged e c = new-small v deepest kind _ _ (omega arith) (rw depth-four (field-depth _ f e _)) (olds-small e _)
 
   pub round-good : bad14 (schemeOf m st kind v .cells) f ≡ false → bad14 (schemeOf m st kind v .cells) (round (schemeOf m st kind v) f) ≡ false
   unfolding round rangedAt

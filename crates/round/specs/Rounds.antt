@@ -1,5 +1,5 @@
 -- Fields, the undivided round and what it makes in k rounds, and the refusal 14. It knows nothing of parts. Assumes nothing.
-use mathlib.Core.Bool.{Bool, _||_, not, cond}
+use mathlib.Core.Bool.{Bool, _||_, not}
 use mathlib.Core.List.{List, [], _∷_, _++_, map}
 use Prim.Native.Nat.{ℕ, zero, suc, _-_, _*_}
 use lib.Dec.{eqb, ltb}
@@ -8,7 +8,7 @@ use Rattle.vocabulary.specs.Ranges.{every, blocks}
 use Rattle.vocabulary.specs.Tests.{Test, refuse, firstOf}
 use Rattle.vocabulary.specs.Bytes.{Bytes, over}
 use Rattle.depths.specs.Depths.{four, rangedAt}
-use Rattle.layout.specs.Answers.{answer}
+use Rattle.layout.specs.Answers.{answer, ifAccepted}
 use Rattle.layout.specs.declared.Answer.{Answer}
 use Rattle.mesh.specs.Mesh.{top, firstCell, cellCount, meshTests}
 use Rattle.mesh.specs.Walks.{Near, reach, steps, bad10, bad13}
@@ -84,4 +84,4 @@ roundAnswer m st kind v f out = answer (roundNumber m st kind v f out) (cellCoun
 
 -- what it leaves in the output: "Bytes past the need stay."
 unfoldable pub roundOut : Bytes → Bytes → ℕ → Bytes → Bytes → Bytes → Bytes
-roundOut m st kind v f out = cond (eqb (roundNumber m st kind v f out) 0) (over out 0 (round (schemeOf m st kind v) f)) out
+roundOut m st kind v f out = ifAccepted (roundNumber m st kind v f out) (over out 0 (round (schemeOf m st kind v) f)) out

@@ -8,7 +8,7 @@ use lib.Signed.{mag}
 use mir.Syntax.{w8, w32}
 use mir.Val.{Fits, toZ, ofZ}
 use Rattle.vocabulary.specs.Bytes.{Bytes, byteAt}
-use Rattle.depths.specs.Depths.{four, depthFrom, depthBytes}
+use Rattle.depths.specs.Depths.{deepest, four, depthFrom, depthBytes}
 use Rattle.depths.specs.DepthLaws.{depth-bytes, depth-four}
 use Rattle.rules.specs.Rules.{Old, depthSum, weightSum, quotient, least, newDepth}
 use Rattle.rules.specs.Kinds.{kindNumber}
@@ -40,13 +40,13 @@ module _ (kind : Kind) (v f : Bytes) (o : ℕ) (os : List Old) (z : ℤ) (h : ma
 
 -- ---- the range
 
-pub held-ranged : (z e : ℤ) → mag z < 2147483648 → z ≡ e → natAbs e ≤ 1200000 → natAbs (toZ w32 (ofZ w32 z)) ≤ 1200000
+pub held-ranged : (z e : ℤ) → mag z < 2147483648 → z ≡ e → natAbs e ≤ deepest → natAbs (toZ w32 (ofZ w32 z)) ≤ deepest
 held-ranged z e h q k = rw (depth-held z e h q) k
 
 module _ (b : Bytes) (at n : ℕ) (f : Bytes) (base : ℕ) (R : Reached b at n f base) (z : ℤ) (h : mag z < 2147483648) where
   pub mean-ranged : (v : Bytes) → z ≡ quotient (depthSum v (oldsAt f base (entries b at n))) (weightSum v (oldsAt f base (entries b at n)))
-      → natAbs (toZ w32 (ofZ w32 z)) ≤ 1200000
-  mean-ranged v q = held-ranged z _ h q (mean-small v 1200000 (oldsAt f base (entries b at n)) (olds-small b at f base 1200000 n (R .ranged)))
+      → natAbs (toZ w32 (ofZ w32 z)) ≤ deepest
+  mean-ranged v q = held-ranged z _ h q (mean-small v deepest (oldsAt f base (entries b at n)) (olds-small b at f base deepest n (R .ranged)))
 
-  pub least-ranged : (y : ℤ) → natAbs y ≤ 1200000 → z ≡ least y (oldsAt f base (entries b at n)) → natAbs (toZ w32 (ofZ w32 z)) ≤ 1200000
-  least-ranged y k q = held-ranged z _ h q (least-small f 1200000 y (oldsAt f base (entries b at n)) k (olds-small b at f base 1200000 n (R .ranged)))
+  pub least-ranged : (y : ℤ) → natAbs y ≤ deepest → z ≡ least y (oldsAt f base (entries b at n)) → natAbs (toZ w32 (ofZ w32 z)) ≤ deepest
+  least-ranged y k q = held-ranged z _ h q (least-small f deepest y (oldsAt f base (entries b at n)) k (olds-small b at f base deepest n (R .ranged)))

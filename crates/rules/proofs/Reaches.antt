@@ -10,7 +10,7 @@ use mir.Val.{toZ, ofZ}
 use mir.ValLaws.{toZ-ofZ}
 use Rattle.vocabulary.specs.Bytes.{Bytes}
 use Rattle.layout.specs.Words.{word, wordAt}
-use Rattle.depths.specs.Depths.{depthFrom}
+use Rattle.depths.specs.Depths.{deepest, depthFrom}
 use Rattle.rules.specs.Rules.{depthSum, weightSum, quotient, lesser, least}
 use Rattle.rules.specs.RuleLaws.{size-more}
 use Rattle.rules.specs.Update.{entries, oldsAt, Reached, Weighed}
@@ -48,7 +48,7 @@ module _ (b : Bytes) (at : ℕ) (f : Bytes) (base : ℕ) where
 pub record Summed (v b : Bytes) (at : ℕ) (f : Bytes) (base t : ℕ) (sum : ℤ) (weights : ℕ) : Type 0 where
   pub sum-is : sum ≡ depthSum v (oldsAt f base (entries b at t))
   pub weights-is : weights ≡ weightSum v (oldsAt f base (entries b at t))
-  pub sum-size : natAbs sum ≤ weights * 1200000
+  pub sum-size : natAbs sum ≤ weights * deepest
   pub weights-size : weights ≤ 15 * t
 
 module _ (v b : Bytes) (at : ℕ) (f : Bytes) (base : ℕ) where
@@ -60,15 +60,15 @@ module _ (v b : Bytes) (at : ℕ) (f : Bytes) (base : ℕ) where
     pub is-light : (w : ℕ) → Weighed v b at n f base → w ≡ wordAt v (word b (at + 4 * t + 2) / 2) → w ≤ 15
     is-light w W e = rw e (W .light t lt)
 
-    pub is-small : (d : ℤ) → Reached b at n f base → mag d < 2147483648 → d ≡ depthFrom f (base + 4 * word b (at + 4 * t)) → natAbs (toZ w32 (ofZ w32 d)) ≤ 1200000
+    pub is-small : (d : ℤ) → Reached b at n f base → mag d < 2147483648 → d ≡ depthFrom f (base + 4 * word b (at + 4 * t)) → natAbs (toZ w32 (ofZ w32 d)) ≤ deepest
     is-small d R h g = rw (depth-held d _ h g) (R .ranged t lt)
 
     pub sum-turn : (sum weights w : ℕ) (d r : ℤ) → Reached b at n f base → Weighed v b at n f base → Summed v b at f base t (toZ w64 sum) weights
         → w ≡ wordAt v (word b (at + 4 * t + 2) / 2) → mag d < 2147483648 → d ≡ depthFrom f (base + 4 * word b (at + 4 * t))
         → r ≡ toZ w64 sum +ℤ pos w *ℤ toZ w32 (ofZ w32 d) → Summed v b at f base (t + 1) (toZ w64 (ofZ w64 r)) (weights + w)
     sum-turn sum weights w d r R W S e h g q =
-        let k : natAbs r ≤ (weights + w) * 1200000 =
-        rw q (size-more w (toZ w32 (ofZ w32 d)) (toZ w64 sum) weights 1200000 (is-small d R h g) (S .sum-size)) in
+        let k : natAbs r ≤ (weights + w) * deepest =
+        rw q (size-more w (toZ w32 (ofZ w32 d)) (toZ w64 sum) weights deepest (is-small d R h g) (S .sum-size)) in
         let l : weights + w ≤ 15 * (t + 1) = omega (arith, S .weights-size, is-light w W e) in
         let p : toZ w64 (ofZ w64 r) ≡ r = toZ-ofZ w64 r (fits-long r (omega (arith, R .few))) in
         record {

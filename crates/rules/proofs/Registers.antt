@@ -9,6 +9,7 @@ use lib.Signed.{mag, ltZ, quotZ}
 use mir.Syntax.{w32, w64}
 use mir.Val.{SFits, toZ, ofZ}
 use mir.ValLaws.{toZ-pos, toZ-ofZ}
+use Rattle.depths.specs.Depths.{deepest}
 use Rattle.rules.specs.Rules.{quotient, lesser}
 use Rattle.rules.specs.RuleLaws.{size-add, size-times, size-quotient}
 
@@ -27,9 +28,9 @@ fits-short (negsuc n) h = record { sfits = omega arith }
 pub wide-fits : (d : ℤ) → SFits w32 d → SFits w64 (toZ w32 (ofZ w32 d))
 wide-fits d f = rw (toZ-ofZ w32 d f) (record { sfits = omega (arith, f .sfits) })
 
-module _ (sum : ℤ) (w : ℕ) (d : ℤ) (fs : SFits w64 sum) (fd : SFits w32 d) (pre : (natAbs sum ≤ 1179630000000) × (w ≤ 15) × (natAbs d ≤ 1200000)) where
+module _ (sum : ℤ) (w : ℕ) (d : ℤ) (fs : SFits w64 sum) (fd : SFits w32 d) (pre : (natAbs sum ≤ 1179630000000) × (w ≤ 15) × (natAbs d ≤ deepest)) where
   size-term : natAbs (pos w *ℤ d) ≤ 18000000
-  size-term = omega (arith, size-times w d, mul-le-mul {n₁ = w} {m₁ = natAbs d} {n₂ = 15} {m₂ = 1200000} (pre .1) (pre .2))
+  size-term = omega (arith, size-times w d, mul-le-mul {n₁ = w} {m₁ = natAbs d} {n₂ = 15} {m₂ = deepest} (pre .1) (pre .2))
 
   term-is : toZ w64 w *ℤ toZ w64 (ofZ w64 (toZ w32 (ofZ w32 d))) ≡ pos w *ℤ d
   term-is = rw (toZ-ofZ w64 _ (wide-fits d fd), toZ-ofZ w32 d fd, toZ-pos w64 w (omega arith)) refl
@@ -48,12 +49,12 @@ module _ (sum : ℤ) (w : ℕ) (d : ℤ) (fs : SFits w64 sum) (fd : SFits w32 d)
 
 -- ---- sum / w, which is no larger than a depth
 
-module _ (sum : ℤ) (w : ℕ) (fs : SFits w64 sum) (pre : (1 ≤ w) × (w ≤ 983025) × (natAbs sum ≤ w * 1200000)) where
+module _ (sum : ℤ) (w : ℕ) (fs : SFits w64 sum) (pre : (1 ≤ w) × (w ≤ 983025) × (natAbs sum ≤ w * deepest)) where
   quotient-is : quotZ (toZ w64 (ofZ w64 sum)) (toZ w64 w) ≡ quotient sum w
   unfolding quotient
   quotient-is = rw (toZ-ofZ w64 sum fs, toZ-pos w64 w (omega arith)) refl
 
-  quotient-small : natAbs (quotient sum w) ≤ 1200000
+  quotient-small : natAbs (quotient sum w) ≤ deepest
   quotient-small = rw (size-quotient sum w) (div-le-of-le-mul w (pre .2))
 
   pub quotient-fits : SFits w64 (quotZ (toZ w64 (ofZ w64 sum)) (toZ w64 w))

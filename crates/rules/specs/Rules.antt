@@ -51,6 +51,10 @@ weightSum v (o ∷ os) = weight v o + weightSum v os
 unfoldable pub quotient : ℤ → ℕ → ℤ
 quotient sum weights = quotZ sum (pos weights)
 
+-- "Mean is the sum of v(layer/2) × old depth over the reach, divided by the sum of those weights"
+abbrev pub mean : Bytes → List Old → ℤ
+mean v os = quotient (depthSum v os) (weightSum v os)
+
 -- the lesser of two depths
 abbrev pub lesser : ℤ → ℤ → ℤ
 lesser y z = cond (ltZ y z) y z
@@ -64,6 +68,6 @@ least z (o ∷ os) = least (lesser (depthOf (o .depth)) z) os
 -- 2 shoalest. 11 refuses every other kind before a depth is made, so what stands for it here is arbitrary.
 unfoldable pub newDepth : ℕ → Bytes → Bytes → List Old → Bytes
 newDepth zero v own os = own
-newDepth (suc zero) v own os = depthBytes (quotient (depthSum v os) (weightSum v os))
+newDepth (suc zero) v own os = depthBytes (mean v os)
 newDepth (suc (suc zero)) v own os = depthBytes (least (depthOf own) os)
 newDepth (suc (suc (suc kind))) v own os = own

@@ -3,12 +3,11 @@
 use mathlib.Core.Path.{_≡_}
 use mathlib.Core.List.{List, map}
 use Prim.Native.Nat.{ℕ, _+_, _*_, _/_, _<_, _≤_}
-use lib.IntN.{natAbs}
 use lib.ListN.{length}
 use Rattle.vocabulary.specs.Bytes.{Bytes}
 use Rattle.vocabulary.specs.Ranges.{listed}
 use Rattle.layout.specs.Words.{word, wordAt}
-use Rattle.depths.specs.Depths.{four, depthFrom}
+use Rattle.depths.specs.Depths.{Valid, four}
 use Rattle.mesh.specs.Walks.{Near}
 use Rattle.rules.specs.Rules.{Old, weightSum}
 
@@ -32,7 +31,7 @@ pub record Reached (b : Bytes) (at n : ℕ) (f : Bytes) (base : ℕ) : Type 0 wh
   pub few : n ≤ 65535
   pub listed-there : at + 4 * n ≤ length b
   pub there : (t : ℕ) → t < n → base + 4 * word b (at + 4 * t) + 3 < length f
-  pub ranged : (t : ℕ) → t < n → natAbs (depthFrom f (base + 4 * word b (at + 4 * t))) ≤ 1200000
+  pub ranged : (t : ℕ) → t < n → Valid f (base + 4 * word b (at + 4 * t))
 
 -- each weight is a weight, and their sum divides
 pub record Weighed (v b : Bytes) (at n : ℕ) (f : Bytes) (base : ℕ) : Type 0 where
@@ -43,5 +42,5 @@ pub record Weighed (v b : Bytes) (at n : ℕ) (f : Bytes) (base : ℕ) : Type 0 
 pub record Ready (kind : ℕ) (v b : Bytes) (at n : ℕ) (f : Bytes) (base own : ℕ) : Type 0 where
   pub reached : Reached b at n f base
   pub own-there : base + 4 * own + 3 < length f
-  pub own-ranged : natAbs (depthFrom f (base + 4 * own)) ≤ 1200000
+  pub own-ranged : Valid f (base + 4 * own)
   pub weighed : kind ≡ 1 → Weighed v b at n f base

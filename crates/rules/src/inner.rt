@@ -8,8 +8,8 @@ ghost use Prim.Native.Nat.{_+_, _*_, _/_, _<_, _≤_};
 ghost use lib.IntN.{pos, natAbs, _+ℤ_, _*ℤ_};
 ghost use lib.ListN.{length};
 ghost use Rattle.layout.specs.Words.{word, wordAt};
-ghost use Rattle.depths.specs.Depths.{four, depthFrom, depthBytes};
-ghost use Rattle.rules.specs.Rules.{depthSum, weightSum, quotient, lesser, least, newDepth};
+ghost use Rattle.depths.specs.Depths.{deepest, four, depthFrom, depthBytes};
+ghost use Rattle.rules.specs.Rules.{quotient, mean, lesser, least, newDepth};
 ghost use Rattle.rules.specs.Kinds.{kindNumber};
 ghost use Rattle.rules.specs.Update.{entries, oldsAt, Reached, Weighed, Ready};
 
@@ -39,7 +39,7 @@ fn old_of(b: &[u8], at: usize, t: usize, f: &[u8], base: usize) -> i32
 
 // One more weighed depth.
 fn add_weighed(sum: i64, w: usize, d: i32) -> i64
-    requires { ⌜ (natAbs sum ≤ 1179630000000) × (w ≤ 15) × (natAbs d ≤ 1200000) ⌝ }
+    requires { ⌜ (natAbs sum ≤ 1179630000000) × (w ≤ 15) × (natAbs d ≤ deepest) ⌝ }
     ensures { λ r. ⌜ r ≡ sum +ℤ pos w *ℤ d ⌝ }
 {
     sum + (w as i64) * (d as i64)
@@ -47,7 +47,7 @@ fn add_weighed(sum: i64, w: usize, d: i32) -> i64
 
 // The mean, "fraction dropped toward zero".
 fn quotient(sum: i64, w: usize) -> i32
-    requires { ⌜ (1 ≤ w) × (w ≤ 983025) × (natAbs sum ≤ w * 1200000) ⌝ }
+    requires { ⌜ (1 ≤ w) × (w ≤ 983025) × (natAbs sum ≤ w * deepest) ⌝ }
     ensures { λ r. ⌜ r ≡ quotient sum w ⌝ }
 {
     (sum / (w as i64)) as i32
@@ -56,7 +56,7 @@ fn quotient(sum: i64, w: usize) -> i32
 // The mean over the n entries at `at` in b.
 fn mean_of(v: &[u8], b: &[u8], at: usize, n: usize, f: &[u8], base: usize) -> i32
     requires { ⌜ Reached (now b) at n (now f) base × Weighed (now v) (now b) at n (now f) base ⌝ }
-    ensures { λ r. ⌜ r ≡ quotient (depthSum (now (v .entry)) (oldsAt (now (f .entry)) base (entries (now (b .entry)) at n))) (weightSum (now (v .entry)) (oldsAt (now (f .entry)) base (entries (now (b .entry)) at n))) ⌝ }
+    ensures { λ r. ⌜ r ≡ mean (now (v .entry)) (oldsAt (now (f .entry)) base (entries (now (b .entry)) at n)) ⌝ }
 {
     let mut sum: i64 = 0;
     let mut weights: usize = 0;
@@ -100,7 +100,7 @@ pub fn new_depth(
     own: usize,
 ) -> i32
     requires { ⌜ Ready (kindNumber kind) (now v) (now b) at n (now f) base own ⌝ }
-    ensures { λ r. ⌜ (depthBytes r ≡ newDepth (kindNumber kind) (now (v .entry)) (four (now (f .entry)) (base + 4 * own)) (oldsAt (now (f .entry)) base (entries (now (b .entry)) at n))) × (natAbs r ≤ 1200000) ⌝ }
+    ensures { λ r. ⌜ (depthBytes r ≡ newDepth (kindNumber kind) (now (v .entry)) (four (now (f .entry)) (base + 4 * own)) (oldsAt (now (f .entry)) base (entries (now (b .entry)) at n))) × (natAbs r ≤ deepest) ⌝ }
 {
     match kind {
         Kind::Hold => depth_of(f, base, own),

@@ -7,7 +7,7 @@ use Prim.Native.Nat.{ℕ, _+_, _-_, _*_, _<_, _≤_}
 use native.Mathlib.Omega.{arith}
 use lib.Dec.{eqb}
 use lib.IntN.{natAbs}
-use lib.ListN.{length, set, take, drop, length-set}
+use lib.ListN.{length, set, take, length-set}
 use lib.Seq.{getD-set-same, getD-set-other}
 use borrow.Author.Tests.{eqb-true, eqb-false, leb-false}
 use Rattle.vocabulary.specs.Bytes.{Bytes, byteAt}
@@ -17,11 +17,11 @@ use Rattle.vocabulary.specs.Ranges.{every}
 use Rattle.vocabulary.specs.RangeLaws.{every-intro}
 use Rattle.vocabulary.specs.TestLaws.{passed-by}
 use Rattle.layout.specs.WordLaws.{word-set}
-use Rattle.depths.specs.Depths.{four, depthFrom, depthOf, rangedAt}
+use Rattle.depths.specs.Depths.{deepest, Valid, four, depthFrom, depthOf, rangedAt}
 use Rattle.depths.specs.DepthLaws.{length-four, four-set, depth-four, range-intro, ranged-size}
 use Rattle.rules.specs.Rules.{Old}
 use Rattle.rules.specs.RuleLaws.{Small, new-small, new-length}
-use Rattle.messages.specs.Messages.{fromIn, countIn}
+use Rattle.messages.specs.Messages.{headSize, depthStart, depthsOf, fromIn, countIn}
 use Rattle.states.specs.State.{LocalNear, listsIn, listsOf, dynamic, ruleKind, weights, heldCount, ownedCount, localReach, isState, roundAt, takenPlace, writtenPlace, depthPlace}
 use Rattle.states.specs.StateLaws.{isStateAt, state-at, Whole, whole-is, still-whole, near-whole, Frame, frame-take, frame-dynamic}
 use Rattle.parts.specs.Calls.{depthAt, writtenIn, takenIn, advanceTestsIn, newAt, advancedIn, writeNumber, writeState, takeNumber, takeState, advanceNumber, advanceState}
@@ -31,7 +31,7 @@ use Rattle.runs.specs.WorldLaws.{write-part}
 
 -- a depth in range, by its four bytes
 abbrev pub Fine : Bytes → Type 0
-Fine x = natAbs (depthOf x) ≤ 1200000
+Fine x = natAbs (depthOf x) ≤ deepest
 
 -- ---- what is left when the bytes before d stay
 
@@ -39,7 +39,7 @@ Fine x = natAbs (depthOf x) ≤ 1200000
 pub ranged-local : (b : Bytes) (d n l : ℕ) → every 0 n (rangedAt b (d + 34)) ≡ true → 1 ≤ l → l ≤ n → Fine (depthAt d b l)
 ranged-local b d n l e h k =
     let q : d + 34 + 4 * (l - 1) ≡ depthPlace d l = omega arith in
-    rw depth-four (subst (λ o. natAbs (depthFrom b o) ≤ 1200000) q (ranged-size b (d + 34) n (l - 1) e (omega arith)))
+    rw depth-four (subst (λ o. Valid b o) q (ranged-size b (d + 34) n (l - 1) e (omega arith)))
 
 pub local-ranged : (b : Bytes) (d n : ℕ) → ((l : ℕ) → 1 ≤ l → l ≤ n → Fine (depthAt d b l)) → every 0 n (rangedAt b (d + 34)) ≡ true
 unfolding rangedAt
@@ -47,7 +47,7 @@ local-ranged b d n f =
     every-intro 0 (rangedAt b (d + 34)) n
     (λ i h.
     let q : depthPlace d (i + 1) ≡ d + 34 + 4 * (0 + i) = omega arith in
-    range-intro (depthFrom b (d + 34 + 4 * (0 + i))) (subst (λ o. natAbs (depthFrom b o) ≤ 1200000) q (rw depth-four at (f (i + 1) (omega arith) (omega arith)))))
+    range-intro (depthFrom b (d + 34 + 4 * (0 + i))) (subst (λ o. Valid b o) q (rw depth-four at (f (i + 1) (omega arith) (omega arith)))))
 
 module _ (b : Bytes) (s : isState b ≡ true) where
   abbrev st : Bytes
@@ -103,7 +103,7 @@ module _ (b : Bytes) (s : isState b ≡ true) where
     taken-set : byteAt (takenIn (listsOf b) (dynamic b) b x) (takenPlace (dynamic b) (fromIn x)) ≡ 1
     unfolding takenIn
     taken-set =
-        over-before (set b (takenPlace (dynamic b) (fromIn x)) 1) (depthPlace (dynamic b) (listsOf b .before (fromIn x) + 1)) (drop 8 x) (take-room (listsOf b) (dynamic b) b x room v)
+        over-before (set b (takenPlace (dynamic b) (fromIn x)) 1) (depthPlace (dynamic b) (listsOf b .before (fromIn x) + 1)) (depthsOf x) (take-room (listsOf b) (dynamic b) b x room v)
         (takenPlace (dynamic b) (fromIn x)) (omega (arith, v .from-most))
         ∙ getD-set-same b (takenPlace (dynamic b) (fromIn x)) 1 0 (omega (arith, v .from-most, room .long))
 
@@ -119,9 +119,9 @@ module _ (b : Bytes) (s : isState b ≡ true) where
     taken-depth l h k (below q) = subst Fine (sym (take-below (listsOf b) (dynamic b) b x room v l h q)) (fine l h k)
     taken-depth l h k (inside t q p) =
         let c : t < countIn x = omega (arith, v .count-is) in
-        let e : depthAt (dynamic b) (takenIn (listsOf b) (dynamic b) b x) l ≡ four x (8 + 4 * t) =
+        let e : depthAt (dynamic b) (takenIn (listsOf b) (dynamic b) b x) l ≡ four x (depthStart t) =
         ap (λ n. depthAt (dynamic b) (takenIn (listsOf b) (dynamic b) b x) n) p ∙ take-in (listsOf b) (dynamic b) b x room v t q in
-        subst Fine (sym e) (rw depth-four (ranged-size x 8 (countIn x) t (v .ranged) c))
+        subst Fine (sym e) (rw depth-four (ranged-size x headSize (countIn x) t (v .ranged) c))
     taken-depth l h k (above q) = subst Fine (sym (take-above (listsOf b) (dynamic b) b x room v l h q)) (fine l h k)
 
     taken : isState (takenIn (listsOf b) (dynamic b) b x) ≡ true
@@ -144,9 +144,9 @@ module _ (b : Bytes) (s : isState b ≡ true) where
   new-fine l h k =
       let es : List LocalNear = localReach (take (dynamic b) b) l in
       let old : LocalNear → Old = λ e. record { layer = e .layer; depth = depthAt (dynamic b) b (e .local) } in
-      new-small (weights (take (dynamic b) b)) 1200000 (ruleKind (take (dynamic b) b)) (depthAt (dynamic b) b l) (map old es) (omega arith)
+      new-small (weights (take (dynamic b) b)) deepest (ruleKind (take (dynamic b) b)) (depthAt (dynamic b) b l) (map old es) (omega arith)
       (fine l h (omega (arith, whole .ends 0 16 (omega arith) (omega arith))))
-      (All-of-map (Small 1200000) old es (All-map es (λ e q. fine (e .local) (q .0) (q .1)) (near-whole (take (dynamic b) b) (dynamic b) b whole l h k)))
+      (All-of-map (Small deepest) old es (All-map es (λ e q. fine (e .local) (q .0) (q .1)) (near-whole (take (dynamic b) b) (dynamic b) b whole l h k)))
 
   advanced-depth : (l : ℕ) → 1 ≤ l → l ≤ heldCount (take (dynamic b) b) → Place 0 (listsOf b .owned + 1) l → Fine (depthAt (dynamic b) (advancedIn (listsOf b) (dynamic b) b) l)
   unfolding listsOf listsIn

@@ -21,7 +21,7 @@ use Rattle.depths.specs.DepthLaws.{length-four, four-set, fours-at}
 use Rattle.mesh.specs.Walks.{Near}
 use Rattle.rules.specs.Rules.{Old}
 use Rattle.round.specs.Rounds.{Scheme, depthIn, oldsIn, newIn, round, undivided}
-use Rattle.messages.specs.Messages.{fromIn, toIn, roundIn, countIn}
+use Rattle.messages.specs.Messages.{depthStart, fromIn, toIn, roundIn, countIn}
 use Rattle.states.specs.State.{LocalNear, Lists, dynamic, roundAt, takenPlace, writtenPlace, depthPlace}
 use Rattle.states.specs.StateLaws.{Frame, frame-take, frame-dynamic}
 use Rattle.parts.specs.Calls.{depthAt, messageTo, writtenIn, takenIn, newAt, advancedIn}
@@ -111,7 +111,7 @@ module _ (X : Scheme) (F : Bytes) (L : Lists) (st : Bytes) (d rd : ℕ) where
 -- ---- take
 
 module _ (X : Scheme) (F : Bytes) (L : Lists) (st : Bytes) (d rd : ℕ) (b x : Bytes) (w : Room L d b) (v : Taken L d b x) (g : Good X F L st d rd b)
-    (r : (t : ℕ) → t < countIn x → four x (8 + 4 * t) ≡ Undivided X F (roundIn x) (L .global (L .before (fromIn x) + 1 + t))) where
+    (r : (t : ℕ) → t < countIn x → four x (depthStart t) ≡ Undivided X F (roundIn x) (L .global (L .before (fromIn x) + 1 + t))) where
   stored : (t : ℕ) → t < L .imported (fromIn x) → Right X F L st d rd (takenIn L d b x) (L .before (fromIn x) + 1 + t)
   stored t h =
       take-in L d b x w v t h
@@ -152,7 +152,7 @@ module _ (X : Scheme) (F : Bytes) (L : Lists) (st : Bytes) (d rd : ℕ) (b x : B
 -- a message holds the undivided depths of its round, at the cells that its sender exports to its receiver
 pub record RightMessage (X : Scheme) (F : Bytes) (parts : ℕ) (Ls : ℕ → Lists) (x : Bytes) : Type 0 where
   pub sender : Part parts (fromIn x)
-  pub depths : (t : ℕ) → t < countIn x → four x (8 + 4 * t) ≡ Undivided X F (roundIn x) (Ls (fromIn x) .global (getD (Ls (fromIn x) .exports (toIn x)) t 0))
+  pub depths : (t : ℕ) → t < countIn x → four x (depthStart t) ≡ Undivided X F (roundIn x) (Ls (fromIn x) .global (getD (Ls (fromIn x) .exports (toIn x)) t 0))
 
 module _ (X : Scheme) (F : Bytes) (owner : ℕ → ℕ) (parts : ℕ) (Ls : ℕ → Lists) (S : Parted X owner parts Ls) (i : ℕ) (part : Part parts i) (st : Bytes) (d rd : ℕ) where
   pub write-right : (b : Bytes) (j : ℕ) → 1 ≤ j → j ≤ 16 → Good X F (Ls i) st d rd b → RightMessage X F parts Ls (messageTo (Ls i) d b j)

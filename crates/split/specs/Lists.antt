@@ -1,5 +1,5 @@
 -- The calls that give a part's lists, and the refusals 8, 9 and 12. Assumes nothing.
-use mathlib.Core.Bool.{Bool, not, _||_, cond}
+use mathlib.Core.Bool.{Bool, not, _||_}
 use mathlib.Core.List.{List, [], _∷_, _++_}
 use Prim.Native.Nat.{ℕ, _*_}
 use lib.Dec.{eqb, ltb}
@@ -9,7 +9,7 @@ use Rattle.vocabulary.specs.Lists.{everyOf}
 use Rattle.vocabulary.specs.Tests.{Test, refuse, firstOf}
 use Rattle.vocabulary.specs.Bytes.{Bytes, over}
 use Rattle.layout.specs.Words.{bytesOf}
-use Rattle.layout.specs.Answers.{answer}
+use Rattle.layout.specs.Answers.{answer, ifAccepted}
 use Rattle.layout.specs.declared.Answer.{Answer}
 use Rattle.mesh.specs.Mesh.{top, cellCount, meshTests}
 use Rattle.mesh.specs.Walks.{bad10, bad13}
@@ -98,4 +98,4 @@ module _ (m : Bytes) (parts : ℕ) (owners : Bytes) (i : ℕ) (st : Bytes) (w : 
 
   -- what it leaves in the output: "a list given or taken is words in the order stated"
   unfoldable pub listOut : Bytes → Bytes
-  listOut out = cond (eqb (listNumber out) 0) (over out 0 (bytesOf listWords)) out
+  listOut out = ifAccepted (listNumber out) (over out 0 (bytesOf listWords)) out

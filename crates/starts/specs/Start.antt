@@ -1,17 +1,16 @@
 -- Start and the size of a state. Assumes nothing.
 --
 -- "Start takes a mesh, a part map, a part's number, a stencil, a rule and a field, and makes a state at round 0."
-use mathlib.Core.Bool.{cond}
 use mathlib.Core.List.{List, [], _∷_, _++_, map}
 use Prim.Native.Nat.{ℕ, _+_, _*_}
-use lib.Dec.{eqb, ltb}
+use lib.Dec.{ltb}
 use lib.ListN.{length, replicate}
 use Rattle.vocabulary.specs.Ranges.{listed, blocks, total}
 use Rattle.vocabulary.specs.Lists.{joined}
 use Rattle.vocabulary.specs.Tests.{Test, refuse, firstOf}
 use Rattle.vocabulary.specs.Bytes.{Bytes, over}
 use Rattle.layout.specs.Words.{wordAt, bytesOf}
-use Rattle.layout.specs.Answers.{answer}
+use Rattle.layout.specs.Answers.{answer, ifAccepted}
 use Rattle.layout.specs.declared.Answer.{Answer}
 use Rattle.mesh.specs.Mesh.{cellCount}
 use Rattle.mesh.specs.Walks.{Near, steps}
@@ -108,4 +107,4 @@ module _ (m : Bytes) (parts : ℕ) (owners : Bytes) (i : ℕ) (st : Bytes) where
     startAnswer state = answer (startNumber state) stateSize
 
     unfoldable pub startState : Bytes → Bytes
-    startState state = cond (eqb (startNumber state) 0) (over state 0 firstState) state
+    startState state = ifAccepted (startNumber state) (over state 0 firstState) state

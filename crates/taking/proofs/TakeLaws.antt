@@ -19,7 +19,7 @@ use Rattle.layout.specs.declared.Answer.{Answer}
 use Rattle.layout.specs.declared.Answer.the-variants.{Done, Refused}
 use types.Run.{OneOf}
 use denote.Enum.Declared.{tagOf}
-use Rattle.messages.specs.Messages.{bad15, fromIn, toIn, roundIn, countIn, reading}
+use Rattle.messages.specs.Messages.{depthsOf, messageSize, bad15, fromIn, toIn, roundIn, countIn, reading}
 use Rattle.messages.specs.Heads.{numberOf, meant}
 use Rattle.messages.specs.HeadLaws.{message-told}
 use Rattle.messages.specs.declared.Head.{Head}
@@ -102,9 +102,9 @@ module _ (b : Bytes) (d from to count : ℕ) (w : Bool) (we : w ≡ wrongSender 
 
 -- ---- what is stored
 
-pub store-told : (b x y z : Bytes) (i at count : ℕ) → length x ≡ 8 + 4 * count → z ≡ set b i 1 → y ≡ over z at (take (4 * count) (drop 8 x)) → y ≡ over (set b i 1) at (drop 8 x)
+pub store-told : (b x y z : Bytes) (i at count : ℕ) → length x ≡ messageSize count → z ≡ set b i 1 → y ≡ over z at (take (4 * count) (depthsOf x)) → y ≡ over (set b i 1) at (depthsOf x)
 store-told b x y z i at count l f e =
-    e ∙ ap₂ (λ (u : Bytes) (w : Bytes). over u at w) f (take-all (4 * count) (drop 8 x) (omega (arith, length-drop 8 x)))
+    e ∙ ap₂ (λ (u : Bytes) (w : Bytes). over u at w) f (take-all (4 * count) (depthsOf x) (omega (arith, length-drop 8 x)))
 
 -- ---- the reader's answer is a message
 
@@ -129,7 +129,7 @@ module _ (b x : Bytes) where
   unfolding takeAnswer takeState
   done = accepts (takeNumber b x) 0 (takenIn (listsOf b) (dynamic b) b x) b
 
-  here : (L : Lists) (d : ℕ) → over (set b (d + 1 + fromIn x) 1) (d + 30 + 4 * (L .before (fromIn x) + 1)) (drop 8 x) ≡ takenIn L d b x
+  here : (L : Lists) (d : ℕ) → over (set b (d + 1 + fromIn x) 1) (d + 30 + 4 * (L .before (fromIn x) + 1)) (depthsOf x) ≡ takenIn L d b x
   unfolding takenIn
   here L d = refl
 
@@ -182,21 +182,21 @@ module _ (b x : Bytes) where
               let w : Room (listsIn (take d b)) d b = room-of (take d b) d b (whole (take d b) d b o) in
               omega (arith, w .fits (fromIn x) (facts .from-least) (facts .from-most), before-is, facts .count-is)
 
-          pub store-fits : (d < 131072) × (from ≤ 16) × (before < 65536) × (count < 65536) × (d + 34 + 4 * (before + count) ≤ length b) × (length x ≡ 8 + 4 * count)
+          pub store-fits : (d < 131072) × (from ≤ 16) × (before < 65536) × (count < 65536) × (d + 34 + 4 * (before + count) ≤ length b) × (length x ≡ messageSize count)
           store-fits = (
             o .place-small,
             from-few,
             omega (arith, held-room, whole (take d b) d b o .few),
             omega (arith, held-room, whole (take d b) d b o .few),
             omega (arith, held-room, long (take d b) d b o),
-            facts .size ∙ ap (λ k. 8 + 4 * k) (sym ce),
+            facts .size ∙ ap (λ k. messageSize k) (sym ce),
           )
 
-          pub told-done : (y : Bytes) → y ≡ over (set b (d + 1 + from) 1) (d + 30 + 4 * (before + 1)) (drop 8 x) → Answered (Done 0) y
+          pub told-done : (y : Bytes) → y ≡ over (set b (d + 1 + from) 1) (d + 30 + 4 * (before + 1)) (depthsOf x) → Answered (Done 0) y
           told-done y e = let a = done accepted in (a .0, e ∙ taken-is ∙ a .1)
             where
-              taken-is : over (set b (d + 1 + from) 1) (d + 30 + 4 * (before + 1)) (drop 8 x) ≡ takenIn (listsOf b) (dynamic b) b x
+              taken-is : over (set b (d + 1 + from) 1) (d + 30 + 4 * (before + 1)) (depthsOf x) ≡ takenIn (listsOf b) (dynamic b) b x
               taken-is =
-                  ap₂ (λ f k. over (set b (d + 1 + f) 1) (d + 30 + 4 * (k + 1)) (drop 8 x)) fe (sym before-is)
+                  ap₂ (λ f k. over (set b (d + 1 + f) 1) (d + 30 + 4 * (k + 1)) (depthsOf x)) fe (sym before-is)
                   ∙ here (listsIn (take d b)) d
                   ∙ ap₂ (λ (L : Lists) p. takenIn L p b x) (sym (lists-is (take d b) d b o)) (o .place-is)

@@ -4,6 +4,7 @@ use layout::byte_at;
 use layout::inner::copy;
 use layout::inner::word_in;
 use layout::word_at;
+use messages::HEAD_SIZE;
 use messages::Reading;
 use messages::read;
 use messages::refusal_of;
@@ -16,7 +17,7 @@ ghost use mathlib.Core.Bool.{false};
 ghost use Prim.Native.Nat.{_+_, _*_, _<_, _≤_};
 ghost use lib.ListN.{length, set, take, drop};
 ghost use Rattle.vocabulary.specs.Bytes.{over};
-ghost use Rattle.messages.specs.Messages.{bad15, fromIn, toIn, roundIn, countIn};
+ghost use Rattle.messages.specs.Messages.{depthsOf, messageSize, bad15, fromIn, toIn, roundIn, countIn};
 ghost use Rattle.states.specs.State.{listsIn};
 ghost use Rattle.parts.specs.Opened.{Opened, wrongSender, takeRest};
 ghost use Rattle.parts.specs.Calls.{takeAnswer, takeState};
@@ -57,11 +58,11 @@ fn take_rest(b: &[u8], d: usize, from: usize, to: usize, round: usize, count: us
 
 // Sets the flag of part `from`, and copies the message's depths to the cells after `before`.
 fn store(b: &mut [u8], d: usize, from: usize, before: usize, x: &[u8], count: usize)
-    requires { ⌜ (d < 131072) × (from ≤ 16) × (before < 65536) × (count < 65536) × (d + 34 + 4 * (before + count) ≤ length (now b)) × (length (now x) ≡ 8 + 4 * count) ⌝ }
-    ensures { λ _. ⌜ now (b .exit) ≡ over (set (now (b .entry)) (d + 1 + from) 1) (d + 30 + 4 * (before + 1)) (drop 8 (now (x .entry))) ⌝ }
+    requires { ⌜ (d < 131072) × (from ≤ 16) × (before < 65536) × (count < 65536) × (d + 34 + 4 * (before + count) ≤ length (now b)) × (length (now x) ≡ messageSize count) ⌝ }
+    ensures { λ _. ⌜ now (b .exit) ≡ over (set (now (b .entry)) (d + 1 + from) 1) (d + 30 + 4 * (before + 1)) (depthsOf (now (x .entry))) ⌝ }
 {
     set_flag(b, d + 1 + from);
-    copy(b, d + 30 + 4 * (before + 1), x, 8, 4 * count);
+    copy(b, d + 30 + 4 * (before + 1), x, HEAD_SIZE, 4 * count);
 }
 
 // Take on a state whose lists end at d, of a message with these words.

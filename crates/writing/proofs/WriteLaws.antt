@@ -19,7 +19,7 @@ use Rattle.depths.specs.DepthLaws.{length-four, fours-store, joined-length}
 use Rattle.layout.specs.AnswerLaws.{refuses, accepts}
 use Rattle.layout.specs.declared.Answer.{Answer}
 use Rattle.layout.specs.declared.Answer.the-variants.{Done, Refused}
-use Rattle.messages.specs.Messages.{encode}
+use Rattle.messages.specs.Messages.{headSize, depthStart, messageSize, encode}
 use Rattle.states.specs.State.{Lists, listsIn, listsOf, dynamic, roundAt, exportEnd, exportCount, exportAt, localExports, heldCount, ownedCount, reachCount, depthPlace}
 use Rattle.parts.specs.Calls.{exportsTo, depthAt, messageTo, writeTestsIn, writtenIn, writeNumber, message, writeAnswer, writeState, writeOut}
 use Rattle.parts.specs.CallLaws.{fours-long}
@@ -120,20 +120,20 @@ module _ (st : Bytes) (d : ℕ) (b : Bytes) (o : Opened st d b) (held owned reac
         let w = whole st d b o .exported (from + t) (omega arith) in
         omega (arith, w .1, local-is, own-few st d b o, long st d b o)
 
-    pub put-turn : (out x y : Bytes) → 8 + 4 * count ≤ length out → x ≡ over out 8 (blocks from t (sentAt st d b)) → y ≡ over x (8 + 4 * t) (take 4 (drop (d + 30 + 4 * l) b))
-        → y ≡ over out 8 (blocks from (t + 1) (sentAt st d b))
+    pub put-turn : (out x y : Bytes) → messageSize count ≤ length out → x ≡ over out headSize (blocks from t (sentAt st d b)) → y ≡ over x (depthStart t) (take 4 (drop (d + 30 + 4 * l) b))
+        → y ≡ over out headSize (blocks from (t + 1) (sentAt st d b))
     put-turn out x y r e q =
         q
-        ∙ ap₂ (λ (z : Bytes) (w : Bytes). over z (8 + 4 * t) w) e (four-cut b (d + 30 + 4 * l) put-room ∙ sent-is)
+        ∙ ap₂ (λ (z : Bytes) (w : Bytes). over z (depthStart t) w) e (four-cut b (d + 30 + 4 * l) put-room ∙ sent-is)
         ∙ fours-store from t (sentAt st d b) (λ k z. sent-four (from + k)) out 8 (omega arith)
       where
         sent-is : four b (d + 30 + 4 * l) ≡ sentAt st d b (from + t)
         sent-is = ap (λ k. four b (d + 30 + 4 * k)) (sym local-is) ∙ sent-at st d b (from + t)
 
 -- the words first, and the depths behind them
-pub message-put : (b out x y : Bytes) (st : Bytes) (d j count from part round : ℕ) → Opened st d b → count ≡ sentTo (listsIn st) j → 1 ≤ count → 8 + 4 * count ≤ length out
+pub message-put : (b out x y : Bytes) (st : Bytes) (d j count from part round : ℕ) → Opened st d b → count ≡ sentTo (listsIn st) j → 1 ≤ count → messageSize count ≤ length out
     → from ≡ wordAt st (27 + j) → part ≡ wordAt st 1 → round ≡ word b d → x ≡ over out 0 (bytesOf (part ∷ j ∷ round ∷ count ∷ []))
-    → y ≡ over x 8 (blocks from count (sentAt st d b)) → y ≡ over out 0 (messageTo (listsIn st) d b j)
+    → y ≡ over x headSize (blocks from count (sentAt st d b)) → y ≡ over out 0 (messageTo (listsIn st) d b j)
 message-put b out x y st d j count from part round o ce some room fe pe re xe ye =
     let l : length (bytesOf (part ∷ j ∷ round ∷ count ∷ [])) ≡ 8 = length-bytesOf (part ∷ j ∷ round ∷ count ∷ []) in
     let k : 8 ≡ 0 + length (bytesOf (part ∷ j ∷ round ∷ count ∷ [])) = omega (arith, l) in
@@ -160,7 +160,7 @@ module _ (b : Bytes) (j d count : ℕ) where
 
 -- ---- the answer, test by test
 
-message-length : (L : Lists) (d : ℕ) (b : Bytes) (j : ℕ) → length (messageTo L d b j) ≡ 8 + 4 * length (L .exports j)
+message-length : (L : Lists) (d : ℕ) (b : Bytes) (j : ℕ) → length (messageTo L d b j) ≡ messageSize (length (L .exports j))
 unfolding messageTo encode
 message-length L d b j =
     let ds = map (depthAt d b) (L .exports j) in
@@ -210,17 +210,17 @@ module _ (b : Bytes) (j : ℕ) (out : Bytes) where
       unfolding message
       message-here = ap₂ (λ (L : Lists) p. messageTo L p b j) (sym (lists-is (take d b) d b o)) (o .place-is)
 
-      size-is : length (message b j) ≡ 8 + 4 * count
-      size-is = ap length (sym message-here) ∙ message-length (listsIn (take d b)) d b j ∙ ap (λ n. 8 + 4 * n) (sym (count-is (take d b) j count count-here some))
+      size-is : length (message b j) ≡ messageSize count
+      size-is = ap length (sym message-here) ∙ message-length (listsIn (take d b)) d b j ∙ ap (λ n. messageSize n) (sym (count-is (take d b) j count count-here some))
 
-      number-last : (x : Bool) → ltb (length out) (8 + 4 * count) ≡ x → writeNumber b j out ≡ cond x 16 0
+      number-last : (x : Bool) → ltb (length out) (messageSize count) ≡ x → writeNumber b j out ≡ cond x 16 0
       unfolding writeNumber writeTestsIn message
       number-last x e = simp (good-state (take d b) d b o, sends, lt-ltb 0 count some, size-is, e)
 
-      pub told-16 : length out < 8 + 4 * count → Answered (Refused 16) b out
+      pub told-16 : length out < messageSize count → Answered (Refused 16) b out
       told-16 h = refused 16 (number-last true (lt-ltb _ _ h)) (λ z. omega (arith, z))
 
-      pub told-done : 8 + 4 * count ≤ length out → (x y : Bytes) → y ≡ over out 0 (messageTo (listsIn (take d b)) d b j) → x ≡ set b (d + 17 + j) 1 → Answered (Done (8 + 4 * count)) x y
+      pub told-done : messageSize count ≤ length out → (x y : Bytes) → y ≡ over out 0 (messageTo (listsIn (take d b)) d b j) → x ≡ set b (d + 17 + j) 1 → Answered (Done (messageSize count)) x y
       told-done h x y ye xe =
           let a = done (number-last false (le-ltb _ _ h)) in (
             ap Done (sym size-is) ∙ a .0,

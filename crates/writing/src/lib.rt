@@ -3,6 +3,7 @@ use layout::Answer;
 use layout::inner::copy;
 use layout::inner::word_in;
 use layout::word_at;
+use messages::HEAD_SIZE;
 use messages::inner::write_head;
 use parts::inner::set_flag;
 use states::inner::between;
@@ -11,6 +12,7 @@ use states::up_to;
 ghost use mathlib.Core.Path.{_≡_};
 ghost use Prim.Native.Nat.{_+_, _*_, _<_, _≤_};
 ghost use lib.ListN.{length, take};
+ghost use Rattle.messages.specs.Messages.{headSize, messageSize};
 ghost use Rattle.vocabulary.specs.Bytes.{over};
 ghost use Rattle.vocabulary.specs.Ranges.{blocks};
 ghost use Rattle.states.specs.State.{listsIn, exportCount};
@@ -40,19 +42,19 @@ fn put_depths(
     count: usize,
     out: &mut [u8],
 )
-    requires { ⌜ Opened (now lists) d (now b) × Counts (now lists) held owned reached × (from + count ≤ exportCount (now lists)) × (from < 65536) × (count < 65536) × (8 + 4 * count ≤ length (now out)) ⌝ }
-    ensures { λ _. ⌜ now (out .exit) ≡ over (now (out .entry)) 8 (blocks from count (sentAt (now (lists .entry)) d (now (b .entry)))) ⌝ }
+    requires { ⌜ Opened (now lists) d (now b) × Counts (now lists) held owned reached × (from + count ≤ exportCount (now lists)) × (from < 65536) × (count < 65536) × (messageSize count ≤ length (now out)) ⌝ }
+    ensures { λ _. ⌜ now (out .exit) ≡ over (now (out .entry)) headSize (blocks from count (sentAt (now (lists .entry)) d (now (b .entry)))) ⌝ }
 {
     let base = 46 + held + owned + 2 * reached;
     for t in 0..count {
         let l = word_at(lists, base + (from + t));
-        copy(out, 8 + 4 * t, b, d + 30 + 4 * l, 4);
+        copy(out, HEAD_SIZE + 4 * t, b, d + 30 + 4 * l, 4);
     }
 }
 
 // The message to part j, on a state whose lists end at d.
 fn put_message(lists: &[u8], b: &[u8], d: usize, j: usize, count: usize, out: &mut [u8])
-    requires { ⌜ Opened (now lists) d (now b) × (count ≡ sentTo (listsIn (now lists)) j) × (1 ≤ count) × (count < 65536) × (8 + 4 * count ≤ length (now out)) ⌝ }
+    requires { ⌜ Opened (now lists) d (now b) × (count ≡ sentTo (listsIn (now lists)) j) × (1 ≤ count) × (count < 65536) × (messageSize count ≤ length (now out)) ⌝ }
     ensures { λ _. ⌜ now (out .exit) ≡ over (now (out .entry)) 0 (messageTo (listsIn (now (lists .entry))) d (now (b .entry)) j) ⌝ }
 {
     let owned = word_at(lists, 11);
@@ -64,7 +66,7 @@ fn put_message(lists: &[u8], b: &[u8], d: usize, j: usize, count: usize, out: &m
 }
 
 fn write_message(b: &[u8], d: usize, j: usize, count: usize, out: &mut [u8])
-    requires { ⌜ Opened (take d (now b)) d (now b) × (count ≡ sentTo (listsIn (take d (now b))) j) × (1 ≤ count) × (count < 65536) × (8 + 4 * count ≤ length (now out)) ⌝ }
+    requires { ⌜ Opened (take d (now b)) d (now b) × (count ≡ sentTo (listsIn (take d (now b))) j) × (1 ≤ count) × (count < 65536) × (messageSize count ≤ length (now out)) ⌝ }
     ensures { λ _. ⌜ now (out .exit) ≡ over (now (out .entry)) 0 (messageTo (listsIn (take d (now (b .entry)))) d (now (b .entry)) j) ⌝ }
 {
     put_message(&b[0..d], b, d, j, count, out);
@@ -79,12 +81,12 @@ fn write_in(b: &mut [u8], d: usize, j: usize, out: &mut [u8]) -> Answer
     if count < 1 {
         return Answer::Refused(27);
     }
-    if out.len() < 8 + 4 * count {
+    if out.len() < HEAD_SIZE + 4 * count {
         return Answer::Refused(16);
     }
     write_message(b, d, j, count, out);
     set_flag(b, d + 17 + j);
-    Answer::Done((8 + 4 * count) as u32)
+    Answer::Done((HEAD_SIZE + 4 * count) as u32)
 }
 
 // Gives the message to part j.
