@@ -1,80 +1,47 @@
 -- Advance, by the tests and the loops of the code. Assumes nothing.
 use mathlib.Core.Path.{_≡_, refl, sym, ap, ap₂, _∙_}
-use mathlib.Core.Bool.{Bool, true, false, not, _&&_, _||_}
+use mathlib.Core.Bool.{Bool, true, false, not}
 use mathlib.Core.List.{_++_}
 use Prim.Native.Nat.{ℕ, _+_, _-_, _*_, _≤_, _<_}
 use native.Mathlib.Omega.{arith}
-use lib.Dec.{eqb, ltb}
 use lib.ListN.{length, take, drop, replicate}
 use lib.Seq.{length-take-le, take-at}
-use borrow.Author.Tests.{lt-ltb, le-ltb, le-leb, lt-leb, not-true, not-false}
-use Rattle.vocabulary.specs.Bytes.{Bytes, byteAt, over}
+use borrow.Author.Tests.{le-leb, lt-leb, not-true, not-false}
+use Rattle.vocabulary.specs.Bytes.{Bytes, over}
 use Rattle.vocabulary.specs.ByteLaws.{over-length, over-more, over-front}
-use Rattle.vocabulary.specs.Ranges.{isUpTo, every, blocks}
-use Rattle.vocabulary.specs.RangeLaws.{every-cong, upTo-intro, listed-length}
+use Rattle.vocabulary.specs.Ranges.{blocks}
 use Rattle.layout.specs.Words.{word, wordAt, wordBytes}
 use Rattle.layout.specs.WordLaws.{length-wordBytes}
 use Rattle.depths.specs.DepthLaws.{fours-length}
 use Rattle.layout.specs.AnswerLaws.{refuses, accepts}
 use Rattle.layout.specs.declared.Answer.{Answer}
 use Rattle.layout.specs.declared.Answer.the-variants.{Done, Refused}
-use Rattle.states.specs.State.{Lists, listsIn, listsOf, dynamic, ownedCount, exportEnd, exportAt, localExports}
-use Rattle.parts.specs.Calls.{importsFrom, exportsTo, allTaken, allWritten, newAt, advancedIn, advanceTestsIn, advanceNumber, advanceAnswer, advanceState}
-use Rattle.parts.specs.Opened.{Opened, settledAt, advanceRest}
+use Rattle.states.specs.State.{Lists, listsIn, listsOf, dynamic, ownedCount}
+use Rattle.parts.specs.Calls.{allTaken, allWritten, newAt, advancedIn, advanceTestsIn, advanceNumber, advanceAnswer, advanceState}
+use Rattle.parts.specs.Opened.{Opened, advanceRest}
 use Rattle.parts.proofs.OpenedLaws.{whole, own-few, long, good-state, cut, lists-is}
 use Rattle.renewing.proofs.RenewLaws.{new-four}
 
--- ---- imports taken and exports written
+-- ---- the tests after 20
 
-module _ (st b : Bytes) (ends flags j n : ℕ) (ne : n ≡ wordAt st (ends + j + 1) - wordAt st (ends + j)) where
-  pub settled-none : n < 1 → true ≡ settledAt st b ends flags j
-  unfolding settledAt
-  settled-none h = let z : n ≤ 0 = omega arith in simp (sym ne, le-ltb 0 n z)
+module _ (st b : Bytes) (d : ℕ) (u : Bool) (ue : u ≡ allTaken (listsIn st) d b) where
+  pub rest-24 : not u ≡ true → 24 ≡ advanceRest (listsIn st) d b
+  unfolding advanceRest
+  rest-24 z = simp (sym ue, not-true u z)
 
-  pub settled-some : (x : ℕ) → 1 ≤ n → x ≡ byteAt b (flags + j) → eqb x 1 ≡ settledAt st b ends flags j
-  unfolding settledAt
-  settled-some x h e = simp (sym ne, lt-ltb 0 n h, sym e)
-
--- the same of all parts, where n j is what is between the ends of part j
-settled-are : (st b : Bytes) (ends flags : ℕ) (n : ℕ → ℕ) → ((j : ℕ) → n j ≡ wordAt st (ends + 1 + j) - wordAt st (ends + 1 + (j - 1)))
-    → every 1 16 (settledAt st b ends flags) ≡ every 1 16 (λ j. not (isUpTo 16 j && ltb 0 (n j)) || eqb (byteAt b (flags + j)) 1)
-unfolding settledAt
-settled-are st b ends flags n is = every-cong 1 (settledAt st b ends flags) (λ j. not (isUpTo 16 j && ltb 0 (n j)) || eqb (byteAt b (flags + j)) 1) 16 each
-  where
-    each : (i : ℕ) → i < 16 → settledAt st b ends flags (1 + i) ≡ not (isUpTo 16 (1 + i) && ltb 0 (n (1 + i))) || eqb (byteAt b (flags + (1 + i))) 1
-    each i h =
-        let p : ends + (1 + i) + 1 ≡ ends + 1 + (1 + i) = omega arith in
-        let q : ends + (1 + i) ≡ ends + 1 + (1 + i - 1) = omega arith in
-        ap₂ (λ t x. not (t && ltb 0 x) || eqb (byteAt b (flags + (1 + i))) 1) (sym (upTo-intro 16 (1 + i) (omega arith) (omega arith)))
-        (ap₂ (λ x y. wordAt st x - wordAt st y) p q ∙ sym (is (1 + i)))
-
-module _ (st b : Bytes) (d : ℕ) where
-  taken-is : every 1 16 (settledAt st b 10 (d + 1)) ≡ allTaken (listsIn st) d b
-  unfolding allTaken importsFrom listsIn
-  taken-is = settled-are st b 10 (d + 1) (listsIn st .imported) (λ j. refl)
-
-  written-is : every 1 16 (settledAt st b 27 (d + 17)) ≡ allWritten (listsIn st) d b
-  unfolding allWritten exportsTo listsIn localExports
-  written-is = settled-are st b 27 (d + 17) (λ j. length (listsIn st .exports j)) (λ j. listed-length (exportEnd st (j - 1)) (exportAt st) (exportEnd st j - exportEnd st (j - 1)))
-
-  module _ (u : Bool) (ue : u ≡ every 1 16 (settledAt st b 10 (d + 1))) where
-    pub rest-24 : not u ≡ true → 24 ≡ advanceRest (listsIn st) d b
+  module _ (ut : not u ≡ false) (w : Bool) (we : w ≡ allWritten (listsIn st) d b) where
+    pub rest-25 : not w ≡ true → 25 ≡ advanceRest (listsIn st) d b
     unfolding advanceRest
-    rest-24 z = simp (sym (ue ∙ taken-is), not-true u z)
+    rest-25 z = simp (sym ue, not-false u ut, sym we, not-true w z)
 
-    module _ (ut : not u ≡ false) (w : Bool) (we : w ≡ every 1 16 (settledAt st b 27 (d + 17))) where
-      pub rest-25 : not w ≡ true → 25 ≡ advanceRest (listsIn st) d b
+    module _ (wt : not w ≡ false) (r : ℕ) (re : r ≡ word b d) where
+      pub rest-26 : 60000 ≤ r → 26 ≡ advanceRest (listsIn st) d b
       unfolding advanceRest
-      rest-25 z = simp (sym (ue ∙ taken-is), not-false u ut, sym (we ∙ written-is), not-true w z)
+      rest-26 h = simp (sym ue, not-false u ut, sym we, not-false w wt, sym re, le-leb _ _ h)
 
-      module _ (wt : not w ≡ false) (r : ℕ) (re : r ≡ word b d) where
-        pub rest-26 : 60000 ≤ r → 26 ≡ advanceRest (listsIn st) d b
-        unfolding advanceRest
-        rest-26 h = simp (sym (ue ∙ taken-is), not-false u ut, sym (we ∙ written-is), not-false w wt, sym re, le-leb _ _ h)
-
-        pub rest-none : r < 60000 → 0 ≡ advanceRest (listsIn st) d b
-        unfolding advanceRest
-        rest-none h = simp (sym (ue ∙ taken-is), not-false u ut, sym (we ∙ written-is), not-false w wt, sym re, lt-leb _ _ h)
+      pub rest-none : r < 60000 → 0 ≡ advanceRest (listsIn st) d b
+      unfolding advanceRest
+      rest-none h = simp (sym ue, not-false u ut, sym we, not-false w wt, sym re, lt-leb _ _ h)
 
 -- ---- what is stored
 

@@ -1,57 +1,34 @@
 // Advance: one round of the owned cells.
 use layout::Answer;
-use layout::byte_at;
 use layout::inner::copy;
 use layout::inner::put_word;
 use layout::inner::word_in;
 use layout::word_at;
+use parts::inner::all_taken;
+use parts::inner::all_written;
 use parts::inner::clear;
 use renewing::inner::renew_by;
-use states::inner::between;
 use states::is_state;
 ghost use mathlib.Core.Path.{_≡_};
 ghost use mathlib.Core.List.{_++_};
 ghost use Prim.Native.Nat.{_+_, _*_, _<_, _≤_};
 ghost use lib.ListN.{length, take, replicate};
 ghost use Rattle.vocabulary.specs.Bytes.{over};
-ghost use Rattle.vocabulary.specs.Ranges.{every, blocks};
+ghost use Rattle.vocabulary.specs.Ranges.{blocks};
 ghost use Rattle.layout.specs.Words.{wordBytes};
 ghost use Rattle.states.specs.State.{listsIn, ownedCount};
-ghost use Rattle.parts.specs.Opened.{Opened, settledAt, advanceRest};
+ghost use Rattle.parts.specs.Opened.{Opened, advanceRest};
 ghost use Rattle.parts.specs.Calls.{newAt, advanceAnswer, advanceState};
-
-// Whether nothing is to be taken from (written to) part j, or its flag is set.
-fn settled(lists: &[u8], b: &[u8], ends: usize, flags: usize, j: usize) -> bool
-    requires { ⌜ (ends < 65536) × (flags < 1000000) × (j < 65536) ⌝ }
-    ensures { λ r. ⌜ r ≡ settledAt (now (lists .entry)) (now (b .entry)) ends flags j ⌝ }
-{
-    if between(lists, ends + j) < 1 {
-        return true;
-    }
-    byte_at(b, flags + j) == 1
-}
-
-fn all_settled(lists: &[u8], b: &[u8], ends: usize, flags: usize) -> bool
-    requires { ⌜ (ends < 65536) × (flags < 1000000) ⌝ }
-    ensures { λ r. ⌜ r ≡ every 1 16 (settledAt (now (lists .entry)) (now (b .entry)) ends flags) ⌝ }
-{
-    for j in 1..17 {
-        if !settled(lists, b, ends, flags, j) {
-            return false;
-        }
-    }
-    true
-}
 
 // The number of the first of advance's tests after 20 that holds, and 0 where none does.
 fn advance_rest(lists: &[u8], b: &[u8], d: usize) -> u32
     requires { ⌜ Opened (now lists) d (now b) ⌝ }
     ensures { λ r. ⌜ r ≡ advanceRest (listsIn (now (lists .entry))) d (now (b .entry)) ⌝ }
 {
-    if !all_settled(lists, b, 10, d + 1) {
+    if !all_taken(lists, b, d) {
         return 24;
     }
-    if !all_settled(lists, b, 27, d + 17) {
+    if !all_written(lists, b, d) {
         return 25;
     }
     if 60000 <= word_in(b, d) {

@@ -1,2 +1,3 @@
 pub mod OpenedLaws
 pub mod FlagLaws
+pub mod SettledLaws

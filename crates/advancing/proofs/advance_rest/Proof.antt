@@ -10,11 +10,9 @@ pub advance-rest-spec : {M : Type 1} → statement M
 advance-rest-spec =
     tie.close
     (tie.spec
-    (λ c. search needs)
-    (λ c κs. search needs)
+    (λ c κs. c .before .before .pre .place-small)
     (λ c. search rest-24)
-    (λ c. search needs)
-    (λ c κs. search needs)
+    (λ c κs. c .before .before .before .before .pre .place-small)
     (λ c. search rest-25)
     (λ c κs. omega (arith, long _ _ _ (c .before .before .before .before .before .before .pre)))
     (λ c. search rest-26)

@@ -1,8 +1,8 @@
--- `advancing::settled` meets its contract. Assumes nothing.
-use Rattle.advancing.proofs.AdvanceLaws.{settled-none, settled-some}
+-- `parts::settled::settled` meets its contract. Assumes nothing.
+use Rattle.parts.proofs.SettledLaws.{settled-none, settled-some}
 use borrow.Author.Needs.{needs}
-use Rattle.advancing.proofs.settled.Statement.{statement}
-use Rattle.advancing.proofs.settled.Tie as tie
+use Rattle.parts.proofs.settled.settled.Statement.{statement}
+use Rattle.parts.proofs.settled.settled.Tie as tie
 
 pub settled-spec : {M : Type 1} → statement M
 settled-spec =

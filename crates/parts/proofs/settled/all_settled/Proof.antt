@@ -1,13 +1,13 @@
--- `advancing::all_settled` meets its contract. The invariant: the parts so far are settled. Assumes nothing.
+-- `parts::settled::all_settled` meets its contract. The invariant: the parts so far are settled. Assumes nothing.
 use mathlib.Core.Path.{_≡_}
 use mathlib.Core.Bool.{true}
 use Prim.Native.Nat.{_+_, _-_, _≤_}
 use Rattle.vocabulary.specs.Ranges.{every}
 use Rattle.vocabulary.specs.ScanLaws.{every-start-from, every-stop-from, every-turn-from, every-end-from}
 use Rattle.parts.specs.Opened.{settledAt}
 use borrow.Author.Needs.{needs}
-use Rattle.advancing.proofs.all_settled.Statement.{statement}
-use Rattle.advancing.proofs.all_settled.Tie as tie
+use Rattle.parts.proofs.settled.all_settled.Statement.{statement}
+use Rattle.parts.proofs.settled.all_settled.Tie as tie
 
 abbrev Inv-loop : tie.InvT-loop
 Inv-loop lists b ends flags j₀ j = (1 ≤ j) × (j ≤ 1 + 16) × (every 1 (j - 1) (settledAt lists b ends flags) ≡ true)
