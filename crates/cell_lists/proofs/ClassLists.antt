@@ -85,11 +85,11 @@ module _ (m : Bytes) (parts : ℕ) (owners st table : Bytes) (ends : List ℕ) (
         ∙ blocks-picked (firstCell m) (cellCount m) p
 
     owner-few : (q : ℕ) → q < cellCount m → S .owner (firstCell m + q) ≤ 16
-    unfolding splitOf ownerAt
+    unfolding splitOf
     owner-few q h =
         let f = map-facts m parts owners [] (R .map) in
         let e : firstCell m + q - firstCell m ≡ q = omega arith in
-        subst (λ k. byteAt owners k ≤ 16) (sym e) (omega (arith, f .owner-in q h .1, f .few))
+        subst (λ k. ownerAt owners k ≤ 16) (sym e) (omega (arith, f .owner-in q h .1, f .few))
 
     own-cells : (y : Bool) → classCells class first cells (cond y 17 18) ≡ picked (firstCell m) (cellCount m) (λ c. eqb (S .owner c) i && cond y (inside S i c) (not (inside S i c)))
     unfolding classIn owns

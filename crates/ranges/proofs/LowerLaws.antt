@@ -9,7 +9,7 @@ use lib.ListN.{getD, length, set, length-set, length-append}
 use lib.Seq.{getD-set-same, getD-set-other}
 use mathlib.Core.Logic.{⊎-elim}
 use Rattle.vocabulary.specs.CountLaws.{total-add, total-single}
-use borrow.Author.Tests.{eq-eqb, le-leb, lt-leb, lt-ltb, le-ltb, eqb-true, eqb-false, ne-eqb, not-true, ltb-true}
+use borrow.Author.Tests.{eq-eqb, lt-leb, lt-ltb, le-ltb, eqb-true, eqb-false, ne-eqb, not-true, ltb-true}
 use Rattle.vocabulary.specs.Bytes.{Bytes, byteAt}
 use Rattle.vocabulary.specs.Ranges.{picked, every, blocks, some, total}
 use Rattle.vocabulary.specs.RangeLaws.{at-last, picked-cong, some-cong, some-swap, picked-some, last-or, total-cong, blocks-cong, picked-all, picked-length-le, some-in, some-witness, blocks-picked}
@@ -198,8 +198,8 @@ module _ (m : Bytes) (parts : ℕ) (owners st table : Bytes) (ends : List ℕ) (
   abbrev S : Split
   S = splitOf m parts owners st
 
-  own-is : (y : ℕ) → S .owner y ≡ byteAt owners (y - firstCell m)
-  unfolding splitOf ownerAt
+  own-is : (y : ℕ) → S .owner y ≡ ownerAt owners (y - firstCell m)
+  unfolding splitOf
   own-is y = refl
 
   -- the cells at an element are cells

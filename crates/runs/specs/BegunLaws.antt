@@ -30,9 +30,9 @@ use Rattle.states.specs.State.{LocalNear, fineEntry, partNumber, stepCount, rul
 use Rattle.states.specs.StateLaws.{rises-intro, isStateAt, state-at}
 use Rattle.starts.specs.Start.{ownedIn, reachOf, importEnds, exportEnds, reachEnds, exportWords, listsLong}
 use Rattle.runs.specs.FormLaws.{front-length, part-back, steps-back, kind-back, first-back, cells-back, weights-back, import-back, export-back, owned-back, global-back, held-back, ends-back, count-back, entry-back, reach-back, export-word, exports-length}
-use Rattle.runs.specs.Run.{Inputs, startNumberIn, startStateIn, StatesKept}
+use Rattle.runs.specs.Run.{Inputs, mapIn, splitIn, startNumberIn, startStateIn, StatesKept}
 use Rattle.runs.specs.RunLaws.{Part}
-use Rattle.runs.specs.StartLaws.{Ready, started-facts, splitIn, frontIn, reach-inside, owner-inside, order-full, deep, deep-length, stateOf, state-dynamic, state-front, state-zero, state-round, state-depth, start-is}
+use Rattle.runs.specs.StartLaws.{Ready, started-facts, frontIn, reach-inside, owner-inside, order-full, deep, deep-length, stateOf, state-dynamic, state-front, state-zero, state-round, state-depth, start-is}
 use Rattle.runs.specs.KeptLaws.{Fine, local-ranged, write-kept, take-kept, advance-kept}
 
 -- an accepted mesh has few cells
@@ -56,7 +56,7 @@ ends-rise n own e c f = rises-intro n e (λ j h. omega (arith, f j (omega arith)
 
 module _ (I : Inputs) (R : Ready I) (i : ℕ) (part : Part (I .parts) i) where
   abbrev S : Split
-  S = splitOf (I .mesh) (I .parts) (I .owners) (I .stencil)
+  S = splitIn I
 
   abbrev order : List ℕ
   order = locals (splitIn I) i
@@ -84,7 +84,7 @@ module _ (I : Inputs) (R : Ready I) (i : ℕ) (part : Part (I .parts) i) where
   order-few =
       omega (
         arith,
-        local-held S (reach-inside I R) (owner-inside I R) (split-own (I .mesh) (I .parts) (I .owners) (I .stencil)) i,
+        local-held S (reach-inside I R) (owner-inside I R) (split-own (I .mesh) (I .parts) (mapIn I) (I .stencil)) i,
         picked-length-le (firstCell (I .mesh)) (holds S i) (cellCount (I .mesh)),
         cells-few (I .mesh) (mesh-sized (I .mesh) (R .mesh-good) .0) (mesh-sized (I .mesh) (R .mesh-good) .1),
       )

@@ -4,17 +4,17 @@ use mathlib.Core.List.{[], _∷_}
 use Prim.Native.Nat.{ℕ, _<_, _≤_}
 use native.Mathlib.Omega.{arith}
 use lib.ListN.{length}
-use Rattle.vocabulary.specs.Bytes.{Bytes, byteAt}
+use Rattle.vocabulary.specs.Bytes.{Bytes}
 use Rattle.vocabulary.specs.Ranges.{total}
 use Rattle.mesh.specs.Mesh.{cellCount}
-use Rattle.split.specs.Split.{Split, splitOf, exports}
+use Rattle.split.specs.Split.{Split, splitOf, exports, ownerAt}
 use Rattle.split.specs.Lists.{sizeTests}
 use Rattle.split.specs.SplitLaws.{split-parted, split-fine, map-facts, split-reach, split-own, split-owner, order-length, local-held, export-total}
 use Rattle.starts.specs.Start.{reachEnds, exportEnds, listsLong, stateSize, sizeNumber}
 use Rattle.runs.specs.Run.{StateBound}
 
 -- sixteen numbers export no more than the parts
-exports-few : (m owners st : Bytes) (parts i : ℕ) → parts ≤ 16 → ((k : ℕ) → k < cellCount m → (1 ≤ byteAt owners k) × (byteAt owners k ≤ parts))
+exports-few : (m owners st : Bytes) (parts i : ℕ) → parts ≤ 16 → ((k : ℕ) → k < cellCount m → (1 ≤ ownerAt owners k) × (ownerAt owners k ≤ parts))
     → total 1 16 (λ j. length (exports (splitOf m parts owners st) i j)) ≡ total 1 parts (λ j. length (exports (splitOf m parts owners st) i j))
 unfolding splitOf
 exports-few m owners st parts i few f = export-total (splitOf m parts owners st) (split-reach m parts owners st) (split-owner m parts owners st f) i few

@@ -107,9 +107,15 @@ pub record Inputs : Type 0 where
 abbrev pub schemeIn : Inputs → Scheme
 schemeIn I = schemeOf (I .mesh) (I .stencil) (I .kind) (I .weights)
 
--- the owner of the cell of index k, from 0
+-- its part map, the owner of the cell of index k, from 0, and the split into parts
+abbrev pub mapIn : Inputs → Bytes
+mapIn I = I .owners
+
 abbrev pub ownerIn : Inputs → ℕ → ℕ
-ownerIn I k = ownerAt (I .owners) k
+ownerIn I k = ownerAt (mapIn I) k
+
+abbrev pub splitIn : Inputs → Split
+splitIn I = splitOf (I .mesh) (I .parts) (mapIn I) (I .stencil)
 
 unfoldable pub startNumberIn : Inputs → ℕ → Bytes → ℕ
 startNumberIn I i buffer = startNumber (I .mesh) (I .parts) (I .owners) i (I .stencil) (I .kind) (I .weights) (I .field) buffer

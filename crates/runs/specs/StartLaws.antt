@@ -27,13 +27,13 @@ use Rattle.mesh.specs.Walks.{Near, reach, steps, bad10}
 use Rattle.mesh.specs.WalkLaws.{steps-few}
 use Rattle.rules.specs.Rules.{newDepth, bad11}
 use Rattle.round.specs.Rounds.{schemeOf, depthIn, undivided, bad14}
-use Rattle.split.specs.Split.{Split, splitOf, ownerAt, owned, imports, exports, locals, localOf, globalOf}
+use Rattle.split.specs.Split.{Split, splitOf, owned, imports, exports, locals, localOf, globalOf}
 use Rattle.split.specs.Lists.{sizeTests}
 use Rattle.split.specs.SplitLaws.{split-parted, split-fine, sizes-parted, map-facts, split-reach, split-owner, Cell, order-length, own-is, own-has, own-local, local-back, own-first, import-own, import-at, local-cases, reach-held, import-total, ownCells, own-count}
 use Rattle.states.specs.State.{LocalNear, Lists, listsIn, dynamic, roundAt, takenPlace, depthPlace}
 use Rattle.starts.specs.Start.{ownedIn, importEnds, listsWords, stateSize, firstState, lastTests, startTests, startNumber, startState}
 use Rattle.runs.specs.FormLaws.{front, words-length, front-length, part-back, kind-back, first-back, cells-back, owned-back, held-back, global-back, import-back, reach-back, exports-back, weights-back}
-use Rattle.runs.specs.Run.{Inputs, schemeIn, ownerIn, startNumberIn, startStateIn}
+use Rattle.runs.specs.Run.{Inputs, schemeIn, mapIn, ownerIn, splitIn, startNumberIn, startStateIn}
 use Rattle.runs.specs.RunLaws.{Part, Parted, Block, Good, globally}
 use Rattle.runs.specs.WorldLaws.{ownerOf}
 
@@ -54,7 +54,7 @@ pub record Begun (I : Inputs) (i : ℕ) (buffer : Bytes) : Type 0 where
   pub room : stateSize (I .mesh) (I .parts) (I .owners) i (I .stencil) ≤ length buffer
 
 pub started-facts : (I : Inputs) (i : ℕ) (buffer : Bytes) → startNumberIn I i buffer ≡ 0 → Begun I i buffer
-unfolding startNumberIn startNumber startTests ownerAt
+unfolding startNumberIn startNumber startTests
 started-facts I i buffer e =
     let m : Bytes = I .mesh in
     let st : Bytes = I .stencil in
@@ -82,9 +82,6 @@ started-facts I i buffer e =
 
 -- ---- the lists of all parts are as a run needs them
 
-abbrev pub splitIn : Inputs → Split
-splitIn I = splitOf (I .mesh) (I .parts) (I .owners) (I .stencil)
-
 abbrev pub orderIn : Inputs → ℕ → List ℕ
 orderIn I i = locals (splitIn I) i
 
@@ -94,11 +91,10 @@ frontIn I i = front (splitIn I) i (locals (splitIn I) i) (steps (I .stencil)) (I
 
 module _ (I : Inputs) (R : Ready I) where
   pub reach-inside : (c : ℕ) → Cell (splitIn I) c → All (λ e. Cell (splitIn I) (e .cell)) (splitIn I .reach c)
-  reach-inside = split-reach (I .mesh) (I .parts) (I .owners) (I .stencil)
+  reach-inside = split-reach (I .mesh) (I .parts) (mapIn I) (I .stencil)
 
   pub owner-inside : (c : ℕ) → Cell (splitIn I) c → (1 ≤ splitIn I .owner c) × (splitIn I .owner c ≤ splitIn I .parts)
-  unfolding ownerAt
-  owner-inside = split-owner (I .mesh) (I .parts) (I .owners) (I .stencil) (R .owners-in)
+  owner-inside = split-owner (I .mesh) (I .parts) (mapIn I) (I .stencil) (R .owners-in)
 
   split-few : splitIn I .parts ≤ 16
   unfolding splitOf
@@ -121,7 +117,7 @@ module _ (I : Inputs) (R : Ready I) where
 
   module _ (i : ℕ) where
     abbrev S : Split
-    S = splitOf (I .mesh) (I .parts) (I .owners) (I .stencil)
+    S = splitIn I
 
     abbrev order : List ℕ
     order = locals (splitIn I) i

@@ -8,7 +8,7 @@ use native.Mathlib.Nat.{zero-add}
 use native.Mathlib.Omega.{arith}
 use lib.Dec.{eqb, ltb}
 use lib.ListN.{length, getD, length-append, length-map}
-use borrow.Author.Tests.{eqb-true, eqb-false, eq-eqb, ne-eqb, lt-ltb, le-ltb}
+use borrow.Author.Tests.{eqb-true, eq-eqb, ne-eqb, lt-ltb}
 use Rattle.vocabulary.specs.Bytes.{Bytes, byteAt}
 use Rattle.vocabulary.specs.Ranges.{picked, some, total}
 use Rattle.vocabulary.specs.RangeLaws.{some-cong, some-has, some-in, some-witness, total-cong, picked-all, picked-in, picked-passes}
@@ -73,9 +73,9 @@ module _ (m : Bytes) (parts : ℕ) (owners st : Bytes) where
   back : (q : ℕ) → firstCell m + q - firstCell m ≡ q
   back q = omega arith
 
-  owner-at : (q : ℕ) → S .owner (firstCell m + q) ≡ byteAt owners q
-  unfolding splitOf ownerAt
-  owner-at q = ap (λ k. byteAt owners k) (back q)
+  owner-at : (q : ℕ) → S .owner (firstCell m + q) ≡ ownerAt owners q
+  unfolding splitOf
+  owner-at q = ap (λ k. ownerAt owners k) (back q)
 
   held-count : (i : ℕ) → length (held S i) ≡ total 0 (cellCount m) (λ q. cond (holds S i (firstCell m + q)) 1 0)
   unfolding held splitOf
@@ -112,17 +112,17 @@ module _ (m : Bytes) (parts : ℕ) (owners st : Bytes) where
   walked-is c q h = same-test _ _ (reach-has c (firstCell m + q) (omega arith) (omega arith)) (reach-only c (firstCell m + q))
 
   walked-count : (i : ℕ) → reachCount m st owners i ≡ length (held S i)
-  unfolding reachCount rowCells holds owned owns splitOf ownerAt
+  unfolding reachCount rowCells holds owned owns splitOf
   walked-count i =
-      total-cong 0 (λ q. cond (someOf (picked (firstCell m) (cellCount m) (λ x. eqb (byteAt owners (x - firstCell m)) i)) (λ c. walkedTo m st c (firstCell m + q))) 1 0)
+      total-cong 0 (λ q. cond (someOf (picked (firstCell m) (cellCount m) (λ x. eqb (ownerAt owners (x - firstCell m)) i)) (λ c. walkedTo m st c (firstCell m + q))) 1 0)
       (λ q. cond (holds S i (firstCell m + q)) 1 0) (cellCount m)
       (λ q h.
       let l : 0 + q < cellCount m = omega arith in
-      let own : List ℕ = picked (firstCell m) (cellCount m) (λ x. eqb (byteAt owners (x - firstCell m)) i) in
+      let own : List ℕ = picked (firstCell m) (cellCount m) (λ x. eqb (ownerAt owners (x - firstCell m)) i) in
       ap (λ b. cond b 1 0)
-      (same-test (someOf (picked (firstCell m) (cellCount m) (λ x. eqb (byteAt owners (x - firstCell m)) i)) (λ c. walkedTo m st c (firstCell m + (0 + q)))) (holds S i (firstCell m + (0 + q)))
-      (λ e. let w = someOf-witness (λ c. walkedTo m st c (firstCell m + (0 + q))) (picked (firstCell m) (cellCount m) (λ x. eqb (byteAt owners (x - firstCell m)) i)) 0 e in someOf-has (λ c. reaches S c (firstCell m + (0 + q))) (picked (firstCell m) (cellCount m) (λ x. eqb (byteAt owners (x - firstCell m)) i)) 0 (w .0) (w .1) (sym (walked-is _ (0 + q) l) ∙ w .2))
-      (λ e. let w = someOf-witness (λ c. reaches S c (firstCell m + (0 + q))) (picked (firstCell m) (cellCount m) (λ x. eqb (byteAt owners (x - firstCell m)) i)) 0 e in someOf-has (λ c. walkedTo m st c (firstCell m + (0 + q))) (picked (firstCell m) (cellCount m) (λ x. eqb (byteAt owners (x - firstCell m)) i)) 0 (w .0) (w .1) (walked-is _ (0 + q) l ∙ w .2))))
+      (same-test (someOf (picked (firstCell m) (cellCount m) (λ x. eqb (ownerAt owners (x - firstCell m)) i)) (λ c. walkedTo m st c (firstCell m + (0 + q)))) (holds S i (firstCell m + (0 + q)))
+      (λ e. let w = someOf-witness (λ c. walkedTo m st c (firstCell m + (0 + q))) (picked (firstCell m) (cellCount m) (λ x. eqb (ownerAt owners (x - firstCell m)) i)) 0 e in someOf-has (λ c. reaches S c (firstCell m + (0 + q))) (picked (firstCell m) (cellCount m) (λ x. eqb (ownerAt owners (x - firstCell m)) i)) 0 (w .0) (w .1) (sym (walked-is _ (0 + q) l) ∙ w .2))
+      (λ e. let w = someOf-witness (λ c. reaches S c (firstCell m + (0 + q))) (picked (firstCell m) (cellCount m) (λ x. eqb (ownerAt owners (x - firstCell m)) i)) 0 e in someOf-has (λ c. walkedTo m st c (firstCell m + (0 + q))) (picked (firstCell m) (cellCount m) (λ x. eqb (ownerAt owners (x - firstCell m)) i)) 0 (w .0) (w .1) (walked-is _ (0 + q) l ∙ w .2))))
       ∙ sym (held-count i)
 
   pub walked-told : (s : ℕ) → s ≡ total 1 parts (reachCount m st owners) → ltb 4096 s ≡ bad12 S
@@ -180,7 +180,7 @@ module _ (m : Bytes) (parts : ℕ) (owners st : Bytes) where
     holds-told : (i x : ℕ) → reachedAt owners table ends i (cellCount m) x ≡ holds S i (firstCell m + x)
     unfolding reachedAt holds owned ownsAt owns splitOf
     holds-told i x =
-        some-same (λ q. eqb (byteAt owners q) i && reachHas table ends q x) (λ q. eqb (S .owner (firstCell m + q)) i && reaches S (firstCell m + q) (firstCell m + x))
+        some-same (λ q. eqb (ownerAt owners q) i && reachHas table ends q x) (λ q. eqb (S .owner (firstCell m + q)) i && reaches S (firstCell m + q) (firstCell m + x))
         (λ q h. ap₂ (λ o r. eqb o i && r) (sym (owner-at q)) (reach-told q x h))
         ∙ some-picked (firstCell m) (cellCount m) (λ c. eqb (S .owner c) i) (λ c. reaches S c (firstCell m + x))
       where

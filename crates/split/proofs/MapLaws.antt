@@ -8,7 +8,7 @@ use native.Mathlib.Omega.{arith}
 use lib.Dec.{eqb, leb}
 use lib.ListN.{length, getD}
 use borrow.Author.Tests.{le-leb, lt-leb, eq-eqb, ne-eqb, not-true, not-false}
-use Rattle.vocabulary.specs.Bytes.{Bytes, byteAt}
+use Rattle.vocabulary.specs.Bytes.{Bytes}
 use Rattle.vocabulary.specs.Ranges.{isUpTo, every, some, picked}
 use Rattle.vocabulary.specs.RangeLaws.{every-at, every-intro, some-has, some-witness, some-at, some-more, picked-none, picked-at, every-stop, every-turn, some-stop, some-turn, at-last}
 use Rattle.vocabulary.specs.Lists.{everyOf}
@@ -31,7 +31,7 @@ part-low parts i h = simp (lt-leb 1 i h)
 
 -- ---- 8
 
-module _ (parts : ℕ) (owners : Bytes) (k w : ℕ) (b : Bool) (q : w ≡ byteAt owners k) (e : b ≡ isUpTo parts w) where
+module _ (parts : ℕ) (owners : Bytes) (k w : ℕ) (b : Bool) (q : w ≡ ownerAt owners k) (e : b ≡ isUpTo parts w) where
   right-here : b ≡ ownerRight parts owners k
   unfolding ownerRight
   right-here = e ∙ ap (isUpTo parts) q
@@ -46,8 +46,8 @@ all-right : (parts : ℕ) (owners : Bytes) → every 0 (length owners) (ownerRig
 unfolding ownerRight
 all-right parts owners =
     same-test _ _
-    (λ e. everyOf-intro (isUpTo parts) owners (All-intro (λ x. isUpTo parts x ≡ true) owners 0 (λ l h. ap (λ k. isUpTo parts (byteAt owners k)) (sym (zero-add l)) ∙ every-at 0 (λ k. isUpTo parts (byteAt owners k)) (length owners) l e h)))
-    (λ e. every-intro 0 (λ k. isUpTo parts (byteAt owners k)) (length owners) (λ l h. ap (λ k. isUpTo parts (byteAt owners k)) (zero-add l) ∙ everyOf-at (isUpTo parts) owners 0 l e h))
+    (λ e. everyOf-intro (isUpTo parts) owners (All-intro (λ x. isUpTo parts x ≡ true) owners 0 (λ l h. ap (λ k. isUpTo parts (ownerAt owners k)) (sym (zero-add l)) ∙ every-at 0 (λ k. isUpTo parts (ownerAt owners k)) (length owners) l e h)))
+    (λ e. every-intro 0 (λ k. isUpTo parts (ownerAt owners k)) (length owners) (λ l h. ap (λ k. isUpTo parts (ownerAt owners k)) (zero-add l) ∙ everyOf-at (isUpTo parts) owners 0 l e h))
 
 module _ (m : Bytes) (parts : ℕ) (owners : Bytes) (a : Bool) (p : a ≡ isUpTo 16 parts) where
   pub map-parts : not a ≡ true → true ≡ bad8 m parts owners []
@@ -65,14 +65,14 @@ module _ (m : Bytes) (parts : ℕ) (owners : Bytes) (a : Bool) (p : a ≡ isUpTo
 
 -- ---- 9
 
-module _ (owners : Bytes) (i k w : ℕ) (q : w ≡ byteAt owners k) where
+module _ (owners : Bytes) (i k w : ℕ) (q : w ≡ ownerAt owners k) where
   pub owns-found : (n : ℕ) → k < n → w ≡ i → true ≡ some 0 n (ownsAt owners i)
   unfolding ownsAt
-  owns-found n h e = some-stop (ownsAt owners i) n k (ownsAt owners i k) h refl (eq-eqb (byteAt owners k) i (sym q ∙ e))
+  owns-found n h e = some-stop (ownsAt owners i) n k (ownsAt owners i k) h refl (eq-eqb (ownerAt owners k) i (sym q ∙ e))
 
   pub owns-turn : some 0 k (ownsAt owners i) ≡ false → (w ≡ i → ⊥) → some 0 (k + 1) (ownsAt owners i) ≡ false
   unfolding ownsAt
-  owns-turn s n = some-turn (ownsAt owners i) k k (ownsAt owners i k) s refl (ne-eqb (byteAt owners k) i (λ e. n (q ∙ e)))
+  owns-turn s n = some-turn (ownsAt owners i) k k (ownsAt owners i k) s refl (ne-eqb (ownerAt owners k) i (λ e. n (q ∙ e)))
 
 -- part i owns none of the cells
 unfoldable pub ownsNone : Bytes → ℕ → Bytes → ℕ → Bool
@@ -80,20 +80,20 @@ ownsNone m parts owners i = eqb (length (owned (splitOf m parts owners []) i)) 0
 
 module _ (m : Bytes) (parts : ℕ) (owners : Bytes) where
   none-told : (i : ℕ) → ownsNone m parts owners i ≡ not (some 0 (cellCount m) (ownsAt owners i))
-  unfolding ownsNone owned owns splitOf ownerAt ownsAt
+  unfolding ownsNone owned owns splitOf ownsAt
   none-told i = go (some 0 (cellCount m) (ownsAt owners i)) refl
     where
       place : (k : ℕ) → firstCell m + k - firstCell m ≡ k
       place k = omega arith
 
-      go : (b : Bool) → some 0 (cellCount m) (ownsAt owners i) ≡ b → eqb (length (picked (firstCell m) (cellCount m) (λ c. eqb (byteAt owners (c - firstCell m)) i))) 0 ≡ not b
+      go : (b : Bool) → some 0 (cellCount m) (ownsAt owners i) ≡ b → eqb (length (picked (firstCell m) (cellCount m) (λ c. eqb (ownerAt owners (c - firstCell m)) i))) 0 ≡ not b
       go true e =
           let w = some-witness 0 (ownsAt owners i) (cellCount m) e in
-          let a = picked-at (firstCell m) (λ c. eqb (byteAt owners (c - firstCell m)) i) (cellCount m) (w .0) (w .1) (ap (λ x. eqb (byteAt owners x) i) (place (w .0) ∙ sym (zero-add (w .0))) ∙ w .2) in
-          ne-eqb (length (picked (firstCell m) (cellCount m) (λ c. eqb (byteAt owners (c - firstCell m)) i))) 0 (λ z. let n : ⊥ = omega (arith, a .place-lt) in n)
+          let a = picked-at (firstCell m) (λ c. eqb (ownerAt owners (c - firstCell m)) i) (cellCount m) (w .0) (w .1) (ap (λ x. eqb (ownerAt owners x) i) (place (w .0) ∙ sym (zero-add (w .0))) ∙ w .2) in
+          ne-eqb (length (picked (firstCell m) (cellCount m) (λ c. eqb (ownerAt owners (c - firstCell m)) i))) 0 (λ z. let n : ⊥ = omega (arith, a .place-lt) in n)
       go false e =
           ap (λ xs. eqb (length xs) 0)
-          (picked-none (firstCell m) (λ c. eqb (byteAt owners (c - firstCell m)) i) (cellCount m) (λ k h. ap (λ x. eqb (byteAt owners x) i) (place k ∙ sym (zero-add k)) ∙ some-at 0 (ownsAt owners i) (cellCount m) k e h))
+          (picked-none (firstCell m) (λ c. eqb (ownerAt owners (c - firstCell m)) i) (cellCount m) (λ k h. ap (λ x. eqb (ownerAt owners x) i) (place k ∙ sym (zero-add k)) ∙ some-at 0 (ownsAt owners i) (cellCount m) k e h))
 
   module _ (n : ℕ) (ce : n ≡ cellCount m) (k : ℕ) (b : Bool) (e : b ≡ some 0 n (ownsAt owners (k + 1))) where
     told : ownsNone m parts owners (1 + k) ≡ not b

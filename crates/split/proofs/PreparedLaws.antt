@@ -7,11 +7,10 @@ use native.Mathlib.Omega.{arith}
 use lib.Dec.{eqb, ltb}
 use lib.ListN.{length, getD, replicate}
 use borrow.Author.Tests.{lt-ltb, le-ltb}
-use Rattle.split.specs.SplitLaws.{map-facts}
-use Rattle.vocabulary.specs.Bytes.{Bytes, byteAt, over}
-use Rattle.vocabulary.specs.Ranges.{isUpTo, every, total}
-use Rattle.vocabulary.specs.RangeLaws.{every-at, every-intro, upTo-intro}
-use Rattle.vocabulary.specs.Lists.{everyOf, Zeros}
+use Rattle.vocabulary.specs.Bytes.{Bytes, over}
+use Rattle.vocabulary.specs.Ranges.{every, total}
+use Rattle.vocabulary.specs.RangeLaws.{every-at, every-intro}
+use Rattle.vocabulary.specs.Lists.{everyOf}
 use Rattle.vocabulary.specs.ListLaws.{same-test, everyOf-at, everyOf-intro, All-intro}
 use Rattle.layout.specs.Words.{wordAt, bytesOf}
 use Rattle.mesh.specs.Mesh.{top, elements, recordCount, firstCell, cellCount}
@@ -40,15 +39,15 @@ module _ (m st before table : Bytes) (e : table ≡ over before 0 (bytesOf (tabl
 
   pub insides-are : (parts : ℕ) (owners : Bytes) (ends : List ℕ) → Ends m st ends (cellCount m) → (i q : ℕ) → q < cellCount m
       → insideAt owners table ends i q ≡ inside (splitOf m parts owners st) i (firstCell m + q)
-  unfolding insideAt entryOwned ownsAt inside owns splitOf ownerAt
+  unfolding insideAt entryOwned ownsAt inside owns splitOf
   insides-are parts owners ends E i q h =
       let a : getD ends q 0 ≡ entryCount m st q = E .each q (omega arith) in
       let b : getD ends (q + 1) 0 ≡ entryCount m st (q + 1) = E .each (q + 1) (omega arith) in
       let n : getD ends (q + 1) 0 - getD ends q 0 ≡ length (reach m st (firstCell m + q)) = omega (arith, count-more m st q) in
       let d : Near = record { cell = 0; layer = 0 } in
-      ap₂ (λ x y. every x y (λ t. eqb (byteAt owners (wordAt table (2 * t))) i)) a n
-      ∙ every-list (entryCount m st q) (λ t. eqb (byteAt owners (wordAt table (2 * t))) i) (reach m st (firstCell m + q)) d (λ e. eqb (byteAt owners (e .cell - firstCell m)) i)
-      (λ t k. ap (λ x. eqb (byteAt owners x) i) (entry-is m st before table e q t d h k .0))
+      ap₂ (λ x y. every x y (λ t. eqb (ownerAt owners (wordAt table (2 * t))) i)) a n
+      ∙ every-list (entryCount m st q) (λ t. eqb (ownerAt owners (wordAt table (2 * t))) i) (reach m st (firstCell m + q)) d (λ e. eqb (ownerAt owners (e .cell - firstCell m)) i)
+      (λ t k. ap (λ x. eqb (ownerAt owners x) i) (entry-is m st before table e q t d h k .0))
 
 -- ---- the chains turned round
 

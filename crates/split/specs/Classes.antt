@@ -13,7 +13,7 @@ use Rattle.mesh.specs.Mesh.{top, firstCell, cellCount}
 use Rattle.mesh.specs.Walks.{Near, reach, bad10}
 use Rattle.mesh.specs.Accepted.{Accepted}
 use Rattle.reaches.specs.Tables.{entryCount, Ends}
-use Rattle.split.specs.Split.{Split, splitOf, owns, holds, inside}
+use Rattle.split.specs.Split.{Split, splitOf, owns, holds, inside, ownerAt}
 use Rattle.split.specs.Lists.{bad8}
 
 -- what part i makes of cell c: 17 is interior, 18 halo, a part's number imported from that part, and 0 not held
@@ -28,10 +28,10 @@ holderCount S c = total 1 (S .parts) (λ j. cond (holds S j c) 1 0)
 
 -- the cell at place k has a part for its owner, or part i
 unfoldable pub ownerRight : ℕ → Bytes → ℕ → Bool
-ownerRight parts owners k = isUpTo parts (byteAt owners k)
+ownerRight parts owners k = isUpTo parts (ownerAt owners k)
 
 unfoldable pub ownsAt : Bytes → ℕ → ℕ → Bool
-ownsAt owners i k = eqb (byteAt owners k) i
+ownsAt owners i k = eqb (ownerAt owners k) i
 
 -- the cell of entry t of the table belongs to part i
 unfoldable pub entryOwned : Bytes → Bytes → ℕ → ℕ → Bool
@@ -59,7 +59,7 @@ reachedAt owners table ends i n x = some 0 n (λ q. ownsAt owners i q && reachHa
 -- the class of the cell at place x, as far as the first n cells tell it
 unfoldable pub classAt : Bytes → Bytes → List ℕ → ℕ → ℕ → ℕ → ℕ
 classAt owners table ends i n x =
-    cond (ownsAt owners i x) (cond (ltb x n) (cond (insideAt owners table ends i x) 17 18) 0) (cond (reachedAt owners table ends i n x) (byteAt owners x) 0)
+    cond (ownsAt owners i x) (cond (ltb x n) (cond (insideAt owners table ends i x) 17 18) 0) (cond (reachedAt owners table ends i n x) (ownerAt owners x) 0)
 
 -- the classes of all places, as far as the first n cells tell them
 pub record Classed (owners table : Bytes) (ends : List ℕ) (i n : ℕ) (class : Bytes) : Type 0 where
@@ -74,7 +74,7 @@ pub record Cleared (n : ℕ) (class : Bytes) : Type 0 where
 -- the places that pass bear their owner's number afterwards, unless part i owns them
 pub record Marked (owners : Bytes) (i : ℕ) (before after : Bytes) (p : ℕ → Bool) : Type 0 where
   pub size : length after ≡ length before
-  pub each : (x : ℕ) → x < length before → byteAt after x ≡ cond (p x && not (ownsAt owners i x)) (byteAt owners x) (byteAt before x)
+  pub each : (x : ℕ) → x < length before → byteAt after x ≡ cond (p x && not (ownsAt owners i x)) (ownerAt owners x) (byteAt before x)
 
 -- ---- how many parts hold a cell
 

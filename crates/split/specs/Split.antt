@@ -20,7 +20,7 @@ pub record Split : Type 0 where
   pub parts : ℕ
 
 -- the owner of the cell of index k, from 0, in a part map
-unfoldable pub ownerAt : Bytes → ℕ → ℕ
+abbrev pub ownerAt : Bytes → ℕ → ℕ
 ownerAt owners k = byteAt owners k
 
 -- "A part map gives P from 1 to 16, and one byte a cell in rising number: its owner, from 1 to P."

@@ -10,7 +10,7 @@ use lib.Dec.{T, eqb, ltb}
 use lib.ListN.{length, getD, length-append, List·getD-append}
 use lib.Seq.{getD-append-add}
 use borrow.Author.Tests.{eqb-true, eqb-false, eq-eqb, ne-eqb, ltb-true, ltb-false, not-false, not-true}
-use Rattle.vocabulary.specs.Bytes.{Bytes, byteAt}
+use Rattle.vocabulary.specs.Bytes.{Bytes}
 use Rattle.vocabulary.specs.ByteLaws.{Place, below, inside as within, above, place}
 use Rattle.vocabulary.specs.Lists.{All, someOf, everyOf, placeOf, repeats}
 use Rattle.vocabulary.specs.ListLaws.{repeats-none, repeats-once, and-true, and-intro, and-left, and-right, or-false, everyOf-at, everyOf-true, All-map, All-append, All-getD, All-intro, At, at-left, at-right, placeOf-is, placeOf-left, not-both, same-test, someOf-has}
@@ -401,7 +401,7 @@ module _ (S : Split) where
 pub record Mapped (m : Bytes) (parts : ℕ) (owners : Bytes) (named : List ℕ) : Type 0 where
   pub few : parts ≤ 16
   pub named-in : All (λ i. (1 ≤ i) × (i ≤ parts)) named
-  pub owner-in : (k : ℕ) → k < cellCount m → (1 ≤ byteAt owners k) × (byteAt owners k ≤ parts)
+  pub owner-in : (k : ℕ) → k < cellCount m → (1 ≤ ownerAt owners k) × (ownerAt owners k ≤ parts)
   pub unnamed : bad8 m parts owners [] ≡ false
 
 pub map-facts : (m : Bytes) (parts : ℕ) (owners : Bytes) (named : List ℕ) → bad8 m parts owners named ≡ false → Mapped m parts owners named
@@ -418,7 +418,7 @@ map-facts m parts owners named e =
     record {
       few = upTo-true 16 parts (not-false _ (r .0)) .1;
       named-in = All-map named (λ i t. upTo-true parts i t) (everyOf-true (isUpTo parts) named (not-false _ (r .1)));
-      owner-in = λ k h. upTo-true parts (byteAt owners k) (everyOf-at (isUpTo parts) owners 0 k (not-false _ (p .1)) (omega arith));
+      owner-in = λ k h. upTo-true parts (ownerAt owners k) (everyOf-at (isUpTo parts) owners 0 k (not-false _ (p .1)) (omega arith));
       unnamed = λ x. (r .0 x || false) || q .1 x || p .1 x;
     }
 
@@ -433,7 +433,7 @@ module _ (m : Bytes) (parts : ℕ) (owners st : Bytes) where
       let t = reach-own m st c (h .0) (h .1) in
       someOf-has (λ e. eqb (e .cell) c) (reach m st c) (record { cell = 0; layer = 0 }) (t .0) (t .1) (eq-eqb _ _ (ap (λ e. e .cell) (t .2)))
 
-  pub split-owner : ((k : ℕ) → k < cellCount m → (1 ≤ byteAt owners k) × (byteAt owners k ≤ parts)) → (c : ℕ) → Cell (splitOf m parts owners st) c
+  pub split-owner : ((k : ℕ) → k < cellCount m → (1 ≤ ownerAt owners k) × (ownerAt owners k ≤ parts)) → (c : ℕ) → Cell (splitOf m parts owners st) c
       → (1 ≤ splitOf m parts owners st .owner c) × (splitOf m parts owners st .owner c ≤ splitOf m parts owners st .parts)
-  unfolding splitOf ownerAt
+  unfolding splitOf
   split-owner f c h = f (c - firstCell m) (omega (arith, h .0, h .1))

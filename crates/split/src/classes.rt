@@ -1,5 +1,5 @@
 // The classes of the cells for one part, in a row of one byte a cell, from the owners and the table of the reaches.
-use layout::byte_at;
+use crate::owners::owner_of;
 use layout::number_at;
 use layout::word_at;
 ghost use mathlib.Core.Path.{_≡_};
@@ -49,7 +49,7 @@ fn mark_entry(
     ensures { λ b. ⌜ (b ≡ inside && entryOwned (now (owners .entry)) (now (table .entry)) i t) × Marked (now (owners .entry)) i (now (class .entry)) (now (class .exit)) (entryIs (now (table .entry)) t) ⌝ }
 {
     let x = word_at(table, 2 * t);
-    let owner = byte_at(owners, x);
+    let owner = owner_of(owners, x);
     if owner as usize == i {
         return inside;
     }
@@ -90,7 +90,7 @@ fn classify_cell(owners: &[u8], table: &[u8], ends: &[u16], i: usize, q: usize, 
     requires { ⌜ (q < 2000) × Classed (now owners) (now table) (now ends) i q (now class) ⌝ }
     ensures { λ _. ⌜ Classed (now (owners .entry)) (now (table .entry)) (now (ends .entry)) i (q + 1) (now (class .exit)) ⌝ }
 {
-    if byte_at(owners, q) as usize != i {
+    if owner_of(owners, q) as usize != i {
         return;
     }
     let inside = mark_reach(owners, table, ends, i, q, class);

@@ -3,6 +3,7 @@ mod classes;
 mod holders;
 pub mod inner;
 mod maps;
+mod owners;
 mod preparing;
 mod units;
 

@@ -1,5 +1,5 @@
 // The tests 8 and 9, and the number of a call by the tests up to 10.
-use layout::byte_at;
+use crate::owners::owner_of;
 use mesh::inner::cell_count;
 use mesh::inner::top_of;
 use mesh_tests::mesh_number;
@@ -23,7 +23,7 @@ fn owners_right(parts: u32, owners: &[u8]) -> bool
     ensures { λ b. ⌜ b ≡ every 0 (length (now (owners .entry))) (ownerRight parts (now (owners .entry))) ⌝ }
 {
     for k in 0..owners.len() {
-        if !is_part(parts, byte_at(owners, k) as u32) {
+        if !is_part(parts, owner_of(owners, k) as u32) {
             return false;
         }
     }
@@ -48,7 +48,7 @@ fn owns_some(owners: &[u8], n: usize, i: u32) -> bool
     ensures { λ b. ⌜ b ≡ some 0 n (ownsAt (now (owners .entry)) i) ⌝ }
 {
     for k in 0..n {
-        if byte_at(owners, k) as u32 == i {
+        if owner_of(owners, k) as u32 == i {
             return true;
         }
     }
