@@ -13,7 +13,7 @@ use Rattle.layout.specs.AnswerLaws.{refuses, accepts}
 use Rattle.layout.specs.declared.Answer.{Answer}
 use Rattle.layout.specs.declared.Answer.the-variants.{Done, Refused}
 use Rattle.states.specs.State.{Lists, listsIn, listsOf, dynamic, roundAt, firstOfMesh, cellsOfMesh, globalAt, ownedCount}
-use Rattle.parts.specs.Calls.{collectedIn, collectTestsIn, collectNumber, collectAnswer, collectOut}
+use Rattle.parts.specs.Calls.{scatter, collectedIn, collectTestsIn, collectNumber, collectAnswer, collectOut}
 use Rattle.parts.specs.Opened.{Opened}
 use Rattle.parts.proofs.OpenedLaws.{lists-is, whole, own-few, long, good-state, four-cut}
 use Rattle.vocabulary.specs.RangeLaws.{at-last}
@@ -22,11 +22,11 @@ use Rattle.vocabulary.specs.RangeLaws.{at-last}
 
 collect-more : (st : Bytes) (d : ℕ) (b : Bytes) (n : ℕ) (f : Bytes)
     → over (collectedIn (listsIn st) d b n f) (4 * (globalAt st (suc n) - firstOfMesh st)) (four b (d + 30 + 4 * suc n)) ≡ collectedIn (listsIn st) d b (suc n) f
-unfolding collectedIn listsIn
+unfolding scatter listsIn
 collect-more st d b n f = refl
 
 pub gather-start : (st : Bytes) (d : ℕ) (b : Bytes) (f : Bytes) → f ≡ collectedIn (listsIn st) d b (1 - 1) f
-unfolding collectedIn
+unfolding scatter
 gather-start st d b f = refl
 
 pub gather-end : (st : Bytes) (d : ℕ) (b : Bytes) (f x : Bytes) (l owned : ℕ) → l ≤ owned + 1 → owned + 1 ≤ l → x ≡ collectedIn (listsIn st) d b (l - 1) f → x ≡ collectedIn (listsIn st) d b owned f

@@ -29,6 +29,11 @@ exportsTo L j = isUpTo 16 j && ltb 0 (length (L .exports j))
 abbrev pub depthAt : ℕ → Bytes → ℕ → Bytes
 depthAt d b l = four b (depthPlace d l)
 
+-- f with n pieces of w bytes put into it, one after another: the l-th, from 1 on, at the bytes of place l
+unfoldable pub scatter : ℕ → (ℕ → ℕ) → (ℕ → Bytes) → ℕ → Bytes → Bytes
+scatter w place piece zero f = f
+scatter w place piece (suc n) f = over (scatter w place piece n f) (w * place (suc n)) (piece (suc n))
+
 -- ---- write: "gives the message to one importer; it may be repeated"
 
 module _ (L : Lists) (d : ℕ) (b : Bytes) where
@@ -112,9 +117,8 @@ module _ (L : Lists) (d : ℕ) (b : Bytes) where
       ∷ []
 
   -- the field f with the depths of the local cells 1 to n put at their places
-  unfoldable pub collectedIn : ℕ → Bytes → Bytes
-  collectedIn zero f = f
-  collectedIn (suc n) f = over (collectedIn n f) (4 * (L .global (suc n) - L .first)) (depthAt d b (suc n))
+  abbrev pub collectedIn : ℕ → Bytes → Bytes
+  collectedIn n f = scatter 4 (λ l. L .global l - L .first) (depthAt d b) n f
 
 -- ---- the calls over the bytes b of a state
 

@@ -5,14 +5,14 @@ use mathlib.Core.Logic.{_⊎_, inl, ⊎-elim, _≢_}
 use mathlib.Core.Bool.{Bool, true, not, _&&_, _||_}
 use mathlib.Core.List.{List, [], _∷_, _++_, map}
 use Prim.Native.Nat.{ℕ, zero, suc, _+_, _-_, _*_, _<_, _≤_}
-use native.Mathlib.Nat.{add-zero}
+use native.Mathlib.Nat.{add-zero, zero-add, mul-le-mul-left, mul-suc}
 use native.Mathlib.Omega.{arith}
 use lib.Dec.{eqb, ltb}
-use lib.ListN.{length, getD, set, take, drop, replicate, length-append, length-drop, length-set, length-replicate, length-map, getD-replicate, List·getD-append}
+use lib.ListN.{length, getD, set, take, replicate, length-append, length-drop, length-set, length-replicate, length-map, getD-replicate, List·getD-append}
 use lib.Seq.{getD-set-other, getD-append-add}
 use borrow.Author.Tests.{eqb-true, ne-eqb, lt-ltb, not-false}
-use Rattle.vocabulary.specs.Bytes.{Bytes, byteAt, over}
-use Rattle.vocabulary.specs.ByteLaws.{Place, below, inside, above, place, over-length, over-in, over-before, over-after}
+use Rattle.vocabulary.specs.Bytes.{Bytes, byteAt}
+use Rattle.vocabulary.specs.ByteLaws.{Place, below, inside, above, place as place-at, over-length, over-in, over-before, over-after}
 use Rattle.vocabulary.specs.Lists.{joined}
 use Rattle.vocabulary.specs.ListLaws.{and-intro, getD-map-any}
 use Rattle.vocabulary.specs.Ranges.{isUpTo}
@@ -22,11 +22,11 @@ use Rattle.vocabulary.specs.TestLaws.{passed-by}
 use Rattle.layout.specs.Words.{word, wordBytes, bytesOf}
 use Rattle.layout.specs.WordLaws.{word-same, word-in, word-left, word-back, length-wordBytes, length-bytesOf, wordAt-first}
 use Rattle.depths.specs.Depths.{four}
-use Rattle.depths.specs.DepthLaws.{length-four, four-set, four-in, four-before, four-after, four-past, four-drop, four-stored, fours-length, fours-at, joined-at}
+use Rattle.depths.specs.DepthLaws.{length-four, four-same, four-whole, four-set, four-in, four-before, four-after, four-past, four-drop, fours-length, fours-at, joined-at}
 use Rattle.messages.specs.Messages.{depthStart, depthsOf, encode, fromIn, toIn, roundIn, countIn}
 use Rattle.states.specs.State.{Lists, roundAt, takenPlace, depthPlace}
 use Rattle.states.specs.StateLaws.{Frame}
-use Rattle.parts.specs.Calls.{importsFrom, depthAt, messageTo, takenIn, allTaken, advanceTestsIn, newAt, newDepths, advancedIn, collectedIn, writeNumber, writeState, writeOut, takeNumber, takeState, advanceNumber, advanceState, collectNumber, collectOut}
+use Rattle.parts.specs.Calls.{importsFrom, depthAt, scatter, messageTo, takenIn, allTaken, advanceTestsIn, newAt, newDepths, advancedIn, collectedIn, writeNumber, writeState, writeOut, takeNumber, takeState, advanceNumber, advanceState, collectNumber, collectOut}
 use Rattle.parts.specs.CallLaws.{Room, Taken, fours-long}
 
 -- ---- take
@@ -190,60 +190,91 @@ advance-taken L d b e j h k l =
     let on : isUpTo 16 j && ltb 0 (L .imported j) ≡ true = and-intro (isUpTo 16 j) (ltb 0 (L .imported j)) (upTo-intro 16 j h k) (lt-ltb _ _ l) in
     eqb-true _ _ (rw on at t)
 
+-- ---- pieces put at places
+
+place-next : (w a c : ℕ) → a < c → w * a + w ≤ w * c
+place-next w a c h = let p : w * suc a ≤ w * c = mul-le-mul-left w h in omega (arith, mul-suc w a)
+
+module _ (w : ℕ) (place : ℕ → ℕ) (piece : ℕ → Bytes) (size : (l : ℕ) → length (piece l) ≡ w) (out : Bytes) where
+  abbrev filled : ℕ → Bytes
+  filled n = scatter w place piece n out
+
+  -- the first n pieces have room
+  abbrev Fits : ℕ → Type 0
+  Fits n = (l : ℕ) → 1 ≤ l → l ≤ n → w * place l + w ≤ length out
+
+  -- the piece that is put last stands at its place
+  scatter-put : (n k : ℕ) → w * place (suc n) + length (piece (suc n)) ≤ length (filled n) → k < w
+      → byteAt (filled (suc n)) (w * place (suc n) + k) ≡ byteAt (piece (suc n)) k
+  unfolding scatter
+  scatter-put n k r h = over-in (filled n) (w * place (suc n)) (piece (suc n)) r k (omega (arith, size (suc n)))
+
+  pub scatter-length : (n : ℕ) → Fits n → length (filled n) ≡ length out
+  unfolding scatter
+  scatter-length zero r = refl
+  scatter-length (suc n) r =
+      let ih = scatter-length n (λ l h k. r l h (omega arith)) in
+      over-length (filled n) (w * place (suc n)) (piece (suc n)) (omega (arith, ih, r (suc n) (omega arith) (omega arith), size (suc n))) ∙ ih
+
+  room : (n : ℕ) → Fits (suc n) → w * place (suc n) + length (piece (suc n)) ≤ length (filled n)
+  room n r = omega (arith, scatter-length n (λ l h k. r l h (omega arith)), r (suc n) (omega arith) (omega arith), size (suc n))
+
+  pub scatter-others : (n : ℕ) → Fits n → (x : ℕ) → ((l : ℕ) → 1 ≤ l → l ≤ n → (x < w * place l) ⊎ (w * place l + w ≤ x)) → byteAt (filled n) x ≡ byteAt out x
+  unfolding scatter
+  scatter-others zero r x h = refl
+  scatter-others (suc n) r x h =
+      ⊎-elim (λ k. over-before (filled n) (w * place (suc n)) (piece (suc n)) (room n r) x k)
+      (λ k. over-after (filled n) (w * place (suc n)) (piece (suc n)) (room n r) x (omega (arith, size (suc n)))) (h (suc n) (omega arith) (omega arith))
+      ∙ scatter-others n (λ l h k. r l h (omega arith)) x (λ l q k. h l q (omega arith))
+
+  -- where the pieces are the values of a function of the place
+  pub scatter-pieces : (Y : ℕ → Bytes) (n : ℕ) → Fits n → ((l : ℕ) → 1 ≤ l → l ≤ n → piece l ≡ Y (place l)) → (l : ℕ) → 1 ≤ l → l ≤ n → (k : ℕ) → k < w
+      → byteAt (filled n) (w * place l + k) ≡ byteAt (Y (place l)) k
+  unfolding scatter
+  scatter-pieces Y zero r v l h q k c = let z : ⊥ = omega arith in absurd z
+  scatter-pieces Y (suc n) r v l h q k c =
+      go (place-at (place (suc n)) 1 (place l)) (λ e. scatter-pieces Y n (λ l h k. r l h (omega arith)) (λ l h k. v l h (omega arith)) l h e k c)
+    where
+      earlier : place l ≢ place (suc n) → l ≤ n
+      earlier ne = let nn : l ≢ suc n = λ p. ne (ap place p) in omega arith
+
+      go : Place (place (suc n)) 1 (place l) → (l ≤ n → byteAt (filled n) (w * place l + k) ≡ byteAt (Y (place l)) k)
+          → byteAt (filled (suc n)) (w * place l + k) ≡ byteAt (Y (place l)) k
+      go (below e) ih =
+          over-before (filled n) (w * place (suc n)) (piece (suc n)) (room n r) (w * place l + k) (omega (arith, place-next w (place l) (place (suc n)) e))
+          ∙ ih (earlier (omega arith))
+      go (inside t e p) ih =
+          let same : place l ≡ place (suc n) = omega arith in
+          subst (λ z. byteAt (filled (suc n)) (w * z + k) ≡ byteAt (Y z) k) (sym same)
+          (scatter-put n k (room n r) c ∙ ap (λ (y : Bytes). byteAt y k) (v (suc n) (omega arith) (omega arith)))
+      go (above e) ih =
+          over-after (filled n) (w * place (suc n)) (piece (suc n)) (room n r) (w * place l + k)
+          (omega (arith, size (suc n), place-next w (place (suc n)) (place l) (omega arith)))
+          ∙ ih (earlier (omega arith))
+
 -- ---- collect
 
 module _ (L : Lists) (d : ℕ) (b out : Bytes) where
   abbrev cell : ℕ → ℕ
   cell l = L .global l - L .first
 
-  -- the depth that is put last stands in the field
-  collect-put : (n : ℕ) → 4 * cell (suc n) + 4 ≤ length (collectedIn L d b n out) → four (collectedIn L d b (suc n) out) (4 * cell (suc n)) ≡ depthAt d b (suc n)
-  unfolding collectedIn
-  collect-put n r = four-stored (collectedIn L d b n out) (4 * cell (suc n)) (depthAt d b (suc n)) (length-four b (depthPlace d (suc n))) (omega arith)
+  depth-size : (l : ℕ) → length (depthAt d b l) ≡ 4
+  depth-size l = length-four b (depthPlace d l)
 
   pub collect-length : (n : ℕ) → ((l : ℕ) → 1 ≤ l → l ≤ n → 4 * cell l + 4 ≤ length out) → length (collectedIn L d b n out) ≡ length out
-  unfolding collectedIn
-  collect-length zero r = refl
-  collect-length (suc n) r =
-      let ih = collect-length n (λ l h k. r l h (omega arith)) in
-      over-length (collectedIn L d b n out) (4 * cell (suc n)) (depthAt d b (suc n)) (omega (arith, ih, r (suc n) (omega arith) (omega arith), length-four b (depthPlace d (suc n)))) ∙ ih
+  collect-length = scatter-length 4 cell (depthAt d b) depth-size out
 
   pub collect-others : (n : ℕ) → ((l : ℕ) → 1 ≤ l → l ≤ n → 4 * cell l + 4 ≤ length out) → (x : ℕ)
       → ((l : ℕ) → 1 ≤ l → l ≤ n → (x < 4 * cell l) ⊎ (4 * cell l + 4 ≤ x)) → byteAt (collectedIn L d b n out) x ≡ byteAt out x
-  unfolding collectedIn
-  collect-others zero r x h = refl
-  collect-others (suc n) r x h =
-      let prev : Bytes = collectedIn L d b n out in
-      let ih = collect-length n (λ l h k. r l h (omega arith)) in
-      let lf = length-four b (depthPlace d (suc n)) in
-      let room : 4 * cell (suc n) + length (depthAt d b (suc n)) ≤ length (collectedIn L d b n out) = omega (arith, ih, r (suc n) (omega arith) (omega arith), lf) in
-      ⊎-elim (λ k. over-before prev (4 * cell (suc n)) (depthAt d b (suc n)) room x k)
-      (λ k. over-after prev (4 * cell (suc n)) (depthAt d b (suc n)) room x (omega (arith, lf))) (h (suc n) (omega arith) (omega arith))
-      ∙ collect-others n (λ l h k. r l h (omega arith)) x (λ l q k. h l q (omega arith))
+  collect-others = scatter-others 4 cell (depthAt d b) depth-size out
 
   -- where the depths are the values of a function of the cell
   pub collect-owned : (Y : ℕ → Bytes) (n : ℕ) → ((l : ℕ) → 1 ≤ l → l ≤ n → 4 * cell l + 4 ≤ length out)
       → ((l : ℕ) → 1 ≤ l → l ≤ n → depthAt d b l ≡ Y (cell l)) → (l : ℕ) → 1 ≤ l → l ≤ n → four (collectedIn L d b n out) (4 * cell l) ≡ Y (cell l)
-  unfolding collectedIn
-  collect-owned Y zero r v l h k = let z : ⊥ = omega arith in absurd z
-  collect-owned Y (suc n) r v l h k =
-      go (place (cell (suc n)) 1 (cell l)) (λ q. collect-owned Y n (λ l h k. r l h (omega arith)) (λ l h k. v l h (omega arith)) l h q)
-    where
-      room : 4 * cell (suc n) + length (depthAt d b (suc n)) ≤ length (collectedIn L d b n out)
-      room = omega (arith, collect-length n (λ l h k. r l h (omega arith)), r (suc n) (omega arith) (omega arith), length-four b (depthPlace d (suc n)))
-
-      earlier : cell l ≢ cell (suc n) → l ≤ n
-      earlier ne = let nn : l ≢ suc n = λ p. ne (ap (λ y. L .global y - L .first) p) in omega arith
-
-      go : Place (cell (suc n)) 1 (cell l) → (l ≤ n → four (collectedIn L d b n out) (4 * cell l) ≡ Y (cell l))
-          → four (over (collectedIn L d b n out) (4 * cell (suc n)) (depthAt d b (suc n))) (4 * cell l) ≡ Y (cell l)
-      go (below q) ih = four-before (collectedIn L d b n out) (4 * cell (suc n)) (depthAt d b (suc n)) room (4 * cell l) (omega arith) ∙ ih (earlier (omega arith))
-      go (inside t q p) ih =
-          let same : cell l ≡ cell (suc n) = omega arith in
-          subst (λ c. four (over (collectedIn L d b n out) (4 * cell (suc n)) (depthAt d b (suc n))) (4 * c) ≡ Y c) (sym same)
-          (collect-put n (omega (arith, room, length-four b (depthPlace d (suc n)))) ∙ v (suc n) (omega arith) (omega arith))
-      go (above q) ih =
-          four-after (collectedIn L d b n out) (4 * cell (suc n)) (depthAt d b (suc n)) room (4 * cell l) (omega (arith, length-four b (depthPlace d (suc n)))) ∙ ih (earlier (omega arith))
+  collect-owned Y n r v l h k =
+      four-same (collectedIn L d b n out) (Y (cell l)) (4 * cell l) 0
+      (λ i c. scatter-pieces 4 cell (depthAt d b) depth-size out Y n r v l h k i c ∙ ap (byteAt (Y (cell l))) (sym (zero-add i)))
+      ∙ four-whole (Y (cell l)) (sym (ap length (v l h k)) ∙ depth-size l)
 
 -- ---- refused calls
 
