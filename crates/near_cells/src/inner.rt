@@ -1,0 +1,2 @@
+// The lists of near cells, and the walks that go by them.
+pub use crate::levels::walk_near;

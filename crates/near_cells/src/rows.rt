@@ -1,0 +1,1 @@
+// The cells two steps from each cell, listed once.
