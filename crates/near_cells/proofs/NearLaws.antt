@@ -267,5 +267,5 @@ module _ (m st : Bytes) (near ends : List ℕ) (G : NearGround m st near ends) (
             go true q = eqb-true (getD layers z 0) 0 q
             go false q = absurd (out (at-all (λ y. (low ≤ y) × (y < high)) z (take met found) (U .each) (isIn-at z (take met found) (sym (L .listed .marked z) ∙ ap not q))))
 
-pub cell-small : (m st : Bytes) (near ends : List ℕ) (c : ℕ) → NearGround m st near ends → Cell m c → (1 ≤ c) × (c ≤ 2000)
-cell-small m st near ends c G C = (omega (arith, C .low), omega (arith, C .high, G .mesh .cells-in, G .mesh .sizes .n-high))
+pub cell-small : (m : Bytes) (c : ℕ) → Accepted m → Cell m c → (1 ≤ c) × (c ≤ 2000)
+cell-small m c A C = (omega (arith, C .low), omega (arith, C .high, A .cells-in, A .sizes .n-high))

@@ -35,6 +35,12 @@ pub record NearRow (m : Bytes) (a c : ℕ) (near : List ℕ) (lo hi : ℕ) : Typ
 pub record NearRows (m : Bytes) (a : ℕ) (near ends : List ℕ) (n : ℕ) : Type 0 where
   pub each : (q : ℕ) → q < n → NearRow m a (firstCell m + q) near (getD ends q 0) (getD ends (q + 1) 0)
 
+-- and the last of them ends at t
+pub record Filled (m : Bytes) (a : ℕ) (near ends : List ℕ) (n t : ℕ) : Type 0 where
+  pub rows : NearRows m a near ends n
+  pub last : getD ends n 0 ≡ t
+  pub before : (q : ℕ) → q ≤ n → getD ends q 0 ≤ t
+
 -- ---- a walk by these lists
 
 -- an accepted mesh and a stencil through one dimension, with the rows of all cells

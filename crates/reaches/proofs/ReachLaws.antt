@@ -73,12 +73,6 @@ unfolding walkedFrom walked
 one-start m st c zero = refl
 one-start m st c (suc k) = ap (stepTo m (byteAt st (suc k))) (one-start m st c k)
 
-pub front : (from after : List ℕ) (c : ℕ) → length from ≡ 2001 → after ≡ set from 0 c → take 1 after ≡ c ∷ []
-front from after c r f = ap (take 1) f ∙ take-suc-set from 0 c (omega arith)
-
-pub one-cell : (m : Bytes) (from after : List ℕ) (c : ℕ) → Cell m c → length from ≡ 2001 → after ≡ set from 0 c → Cells m after 1
-one-cell m from after c C r f = record { each = rw (front from after c r f) (C, tt); count = ap length (front from after c r f) }
-
 -- a cell's walks done, its words are written
 module _ (m st : Bytes) (cell prev last : List ℕ) (c n v k low high first : ℕ) (single : Bool) (met : ℕ) (cs marks from found layers : List ℕ) (G : Ground m st cell prev last)
     (C : Cell m c) (W : Walk m st single cs n v marks from found layers k met)

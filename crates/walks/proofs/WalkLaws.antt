@@ -520,6 +520,13 @@ ends-more m st cell prev last cs single k v n base s n′ low high low′ high�
         let o = eqb-false (k % 2) 1 q in
         within-even m st cell prev last cs single k v n′ met′ low high low′ high′ marks′ from′ found′ layers layers′ G C h here (A .notes) (W .1) o (A .even o)
 
+-- a walk from one cell, put in front of `from`
+pub front : (from after : List ℕ) (c : ℕ) → length from ≡ 2001 → after ≡ set from 0 c → take 1 after ≡ c ∷ []
+front from after c r f = ap (take 1) f ∙ take-suc-set from 0 c (omega arith)
+
+pub one-cell : (m : Bytes) (from after : List ℕ) (c : ℕ) → Cell m c → length from ≡ 2001 → after ≡ set from 0 c → Cells m after 1
+one-cell m from after c C r f = record { each = rw (front from after c r f) (C, tt); count = ap length (front from after c r f) }
+
 -- what a walk leaves for the next
 pub walk-fresh : (m st : Bytes) (cs : List ℕ) (single : Bool) (k v n met : ℕ) (marks from found layers : List ℕ) → Walk m st single cs k v marks from found layers n met → Under (v + (k + 1)) marks
 unfolding markAt

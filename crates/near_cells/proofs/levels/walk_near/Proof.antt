@@ -23,7 +23,7 @@ walk-near-spec =
     μ-loop
     (λ c κs.
     let start = c .before .before .before .before .before .before .before .before in
-    (search needs, cell-small _ _ _ _ _ (start .pre .0) (start .pre .2) .0, cell-small _ _ _ _ _ (start .pre .0) (start .pre .2) .1, none-listed _ _ (start .pre .5) (start .pre .6)))
+    (search needs, cell-small _ _ (start .pre .0 .mesh) (start .pre .2) .0, cell-small _ _ (start .pre .0 .mesh) (start .pre .2) .1, none-listed _ _ (start .pre .5) (start .pre .6)))
     (λ c.
     let start = c .before .before .before .before .before .before .before .before .before .before .before .before .before in
     let reach-cell = c .before .before .before .before .reach-cell in
