@@ -7,7 +7,7 @@ use Prim.Native.Nat.{ℕ, zero, suc, _+_, _-_, _*_, _/_, _≤_, _<_}
 use native.Mathlib.Nat.{le-trans, mul-le-mul-left, mul-le-mul-right, mul-div-le}
 use native.Mathlib.Omega.{arith}
 use lib.Dec.{eqb}
-use lib.ListN.{length, getD, set, take, drop, length-take}
+use lib.ListN.{length, getD, set, take, drop, length-set, length-take}
 use lib.Seq.{getD-set-same, getD-set-other, getD-take, getD-drop}
 use borrow.Author.Tests.{eqb-true, eqb-false, eq-eqb, not-false}
 use Rattle.vocabulary.specs.Bytes.{Bytes, byteAt}
@@ -37,8 +37,8 @@ next-mark v n marks found G = record { size = G .size; each = λ y. omega (arith
 pub twice-next : (v n : ℕ) (marks found : List ℕ) → Gathered (v + 1) marks found n → Under (v + 2) marks
 twice-next v n marks found G = record { size = G .size; each = λ y. omega (arith, G .top y) }
 
-pub begin-next : (v n : ℕ) (marks found list : List ℕ) → Gathered v marks found n → length list ≡ 2001 → Gathered (v + 1) marks list 0
-begin-next v n marks found list G r = begin (v + 1) marks list (next-mark v n marks found G) r
+pub begin-next : (v n c : ℕ) (marks found list after : List ℕ) → Gathered v marks found n → length list ≡ 2001 → after ≡ set list 0 c → Gathered (v + 1) marks after 0
+begin-next v n c marks found list after G r e = begin (v + 1) marks after (next-mark v n marks found G) (ap length e ∙ length-set list 0 c ∙ r)
 
 module _ (m : Bytes) (a c n : ℕ) (from found₀ found : List ℕ) (one : take 1 from ≡ c ∷ []) (D : Toward found n [] (orAmong found₀ 0 (stepped m a from 1))) where
   went-down : (z : ℕ) → isIn z (take n found) ≡ isIn z (stepTo m a (c ∷ []))

@@ -18,7 +18,7 @@ ghost use Rattle.walks.specs.Walking.{Ground, Sized, throughOne};
 ghost use Rattle.near_cells.specs.NearCells.{NearRow, NearRows, NearGround};
 
 // The room for all rows.
-const NEAR: usize = 2400;
+pub const NEAR: usize = 2400;
 
 // The most cells in a row: longer ones are walked faster step by step.
 const LONGEST: usize = 12;

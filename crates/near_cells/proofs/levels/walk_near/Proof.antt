@@ -10,7 +10,8 @@ use Rattle.near_cells.proofs.levels.walk_near.Statement.{statement}
 use Rattle.near_cells.proofs.levels.walk_near.Tie as tie
 
 abbrev Inv-loop : tie.InvT-loop
-Inv-loop m st near ends first c n layers₀ found₀ old₀ met₀ j₀ j-end layers found old met j = (j ≤ n / 2) × (j-end ≡ n / 2) × (length layers ≡ length layers₀) × (length found ≡ length found₀) × Level m st c (2 * j) layers found old met
+Inv-loop m st near ends first c n layers₀ found₀ old₀ met₀ j₀ j-end layers found old met j =
+    (j ≤ n / 2) × (j-end ≡ n / 2) × (length layers ≡ length layers₀) × (length found ≡ length found₀) × Level m st c (2 * j) layers found old met
 
 abbrev μ-loop : tie.MeasureT-loop
 μ-loop m st near ends first c n layers₀ found₀ old₀ met₀ j₀ j-end layers found old met j = n / 2 - j
@@ -22,33 +23,48 @@ walk-near-spec =
     Inv-loop
     μ-loop
     (λ c κs.
-    let start = c .before .before .before .before .before .before .before .before in
-    (search needs, cell-small _ _ (start .pre .0 .mesh) (start .pre .2) .0, cell-small _ _ (start .pre .0 .mesh) (start .pre .2) .1, none-listed _ _ (start .pre .5) (start .pre .6)))
+    let start = c .before .before .before .before .before .before .before .before in (
+      search needs,
+      cell-small _ _ (start .pre .0 .mesh) (start .pre .2) .0,
+      cell-small _ _ (start .pre .0 .mesh) (start .pre .2) .1,
+      none-listed _ _ (start .pre .5) (start .pre .6),
+    ))
     (λ c.
-    let start = c .before .before .before .before .before .before .before .before .before .before .before .before .before in
-    let reach-cell = c .before .before .before .before .reach-cell in
-    (search needs, refl, refl, refl, level-none _ _ _ _ _ _ _ _ (start .pre .5) (reach-cell .ensures)))
+    let at-reach-cell = c .before .before .before .before in
+    let start = at-reach-cell .before .before .before .before .before .before .before .before .before in
+    (search needs, refl, refl, refl, level-none _ _ _ _ _ _ _ _ (start .pre .5) (at-reach-cell .reach-cell .ensures)))
     (λ c. search needs)
     (λ c. search needs)
     (λ c. search needs)
     (λ c κs.
-    let start = c .before .before .before .before .before .before .before .before .before .before .before .before .before .before .before .before .before in
-    let loop = c .before .before .before .loop in
-    (fits-at _ _ _ _ (start .pre .0) _ (start .pre .2) _ (start .pre .1) _ (start .pre .3) _ _ _ _ _ (loop .inv .4) (search needs), search needs, loop .inv .4 .listed))
+    let at-loop = c .before .before .before in
+    let start = at-loop .before .before .before .before .before .before .before .before .before .before .before .before .before .before in (
+      fits-at _ _ _ _ (start .pre .0) _ (start .pre .2) _ (start .pre .1) _ (start .pre .3) _ _ _ _ _ (at-loop .loop .inv .4) (search needs),
+      search needs,
+      at-loop .loop .inv .4 .listed,
+    ))
     (λ c. search needs)
     (λ c. search needs)
     (λ c.
-    let start = c .before .before .before .before .before .before .before .before .before .before .before .before .before .before .before .before .before .before .before .before .before .before in
-    let loop = c .before .before .before .before .before .before .before .before .loop in
-    let reach-level = c .before .before .before .before .reach-level in
-    (search needs, search needs, search needs, search needs, level-next _ _ _ _ (start .pre .0) _ (start .pre .2) _ (start .pre .1) _ (start .pre .3) _ _ _ _ _ (loop .inv .4) _ _ _ (search needs) (reach-level .ensures)))
+    let at-reach-level = c .before .before .before .before in
+    let at-loop = at-reach-level .before .before .before .before in
+    let start = at-loop .before .before .before .before .before .before .before .before .before .before .before .before .before .before in (
+      search needs,
+      search needs,
+      search needs,
+      search needs,
+      level-next _ _ _ _ (start .pre .0) _ (start .pre .2) _ (start .pre .1) _ (start .pre .3) _ _ _ _ _ (at-loop .loop .inv .4) _ _ _ (search needs) (at-reach-level .reach-level .ensures),
+    ))
     (λ c. search needs)
     (λ c κs.
-    let loop = c .before .before .loop in
-    loop .inv .4 .listed .count)
+    let at-loop = c .before .before in
+    at-loop .loop .inv .4 .listed .count)
     (λ c. search needs)
     (λ c. search needs)
     (λ c.
-    let start = c .before .before .before .before .before .before .before .before .before .before .before .before .before .before .before .before .before in
-    let loop = c .before .before .before .loop in
-    (layered-all _ _ _ _ (start .pre .0) _ (start .pre .2) _ (start .pre .1) _ (start .pre .3) _ _ _ _ _ (loop .inv .4) (search needs) (search needs), within-all _ _ _ _ (start .pre .0) _ (start .pre .2) _ (start .pre .1) _ (start .pre .3) _ _ _ _ _ (loop .inv .4) (search needs) (search needs) _ _ (c .widen .ensures .2), loop .inv .4 .listed .room)))
+    let at-loop = c .before .before .before in
+    let start = at-loop .before .before .before .before .before .before .before .before .before .before .before .before .before .before in (
+      layered-all _ _ _ _ (start .pre .0) _ (start .pre .2) _ (start .pre .1) _ (start .pre .3) _ _ _ _ _ (at-loop .loop .inv .4) (search needs) (search needs),
+      within-all _ _ _ _ (start .pre .0) _ (start .pre .2) _ (start .pre .1) _ (start .pre .3) _ _ _ _ _ (at-loop .loop .inv .4) (search needs) (search needs) _ _ (c .widen .ensures .2),
+      at-loop .loop .inv .4 .listed .room,
+    )))

@@ -12,16 +12,45 @@ pub near-rows-spec : {M : Type 1} → statement M
 near-rows-spec =
     tie.close
     (tie.spec
-    (λ c. (λ e. absurd (not-both false e refl), under-more _ _ _ (omega arith) (c .before .before .before .before .before .before .before .before .before .before .before .pre .3), search needs, search needs))
-    (λ c. (λ e. absurd (not-both false e refl), under-more _ _ _ (omega arith) (c .before .before .before .before .before .before .before .before .before .before .before .before .pre .3), search needs, search needs))
+    (λ c.
+    let start = c .before .before .before .before .before .before .before .before .before .before .before in
+    (λ e. absurd (not-both false e refl), under-more _ _ _ (omega arith) (start .pre .3), search needs, search needs))
+    (λ c.
+    let start = c .before .before .before .before .before .before .before .before .before .before .before .before in
+    (λ e. absurd (not-both false e refl), under-more _ _ _ (omega arith) (start .pre .3), search needs, search needs))
     (λ c κs. search needs)
     (λ c. search needs)
-    (λ c. some-cells _ _ (c .before .before .before .before .before .before .before .before .before .before .before .before .before .before .pre .0 .mesh) (c .before .before .before .before .before .before .before .before .before .before .before .before .before .before .pre .1 .cells-is))
+    (λ c.
+    let start = c .before .before .before .before .before .before .before .before .before .before .before .before .before .before in
+    some-cells _ _ (start .pre .0 .mesh) (start .pre .1 .cells-is))
     (λ c κs. search needs)
-    (λ c κs. (c .before .before .before .before .before .before .before .before .before .before .before .before .before .before .before .before .before .before .before .before .pre .0, c .before .before .before .before .before .before .before .before .before .before .before .before .before .before .before .before .before .before .before .before .pre .1, through _ _ _ _ _ _ (c .before .before .before .before .before .before .before .before .before .before .before .before .before .before .before .before .before .before .before .before .pre .0) (c .before .before .before .before .before .before .before .before .if2 .left) (c .before .before .before .before .before .before .before .byte-at .ensures), rows-fit _ _ _ (c .before .before .before .before .before .before .before .before .before .before .before .before .before .before .before .before .before .before .before .before .pre .0 .mesh) (c .before .before .before .before .before .before .before .before .before .before .before .before .before .before .before .before .before .before .before .before .pre .1 .cells-is) (c .before .before .before .before .before .lesser .ensures .1), c .before .before .before .before .before .before .before .before .before .before .before .before .before .before .before .before .before .before .before .before .pre .3, search needs, search needs, search needs, search needs))
+    (λ c κs.
+    let at-lesser = c .before .before .before .before .before in
+    let at-byte-at = at-lesser .before .before in
+    let at-if2 = at-byte-at .before in
+    let start = at-if2 .before .before .before .before .before .before .before .before .before .before .before .before in (
+      start .pre .0,
+      start .pre .1,
+      through _ _ _ _ _ _ (start .pre .0) (at-if2 .if2 .left) (at-byte-at .byte-at .ensures),
+      rows-fit _ _ _ (start .pre .0 .mesh) (start .pre .1 .cells-is) (at-lesser .lesser .ensures .1),
+      start .pre .3,
+      search needs,
+      search needs,
+      search needs,
+      search needs,
+    ))
     (λ c. search needs)
     (λ c. search needs)
     (λ c. search needs)
     (λ c. search needs)
     (λ c. search needs)
-    (λ c. (λ e. near-ground _ _ _ _ _ _ _ _ _ (c .before .before .before .before .before .before .before .before .before .before .before .before .before .before .before .before .before .before .before .before .before .before .before .before .before .before .before .before .before .before .before .pre .0) (c .before .before .before .before .before .before .before .before .before .before .before .before .before .before .before .before .before .before .before .before .before .before .before .before .before .before .before .before .before .before .before .pre .2) (c .before .before .before .before .before .before .before .before .before .before .before .before .before .before .before .before .before .before .before .before .if1 .left) (c .before .before .before .before .before .before .before .before .before .before .before .before .before .before .before .before .before .before .byte-at .ensures) (c .before .before .before .before .before .before .before .before .before .before .list-rows .ensures .0 e), c .before .before .before .before .before .before .before .before .before .before .list-rows .ensures .1, c .before .before .before .before .before .before .before .before .before .before .list-rows .ensures .2, c .before .before .before .before .before .before .before .before .before .before .list-rows .ensures .3)))
+    (λ c.
+    let at-list-rows = c .before .before .before .before .before .before .before .before .before .before in
+    let at-byte-at = at-list-rows .before .before .before .before .before .before .before .before in
+    let at-if1 = at-byte-at .before .before in
+    let start = at-if1 .before .before .before .before .before .before .before .before .before .before .before in (
+      λ e. near-ground _ _ _ _ _ _ _ _ _ (start .pre .0) (start .pre .2) (at-if1 .if1 .left) (at-byte-at .byte-at .ensures) (at-list-rows .list-rows .ensures .0 e),
+      at-list-rows .list-rows .ensures .1,
+      at-list-rows .list-rows .ensures .2,
+      at-list-rows .list-rows .ensures .3,
+    )))
