@@ -16,7 +16,8 @@ use Rattle.vocabulary.specs.Lists.{isIn, joined, Zeros}
 use Rattle.vocabulary.specs.ListLaws.{map-append}
 use Rattle.mesh.specs.Mesh.{firstCell, cellCount}
 use Rattle.mesh.specs.Walks.{Near, steps, stepsTo, layer, reach, stepTo, walked}
-use Rattle.walks.specs.Walking.{Ground, firstMark, layerMark, walkedFrom, Walk, Within, Cells}
+use Rattle.walks.specs.Walking.{Ground, firstMark, layerMark, walkedFrom, Walk, Within}
+use Rattle.near_cells.specs.NearCells.{Layered}
 use Rattle.walks.proofs.WalkLaws.{cell-layer}
 use Rattle.walks.proofs.GroundLaws.{steps-is}
 use Rattle.mesh.specs.Accepted.{Accepted, Cell}
@@ -73,20 +74,18 @@ unfolding walkedFrom walked
 one-start m st c zero = refl
 one-start m st c (suc k) = ap (stepTo m (byteAt st (suc k))) (one-start m st c k)
 
-pub front : (from after : List ℕ) (c : ℕ) → length from ≡ 2001 → after ≡ set from 0 c → take 1 after ≡ c ∷ []
-front from after c r f = ap (take 1) f ∙ take-suc-set from 0 c (omega arith)
-
-pub one-cell : (m : Bytes) (from after : List ℕ) (c : ℕ) → Cell m c → length from ≡ 2001 → after ≡ set from 0 c → Cells m after 1
-one-cell m from after c C r f = record { each = rw (front from after c r f) (C, tt); count = ap length (front from after c r f) }
+-- what the walk step by step leaves
+pub layered-by : (m st : Bytes) (single : Bool) (cs : List ℕ) (c k v n met : ℕ) (marks from found layers : List ℕ) → cs ≡ c ∷ [] → Walk m st single cs k v marks from found layers n met
+    → Layered m st (c ∷ []) k layers
+layered-by m st single cs c k v n met marks from found layers one W = record { size = W .size; each = λ z. W .layered z ∙ ap (λ cs. layerMark m st cs k z) one }
 
 -- a cell's walks done, its words are written
-module _ (m st : Bytes) (cell prev last : List ℕ) (c n v k low high first : ℕ) (single : Bool) (met : ℕ) (cs marks from found layers : List ℕ) (G : Ground m st cell prev last)
-    (C : Cell m c) (W : Walk m st single cs n v marks from found layers k met)
-    (one : cs ≡ c ∷ []) (I : Within m layers low high) (h : n + 1 ≡ length st) (fe : first ≡ firstCell m) where
+module _ (m st : Bytes) (cell prev last : List ℕ) (c n low high first : ℕ) (layers : List ℕ) (G : Ground m st cell prev last) (C : Cell m c) (W : Layered m st (c ∷ []) n layers)
+    (I : Within m layers low high) (h : n + 1 ≡ length st) (fe : first ≡ firstCell m) where
   mark : (j : ℕ) → j < cellCount m → getD layers (first + j) 0 ≡ firstMark (stepsTo m st c (first + j))
   mark j l =
       let z : ℕ = first + j in
-      W .layered z ∙ ap (λ cs. layerMark m st cs n z) one
+      W .each z
       ∙ cell-layer m st cell prev last (c ∷ []) n z G (C, tt) (omega arith) (record { low = omega arith; high = omega arith })
       ∙ (unfold stepsTo in ap firstMark (picked-cong 0 _ _ (n + 1) (λ j h. ap (isIn z) (one-start m st c (0 + j))) ∙ ap (λ x. picked 0 (x + 1) (λ j. isIn z (walked m st c j))) (steps-is st n h)))
 

@@ -6,12 +6,16 @@ use mesh::inner::cell_count;
 use mesh::inner::elements_of;
 use mesh::inner::first_cell;
 use mesh::inner::record_count;
+use near_cells::inner::NEAR;
+use near_cells::inner::near_rows;
+use near_cells::inner::walk_near;
 use visits::inner::entry;
+use walks::inner::Ends;
 use walks::inner::MeshSizes;
 use walks::inner::through_one;
 use walks::inner::walk;
 ghost use mathlib.Core.Path.{_≡_};
-ghost use mathlib.Core.Bool.{false};
+ghost use mathlib.Core.Bool.{true, false};
 ghost use mathlib.Core.List.{[], _∷_};
 ghost use Prim.Native.Nat.{ℕ, _+_, _-_, _*_, _<_, _≤_};
 ghost use lib.ListN.{length, set};
@@ -21,7 +25,8 @@ ghost use Rattle.vocabulary.specs.Lists.{Zeros};
 ghost use Rattle.vocabulary.specs.Ranges.{blocks};
 ghost use Rattle.layout.specs.Words.{bytesOf};
 ghost use Rattle.reaches.specs.Tables.{row, Cleared, Emitted, cellWords, Tabled};
-ghost use Rattle.walks.specs.Walking.{Ground, Sized, throughOne};
+ghost use Rattle.walks.specs.Walking.{Ground, Sized, throughOne, Within};
+ghost use Rattle.near_cells.specs.NearCells.{NearGround, Layered};
 ghost use Rattle.mesh.specs.Mesh.{top, elements, recordCount, firstCell, cellCount};
 ghost use Rattle.mesh.specs.Walks.{bad10};
 ghost use Rattle.mesh.specs.Accepted.{Accepted, Cell};
@@ -37,6 +42,9 @@ const NUMBERS: usize = 2001;
 
 // The room for an entry of each record of the cells' chains; none is numbered 0.
 const ENTRIES: usize = 12001;
+
+// The first mark above those that the rows of near cells take: two a cell.
+const AFTER_ROWS: usize = 4001;
 
 // Writes entry t.
 fn put_entry(table: &mut [u8], t: usize, place: usize, layer: usize)
@@ -84,6 +92,54 @@ fn emit(
     s
 }
 
+// The walks of n steps from cell c: by the rows of near cells where they are listed, and else step by step.
+fn walk_from(
+    m: &[u8],
+    sizes: MeshSizes,
+    st: &[u8],
+    n: usize,
+    single: bool,
+    cell: &[u16],
+    prev: &[u16],
+    last: &[u16],
+    listed: bool,
+    near: &[u16],
+    rows: &[u16],
+    c: usize,
+    v: usize,
+    marks: &mut [u16],
+    from: &mut [u16],
+    found: &mut [u16],
+    layers: &mut [u16],
+) -> Ends
+    requires { ⌜ Ground (now m) (now st) (now cell) (now prev) (now last) × Sized (now m) sizes × Cell (now m) c × (n + 1 ≡ length (now st)) × (single ≡ throughOne (now st)) × (n ≤ 8)
+        × (listed ≡ true → NearGround (now m) (now st) (now near) (now rows)) × (v ≤ 60000) × Under v (now marks) × (length (now from) ≡ 2001) × (length (now found) ≡ 2001)
+        × Zeros 2001 (now layers) ⌝ }
+    ensures { λ w. ⌜ Layered (now (m .entry)) (now (st .entry)) (c ∷ []) n (now (layers .exit)) × Within (now (m .entry)) (now (layers .exit)) (w .low) (w .high)
+        × Under (v + (n + 1)) (now (marks .exit)) × (length (now (from .exit)) ≡ 2001) × (length (now (found .exit)) ≡ 2001) ⌝ }
+{
+    if listed {
+        return walk_near(m, st, near, rows, sizes.first, c, n, layers, found);
+    }
+    put_number_at(from, 0, c as u16);
+    walk(
+        m,
+        sizes,
+        st,
+        single,
+        cell,
+        prev,
+        last,
+        1,
+        n,
+        v,
+        marks,
+        from,
+        found,
+        layers,
+    )
+}
+
 // The entries of the reach of cell c, for a stencil of n steps.
 fn reach_of(
     m: &[u8],
@@ -94,6 +150,9 @@ fn reach_of(
     cell: &[u16],
     prev: &[u16],
     last: &[u16],
+    listed: bool,
+    near: &[u16],
+    rows: &[u16],
     c: usize,
     v: usize,
     marks: &mut [u16],
@@ -104,21 +163,24 @@ fn reach_of(
     t: usize,
 ) -> usize
     requires { ⌜ Ground (now m) (now st) (now cell) (now prev) (now last) × Sized (now m) sizes × Cell (now m) c × (n + 1 ≡ length (now st)) × (single ≡ throughOne (now st)) × (n ≤ 8)
-        × (v ≤ 60000) × Under v (now marks) × (length (now from) ≡ 2001) × (length (now found) ≡ 2001) × Zeros 2001 (now layers) × (length (now table) ≡ 32000) × (t ≤ 8001) ⌝ }
+        × (listed ≡ true → NearGround (now m) (now st) (now near) (now rows)) × (v ≤ 60000) × Under v (now marks) × (length (now from) ≡ 2001) × (length (now found) ≡ 2001)
+        × Zeros 2001 (now layers) × (length (now table) ≡ 32000) × (t ≤ 8001) ⌝ }
     ensures { λ s. ⌜ Emitted (now (table .entry)) (now (table .exit)) t s (cellWords (now (m .entry)) (now (st .entry)) c) × (s ≤ 8001) × Under (v + (n + 1)) (now (marks .exit))
         × (length (now (from .exit)) ≡ 2001) × (length (now (found .exit)) ≡ 2001) × Zeros 2001 (now (layers .exit)) ⌝ }
 {
-    put_number_at(from, 0, c as u16);
-    let w = walk(
+    let w = walk_from(
         m,
         sizes,
         st,
+        n,
         single,
         cell,
         prev,
         last,
-        1,
-        n,
+        listed,
+        near,
+        rows,
+        c,
         v,
         marks,
         from,
@@ -157,8 +219,24 @@ pub fn reach_all(
     let mut from = [0u16; NUMBERS];
     let mut found = [0u16; NUMBERS];
     let mut layers = [0u16; NUMBERS];
+    let mut near = [0u16; NEAR];
+    let mut rows = [0u16; NUMBERS];
+    let listed = near_rows(
+        m,
+        sizes,
+        st,
+        single,
+        cell,
+        prev,
+        last,
+        &mut marks,
+        &mut from,
+        &mut found,
+        &mut near,
+        &mut rows,
+    );
     let mut t = 0;
-    let mut v = 1;
+    let mut v = AFTER_ROWS;
     put_number_at(ends, 0, 0);
     for x in first..first + cells {
         t = reach_of(
@@ -170,6 +248,9 @@ pub fn reach_all(
             cell,
             prev,
             last,
+            listed,
+            &near,
+            &rows,
             x,
             v,
             &mut marks,

@@ -78,7 +78,7 @@ note-new k y x layers after h e n f = record { size = ap length f ∙ length-set
         ∙ sym (ap (λ b. cond b (k + 1) (getD layers z 0)) (eq-eqb (getD layers z 0) 0 (ap (λ i. getD layers i 0) (sym (eqb-true y z q)) ∙ sym e ∙ n)))
     go z false q = getD-set-other layers y z (k + 1) 0 (λ w. eqb-false y z q (sym w))
 
-twice : (k : ℕ) (a b : Bool) (x : ℕ) → noted k b (noted k a x) ≡ noted k (a || b) x
+pub twice : (k : ℕ) (a b : Bool) (x : ℕ) → noted k b (noted k a x) ≡ noted k (a || b) x
 unfolding noted
 twice k true b x = go (eqb x 0) refl
   where

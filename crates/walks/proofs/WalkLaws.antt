@@ -8,7 +8,7 @@ use native.Mathlib.Numerals.{add-one}
 use native.Mathlib.Omega.{arith}
 use lib.Dec.{eqb, ltb}
 use lib.ListN.{length, getD, set, take, drop, length-take, length-drop, length-append, List·getD-append}
-use lib.Seq.{take-suc, take-suc-set, take-add, getD-drop, getD-append-add}
+use lib.Seq.{take-suc, take-suc-set, take-set-le, drop-set-add, take-add, getD-drop, getD-append-add}
 use borrow.Author.Tests.{eqb-true, eqb-false, eq-eqb, ne-eqb, lt-ltb, not-true}
 use Rattle.mesh.specs.Meet.{Under}
 use Rattle.vocabulary.specs.Bytes.{Bytes, byteAt}
@@ -32,13 +32,18 @@ use Rattle.walks.specs.Walking.{Walk, Within, Widened, Departed, Arrived
 
 -- ---- the copy
 
-pub copy-turn : (src dst : List ℕ) (at j n : ℕ) → j < n → at + n ≤ length src → j < length dst → take j dst ≡ take j (drop at src)
-    → take (j + 1) (set dst j (getD src (at + j) 0)) ≡ take (j + 1) (drop at src)
-copy-turn src dst at j n h a b e =
-    rw (add-one j) (take-suc-set dst j (getD src (at + j) 0) b ∙ ap₂ (λ l x. l ++ (x ∷ [])) e (sym (getD-drop at src j 0)) ∙ sym (take-suc (drop at src) j 0 (omega (arith, length-drop at src))))
+pub copy-turn : (src dst : List ℕ) (at to j n : ℕ) → j < n → at + n ≤ length src → to + j < length dst → take j (drop to dst) ≡ take j (drop at src)
+    → take (j + 1) (drop to (set dst (to + j) (getD src (at + j) 0))) ≡ take (j + 1) (drop at src)
+copy-turn src dst at to j n h a b e =
+    rw (add-one j)
+    (ap (take (suc j)) (drop-set-add to dst j (getD src (at + j) 0)) ∙ take-suc-set (drop to dst) j (getD src (at + j) 0) (omega (arith, length-drop to dst))
+    ∙ ap₂ (λ l x. l ++ (x ∷ [])) e (sym (getD-drop at src j 0)) ∙ sym (take-suc (drop at src) j 0 (omega (arith, length-drop at src))))
 
-pub copy-end : (src dst : List ℕ) (at j n : ℕ) → j ≤ n → n ≤ j → take j dst ≡ take j (drop at src) → take n dst ≡ take n (drop at src)
-copy-end src dst at j n g h e = at-last (λ i. take i dst ≡ take i (drop at src)) j n g h e
+pub copy-front : (dst₀ dst : List ℕ) (to j x : ℕ) → take to dst ≡ take to dst₀ → take to (set dst (to + j) x) ≡ take to dst₀
+copy-front dst₀ dst to j x e = take-set-le to dst (to + j) x (omega arith) ∙ e
+
+pub copy-end : (src dst : List ℕ) (at to j n : ℕ) → j ≤ n → n ≤ j → take j (drop to dst) ≡ take j (drop at src) → take n (drop to dst) ≡ take n (drop at src)
+copy-end src dst at to j n g h e = at-last (λ i. take i (drop to dst) ≡ take i (drop at src)) j n g h e
 
 -- ---- the stencil
 
@@ -74,7 +79,7 @@ side-even m k from n S o = S .even o
 -- ---- what walks reach: cells after an even number of steps, lower elements after an odd one
 
 module _ (m st : Bytes) (A : Accepted m) (bad : bad10 (top m) st ≡ false) (cs : List ℕ) (C : All (Cell m) cs) where
-  walked-even : (k z : ℕ) → k < length st → k % 2 ≡ 0 → isIn z (walkedFrom m st cs k) ≡ true → Cell m z
+  pub walked-even : (k z : ℕ) → k < length st → k % 2 ≡ 0 → isIn z (walkedFrom m st cs k) ≡ true → Cell m z
   unfolding walkedFrom
   walked-even zero z h o e = at-all (Cell m) z cs C (isIn-at z cs e)
   walked-even (suc k) z h o e =
@@ -85,7 +90,7 @@ module _ (m st : Bytes) (A : Accepted m) (bad : bad10 (top m) st ≡ false) (cs 
         high = subst (λ a. z < below m a + 1 + counted m a) d (w .4);
       }
 
-  walked-odd : (k z : ℕ) → k < length st → k % 2 ≡ 1 → isIn z (walkedFrom m st cs k) ≡ true → (1 ≤ z) × (z ≤ below m (top m))
+  pub walked-odd : (k z : ℕ) → k < length st → k % 2 ≡ 1 → isIn z (walkedFrom m st cs k) ≡ true → (1 ≤ z) × (z ≤ below m (top m))
   unfolding walkedFrom
   walked-odd zero z h o e = let n : ⊥ = omega arith in absurd n
   walked-odd (suc k) z h o e =
@@ -127,7 +132,7 @@ module _ (m st : Bytes) (A : Accepted m) (bad : bad10 (top m) st ≡ false) (cs 
   -- ---- a stencil through one dimension
 
   module _ (one : throughOne st ≡ true) where
-    alike-places : (j k : ℕ) → j < length st → k < length st → j % 2 ≡ k % 2 → byteAt st j ≡ byteAt st k
+    pub alike-places : (j k : ℕ) → j < length st → k < length st → j % 2 ≡ k % 2 → byteAt st j ≡ byteAt st k
     unfolding throughOne alike
     alike-places j k h l e = go (eqb (j % 2) 1) refl
       where
@@ -185,7 +190,7 @@ unfolding firstMark
 mark-append [] ys = refl
 mark-append (x ∷ xs) ys = sym (ap (λ b. cond b (firstMark ys) (x + 1)) (ne-eqb (x + 1) 0 (omega arith)))
 
-layer-more : (m st : Bytes) (cs : List ℕ) (k z : ℕ)
+pub layer-more : (m st : Bytes) (cs : List ℕ) (k z : ℕ)
     → layerMark m st cs (suc k) z ≡ noted (suc k) (eqb (suc k % 2) 0 && isIn z (walkedFrom m st cs (suc k))) (layerMark m st cs k z)
 unfolding layerMark noted
 layer-more m st cs k z =
@@ -269,7 +274,7 @@ walk-none m st single s k v met marks from found layers layers′ z C r K T N = 
     first z true q = unfold noted layerMark firstMark picked walkedFrom in sym (ap (λ b. firstMark (cond b (0 ∷ []) [])) (here z ∙ q))
     first z false q = unfold noted layerMark firstMark picked walkedFrom in sym (ap (λ b. firstMark (cond b (0 ∷ []) [])) (here z ∙ q))
 
-step-like : (m : Bytes) (a : ℕ) (xs ys : List ℕ) → ((z : ℕ) → isIn z xs ≡ isIn z ys) → stepTo m a xs ≡ stepTo m a ys
+pub step-like : (m : Bytes) (a : ℕ) (xs ys : List ℕ) → ((z : ℕ) → isIn z xs ≡ isIn z ys) → stepTo m a xs ≡ stepTo m a ys
 unfolding stepTo
 step-like m a xs ys like = picked-cong (below m a + 1) _ _ (counted m a) (λ i h. someOf-like xs ys _ like)
 
@@ -515,6 +520,13 @@ ends-more m st cell prev last cs single k v n base s n′ low high low′ high�
         let o = eqb-false (k % 2) 1 q in
         within-even m st cell prev last cs single k v n′ met′ low high low′ high′ marks′ from′ found′ layers layers′ G C h here (A .notes) (W .1) o (A .even o)
 
+-- a walk from one cell, put in front of `from`
+pub front : (from after : List ℕ) (c : ℕ) → length from ≡ 2001 → after ≡ set from 0 c → take 1 after ≡ c ∷ []
+front from after c r f = ap (take 1) f ∙ take-suc-set from 0 c (omega arith)
+
+pub one-cell : (m : Bytes) (from after : List ℕ) (c : ℕ) → Cell m c → length from ≡ 2001 → after ≡ set from 0 c → Cells m after 1
+one-cell m from after c C r f = record { each = rw (front from after c r f) (C, tt); count = ap length (front from after c r f) }
+
 -- what a walk leaves for the next
 pub walk-fresh : (m st : Bytes) (cs : List ℕ) (single : Bool) (k v n met : ℕ) (marks from found layers : List ℕ) → Walk m st single cs k v marks from found layers n met → Under (v + (k + 1)) marks
 unfolding markAt
@@ -530,8 +542,8 @@ module _ (found : List ℕ) (base n : ℕ) (low : base ≤ n) (len : length (tak
   n-fits : n ≤ 2001
   n-fits = omega (arith, length-take n found)
 
-  pub list-room : (l : ℕ) → l ≡ 2001 → (base + (n - base) ≤ length found) × (n - base ≤ l) × (length found < 65536)
-  list-room l e = (omega (arith, n-fits), omega (arith, n-fits), omega arith)
+  pub list-room : (l : ℕ) → l ≡ 2001 → (base + (n - base) ≤ length found) × (0 + (n - base) ≤ l) × (length found < 65536) × (l < 65536)
+  list-room l e = (omega (arith, n-fits), omega (arith, n-fits), omega arith, omega arith)
 
   module _ (from′ : List ℕ) (e : take (n - base) from′ ≡ take (n - base) (drop base found)) where
     pub moved-count : length (take (n - base) from′) ≡ n - base

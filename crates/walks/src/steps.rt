@@ -131,13 +131,14 @@ fn step(
     walk_up(m, st, cell, prev, last, from, n, v, marks, found, base)
 }
 
-// Copies n numbers of a list, from `at` on, to the front of another.
-fn copy_part(src: &[u16], at: usize, n: usize, dst: &mut [u16])
-    requires { ⌜ (at + n ≤ length (now src)) × (n ≤ length (now dst)) × (length (now src) < 65536) ⌝ }
-    ensures { λ _. ⌜ (take n (now (dst .exit)) ≡ take n (drop at (now (src .entry)))) × (length (now (dst .exit)) ≡ length (now (dst .entry))) ⌝ }
+// Copies n numbers of a list, from `at` on, to another, from `to` on.
+pub fn copy_part(src: &[u16], at: usize, n: usize, dst: &mut [u16], to: usize)
+    requires { ⌜ (at + n ≤ length (now src)) × (to + n ≤ length (now dst)) × (length (now src) < 65536) × (length (now dst) < 65536) ⌝ }
+    ensures { λ _. ⌜ (take n (drop to (now (dst .exit))) ≡ take n (drop at (now (src .entry)))) × (length (now (dst .exit)) ≡ length (now (dst .entry)))
+        × (take to (now (dst .exit)) ≡ take to (now (dst .entry))) ⌝ }
 {
     for j in 0..n {
-        dst[j] = src[at + j];
+        dst[to + j] = src[at + j];
     }
 }
 
@@ -187,7 +188,7 @@ fn kept(single: bool, n: usize) -> usize
 }
 
 // The lesser and the greater of two numbers.
-fn lesser(x: usize, y: usize) -> usize
+pub fn lesser(x: usize, y: usize) -> usize
     ensures { λ r. ⌜ (r ≤ x) × (r ≤ y) × ((a : ℕ) → a ≤ x → a ≤ y → a ≤ r) ⌝ }
 {
     if y < x { y } else { x }
@@ -213,7 +214,7 @@ fn widened(w: Ends, y: usize) -> Ends
 }
 
 // The bounds that hold the first n numbers of a list as well.
-fn widen(list: &[u16], n: usize, w: Ends) -> Ends
+pub fn widen(list: &[u16], n: usize, w: Ends) -> Ends
     requires { ⌜ length (take n (now list)) ≡ n ⌝ }
     ensures { λ r. ⌜ (r .count ≡ w .count) × (r .met ≡ w .met) × Widened (w .low) (w .high) (r .low) (r .high) (take n (now (list .entry))) ⌝ }
 {
@@ -275,7 +276,7 @@ fn arrive(
         (r .low) (r .high) (r .met) ⌝ }
 {
     let count = n - w.met;
-    copy_part(found, w.met, count, from);
+    copy_part(found, w.met, count, from, 0);
     let met = Ends {
         count,
         low: w.low,

@@ -18,7 +18,7 @@ arrive-spec =
     (λ c.
     let at-kept = c .before in
     let at-copy-part = at-kept .before .before .before in
-    arrived-odd _ _ _ _ _ _ _ _ _ _ _ refl _ (at-kept .kept .ensures) (at-copy-part .copy-part .ensures) (c .if1 .taken))
+    arrived-odd _ _ _ _ _ _ _ _ _ _ _ refl _ (at-kept .kept .ensures) (at-copy-part .copy-part .ensures .0, at-copy-part .copy-part .ensures .1) (c .if1 .taken))
     (λ c. search needs)
     (λ c κs.
     let at-copy-part = c .before .before .before .before .before .before in
@@ -35,5 +35,5 @@ arrive-spec =
     let at-if1 = at-note-all .before .before .before in
     let at-kept = at-if1 .before in
     let at-copy-part = at-kept .before .before .before in
-    arrived-even _ _ _ _ _ _ _ _ _ _ _ refl _ (at-kept .kept .ensures) (at-copy-part .copy-part .ensures) (at-if1 .if1 .left) _ _ _ _ _ (at-note-all .note-all .ensures)
+    arrived-even _ _ _ _ _ _ _ _ _ _ _ refl _ (at-kept .kept .ensures) (at-copy-part .copy-part .ensures .0, at-copy-part .copy-part .ensures .1) (at-if1 .if1 .left) _ _ _ _ _ (at-note-all .note-all .ensures)
     (c .widen .ensures)))

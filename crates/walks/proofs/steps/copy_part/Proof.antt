@@ -2,16 +2,16 @@
 use mathlib.Core.Path.{_≡_, refl}
 use Prim.Native.Nat.{_-_, _≤_}
 use lib.ListN.{length, take, drop}
-use Rattle.walks.proofs.WalkLaws.{copy-turn, copy-end}
+use Rattle.walks.proofs.WalkLaws.{copy-turn, copy-front, copy-end}
 use borrow.Author.Needs.{needs}
 use Rattle.walks.proofs.steps.copy_part.Statement.{statement}
 use Rattle.walks.proofs.steps.copy_part.Tie as tie
 
 abbrev Inv-loop : tie.InvT-loop
-Inv-loop src at n dst₀ j₀ dst j = (j ≤ n) × (length dst ≡ length dst₀) × (take j dst ≡ take j (drop at src))
+Inv-loop src at n dst₀ to j₀ dst j = (j ≤ n) × (length dst ≡ length dst₀) × (take j (drop to dst) ≡ take j (drop at src)) × (take to dst ≡ take to dst₀)
 
 abbrev μ-loop : tie.MeasureT-loop
-μ-loop src at n dst₀ j₀ dst j = n - j
+μ-loop src at n dst₀ to j₀ dst j = n - j
 
 pub copy-part-spec : {M : Type 1} → statement M
 copy-part-spec =
@@ -19,7 +19,7 @@ copy-part-spec =
     (tie.spec
     Inv-loop
     μ-loop
-    (λ c. (search needs, refl, refl))
+    (λ c. (search needs, refl, refl, refl))
     (λ c. search needs)
     (λ c. search needs)
     (λ c. search needs)
@@ -27,6 +27,14 @@ copy-part-spec =
     (λ c. search needs)
     (λ c. search needs)
     (λ c. search needs)
-    (λ c. (search needs, search needs, copy-turn _ _ _ _ _ (c .before .loop-test .taken) (c .before .before .before .pre .0) (search needs) (c .before .before .loop .inv .2)))
     (λ c. search needs)
-    (λ c. (search copy-end, search needs)))
+    (λ c.
+    let at-loop = c .before .before in
+    let start = at-loop .before in (
+      search needs,
+      search needs,
+      copy-turn _ (at-loop .loop .dst) _ (start .args .to) _ _ (c .before .loop-test .taken) (start .pre .0) (search needs) (at-loop .loop .inv .2),
+      copy-front (start .args .dst .now) (at-loop .loop .dst) (start .args .to) (at-loop .loop .j) _ (at-loop .loop .inv .3),
+    ))
+    (λ c. search needs)
+    (λ c. (search copy-end, search needs, search needs)))

@@ -1,0 +1,147 @@
+-- Cells listed one after another. Assumes nothing.
+use mathlib.Core.Path.{_≡_, refl, sym, ap, ap₂, _∙_, subst}
+use mathlib.Core.Bool.{Bool, true, false, not, _||_, _&&_, cond}
+use mathlib.Core.List.{List, [], _∷_, _++_}
+use Prim.Native.Nat.{ℕ, _+_, _-_, _≤_, _<_}
+use native.Mathlib.Numerals.{add-one}
+use native.Mathlib.Omega.{arith}
+use lib.Dec.{eqb}
+use lib.ListN.{length, getD, set, take, length-set, length-take, length-append}
+use lib.Seq.{getD-set-same, getD-set-other, getD-take, take-suc-set}
+use borrow.Author.Tests.{eqb-true, eqb-false, eq-eqb, ne-eqb}
+use Rattle.vocabulary.specs.Ranges.{some}
+use Rattle.vocabulary.specs.RangeLaws.{some-next, some-cong, at-last}
+use Rattle.vocabulary.specs.Lists.{isIn, repeats, All}
+use Rattle.vocabulary.specs.ListLaws.{or-nothing, or-always, once-few, All-append, isIn-append, repeats-snoc}
+use Rattle.visits.specs.Visits.{Grown}
+use Rattle.visits.proofs.VisitLaws.{grown-none, grown-new, grown-both}
+use Rattle.walks.specs.Walking.{noted, Noted}
+use Rattle.walks.proofs.NoteLaws.{note-old, note-new, twice}
+use Rattle.near_cells.specs.NearCells.{inRow, Listed, Spread, RowFits, fromCell, fromLevel, LevelFits}
+
+module _ (k y n x : ℕ) (layers found : List ℕ) (L : Listed layers found n) (xe : x ≡ getD layers y 0) where
+  pub reach-old : (x ≡ 0 → ⊥) → Spread k layers found n layers found n (eqb y)
+  reach-old ne = record { notes = note-old k y x layers xe ne; listed = L; grown = grown-none found n }
+
+  module _ (low : 1 ≤ y) (high : y ≤ 2000) (z : x ≡ 0) (layers′ found′ : List ℕ) (le : layers′ ≡ set layers y (k + 1)) (fe : found′ ≡ set found n y) where
+    longer : take (n + 1) found′ ≡ take n found ++ (y ∷ [])
+    longer = rw (add-one n, fe) (take-suc-set found n y (omega (arith, L .few, L .room)))
+
+    out : isIn y (take n found) ≡ false
+    out = sym (L .marked y) ∙ ap not (eq-eqb (getD layers y 0) 0 (sym xe ∙ z))
+
+    once : repeats (take (n + 1) found′) ≡ false
+    once = rw longer (repeats-snoc (take n found) y (L .once) out)
+
+    in-range : All (λ y. (1 ≤ y) × (y ≤ 2000)) (take (n + 1) found′)
+    in-range = rw longer (All-append (λ y. (1 ≤ y) × (y ≤ 2000)) (take n found) (y ∷ []) (L .in-range) ((low, high), tt))
+
+    count : length (take (n + 1) found′) ≡ n + 1
+    count = rw longer (length-append (take n found) (y ∷ []) ∙ ap (λ k. k + 1) (L .count))
+
+    pub reach-new : Spread k layers found n layers′ found′ (n + 1) (eqb y)
+    unfolding isIn
+    reach-new = record {
+      notes = note-new k y x layers layers′ (omega (arith, L .size)) xe z le;
+      listed = record {
+        size = ap length le ∙ length-set layers y (k + 1) ∙ L .size;
+        room = ap length fe ∙ length-set found n y ∙ L .room;
+        marked = λ z. mark z (eqb z y) refl ∙ sym (ap (isIn z) longer ∙ isIn-append z (take n found) (y ∷ []));
+        once = once;
+        in-range = in-range;
+        count = count;
+        few = omega (arith, once-few 2000 (take (n + 1) found′) in-range once, count);
+      };
+      grown = grown-new found found′ n y fe;
+    }
+      where
+        at : (z : ℕ) → getD layers′ z 0 ≡ getD (set layers y (k + 1)) z 0
+        at z = ap (λ (l : List ℕ). getD l z 0) le
+
+        mark : (z : ℕ) (b : Bool) → eqb z y ≡ b → not (eqb (getD layers′ z 0) 0) ≡ isIn z (take n found) || (b || false)
+        mark z true q =
+            ap not (ne-eqb (getD layers′ z 0) 0 (λ w. let o : ⊥ = omega (arith, w, at z, ap (λ i. getD (set layers y (k + 1)) i 0) (eqb-true z y q), getD-set-same layers y (k + 1) 0 (omega (arith, L .size))) in o))
+            ∙ sym (or-always (isIn z (take n found)))
+        mark z false q = ap (λ i. not (eqb i 0)) (at z ∙ getD-set-other layers y z (k + 1) 0 (eqb-false z y q)) ∙ L .marked z ∙ sym (or-nothing (isIn z (take n found)))
+
+-- ---- one after another
+
+pub spread-none : (k n : ℕ) (layers found : List ℕ) (p : ℕ → Bool) → Listed layers found n → ((z : ℕ) → p z ≡ false) → Spread k layers found n layers found n p
+unfolding noted
+spread-none k n layers found p L f = record {
+  notes = record { size = refl; each = λ z. sym (ap (λ b. noted k b (getD layers z 0)) (f z)) };
+  listed = L;
+  grown = grown-none found n;
+}
+
+pub spread-both : (k n s t : ℕ) (l₀ l₁ l₂ f₀ f₁ f₂ : List ℕ) (p q r : ℕ → Bool) → Spread k l₀ f₀ n l₁ f₁ s p → Spread k l₁ f₁ s l₂ f₂ t q
+    → ((z : ℕ) → p z || q z ≡ r z) → Spread k l₀ f₀ n l₂ f₂ t r
+spread-both k n s t l₀ l₁ l₂ f₀ f₁ f₂ p q r A B e = record {
+  notes = record {
+    size = B .notes .size ∙ A .notes .size;
+    each = λ z. B .notes .each z ∙ ap (noted k (q z)) (A .notes .each z) ∙ twice k (p z) (q z) (getD l₀ z 0) ∙ ap (λ b. noted k b (getD l₀ z 0)) (e z);
+  };
+  listed = B .listed;
+  grown = grown-both f₀ f₁ f₂ n s t (A .grown) (B .grown);
+}
+
+-- one more number of a range that begins at a
+some-longer : (a t : ℕ) (p : ℕ → Bool) → a ≤ t → some a (t + 1 - a) p ≡ some a (t - a) p || p t
+some-longer a t p h =
+    let e : t + 1 - a ≡ t - a + 1 = omega arith in
+    let f : a + (t - a) ≡ t = omega arith in
+    ap (λ n. some a n p) e ∙ some-next a (t - a) p ∙ ap (λ i. some a (t - a) p || p i) f
+
+-- ---- the loop over a row
+
+pub row-start : (k lo n : ℕ) (near layers found : List ℕ) → Listed layers found n → Spread k layers found n layers found n (inRow near lo lo)
+unfolding inRow some
+row-start k lo n near layers found L = spread-none k n layers found (inRow near lo lo) L (λ z. let e : lo - lo ≡ 0 = omega arith in rw e)
+
+pub row-turn : (k lo t y n s s′ : ℕ) (near l₀ l₁ l₂ f₀ f₁ f₂ : List ℕ) → lo ≤ t → y ≡ getD near t 0 → Spread k l₀ f₀ n l₁ f₁ s (inRow near lo t) → Spread k l₁ f₁ s l₂ f₂ s′ (eqb y)
+    → Spread k l₀ f₀ n l₂ f₂ s′ (inRow near lo (t + 1))
+unfolding inRow
+row-turn k lo t y n s s′ near l₀ l₁ l₂ f₀ f₁ f₂ h e A B =
+    spread-both k n s s′ l₀ l₁ l₂ f₀ f₁ f₂ (inRow near lo t) (eqb y) (inRow near lo (t + 1)) A B
+    (λ z. ap (λ x. inRow near lo t z || eqb x z) e ∙ sym (some-longer lo t (λ i. eqb (getD near i 0) z) h))
+
+pub row-end : (k lo hi t n s : ℕ) (near l₀ l₁ f₀ f₁ : List ℕ) → t ≤ hi → hi ≤ t → Spread k l₀ f₀ n l₁ f₁ s (inRow near lo t) → Spread k l₀ f₀ n l₁ f₁ s (inRow near lo hi)
+row-end k lo hi t n s near l₀ l₁ f₀ f₁ a b S = at-last (λ i. Spread k l₀ f₀ n l₁ f₁ s (inRow near lo i)) t hi a b S
+
+pub row-low : (near : List ℕ) (lo hi t y : ℕ) → RowFits near lo hi → lo ≤ t → t < hi → y ≡ getD near t 0 → 1 ≤ y
+row-low near lo hi t y F l h e = omega (arith, F .each t l h .0)
+
+pub row-high : (near : List ℕ) (lo hi t y : ℕ) → RowFits near lo hi → lo ≤ t → t < hi → y ≡ getD near t 0 → y ≤ 2000
+row-high near lo hi t y F l h e = omega (arith, F .each t l h .1)
+
+-- ---- the loop over the cells of a level
+
+kept-at : (n s i : ℕ) (f₀ f : List ℕ) → Grown f₀ n f s → i < n → getD f i 0 ≡ getD f₀ i 0
+kept-at n s i f₀ f G h = sym (getD-take n f i 0 h) ∙ ap (λ (l : List ℕ). getD l i 0) (G .front) ∙ getD-take n f₀ i 0 h
+
+pub level-start : (k first old n : ℕ) (near ends layers found : List ℕ) → Listed layers found n → Spread k layers found n layers found n (fromLevel near ends first found old old)
+unfolding fromLevel some
+level-start k first old n near ends layers found L = spread-none k n layers found (fromLevel near ends first found old old) L (λ z. let e : old - old ≡ 0 = omega arith in rw e)
+
+module _ (k first old n s i x : ℕ) (near ends l₀ l₁ f₀ f₁ : List ℕ) (F : LevelFits near ends first f₀ old n) (a : old ≤ i) (h : i < n)
+    (A : Spread k l₀ f₀ n l₁ f₁ s (fromLevel near ends first f₀ old i)) (xe : x ≡ getD f₁ i 0) where
+  here : x ≡ getD f₀ i 0
+  here = xe ∙ kept-at n s i f₀ f₁ (A .grown) h
+
+  pub level-low : first ≤ x
+  level-low = omega (arith, here, F .cells i a h)
+
+  module _ (lo hi : ℕ) (le : lo ≡ getD ends (x - first) 0) (he : hi ≡ getD ends (x - first + 1) 0) where
+    pub level-row : RowFits near lo hi
+    level-row = rw (le, he, here) (F .rows i a h)
+
+    pub level-turn : (l₂ f₂ : List ℕ) (s′ : ℕ) → Spread k l₁ f₁ s l₂ f₂ s′ (inRow near lo hi) → Spread k l₀ f₀ n l₂ f₂ s′ (fromLevel near ends first f₀ old (i + 1))
+    unfolding fromLevel fromCell
+    level-turn l₂ f₂ s′ B =
+        spread-both k n s s′ l₀ l₁ l₂ f₀ f₁ f₂ (fromLevel near ends first f₀ old i) (inRow near lo hi) (fromLevel near ends first f₀ old (i + 1)) A B
+        (λ z. ap (λ b. fromLevel near ends first f₀ old i z || b) (ap₂ (λ u w. inRow near u w z) le he ∙ ap (λ y. fromCell near ends first y z) here)
+        ∙ sym (some-longer old i (λ j. fromCell near ends first (getD f₀ j 0) z) a))
+
+pub level-end : (k first old i n s : ℕ) (near ends l₀ l₁ f₀ f₁ : List ℕ) → i ≤ n → n ≤ i → Spread k l₀ f₀ n l₁ f₁ s (fromLevel near ends first f₀ old i)
+    → Spread k l₀ f₀ n l₁ f₁ s (fromLevel near ends first f₀ old n)
+level-end k first old i n s near ends l₀ l₁ f₀ f₁ a b S = at-last (λ j. Spread k l₀ f₀ n l₁ f₁ s (fromLevel near ends first f₀ old j)) i n a b S
