@@ -1,3 +1,4 @@
 pub mod PutLaws
+pub mod CountLaws
 pub mod StartCounts
 pub mod StartLists

@@ -62,6 +62,15 @@ list-end a b s t k n list g h P = at-last (λ j. Put a b s t (take j list)) k n 
 pub words-end : (a b : Bytes) (s t k n : ℕ) (g : ℕ → ℕ) → k ≤ n → n ≤ k → Put a b s t (listed 0 k g) → Put a b s t (listed 0 n g)
 words-end a b s t k n g h q P = at-last (λ j. Put a b s t (listed 0 j g)) k n h q P
 
+-- n + 1 words: a turn of the loop that writes the first n, and the last
+pub words-more : (a b c : Bytes) (s t u k n x : ℕ) (g : ℕ → ℕ) → 2 * (s + n + 1) ≤ length a → k < n → x ≡ g k → Put a b s t (listed 0 k g) → Put b c t u (x ∷ []) → Put a c s u (listed 0 (k + 1) g)
+words-more a b c s t u k n x g room h e P Q = words-turn a b c s t u k (n + 1) (omega arith) (omega arith) g x e P Q
+
+pub words-last : (a b c : Bytes) (s t u k n x : ℕ) (g : ℕ → ℕ) → 2 * (s + n + 1) ≤ length a → k ≤ n → n ≤ k → x ≡ g k → Put a b s t (listed 0 k g) → Put b c t u (x ∷ [])
+    → Put a c s u (listed 0 (n + 1) g)
+words-last a b c s t u k n x g room h q e P Q =
+    at-last (λ j. Put a c s u (listed 0 (j + 1) g)) k n h q (words-turn a b c s t u k (n + 1) (omega arith) (omega arith) g x e P Q)
+
 pub list-start : (b : Bytes) (s : ℕ) (list : List ℕ) → Put b b s s (take 0 list)
 list-start b s list = put-none b s
 

@@ -1,24 +1,24 @@
--- What start counts, and the tables of ends. Assumes nothing.
+-- The rows, their ends, and the cells of a class, in local numbers. Assumes nothing.
 use mathlib.Core.Path.{_≡_, refl, sym, ap, ap₂, _∙_}
+use mathlib.Core.Bool.{Bool, true, false, cond}
 use mathlib.Core.List.{List, [], _∷_, _++_, map}
-use Prim.Native.Nat.{ℕ, zero, suc, _+_, _-_, _*_, _≤_, _<_}
-use native.Mathlib.Numerals.{add-one}
+use Prim.Native.Nat.{ℕ, _+_, _-_, _*_, _≤_, _<_}
+use native.Mathlib.Nat.{zero-add}
 use native.Mathlib.Omega.{arith}
-use lib.ListN.{length, getD, take, length-map}
-use lib.Seq.{take-suc}
+use lib.Dec.{eqb}
+use lib.ListN.{length, getD, length-map}
+use borrow.Author.Tests.{eq-eqb, ne-eqb}
 use Rattle.vocabulary.specs.ListLaws.{map-append}
-use Rattle.vocabulary.specs.Bytes.{Bytes}
-use Rattle.vocabulary.specs.Ranges.{blocks, total}
-use Rattle.vocabulary.specs.RangeLaws.{total-grows, blocks-turn, blocks-sized, rows-length, at-last}
+use Rattle.vocabulary.specs.Bytes.{Bytes, byteAt}
+use Rattle.vocabulary.specs.Ranges.{blocks}
+use Rattle.vocabulary.specs.RangeLaws.{total-start, total-turn, total-grows, blocks-start, blocks-turn, blocks-fit, blocks-sized, rows-length, at-last}
 use Rattle.vocabulary.specs.CountLaws.{total-double}
 use Rattle.layout.specs.Words.{wordAt}
 use Rattle.split.specs.Split.{globalOf}
-use Rattle.split.specs.Classes.{Added}
-use Rattle.split.specs.Classes.{partCells, classCells, classCount, Classed}
-use Rattle.cell_lists.proofs.AddLaws.{added-take, class-count}
+use Rattle.split.specs.Classes.{ofClass, classCells, partCells, Classed}
 use Rattle.cell_lists.proofs.ClassLists.{row-cells}
 use Rattle.start_lists.proofs.PutLaws.{put-as, put-none, put-both}
-use Rattle.start_lists.specs.Starting.{Put, localIn, placeAt, rowSize, partCount, endsOf, Counted, Before, entryWords, rowEnds, rowWords, Row, Rows, sentEnds, sentWords}
+use Rattle.start_lists.specs.Starting.{Put, localIn, countAt, Sent, placeAt, rowSize, entryWords, rowEnds, rowWords, Row, Rows, sentEnds, sentWords}
 
 module _ (table : Bytes) (ends : List ℕ) (first : ℕ) (order : List ℕ) (l q from to : ℕ) (qe : q ≡ getD order (l - 1) 0 - first) (fe : from ≡ getD ends q 0) (te : to ≡ getD ends (q + 1) 0) where
   size-is : rowSize table ends first order l ≡ to - from
@@ -31,74 +31,30 @@ module _ (table : Bytes) (ends : List ℕ) (first : ℕ) (order : List ℕ) (l q
   pub size-some : to - from ≡ rowSize table ends first order l
   size-some = sym size-is
 
-module _ (which : ℕ) (owners table : Bytes) (ends : List ℕ) (i first cells : ℕ) (order : List ℕ) (k n : ℕ) where
-  pub count-got : which ≡ 0 → n ≡ length (partCells owners table ends i first cells k) → n ≡ partCount which owners table ends i first cells order k
-  unfolding partCount
-  count-got e q = rw e q
+-- ---- the ends of the rows
 
-  pub count-sent : which ≡ 1 → n ≡ length (partCells owners table ends k first cells i) → n ≡ partCount which owners table ends i first cells order k
-  unfolding partCount
-  count-sent e q = rw e q
+module _ (table : Bytes) (ends : List ℕ) (first : ℕ) (order : List ℕ) where
+  pub rows-start : 0 ≡ rowEnds table ends first order 0
+  unfolding rowEnds
+  rows-start = sym (total-start 1 (rowSize table ends first order))
 
-pub count-row : (which : ℕ) (owners table : Bytes) (ends : List ℕ) (i first cells : ℕ) (order : List ℕ) (k n : ℕ) → (which ≡ 0 → ⊥) → (which ≡ 1 → ⊥)
-    → n ≡ rowSize table ends first order k → n ≡ partCount which owners table ends i first cells order k
-unfolding partCount
-count-row zero owners table ends i first cells order k n a b q = absurd (a refl)
-count-row (suc zero) owners table ends i first cells order k n a b q = absurd (b refl)
-count-row (suc (suc which)) owners table ends i first cells order k n a b q = q
+  pub rows-turn : (l e x : ℕ) → e ≡ rowEnds table ends first order l → x ≡ rowSize table ends first order (l + 1) → e + x ≡ rowEnds table ends first order (l + 1)
+  unfolding rowEnds
+  rows-turn l e x p q =
+      let j : l + 1 ≡ 1 + l = omega arith in
+      ap₂ _+_ p (q ∙ ap (rowSize table ends first order) j) ∙ sym (total-turn 1 (rowSize table ends first order) l)
 
--- what a row counts
-pub got-told : (owners table : Bytes) (ends : List ℕ) (i first cells k n : ℕ) (class : Bytes) → cells ≤ 2000 → Classed owners table ends i cells class → n ≡ classCount class cells k
-    → n ≡ length (partCells owners table ends i first cells k)
-got-told owners table ends i first cells k n class few C e = e ∙ sym (class-count class k first cells) ∙ ap length (row-cells owners table ends i first cells k class few C)
+  pub rows-small : (owned l e x : ℕ) → rowEnds table ends first order owned < 65536 → l < owned → e ≡ rowEnds table ends first order l → x ≡ rowSize table ends first order (l + 1) → e + x < 65536
+  rows-small owned l e x small h p q =
+      let g : rowEnds table ends first order (l + 1) ≤ rowEnds table ends first order owned =
+      unfold rowEnds in total-grows 1 (rowSize table ends first order) (l + 1) owned (omega arith) in
+      omega (arith, rows-turn l e x p q)
 
--- ---- ends
+  pub rows-last : (l owned e : ℕ) → l ≤ owned → owned ≤ l → e ≡ rowEnds table ends first order l → e ≡ rowEnds table ends first order owned
+  rows-last l owned e g h p = at-last (λ j. e ≡ rowEnds table ends first order j) l owned g h p
 
-module _ (which : ℕ) (owners table : Bytes) (ends : List ℕ) (i first cells : ℕ) (order : List ℕ) (base : ℕ) where
-  end-zero : endsOf which owners table ends i first cells order base 0 ≡ base
-  unfolding endsOf total
-  end-zero = let e : base + 0 ≡ base = omega arith in e
-
-  -- one number more
-  end-more : (k : ℕ) → endsOf which owners table ends i first cells order base (suc k) ≡ endsOf which owners table ends i first cells order base k + partCount which owners table ends i first cells order (1 + k)
-  unfolding endsOf total
-  end-more k = omega arith
-
-  -- the first ends of a table, and a cell of it
-  pub counted-less : (k n : ℕ) → k ≤ n → Counted which owners table ends i first cells order base n → Counted which owners table ends i first cells order base k
-  unfolding endsOf
-  counted-less k n h C = record { last = omega (arith, C .last, total-grows 1 (partCount which owners table ends i first cells order) k n h); cell = λ j a b w. C .cell j a (omega arith) w }
-
-  pub counted-cell : (k : ℕ) → Counted which owners table ends i first cells order base k → (k ≡ 0 → ⊥) → 2 ≤ which → first ≤ getD order (k - 1) 0
-  counted-cell k C z w = C .cell k (omega arith) (omega arith) w
-
-  pub next-first : (k : ℕ) → k ≡ 0 → Counted which owners table ends i first cells order base k → (base ≡ endsOf which owners table ends i first cells order base k) × (base < 65536)
-  next-first k e C =
-      let p : base ≡ endsOf which owners table ends i first cells order base k = sym (ap (endsOf which owners table ends i first cells order base) e ∙ end-zero) in (p, omega (arith, p, C .last))
-
-  pub next-more : (k e x : ℕ) → (k ≡ 0 → ⊥) → Counted which owners table ends i first cells order base k → Before which owners table ends i first cells order base k e
-      → x ≡ partCount which owners table ends i first cells order k → (e + x ≡ endsOf which owners table ends i first cells order base k) × (e + x < 65536)
-  next-more k e x z C B q =
-      let j : 1 + (k - 1) ≡ k = omega arith in
-      let j₂ : suc (k - 1) ≡ k = omega arith in
-      let p : e + x ≡ endsOf which owners table ends i first cells order base k =
-      ap₂ _+_ (B .is (omega arith)) (q ∙ ap (partCount which owners table ends i first cells order) (sym j))
-      ∙ sym (end-more (k - 1))
-      ∙ ap (endsOf which owners table ends i first cells order base) j₂ in (p, omega (arith, p, C .last))
-
-  pub before-none : (e : ℕ) → Before which owners table ends i first cells order base 0 e
-  before-none e = record { is = λ h. let no : ⊥ = omega arith in absurd no }
-
-  pub before-next : (k e : ℕ) → e ≡ endsOf which owners table ends i first cells order base k → Before which owners table ends i first cells order base (k + 1) e
-  before-next k e p = record { is = λ h. let q : k ≡ k + 1 - 1 = omega arith in p ∙ ap (endsOf which owners table ends i first cells order base) q }
-
-  pub end-last : (k n e : ℕ) → k ≤ n + 1 → n + 1 ≤ k → Before which owners table ends i first cells order base k e → e ≡ endsOf which owners table ends i first cells order base n
-  end-last k n e g h B = let q : k - 1 ≡ n = omega arith in B .is (omega arith) ∙ ap (endsOf which owners table ends i first cells order base) q
-
-pub two-up : (which : ℕ) → (which ≡ 0 → ⊥) → (which ≡ 1 → ⊥) → 2 ≤ which
-two-up zero a b = absurd (a refl)
-two-up (suc zero) a b = absurd (b refl)
-two-up (suc (suc k)) a b = omega arith
+  pub rows-cell : (l owned : ℕ) → Rows table ends first order owned → l < owned → first ≤ getD order (l + 1 - 1) 0
+  rows-cell l owned R h = R .each (l + 1) (omega arith) (omega arith) .cell
 
 -- ---- an entry in local numbers
 
@@ -182,40 +138,84 @@ module _ (table : Bytes) (ends : List ℕ) (first : ℕ) (order local : List ℕ
   pub rows-each : (l : ℕ) → Rows table ends first order owned → 1 ≤ l → l < owned + 1 → Row table ends first order l
   rows-each l R h k = R .each l h (omega arith)
 
--- ---- local numbers of a list
+-- ---- the cells of a class in local numbers
 
-module _ (local : List ℕ) where
-  map-take : (k : ℕ) (list : List ℕ) → k < length list → map (localIn local) (take (k + 1) list) ≡ map (localIn local) (take k list) ++ (localIn local (getD list k 0) ∷ [])
-  map-take k list h =
-      ap (λ j. map (localIn local) (take j list)) (add-one k)
-      ∙ ap (map (localIn local)) (take-suc list k 0 h)
-      ∙ map-append (localIn local) (take k list) (getD list k 0 ∷ [])
+module _ (class : Bytes) (first k : ℕ) (local : List ℕ) where
+  module _ (q x : ℕ) (e : x ≡ byteAt class q) where
+    cell-of : (b : Bool) → eqb x k ≡ b → ofClass class first k q ≡ cond b ((first + q) ∷ []) []
+    unfolding ofClass
+    cell-of b w = ap (λ y. cond (eqb y k) ((first + q) ∷ []) []) (sym e) ∙ ap (λ c. cond c ((first + q) ∷ []) []) w
 
-  pub locals-start : (b : Bytes) (s : ℕ) (list : List ℕ) → Put b b s s (map (localIn local) (take 0 list))
-  locals-start b s list = put-none b s
+    pub cell-none : (b : Bytes) (s : ℕ) → (x ≡ k → ⊥) → Put b b s s (map (localIn local) (ofClass class first k q))
+    cell-none b s h = put-as b b s s [] _ (sym (ap (map (localIn local)) (cell-of false (ne-eqb x k h)))) (put-none b s)
 
-  pub locals-turn : (a b c : Bytes) (s u w k x l y : ℕ) (list : List ℕ) → 2 * (s + k) ≤ length a → x < k → k ≤ length list → u ≡ s + x → y ≡ getD list x 0 → l ≡ getD local y 0
-      → Put a b s u (map (localIn local) (take x list)) → Put b c u w (l ∷ []) → Put a c s w (map (localIn local) (take (x + 1) list))
-  unfolding localIn
-  locals-turn a b c s u w k x l y list r h q e ye le P Q =
-      put-as a c s w (map (localIn local) (take x list) ++ (l ∷ [])) _ (ap (λ z. map (localIn local) (take x list) ++ (z ∷ [])) (le ∙ ap (localIn local) ye) ∙ sym (map-take x list (omega arith)))
-      (put-both a b c s u w _ _ P Q (omega arith))
+    pub cell-room : (b : Bytes) (s : ℕ) → x ≡ k → 2 * (s + length (ofClass class first k q)) ≤ length b → 2 * (s + 1) ≤ length b
+    cell-room b s h r = omega (arith, ap length (cell-of true (eq-eqb x k h)))
 
-  pub locals-end : (a b : Bytes) (s u k x : ℕ) (list : List ℕ) → x ≤ k → k ≤ x → Put a b s u (map (localIn local) (take x list)) → Put a b s u (map (localIn local) (take k list))
-  locals-end a b s u k x list g h P = at-last (λ j. Put a b s u (map (localIn local) (take j list))) x k g h P
+    pub cell-put : (a b : Bytes) (s u c l : ℕ) → x ≡ k → c ≡ first + q → l ≡ getD local c 0 → Put a b s u (l ∷ []) → Put a b s u (map (localIn local) (ofClass class first k q))
+    unfolding localIn
+    cell-put a b s u c l h ce le P =
+        put-as a b s u (l ∷ []) _ (ap (λ y. y ∷ []) (le ∙ ap (λ y. getD local y 0) ce) ∙ sym (ap (map (localIn local)) (cell-of true (eq-eqb x k h)))) P
+
+  -- one after the other
+  pub class-start : (b : Bytes) (s : ℕ) → Put b b s s (map (localIn local) (blocks 0 0 (ofClass class first k)))
+  class-start b s = put-as b b s s [] _ (sym (ap (map (localIn local)) (blocks-start 0 (ofClass class first k)))) (put-none b s)
+
+  module _ (cells : ℕ) (a b : Bytes) (s u q : ℕ) (P : Put a b s u (map (localIn local) (blocks 0 q (ofClass class first k)))) (h : q < cells)
+      (room : 2 * (s + length (classCells class first cells k)) ≤ length a) where
+    class-fit : u + length (ofClass class first k q) ≤ s + length (classCells class first cells k)
+    unfolding classCells
+    class-fit =
+        omega (
+          arith,
+          P .count,
+          length-map (blocks 0 q (ofClass class first k)) (localIn local),
+          blocks-fit 0 (ofClass class first k) cells q h,
+          ap (λ x. length (ofClass class first k x)) (zero-add q),
+        )
+
+    pub class-room : length b ≡ length a → 2 * (u + length (ofClass class first k q)) ≤ length b
+    class-room e = omega (arith, class-fit)
+
+    pub class-turn : (c : Bytes) (w : ℕ) → Put b c u w (map (localIn local) (ofClass class first k q)) → Put a c s w (map (localIn local) (blocks 0 (q + 1) (ofClass class first k)))
+    class-turn c w Q =
+        put-as a c s w (map (localIn local) (blocks 0 q (ofClass class first k)) ++ map (localIn local) (ofClass class first k q)) _
+        (ap (λ x. map (localIn local) (blocks 0 q (ofClass class first k)) ++ map (localIn local) (ofClass class first k x)) (sym (zero-add q))
+        ∙ sym (map-append (localIn local) (blocks 0 q (ofClass class first k)) (ofClass class first k (0 + q)))
+        ∙ ap (map (localIn local)) (sym (blocks-turn 0 (ofClass class first k) q)))
+        (put-both a b c s u w _ _ P Q (omega (arith, class-fit)))
+
+  pub class-end : (cells : ℕ) (a b : Bytes) (s u q : ℕ) → q ≤ cells → cells ≤ q → Put a b s u (map (localIn local) (blocks 0 q (ofClass class first k)))
+      → Put a b s u (map (localIn local) (classCells class first cells k))
+  unfolding classCells
+  class-end cells a b s u q g h P = at-last (λ n. Put a b s u (map (localIn local) (blocks 0 n (ofClass class first k)))) q cells g h P
 
 -- ---- exports in local numbers
 
-pub sent-count : (owners table : Bytes) (ends : List ℕ) (i first cells j k : ℕ) (x y : List ℕ) (class : Bytes) → cells ≤ 2000 → Classed owners table ends j cells class
-    → Added x y 0 k (classCells class first cells i) → k ≡ length (partCells owners table ends j first cells i)
-sent-count owners table ends i first cells j k x y class few C A = omega (arith, A .count, ap length (row-cells owners table ends j first cells i class few C))
+module _ (owners table : Bytes) (ends : List ℕ) (i first cells : ℕ) where
+  pub sent-room : (x s j : ℕ) (class : Bytes) → cells ≤ 2000 → Classed owners table ends j cells class → 2 * (s + length (partCells owners table ends j first cells i)) ≤ x
+      → 2 * (s + length (classCells class first cells i)) ≤ x
+  sent-room x s j class few C r = omega (arith, ap length (row-cells owners table ends j first cells i class few C))
+
+  -- the count of the exports to part j
+  pub sent-here : (sent : List ℕ) (j x : ℕ) → Sent owners table ends i cells 16 sent → x ≡ getD sent j 0 → 1 ≤ j → j < 17 → x ≡ length (partCells owners table ends j first cells i)
+  unfolding countAt
+  sent-here sent j x X e low high = e ∙ X .each first j low (omega arith)
 
 module _ (owners table : Bytes) (ends : List ℕ) (i first cells : ℕ) (local : List ℕ) where
-  pub sent-put : (a b : Bytes) (s t j k : ℕ) (x y : List ℕ) (class : Bytes) → cells ≤ 2000 → Classed owners table ends j cells class → Added x y 0 k (classCells class first cells i) → length x ≡ 2000
-      → k ≤ 2000 → Put a b s t (map (localIn local) (take k y)) → Put a b s t (sentWords owners table ends i first cells local j)
+  pub sent-none : (b : Bytes) (s j count : ℕ) → count ≡ length (partCells owners table ends j first cells i) → count ≡ 0 → Put b b s s (sentWords owners table ends i first cells local j)
   unfolding sentWords
-  sent-put a b s t j k x y class few C A l h P =
-      put-as a b s t _ _ (ap (map (localIn local)) (added-take x y k (classCells class first cells i) A l (omega (arith, A .count)) ∙ row-cells owners table ends j first cells i class few C)) P
+  sent-none b s j count e z =
+      put-as b b s s [] _ (sym (ap (map (localIn local)) (nothing (partCells owners table ends j first cells i) (sym e ∙ z)))) (put-none b s)
+    where
+      nothing : (xs : List ℕ) → length xs ≡ 0 → xs ≡ []
+      nothing [] h = refl
+      nothing (x ∷ xs) h = let no : ⊥ = omega arith in absurd no
+
+  pub sent-put : (a b : Bytes) (s t j : ℕ) (class : Bytes) → cells ≤ 2000 → Classed owners table ends j cells class → Put a b s t (map (localIn local) (classCells class first cells i))
+      → Put a b s t (sentWords owners table ends i first cells local j)
+  unfolding sentWords
+  sent-put a b s t j class few C P = put-as a b s t _ _ (ap (map (localIn local)) (row-cells owners table ends j first cells i class few C)) P
 
   pub sent-long : (j : ℕ) → length (sentWords owners table ends i first cells local j) ≡ length (partCells owners table ends j first cells i)
   unfolding sentWords

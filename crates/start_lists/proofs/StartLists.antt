@@ -1,5 +1,5 @@
 -- The lists of a part's state, put together from their pieces, and the depths behind them. Assumes nothing.
-use mathlib.Core.Path.{_≡_, refl, sym, ap, ap₂, _∙_}
+use mathlib.Core.Path.{_≡_, sym, ap, ap₂, _∙_}
 use mathlib.Core.List.{List, [], _∷_, _++_, append-assoc}
 use Prim.Native.Nat.{ℕ, _+_, _-_, _*_, _≤_, _<_}
 use native.Mathlib.Nat.{zero-add}
@@ -7,12 +7,13 @@ use native.Mathlib.Omega.{arith}
 use lib.ListN.{length, getD, take, drop, length-append}
 use lib.Seq.{length-take-le}
 use Rattle.vocabulary.specs.Bytes.{Bytes, over}
-use Rattle.vocabulary.specs.Ranges.{listed, blocks}
-use Rattle.vocabulary.specs.RangeLaws.{listed-cong, listed-length}
+use Rattle.vocabulary.specs.Ranges.{listed, blocks, total}
+use Rattle.vocabulary.specs.RangeLaws.{listed-cong, listed-length, total-agree}
 use Rattle.layout.specs.Words.{wordAt}
 use Rattle.depths.specs.Depths.{four}
 use Rattle.depths.specs.DepthLaws.{length-four, fours-store}
-use Rattle.start_lists.specs.Starting.{Put, numbersOf, startWords, gotEnds, sentEnds, sentWords, rowEnds, rowWords, numberedWords, partCount, endsOf, Fit, startDepth, Cells}
+use Rattle.start_lists.specs.Starting.{Put, numbersOf, startWords, gotEnds, sentEnds, sentWords, rowEnds, rowWords, numberedWords, startDepth, Cells}
+use Rattle.start_lists.specs.Starting.{gotFrom, sentFrom, countAt, endsBy, Got, Sent}
 use Rattle.parts.proofs.OpenedLaws.{four-cut}
 use Rattle.start_lists.proofs.PutLaws.{put-as, put-both, put-length}
 use Rattle.start_lists.proofs.StartCounts.{rows-long, all-long}
@@ -21,42 +22,51 @@ use Rattle.start_lists.proofs.StartCounts.{rows-long, all-long}
 pub head-count : (long i steps kind first cells : ℕ) (v a b : Bytes) (t : ℕ) → Put a b 0 t ((long ∷ i ∷ steps ∷ kind ∷ []) ++ (listed 0 5 (wordAt v) ++ (first ∷ cells ∷ []))) → t ≡ 11
 head-count long i steps kind first cells v a b t P = omega (arith, P .count, length-append (listed 0 5 (wordAt v)) (first ∷ cells ∷ []), listed-length 0 (wordAt v) 5)
 
+-- ---- the tables of ends by the arrays of counts
+
+module _ (owners table : Bytes) (ends : List ℕ) (i first cells : ℕ) where
+  pub got-is : (got : List ℕ) → Got owners table ends i cells got → (owned j : ℕ) → j ≤ 16 → endsBy got owned j ≡ gotEnds owners table ends i first cells owned j
+  unfolding endsBy gotEnds
+  got-is got G owned j h = ap (λ x. owned + x) (total-agree (countAt got) (λ k. length (gotFrom owners table ends i first cells k)) 16 j h (λ k l q. G .each first k l q))
+
+  pub sent-total : (sent : List ℕ) → Sent owners table ends i cells 16 sent → (j : ℕ) → j ≤ 16 → total 1 j (countAt sent) ≡ sentEnds owners table ends i first cells j
+  unfolding sentEnds
+  sent-total sent X j h = total-agree (countAt sent) (λ k. length (sentFrom owners table ends i first cells k)) 16 j h (λ k l q. X .each first k l q)
+
+  pub sent-is : (sent : List ℕ) → Sent owners table ends i cells 16 sent → (j : ℕ) → j ≤ 16 → endsBy sent 0 j ≡ sentEnds owners table ends i first cells j
+  unfolding endsBy
+  sent-is sent X j h = zero-add _ ∙ sent-total sent X j h
+
+  borders-are : (got sent : List ℕ) (owned : ℕ) → Got owners table ends i cells got → Sent owners table ends i cells 16 sent
+      → listed 0 17 (endsBy got owned) ++ listed 0 17 (endsBy sent 0) ≡ listed 0 17 (gotEnds owners table ends i first cells owned) ++ listed 0 17 (sentEnds owners table ends i first cells)
+  borders-are got sent owned G X =
+      ap₂ _++_ (listed-cong 0 (endsBy got owned) (gotEnds owners table ends i first cells owned) 17 (λ k h. got-is got G owned (0 + k) (omega arith)))
+      (listed-cong 0 (endsBy sent 0) (sentEnds owners table ends i first cells) 17 (λ k h. sent-is sent X (0 + k) (omega arith)))
+
+pub borders-count : (a b : Bytes) (s t owned : ℕ) (got sent : List ℕ) → Put a b s t (listed 0 17 (endsBy got owned) ++ listed 0 17 (endsBy sent 0)) → t ≡ s + 34
+borders-count a b s t owned got sent P =
+    omega (arith, P .count, length-append (listed 0 17 (endsBy got owned)) (listed 0 17 (endsBy sent 0)), listed-length 0 (endsBy got owned) 17, listed-length 0 (endsBy sent 0) 17)
+
+-- ---- all pieces
+
 module _ (owners table : Bytes) (ends : List ℕ) (i first cells : ℕ) (order : List ℕ) where
-  -- the three tables of ends
-  pub got-is : (owned j : ℕ) → endsOf 0 owners table ends i first cells order owned j ≡ gotEnds owners table ends i first cells owned j
-  unfolding endsOf gotEnds partCount
-  got-is owned j = refl
-
-  pub sent-is : (j : ℕ) → endsOf 1 owners table ends i first cells order 0 j ≡ sentEnds owners table ends i first cells j
-  unfolding endsOf sentEnds partCount
-  sent-is j = zero-add _
-
-  pub reached-is : (j : ℕ) → endsOf 2 owners table ends i first cells order 0 j ≡ rowEnds table ends first order j
-  unfolding endsOf rowEnds partCount
-  reached-is j = zero-add _
-
-  module _ (n owned : ℕ) (F : Fit owners table ends i first cells order n owned) where
-    pub long-told : (reached sent : ℕ) → reached ≡ endsOf 2 owners table ends i first cells order 0 owned → sent ≡ endsOf 1 owners table ends i first cells order 0 16
-        → (46 + n + owned + 2 * reached + sent ≡ 46 + n + owned + 2 * rowEnds table ends first order owned + sentEnds owners table ends i first cells 16) × (46 + n + owned + 2 * reached + sent < 65536)
-    long-told reached sent e q = (omega (arith, reached-is owned, sent-is 16), omega (arith, reached-is owned, sent-is 16, F .long))
-
   module _ (n : ℕ) (local : List ℕ) (owned long steps kind : ℕ) (v : Bytes) (le : long ≡ 46 + n + owned + 2 * rowEnds table ends first order owned + sentEnds owners table ends i first cells 16) where
+    -- what comes after the two tables
+    abbrev later : List ℕ
+    later =
+        take n order
+        ++ (listed 0 (owned + 1) (rowEnds table ends first order)
+        ++ (blocks 1 owned (rowWords table ends first order local)
+        ++ blocks 1 16 (sentWords owners table ends i first cells local)))
+
     words-are : ((long ∷ i ∷ steps ∷ kind ∷ []) ++ (listed 0 5 (wordAt v) ++ (first ∷ cells ∷ [])))
-        ++ ((listed 0 17 (endsOf 0 owners table ends i first cells order owned) ++ listed 0 17 (endsOf 1 owners table ends i first cells order 0))
-        ++ (take n order ++ (listed 0 (owned + 1) (endsOf 2 owners table ends i first cells order 0) ++ (blocks 1 owned (rowWords table ends first order local) ++ blocks 1 16 (sentWords owners table ends i first cells local)))))
+        ++ ((listed 0 17 (gotEnds owners table ends i first cells owned) ++ listed 0 17 (sentEnds owners table ends i first cells)) ++ later)
         ≡ numberedWords owners table ends i first cells order n local owned steps kind v
     unfolding numberedWords
     words-are =
-        ap₂ (λ x (gs : List ℕ). ((x ∷ i ∷ steps ∷ kind ∷ []) ++ (listed 0 5 (wordAt v) ++ (first ∷ cells ∷ []))) ++ ((gs ++ listed 0 17 (endsOf 1 owners table ends i first cells order 0)) ++ (take n order ++ (listed 0 (owned + 1) (endsOf 2 owners table ends i first cells order 0) ++ (blocks 1 owned (rowWords table ends first order local) ++ blocks 1 16 (sentWords owners table ends i first cells local))))))
-        le (listed-cong 0 (endsOf 0 owners table ends i first cells order owned) (gotEnds owners table ends i first cells owned) 17 (λ k h. got-is owned (0 + k)))
-        ∙ ap₂ (λ (ss rs : List ℕ). ((first-word ∷ i ∷ steps ∷ kind ∷ []) ++ (listed 0 5 (wordAt v) ++ (first ∷ cells ∷ []))) ++ ((listed 0 17 (gotEnds owners table ends i first cells owned) ++ ss) ++ (take n order ++ (rs ++ (blocks 1 owned (rowWords table ends first order local) ++ blocks 1 16 (sentWords owners table ends i first cells local))))))
-        (listed-cong 0 (endsOf 1 owners table ends i first cells order 0) (sentEnds owners table ends i first cells) 17 (λ k h. sent-is (0 + k)))
-        (listed-cong 0 (endsOf 2 owners table ends i first cells order 0) (rowEnds table ends first order) (owned + 1) (λ k h. reached-is (0 + k)))
-        ∙ ap (λ (xs : List ℕ). first-word ∷ i ∷ steps ∷ kind ∷ xs) (tail-is (listed 0 5 (wordAt v)) (first ∷ cells ∷ []) (listed 0 17 (gotEnds owners table ends i first cells owned)) (listed 0 17 (sentEnds owners table ends i first cells)) (take n order ++ (listed 0 (owned + 1) (rowEnds table ends first order) ++ (blocks 1 owned (rowWords table ends first order local) ++ blocks 1 16 (sentWords owners table ends i first cells local)))))
+        ap₂ (λ x (xs : List ℕ). x ∷ i ∷ steps ∷ kind ∷ xs) le
+        (tail-is (listed 0 5 (wordAt v)) (first ∷ cells ∷ []) (listed 0 17 (gotEnds owners table ends i first cells owned)) (listed 0 17 (sentEnds owners table ends i first cells)) later)
       where
-        first-word : ℕ
-        first-word = 46 + n + owned + 2 * rowEnds table ends first order owned + sentEnds owners table ends i first cells 16
-
         tail-is : (ws fs gs ss rs : List ℕ) → (ws ++ fs) ++ ((gs ++ ss) ++ rs) ≡ ws ++ (fs ++ (gs ++ (ss ++ rs)))
         tail-is ws fs gs ss rs = append-assoc ws fs ((gs ++ ss) ++ rs) ∙ ap (λ x. ws ++ (fs ++ x)) (append-assoc gs ss rs)
 
@@ -87,19 +97,16 @@ module _ (owners table : Bytes) (ends : List ℕ) (i first cells : ℕ) (order :
           all-long owners table ends i first cells local,
         )
 
-    pub lists-put : (a b c d : Bytes) (t u w : ℕ) → 90 ≤ length a → Put a b 0 t ((long ∷ i ∷ steps ∷ kind ∷ []) ++ (listed 0 5 (wordAt v) ++ (first ∷ cells ∷ [])))
-        → Put b c t u (listed 0 17 (endsOf 0 owners table ends i first cells order owned) ++ listed 0 17 (endsOf 1 owners table ends i first cells order 0))
-        → Put c d u w (take n order ++ (listed 0 (owned + 1) (endsOf 2 owners table ends i first cells order 0) ++ (blocks 1 owned (rowWords table ends first order local) ++ blocks 1 16 (sentWords owners table ends i first cells local))))
+    pub lists-put : (got sent : List ℕ) (a b c d : Bytes) (t u w : ℕ) → Got owners table ends i cells got → Sent owners table ends i cells 16 sent → 90 ≤ length a
+        → Put a b 0 t ((long ∷ i ∷ steps ∷ kind ∷ []) ++ (listed 0 5 (wordAt v) ++ (first ∷ cells ∷ [])))
+        → Put b c t u (listed 0 17 (endsBy got owned) ++ listed 0 17 (endsBy sent 0)) → Put c d u w later
         → Put a d 0 w (numberedWords owners table ends i first cells order n local owned steps kind v)
-    lists-put a b c d t u w room P Q R =
+    lists-put got sent a b c d t u w G X room P Q R =
         let te : t ≡ 11 = head-count long i steps kind first cells v a b t P in
         let lb : length b ≡ length a = put-length a b 0 t _ P (omega arith) in
         put-as a d 0 w _ _ words-are
-        (put-both a b d 0 t w _ _ P (put-both b c d t u w _ _ Q R (omega (arith, Q .count, length-append (listed 0 17 (endsOf 0 owners table ends i first cells order owned)) (listed 0 17 (endsOf 1 owners table ends i first cells order 0)), listed-length 0 (endsOf 0 owners table ends i first cells order owned) 17, listed-length 0 (endsOf 1 owners table ends i first cells order 0) 17))) (omega arith))
-
-  pub borders-count : (a b : Bytes) (s t owned : ℕ) → Put a b s t (listed 0 17 (endsOf 0 owners table ends i first cells order owned) ++ listed 0 17 (endsOf 1 owners table ends i first cells order 0)) → t ≡ s + 34
-  borders-count a b s t owned P =
-      omega (arith, P .count, length-append (listed 0 17 (endsOf 0 owners table ends i first cells order owned)) (listed 0 17 (endsOf 1 owners table ends i first cells order 0)), listed-length 0 (endsOf 0 owners table ends i first cells order owned) 17, listed-length 0 (endsOf 1 owners table ends i first cells order 0) 17)
+        (put-both a b d 0 t w _ _ P
+        (put-both b c d t u w _ _ (put-as b c t u _ _ (borders-are owners table ends i first cells got sent owned G X) Q) R (omega (arith, borders-count b c t u owned got sent Q))) (omega arith))
 
 -- the lists by the local numbers of the order
 pub lists-numbered : (a b : Bytes) (s t : ℕ) (owners table : Bytes) (ends : List ℕ) (i first cells : ℕ) (order : List ℕ)

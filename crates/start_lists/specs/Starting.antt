@@ -2,14 +2,14 @@
 -- local order. No public contract rests on this page; the laws in proofs/ tie it to the definitions of Start. Assumes nothing.
 use mathlib.Core.Path.{_≡_}
 use mathlib.Core.List.{List, [], _∷_, _++_, map}
-use Prim.Native.Nat.{ℕ, zero, suc, _+_, _-_, _*_, _≤_, _<_}
+use Prim.Native.Nat.{ℕ, _+_, _-_, _*_, _≤_, _<_}
 use lib.ListN.{length, getD, take, replicate}
-use Rattle.vocabulary.specs.Bytes.{Bytes, over}
+use Rattle.vocabulary.specs.Bytes.{Bytes, byteAt, over}
 use Rattle.vocabulary.specs.Ranges.{listed, blocks, total}
 use Rattle.layout.specs.Words.{wordAt, bytesOf}
 use Rattle.depths.specs.Depths.{four}
 use Rattle.split.specs.Numbering.{numbering}
-use Rattle.split.specs.Classes.{partCells}
+use Rattle.split.specs.Classes.{partCells, classCount}
 
 -- the local number of a cell, in the array that has them
 unfoldable pub localIn : List ℕ → ℕ → ℕ
@@ -80,24 +80,36 @@ pub record Put (before after : Bytes) (s t : ℕ) (ws : List ℕ) : Type 0 where
   pub count : t ≡ s + length ws
   pub text : after ≡ over before (2 * s) (bytesOf ws)
 
--- what is counted of a number k: 0 what is imported from part k, 1 what is exported to it, and otherwise the reach of local cell k
-unfoldable pub partCount : ℕ → Bytes → Bytes → List ℕ → ℕ → ℕ → ℕ → List ℕ → ℕ → ℕ
-partCount zero owners table ends i first cells order k = length (gotFrom owners table ends i first cells k)
-partCount (suc zero) owners table ends i first cells order k = length (sentFrom owners table ends i first cells k)
-partCount (suc (suc which)) owners table ends i first cells order k = rowSize table ends first order k
+-- ---- arrays of counts
 
--- a table of ends, by what is counted
-unfoldable pub endsOf : ℕ → Bytes → Bytes → List ℕ → ℕ → ℕ → ℕ → List ℕ → ℕ → ℕ → ℕ
-endsOf which owners table ends i first cells order base j = base + total 1 j (partCount which owners table ends i first cells order)
+-- the count at k
+unfoldable pub countAt : List ℕ → ℕ → ℕ
+countAt counts k = getD counts k 0
 
--- the last of n + 1 ends is a word, and the reaches that are counted are those of cells
-pub record Counted (which : ℕ) (owners table : Bytes) (ends : List ℕ) (i first cells : ℕ) (order : List ℕ) (base n : ℕ) : Type 0 where
-  pub last : endsOf which owners table ends i first cells order base n < 65536
-  pub cell : (k : ℕ) → 1 ≤ k → k ≤ n → 2 ≤ which → first ≤ getD order (k - 1) 0
+-- a table of ends after `base`, by the counts from 1 on
+unfoldable pub endsBy : List ℕ → ℕ → ℕ → ℕ
+endsBy counts base j = base + total 1 j (countAt counts)
 
--- e is the end before the one at k, if there is one
-pub record Before (which : ℕ) (owners table : Bytes) (ends : List ℕ) (i first cells : ℕ) (order : List ℕ) (base k e : ℕ) : Type 0 where
-  pub is : 1 ≤ k → e ≡ endsOf which owners table ends i first cells order base (k - 1)
+-- how many of the first n cells in a row are of each class
+pub record Tallied (class : Bytes) (n : ℕ) (counts : List ℕ) : Type 0 where
+  pub size : length counts ≡ 19
+  pub each : (k : ℕ) → k < 19 → countAt counts k ≡ classCount class n k
+
+-- how many cells part i imports from each part
+pub record Got (owners table : Bytes) (ends : List ℕ) (i cells : ℕ) (got : List ℕ) : Type 0 where
+  pub each : (first k : ℕ) → 1 ≤ k → k ≤ 16 → countAt got k ≡ length (gotFrom owners table ends i first cells k)
+
+-- how many it exports to each part up to n
+pub record Sent (owners table : Bytes) (ends : List ℕ) (i cells n : ℕ) (sent : List ℕ) : Type 0 where
+  pub size : length sent ≡ 17
+  pub each : (first k : ℕ) → 1 ≤ k → k ≤ n → countAt sent k ≡ length (sentFrom owners table ends i first cells k)
+  pub rest : (k : ℕ) → n < k → countAt sent k ≡ 0
+
+-- no cell has an owner above `parts`
+pub record Mapped (owners : Bytes) (cells parts : ℕ) : Type 0 where
+  pub each : (q : ℕ) → q < cells → byteAt owners q ≤ parts
+
+-- ---- what is supposed
 
 -- local cell l is a cell, and the numbers of the cells in its reach are words
 pub record Row (table : Bytes) (ends : List ℕ) (first : ℕ) (order : List ℕ) (l : ℕ) : Type 0 where
@@ -117,9 +129,7 @@ pub record Fit (owners table : Bytes) (ends : List ℕ) (i first cells : ℕ) (o
   pub order-few : n ≤ 2000
   pub order-there : n ≤ length order
   pub owned-few : owned ≤ n
-  pub got : Counted 0 owners table ends i first cells order owned 16
-  pub sent : Counted 1 owners table ends i first cells order 0 16
-  pub reached : Counted 2 owners table ends i first cells order 0 owned
+  pub got : gotEnds owners table ends i first cells owned 16 < 65536
   pub near : Rows table ends first order owned
   pub long : 46 + n + owned + 2 * rowEnds table ends first order owned + sentEnds owners table ends i first cells 16 < 65536
 

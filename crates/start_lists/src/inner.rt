@@ -1,15 +1,17 @@
 // The lists of a part as the words of its state, from the owners, the table of the reaches with its ends, and the part's local order.
-use cell_lists::inner::add_class;
-use cell_lists::inner::count_class;
-use cell_numbers::Global;
+pub use crate::counts::CLASSES;
+pub use crate::counts::MOST_PARTS;
+pub use crate::counts::count_classes;
+pub use crate::counts::count_sent;
+use crate::counts::count_total;
 use cell_numbers::Local;
 use cell_numbers::inner::cell_at;
 use cell_numbers::inner::index_of;
+use layout::byte_at;
 use layout::inner::copy;
 use layout::inner::put_word;
 use layout::number_at;
 use layout::word_at;
-use split::inner::MOST_CELLS;
 use split::inner::classify;
 use split::inner::number_cells;
 use split::inner::to_global;
@@ -19,10 +21,11 @@ ghost use mathlib.Core.List.{[], _∷_, _++_, map};
 ghost use Prim.Native.Nat.{_+_, _-_, _*_, _<_, _≤_};
 ghost use lib.ListN.{length, getD, take};
 ghost use Rattle.vocabulary.specs.Bytes.{over};
-ghost use Rattle.vocabulary.specs.Ranges.{listed, blocks};
+ghost use Rattle.vocabulary.specs.Ranges.{listed, blocks, total};
 ghost use Rattle.layout.specs.Words.{wordAt};
-ghost use Rattle.split.specs.Classes.{partCells};
-ghost use Rattle.start_lists.specs.Starting.{Put, localIn, rowSize, partCount, endsOf, Counted, Before, entryWords, rowEnds, rowWords, sentEnds, sentWords, Row, Rows, Fit, numberedWords, startWords, startDepth, Cells};
+ghost use Rattle.split.specs.Classes.{ofClass, classCells, partCells};
+ghost use Rattle.start_lists.specs.Starting.{Put, localIn, rowSize, countAt, endsBy, Got, Sent, entryWords, rowEnds, rowWords, sentEnds, sentWords};
+ghost use Rattle.start_lists.specs.Starting.{Row, Rows, Fit, numberedWords, startWords, startDepth, Cells};
 
 // Writes w as word s, and gives how many words there are then.
 fn put_one(b: &mut [u8], s: usize, w: usize) -> usize
@@ -65,24 +68,6 @@ fn put_weights(b: &mut [u8], s: usize, v: &[u8], n: usize) -> usize
     t
 }
 
-// How many cells are of class k for part i.
-fn got_count(
-    owners: &[u8],
-    table: &[u8],
-    ends: &[u16],
-    i: usize,
-    first: usize,
-    cells: usize,
-    k: usize,
-) -> usize
-    requires { ⌜ cells ≤ 2000 ⌝ }
-    ensures { λ n. ⌜ (n ≡ length (partCells (now (owners .entry)) (now (table .entry)) (now (ends .entry)) i first cells k)) × (n ≤ 2000) ⌝ }
-{
-    let mut class = [0u8; MOST_CELLS];
-    classify(owners, table, ends, cells, i, &mut class);
-    count_class(&class, cells, k)
-}
-
 // The index of local cell l among the mesh's cells.
 fn place_at(order: &[u16], first: usize, l: Local) -> usize
     requires { ⌜ (1 ≤ l .0) × (first ≤ getD (now order) (l .0 - 1) 0) ⌝ }
@@ -102,124 +87,52 @@ fn row_size(table: &[u8], ends: &[u16], first: usize, order: &[u16], l: Local) -
     if to < from { 0 } else { to - from }
 }
 
-// What is counted of a number k: imports from part k, exports to it, or the reach of local cell k.
-fn part_count(
-    which: usize,
-    owners: &[u8],
-    table: &[u8],
-    ends: &[u16],
-    i: usize,
-    first: usize,
-    cells: usize,
-    order: &[u16],
-    k: usize,
-) -> usize
-    requires { ⌜ (i < 65536) × (first + cells ≤ 65536) × (cells ≤ 2000) × (1 ≤ k) × (k < 65536) × (2 ≤ which → first ≤ getD (now order) (k - 1) 0) ⌝ }
-    ensures { λ n. ⌜ (n ≡ partCount which (now (owners .entry)) (now (table .entry)) (now (ends .entry)) i first cells (now (order .entry)) k) × (n < 65536) ⌝ }
+// How many entries the reaches of the owned cells have.
+fn row_total(table: &[u8], ends: &[u16], first: usize, order: &[u16], owned: usize) -> usize
+    requires { ⌜ Rows (now table) (now ends) first (now order) owned × (rowEnds (now table) (now ends) first (now order) owned < 65536) × (owned < 65535) ⌝ }
+    ensures { λ e. ⌜ e ≡ rowEnds (now (table .entry)) (now (ends .entry)) first (now (order .entry)) owned ⌝ }
 {
-    match which {
-        0 => got_count(owners, table, ends, i, first, cells, k),
-        1 => got_count(owners, table, ends, k, first, cells, i),
-        _ => row_size(table, ends, first, order, Local(k as u16)),
+    let mut e = 0;
+    for l in 0..owned {
+        e += row_size(table, ends, first, order, Local((l + 1) as u16));
     }
+    e
 }
 
-// The end at k, from the one before it.
-fn next_end(
-    which: usize,
-    owners: &[u8],
-    table: &[u8],
-    ends: &[u16],
-    i: usize,
-    first: usize,
-    cells: usize,
-    order: &[u16],
-    base: usize,
-    e: usize,
-    k: usize,
-) -> usize
-    requires { ⌜ (i < 65536) × (first + cells ≤ 65536) × (cells ≤ 2000) × Counted which (now owners) (now table) (now ends) i first cells (now order) base k × Before which (now owners) (now table) (now ends) i first cells (now order) base k e × (k < 65536) ⌝ }
-    ensures { λ r. ⌜ (r ≡ endsOf which (now (owners .entry)) (now (table .entry)) (now (ends .entry)) i first cells (now (order .entry)) base k) × (r < 65536) ⌝ }
+// Writes a table of 17 ends after `base`, by an array of counts.
+fn put_ends(b: &mut [u8], s: usize, counts: &[u16], base: usize) -> usize
+    requires { ⌜ (2 * (s + 16 + 1) ≤ length (now b)) × (s < 65536) × (endsBy (now counts) base 16 < 65536) ⌝ }
+    ensures { λ t. ⌜ Put (now (b .entry)) (now (b .exit)) s t (listed 0 17 (endsBy (now (counts .entry)) base)) ⌝ }
 {
-    if k == 0 {
-        return base;
+    let mut e = base;
+    let mut t = s;
+    for k in 0..MOST_PARTS {
+        t = put_one(b, t, e);
+        e += number_at(counts, k + 1) as usize;
     }
-    let x = part_count(which, owners, table, ends, i, first, cells, order, k);
-    e + x
+    put_one(b, t, e)
 }
 
-// Writes a table of n + 1 ends.
-fn put_ends(
+// Writes the ends of the reaches.
+fn put_row_ends(
     b: &mut [u8],
     s: usize,
-    which: usize,
-    owners: &[u8],
     table: &[u8],
     ends: &[u16],
-    i: usize,
     first: usize,
-    cells: usize,
     order: &[u16],
-    base: usize,
-    n: usize,
+    owned: usize,
 ) -> usize
-    requires { ⌜ (2 * (s + n + 1) ≤ length (now b)) × (s < 65536) × (n < 65535) × (i < 65536) × (first + cells ≤ 65536) × (cells ≤ 2000) × Counted which (now owners) (now table) (now ends) i first cells (now order) base n ⌝ }
-    ensures { λ t. ⌜ Put (now (b .entry)) (now (b .exit)) s t (listed 0 (n + 1) (endsOf which (now (owners .entry)) (now (table .entry)) (now (ends .entry)) i first cells (now (order .entry)) base)) ⌝ }
+    requires { ⌜ (2 * (s + owned + 1) ≤ length (now b)) × (s < 65536) × (owned < 65535) × Rows (now table) (now ends) first (now order) owned × (rowEnds (now table) (now ends) first (now order) owned < 65536) ⌝ }
+    ensures { λ t. ⌜ Put (now (b .entry)) (now (b .exit)) s t (listed 0 (owned + 1) (rowEnds (now (table .entry)) (now (ends .entry)) first (now (order .entry)))) ⌝ }
 {
     let mut e = 0;
     let mut t = s;
-    for k in 0..n + 1 {
-        e = next_end(
-            which,
-            owners,
-            table,
-            ends,
-            i,
-            first,
-            cells,
-            order,
-            base,
-            e,
-            k,
-        );
+    for l in 0..owned {
         t = put_one(b, t, e);
+        e += row_size(table, ends, first, order, Local((l + 1) as u16));
     }
-    t
-}
-
-// The last of n + 1 ends.
-fn last_end(
-    which: usize,
-    owners: &[u8],
-    table: &[u8],
-    ends: &[u16],
-    i: usize,
-    first: usize,
-    cells: usize,
-    order: &[u16],
-    base: usize,
-    n: usize,
-) -> usize
-    requires { ⌜ (n < 65535) × (i < 65536) × (first + cells ≤ 65536) × (cells ≤ 2000) × Counted which (now owners) (now table) (now ends) i first cells (now order) base n ⌝ }
-    ensures { λ e. ⌜ e ≡ endsOf which (now (owners .entry)) (now (table .entry)) (now (ends .entry)) i first cells (now (order .entry)) base n ⌝ }
-{
-    let mut e = 0;
-    for k in 0..n + 1 {
-        e = next_end(
-            which,
-            owners,
-            table,
-            ends,
-            i,
-            first,
-            cells,
-            order,
-            base,
-            e,
-            k,
-        );
-    }
-    e
+    put_one(b, t, e)
 }
 
 // Writes entry t of the table in local numbers.
@@ -277,20 +190,47 @@ fn put_rows(
     u
 }
 
-// Writes the first k numbers of a list as local numbers.
-fn put_locals(b: &mut [u8], s: usize, list: &[u16], k: usize, local: &[u16]) -> usize
-    requires { ⌜ (2 * (s + k) ≤ length (now b)) × (s < 65536) × (k ≤ length (now list)) × (k < 65536) ⌝ }
-    ensures { λ u. ⌜ Put (now (b .entry)) (now (b .exit)) s u (map (localIn (now (local .entry))) (take k (now (list .entry)))) ⌝ }
+// Writes the local number of the cell at place q, if the row has the class k there.
+fn put_class_cell(
+    b: &mut [u8],
+    s: usize,
+    class: &[u8],
+    first: usize,
+    k: usize,
+    local: &[u16],
+    q: usize,
+) -> usize
+    requires { ⌜ (2 * (s + length (ofClass (now class) first k q)) ≤ length (now b)) × (s < 100000) × (first + q < 65536) ⌝ }
+    ensures { λ u. ⌜ Put (now (b .entry)) (now (b .exit)) s u (map (localIn (now (local .entry))) (ofClass (now (class .entry)) first k q)) × (u ≤ s + 1) ⌝ }
+{
+    if byte_at(class, q) as usize != k {
+        return s;
+    }
+    let c = cell_at(first, q);
+    put_local(b, s, to_local(local, c))
+}
+
+// Writes the cells of class k in local numbers.
+fn put_class_cells(
+    b: &mut [u8],
+    s: usize,
+    class: &[u8],
+    first: usize,
+    cells: usize,
+    k: usize,
+    local: &[u16],
+) -> usize
+    requires { ⌜ (2 * (s + length (classCells (now class) first cells k)) ≤ length (now b)) × (s < 65536) × (first + cells ≤ 65536) × (cells ≤ 2000) ⌝ }
+    ensures { λ u. ⌜ Put (now (b .entry)) (now (b .exit)) s u (map (localIn (now (local .entry))) (classCells (now (class .entry)) first cells k)) ⌝ }
 {
     let mut u = s;
-    for x in 0..k {
-        let l = to_local(local, Global(number_at(list, x)));
-        u = put_local(b, u, l);
+    for q in 0..cells {
+        u = put_class_cell(b, u, class, first, k, local, q);
     }
     u
 }
 
-// Writes the exports to part j in local numbers; the list is work space.
+// Writes the exports to part j, `count` of them, in local numbers. The row is work space.
 fn put_sent_to(
     b: &mut [u8],
     s: usize,
@@ -302,15 +242,17 @@ fn put_sent_to(
     cells: usize,
     local: &[u16],
     j: usize,
-    list: &mut [u16],
+    count: usize,
+    class: &mut [u8],
 ) -> usize
-    requires { ⌜ (2 * (s + length (partCells (now owners) (now table) (now ends) j first cells i)) ≤ length (now b)) × (s < 65536) × (i ≤ 16) × (first + cells ≤ 65536) × (cells ≤ 2000) × (length (now list) ≡ 2000) ⌝ }
-    ensures { λ u. ⌜ Put (now (b .entry)) (now (b .exit)) s u (sentWords (now (owners .entry)) (now (table .entry)) (now (ends .entry)) i first cells (now (local .entry)) j) × (length (now (list .exit)) ≡ 2000) ⌝ }
+    requires { ⌜ (2 * (s + length (partCells (now owners) (now table) (now ends) j first cells i)) ≤ length (now b)) × (s < 65536) × (first + cells ≤ 65536) × (cells ≤ 2000) × (count ≡ length (partCells (now owners) (now table) (now ends) j first cells i)) × (length (now class) ≡ 2000) ⌝ }
+    ensures { λ u. ⌜ Put (now (b .entry)) (now (b .exit)) s u (sentWords (now (owners .entry)) (now (table .entry)) (now (ends .entry)) i first cells (now (local .entry)) j) × (length (now (class .exit)) ≡ 2000) ⌝ }
 {
-    let mut class = [0u8; MOST_CELLS];
-    classify(owners, table, ends, cells, j, &mut class);
-    let k = add_class(&class, first, cells, i as u8, list, 0);
-    put_locals(b, s, list, k, local)
+    if count == 0 {
+        return s;
+    }
+    classify(owners, table, ends, cells, j, class);
+    put_class_cells(b, s, class, first, cells, i, local)
 }
 
 // Writes the exports to all parts.
@@ -324,14 +266,29 @@ fn put_sent(
     first: usize,
     cells: usize,
     local: &[u16],
-    list: &mut [u16],
+    sent: &[u16],
+    class: &mut [u8],
 ) -> usize
-    requires { ⌜ (2 * (s + sentEnds (now owners) (now table) (now ends) i first cells 16) ≤ length (now b)) × (s + sentEnds (now owners) (now table) (now ends) i first cells 16 < 65536) × (first + cells ≤ 65536) × (cells ≤ 2000) × (length (now list) ≡ 2000) × (i ≤ 16) ⌝ }
+    requires { ⌜ (2 * (s + sentEnds (now owners) (now table) (now ends) i first cells 16) ≤ length (now b)) × (s + sentEnds (now owners) (now table) (now ends) i first cells 16 < 65536) × (first + cells ≤ 65536) × (cells ≤ 2000) × Sent (now owners) (now table) (now ends) i cells 16 (now sent) × (length (now class) ≡ 2000) ⌝ }
     ensures { λ u. ⌜ Put (now (b .entry)) (now (b .exit)) s u (blocks 1 16 (sentWords (now (owners .entry)) (now (table .entry)) (now (ends .entry)) i first cells (now (local .entry)))) ⌝ }
 {
     let mut u = s;
     for j in 1..17 {
-        u = put_sent_to(b, u, owners, table, ends, i, first, cells, local, j, list);
+        let count = number_at(sent, j) as usize;
+        u = put_sent_to(
+            b,
+            u,
+            owners,
+            table,
+            ends,
+            i,
+            first,
+            cells,
+            local,
+            j,
+            count,
+            class,
+        );
     }
     u
 }
@@ -360,39 +317,15 @@ fn put_head(
 }
 
 // Writes the tables of the imports' and exports' ends.
-fn put_borders(
-    b: &mut [u8],
-    s: usize,
-    owners: &[u8],
-    table: &[u8],
-    ends: &[u16],
-    i: usize,
-    first: usize,
-    cells: usize,
-    order: &[u16],
-    owned: usize,
-) -> usize
-    requires { ⌜ (2 * (s + 34) ≤ length (now b)) × (s < 60000) × (i < 65536) × (first + cells ≤ 65536) × (cells ≤ 2000) × Counted 0 (now owners) (now table) (now ends) i first cells (now order) owned 16 × Counted 1 (now owners) (now table) (now ends) i first cells (now order) 0 16 ⌝ }
-    ensures { λ t. ⌜ Put (now (b .entry)) (now (b .exit)) s t (listed 0 17 (endsOf 0 (now (owners .entry)) (now (table .entry)) (now (ends .entry)) i first cells (now (order .entry)) owned) ++ listed 0 17 (endsOf 1 (now (owners .entry)) (now (table .entry)) (now (ends .entry)) i first cells (now (order .entry)) 0)) ⌝ }
+fn put_borders(b: &mut [u8], s: usize, owned: usize, got: &[u16], sent: &[u16]) -> usize
+    requires { ⌜ (2 * (s + 34) ≤ length (now b)) × (s < 60000) × (endsBy (now got) owned 16 < 65536) × (endsBy (now sent) 0 16 < 65536) ⌝ }
+    ensures { λ t. ⌜ Put (now (b .entry)) (now (b .exit)) s t (listed 0 17 (endsBy (now (got .entry)) owned) ++ listed 0 17 (endsBy (now (sent .entry)) 0)) ⌝ }
 {
-    let t = put_ends(
-        b,
-        s,
-        0,
-        owners,
-        table,
-        ends,
-        i,
-        first,
-        cells,
-        order,
-        owned,
-        16,
-    );
-    put_ends(b, t, 1, owners, table, ends, i, first, cells, order, 0, 16)
+    let t = put_ends(b, s, got, owned);
+    put_ends(b, t, sent, 0)
 }
 
-// Writes the local order, the reaches with their ends, and the exports.
+// Writes the local order, the reaches with their ends, and the exports. The row is work space.
 fn put_entries(
     b: &mut [u8],
     s: usize,
@@ -406,51 +339,47 @@ fn put_entries(
     n: usize,
     local: &[u16],
     owned: usize,
-    list: &mut [u16],
+    sent: &[u16],
+    class: &mut [u8],
 ) -> usize
-    requires { ⌜ (2 * (s + n + owned + 1 + 2 * rowEnds (now table) (now ends) first (now order) owned + sentEnds (now owners) (now table) (now ends) i first cells 16) ≤ length (now b)) × (s + n + owned + 1 + 2 * rowEnds (now table) (now ends) first (now order) owned + sentEnds (now owners) (now table) (now ends) i first cells 16 < 65536) × (i < 65536) × (first + cells ≤ 65536) × (cells ≤ 2000) × (n ≤ length (now order)) × (length (now list) ≡ 2000) × Counted 2 (now owners) (now table) (now ends) i first cells (now order) 0 owned × Rows (now table) (now ends) first (now order) owned × (i ≤ 16) ⌝ }
-    ensures { λ t. ⌜ Put (now (b .entry)) (now (b .exit)) s t (take n (now (order .entry)) ++ (listed 0 (owned + 1) (endsOf 2 (now (owners .entry)) (now (table .entry)) (now (ends .entry)) i first cells (now (order .entry)) 0) ++ (blocks 1 owned (rowWords (now (table .entry)) (now (ends .entry)) first (now (order .entry)) (now (local .entry))) ++ blocks 1 16 (sentWords (now (owners .entry)) (now (table .entry)) (now (ends .entry)) i first cells (now (local .entry)))))) ⌝ }
+    requires { ⌜ (2 * (s + n + owned + 1 + 2 * rowEnds (now table) (now ends) first (now order) owned + sentEnds (now owners) (now table) (now ends) i first cells 16) ≤ length (now b)) × (s + n + owned + 1 + 2 * rowEnds (now table) (now ends) first (now order) owned + sentEnds (now owners) (now table) (now ends) i first cells 16 < 65536) × (first + cells ≤ 65536) × (cells ≤ 2000) × (n ≤ length (now order)) × Rows (now table) (now ends) first (now order) owned × Sent (now owners) (now table) (now ends) i cells 16 (now sent) × (length (now class) ≡ 2000) ⌝ }
+    ensures { λ t. ⌜ Put (now (b .entry)) (now (b .exit)) s t (take n (now (order .entry)) ++ (listed 0 (owned + 1) (rowEnds (now (table .entry)) (now (ends .entry)) first (now (order .entry))) ++ (blocks 1 owned (rowWords (now (table .entry)) (now (ends .entry)) first (now (order .entry)) (now (local .entry))) ++ blocks 1 16 (sentWords (now (owners .entry)) (now (table .entry)) (now (ends .entry)) i first cells (now (local .entry)))))) ⌝ }
 {
     let t = put_list(b, s, order, n);
-    let u = put_ends(
+    let u = put_row_ends(b, t, table, ends, first, order, owned);
+    let w = put_rows(b, u, table, ends, first, order, local, owned);
+    put_sent(
         b,
-        t,
-        2,
+        w,
         owners,
         table,
         ends,
         i,
         first,
         cells,
-        order,
-        0,
-        owned,
-    );
-    let w = put_rows(b, u, table, ends, first, order, local, owned);
-    put_sent(b, w, owners, table, ends, i, first, cells, local, list)
+        local,
+        sent,
+        class,
+    )
 }
 
 // How many words the lists have.
 pub fn lists_length(
-    owners: &[u8],
     table: &[u8],
     ends: &[u16],
-    i: usize,
     first: usize,
-    cells: usize,
     order: &[u16],
     n: usize,
     owned: usize,
+    sent: &[u16],
 ) -> usize
-    requires { ⌜ Fit (now owners) (now table) (now ends) i first cells (now order) n owned ⌝ }
-    ensures { λ r. ⌜ (r ≡ 46 + n + owned + 2 * rowEnds (now (table .entry)) (now (ends .entry)) first (now (order .entry)) owned + sentEnds (now (owners .entry)) (now (table .entry)) (now (ends .entry)) i first cells 16) × (r < 65536) ⌝ }
+    requires { ⌜ (n ≤ 2000) × (owned ≤ n) × Rows (now table) (now ends) first (now order) owned × (rowEnds (now table) (now ends) first (now order) owned < 65536) ⌝ }
+    ensures { λ r. ⌜ r ≡ 46 + n + owned + 2 * rowEnds (now (table .entry)) (now (ends .entry)) first (now (order .entry)) owned + total 1 16 (countAt (now (sent .entry))) ⌝ }
 {
-    let reached = last_end(2, owners, table, ends, i, first, cells, order, 0, owned);
-    let sent = last_end(1, owners, table, ends, i, first, cells, order, 0, 16);
-    46 + n + owned + 2 * reached + sent
+    46 + n + owned + 2 * row_total(table, ends, first, order, owned) + count_total(sent)
 }
 
-// Writes the lists, which are `long` words, by an array of local numbers.
+// Writes the lists, which are `long` words, by an array of local numbers. The row is work space.
 fn put_pieces(
     b: &mut [u8],
     long: usize,
@@ -467,13 +396,15 @@ fn put_pieces(
     n: usize,
     local: &[u16],
     owned: usize,
-    list: &mut [u16],
+    got: &[u16],
+    sent: &[u16],
+    class: &mut [u8],
 ) -> usize
-    requires { ⌜ Fit (now owners) (now table) (now ends) i first cells (now order) n owned × (long ≡ 46 + n + owned + 2 * rowEnds (now table) (now ends) first (now order) owned + sentEnds (now owners) (now table) (now ends) i first cells 16) × (2 * long ≤ length (now b)) × (steps < 65536) × (kind < 65536) × (length (now list) ≡ 2000) ⌝ }
+    requires { ⌜ Fit (now owners) (now table) (now ends) i first cells (now order) n owned × (long ≡ 46 + n + owned + 2 * rowEnds (now table) (now ends) first (now order) owned + sentEnds (now owners) (now table) (now ends) i first cells 16) × (2 * long ≤ length (now b)) × (steps < 65536) × (kind < 65536) × Got (now owners) (now table) (now ends) i cells (now got) × Sent (now owners) (now table) (now ends) i cells 16 (now sent) × (length (now class) ≡ 2000) ⌝ }
     ensures { λ t. ⌜ Put (now (b .entry)) (now (b .exit)) 0 t (numberedWords (now (owners .entry)) (now (table .entry)) (now (ends .entry)) i first cells (now (order .entry)) n (now (local .entry)) owned steps kind (now (v .entry))) ⌝ }
 {
     let s = put_head(b, long, i, steps, kind, v, first, cells);
-    let t = put_borders(b, s, owners, table, ends, i, first, cells, order, owned);
+    let t = put_borders(b, s, owned, got, sent);
     put_entries(
         b,
         t,
@@ -487,11 +418,12 @@ fn put_pieces(
         n,
         local,
         owned,
-        list,
+        sent,
+        class,
     )
 }
 
-// Writes the lists, which are `long` words.
+// Writes the lists, which are `long` words. The row is work space.
 pub fn put_lists(
     b: &mut [u8],
     long: usize,
@@ -507,9 +439,11 @@ pub fn put_lists(
     order: &[u16],
     n: usize,
     owned: usize,
-    list: &mut [u16],
+    got: &[u16],
+    sent: &[u16],
+    class: &mut [u8],
 ) -> usize
-    requires { ⌜ Fit (now owners) (now table) (now ends) i first cells (now order) n owned × (long ≡ 46 + n + owned + 2 * rowEnds (now table) (now ends) first (now order) owned + sentEnds (now owners) (now table) (now ends) i first cells 16) × (2 * long ≤ length (now b)) × (steps < 65536) × (kind < 65536) × (length (now list) ≡ 2000) ⌝ }
+    requires { ⌜ Fit (now owners) (now table) (now ends) i first cells (now order) n owned × (long ≡ 46 + n + owned + 2 * rowEnds (now table) (now ends) first (now order) owned + sentEnds (now owners) (now table) (now ends) i first cells 16) × (2 * long ≤ length (now b)) × (steps < 65536) × (kind < 65536) × Got (now owners) (now table) (now ends) i cells (now got) × Sent (now owners) (now table) (now ends) i cells 16 (now sent) × (length (now class) ≡ 2000) ⌝ }
     ensures { λ t. ⌜ Put (now (b .entry)) (now (b .exit)) 0 t (startWords (now (owners .entry)) (now (table .entry)) (now (ends .entry)) i first cells (now (order .entry)) n owned steps kind (now (v .entry))) ⌝ }
 {
     let mut local = [0u16; 2001];
@@ -530,7 +464,9 @@ pub fn put_lists(
         n,
         &local,
         owned,
-        list,
+        got,
+        sent,
+        class,
     )
 }
 

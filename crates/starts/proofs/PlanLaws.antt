@@ -1,14 +1,14 @@
 -- The plan of a part, the state that is written by it, and what start and state size answer. Assumes nothing.
-use mathlib.Core.Path.{_≡_, refl, sym, ap, ap₂, _∙_, subst₂}
+use mathlib.Core.Path.{_≡_, refl, sym, ap, ap₂, _∙_, subst, subst₂}
 use mathlib.Core.Bool.{Bool, true, false, cond}
 use mathlib.Core.List.{List, [], _∷_, _++_}
 use Prim.Native.Nat.{ℕ, _+_, _-_, _*_, _≤_, _<_}
 use native.Mathlib.Omega.{arith}
-use lib.ListN.{length, take, replicate, length-append}
+use lib.ListN.{length, take, replicate, length-append, getD}
 use borrow.Author.Tests.{lt-ltb, le-ltb}
 use Rattle.vocabulary.specs.Bytes.{Bytes, over}
 use Rattle.vocabulary.specs.ByteLaws.{over-more}
-use Rattle.vocabulary.specs.Ranges.{blocks}
+use Rattle.vocabulary.specs.Ranges.{blocks, total}
 use Rattle.vocabulary.specs.RangeLaws.{blocks-cong}
 use Rattle.vocabulary.specs.Tests.{Test, refuse, firstOf}
 use Rattle.layout.specs.Words.{bytesOf}
@@ -23,17 +23,19 @@ use Rattle.mesh.specs.Walks.{steps, bad13}
 use Rattle.rules.specs.Rules.{bad11}
 use Rattle.round.specs.Rounds.{schemeOf, depthIn, bad14}
 use Rattle.split.specs.Split.{splitOf, interior, halo, locals, globalOf}
-use Rattle.split.specs.SplitLaws.{own-count, split-then, split-refuses, sizes-fine, sizes-then, sizes-refuse}
+use Rattle.split.specs.SplitLaws.{own-count, split-then, split-refuses, sizes-fine, sizes-then, sizes-refuse, map-facts}
 use Rattle.split.specs.Lists.{bad12, sizeTests, splitNumber, sizesNumber}
 use Rattle.split.specs.Classes.{Added}
-use Rattle.split.specs.Classes.{Classed, Prepared, classCount, classOrder}
+use Rattle.split.specs.Classes.{Classed, Prepared, classOrder}
 use Rattle.split.proofs.PassedLaws.{Passed, twice, passed-facts}
 use Rattle.cell_lists.proofs.ClassLists.{interior-is, halo-is, order-is as cells-order, locals-few}
 use Rattle.cell_lists.proofs.AddLaws.{added-fits, added-take, class-count}
 use Rattle.starts.specs.Start.{ownedIn, reachEnds, listsLong, stateSize, sizeNumber, sizeAnswer, firstState, lastTests, startTests, startNumber, startAnswer, startState}
-use Rattle.start_lists.specs.Starting.{Put, rowEnds, sentEnds, startWords, startDepth, Fit, Cells}
+use Rattle.start_lists.specs.Starting.{Put, rowEnds, sentEnds, startWords, startDepth, Fit, Cells, countAt, Tallied, Got, Sent, Mapped}
 use Rattle.starts.specs.Planning.{Planned}
 use Rattle.start_lists.proofs.PutLaws.{put-length}
+use Rattle.start_lists.proofs.CountLaws.{got-told}
+use Rattle.start_lists.proofs.StartLists.{sent-total}
 use Rattle.starts.proofs.StartFit.{fit-from, cells-from}
 use Rattle.starts.proofs.StartWords.{start-words, order-at, row-ends, sent-ends}
 use Rattle.mesh.proofs.AcceptedLaws.{cells-few, cells-fit}
@@ -55,8 +57,14 @@ module _ (m : Bytes) (parts : ℕ) (owners : Bytes) (i : ℕ) (st table : Bytes)
     pub plan-bounds : (i < 65536) × (first + cells ≤ 65536) × (cells ≤ 2000) × (parts ≤ 16)
     plan-bounds = (omega (arith, P .i-in .1), cells-fit m first cells (P .mesh) fe ce, cells-few m cells (P .mesh) ce, P .few)
 
+    pub plan-mapped : (1 ≤ i) × Mapped owners cells parts
+    plan-mapped = (P .i-in .0, record { each = λ q h. map-facts m parts owners [] (R .map) .owner-in q (omega (arith, ce)) .1 })
+
+    pub plan-sent : (sent : List ℕ) → Sent owners table ends i cells 16 sent → Sent owners table ends i (cellCount m) 16 sent
+    plan-sent sent X = subst (λ x. Sent owners table ends i x 16 sent) ce X
+
     module _ (class : Bytes) (C : Classed owners table ends i cells class) (a order : List ℕ) (n inner outer : ℕ) (X : Added a order 0 n (classOrder class first cells parts)) (room : length a ≡ 2000)
-        (ie : inner ≡ classCount class cells 17) (he : outer ≡ classCount class cells 18) where
+        (got : List ℕ) (T : Tallied class cells got) (ie : inner ≡ getD got 17 0) (he : outer ≡ getD got 18 0) where
       words-is : classOrder class first cells parts ≡ locals (splitOf m parts owners st) i
       words-is = cells-order m parts owners st table ends holders R i first cells fe ce class C
 
@@ -70,9 +78,10 @@ module _ (m : Bytes) (parts : ℕ) (owners : Bytes) (i : ℕ) (st table : Bytes)
       held-is = omega (arith, X .count, ap length words-is)
 
       owned-is : inner + outer ≡ ownedIn (splitOf m parts owners st) i
+      unfolding countAt
       owned-is =
-          ap₂ _+_ (ie ∙ sym (class-count class 17 first cells) ∙ ap length (interior-is m parts owners st table ends holders R i first cells fe ce class C))
-          (he ∙ sym (class-count class 18 first cells) ∙ ap length (halo-is m parts owners st table ends holders R i first cells fe ce class C))
+          ap₂ _+_ (ie ∙ T .each 17 (omega arith) ∙ sym (class-count class 17 first cells) ∙ ap length (interior-is m parts owners st table ends holders R i first cells fe ce class C))
+          (he ∙ T .each 18 (omega arith) ∙ sym (class-count class 18 first cells) ∙ ap length (halo-is m parts owners st table ends holders R i first cells fe ce class C))
           ∙ sym (length-append (interior (splitOf m parts owners st) i) (halo (splitOf m parts owners st) i))
           ∙ own-count (splitOf m parts owners st) i
 
@@ -81,15 +90,21 @@ module _ (m : Bytes) (parts : ℕ) (owners : Bytes) (i : ℕ) (st table : Bytes)
           fit-from m parts owners st table ends holders R i (P .i-in .0) (P .i-in .1) first cells fe ce order n (inner + outer) order-is held-is owned-is
           (added-fits a order n (classOrder class first cells parts) X room few) twelve thirteen
 
-      pub plan-made : (long : ℕ) → long ≡ 46 + n + (inner + outer) + 2 * rowEnds table ends first order (inner + outer) + sentEnds owners table ends i first cells 16
-          → Planned m parts owners i st table ends order n (inner + outer) long
-      plan-made long le = record {
+      pub plan-got : Got owners table ends i (cellCount m) got
+      plan-got = subst (λ x. Got owners table ends i x got) ce (got-told owners table ends i cells class got (cells-few m cells (P .mesh) ce) C T)
+
+      pub plan-made : (long : ℕ) (sent : List ℕ) → Sent owners table ends i cells 16 sent
+          → long ≡ 46 + n + (inner + outer) + 2 * rowEnds table ends first order (inner + outer) + total 1 16 (countAt sent) → Planned m parts owners i st table ends order n (inner + outer) long
+      plan-made long sent Y le = record {
         order-is = order-is;
         held-is = held-is;
         owned-is = owned-is;
         fit = fit-from m parts owners st table ends holders R i (P .i-in .0) (P .i-in .1) (firstCell m) (cellCount m) refl refl order n (inner + outer) order-is held-is owned-is
             (added-fits a order n (classOrder class first cells parts) X room few) twelve thirteen;
-        long-is = le ∙ ap₂ (λ x y. 46 + n + (inner + outer) + 2 * rowEnds table ends x order (inner + outer) + sentEnds owners table ends i x y 16) fe ce;
+        long-is =
+            le
+            ∙ ap (λ x. 46 + n + (inner + outer) + 2 * rowEnds table ends first order (inner + outer) + x) (sent-total owners table ends i first cells sent Y 16 (omega arith))
+            ∙ ap₂ (λ x y. 46 + n + (inner + outer) + 2 * rowEnds table ends x order (inner + outer) + sentEnds owners table ends i x y 16) fe ce;
       }
 
 -- ---- the bytes
@@ -160,9 +175,6 @@ module _ (m : Bytes) (parts : ℕ) (owners : Bytes) (i : ℕ) (st : Bytes) where
           ap Done size-is
           ∙ answer-done _ (stateSize m parts owners i st)
           (split-then m parts owners (i ∷ []) st (sizeTests m parts owners st) (sym number-once ∙ sn) ∙ zn)
-
-      pub size-small : 2 * long + 34 + 4 * n < 1000000
-      size-small = omega (arith, Q .long-is, Q .fit .long, Q .fit .order-few)
 
 -- ---- start
 
@@ -238,6 +250,12 @@ module _ (m : Bytes) (parts : ℕ) (owners : Bytes) (i : ℕ) (st : Bytes) (kind
 
             pub start-long : long ≡ 46 + n + owned + 2 * rowEnds table ends first order owned + sentEnds owners table ends i first cells 16
             start-long = Q .long-is ∙ ap₂ (λ x y. 46 + n + owned + 2 * rowEnds table ends x order owned + sentEnds owners table ends i x y 16) (sym fe) (sym ce)
+
+            pub start-got : (got : List ℕ) → Got owners table ends i (cellCount m) got → Got owners table ends i cells got
+            start-got got G = subst (λ x. Got owners table ends i x got) (sym ce) G
+
+            pub start-sent : (sent : List ℕ) → Sent owners table ends i (cellCount m) 16 sent → Sent owners table ends i cells 16 sent
+            start-sent sent X = subst (λ x. Sent owners table ends i x 16 sent) (sym ce) X
 
             pub start-cells : Cells f first order n
             start-cells =

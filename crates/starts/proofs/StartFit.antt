@@ -15,8 +15,7 @@ use Rattle.split.specs.Lists.{bad12}
 use Rattle.split.specs.Classes.{Prepared}
 use Rattle.starts.specs.Start.{ownedIn}
 use Rattle.start_lists.specs.Starting.{Fit, Cells}
-use Rattle.start_lists.proofs.StartLists.{got-is, sent-is, reached-is}
-use Rattle.starts.proofs.StartWords.{got-all, sent-few, ends-few, long-few, order-few, own-few, order-low, cell-at, entry-high}
+use Rattle.starts.proofs.StartWords.{got-all, long-few, order-few, own-few, order-low, cell-at, entry-high}
 
 module _ (m : Bytes) (parts : ℕ) (owners st table : Bytes) (ends : List ℕ) (holders : Bytes) (R : Prepared m parts owners st table ends holders)
     (i : ℕ) (low : 1 ≤ i) (high : i ≤ 16) (first cells : ℕ) (fe : first ≡ firstCell m) (ce : cells ≡ cellCount m)
@@ -43,18 +42,7 @@ module _ (m : Bytes) (parts : ℕ) (owners st table : Bytes) (ends : List ℕ) (
     order-few = n-few;
     order-there = there;
     owned-few = own-le;
-    got = record {
-      last = omega (arith, got-is owners table ends i first cells order own 16, got-all m parts owners st table ends holders R i low high first cells fe ce order n own oe ne we, n-few);
-      cell = λ k a b w. let no : ⊥ = omega arith in absurd no;
-    };
-    sent = record {
-      last = omega (arith, sent-is owners table ends i first cells order 16, sent-few m parts owners st table ends holders R i low high first cells fe ce twelve 16 (omega arith));
-      cell = λ k a b w. let no : ⊥ = omega arith in absurd no;
-    };
-    reached = record {
-      last = omega (arith, reached-is owners table ends i first cells order own, ends-few m parts owners st table ends holders R i low high first cells fe ce order n own oe ne we thirteen own (omega arith));
-      cell = λ k a b w. low-at k a (omega (arith, own-le));
-    };
+    got = omega (arith, got-all m parts owners st table ends holders R i low high first cells fe ce order n own oe ne we, n-few);
     near = record {
       each = λ l h k. record {
         cell = low-at l h (omega (arith, own-le));

@@ -6,18 +6,18 @@ use Prim.Native.Nat.{ℕ, zero, suc, _+_, _-_, _*_, _≤_, _<_}
 use native.Mathlib.Nat.{zero-add}
 use native.Mathlib.Omega.{arith}
 use lib.Dec.{ltb}
-use lib.ListN.{length, getD, take, replicate, length-append, length-map, length-replicate}
+use lib.ListN.{length, getD, take, replicate, length-append, length-replicate}
 use lib.Seq.{getD-take}
 use borrow.Author.Tests.{ltb-true, ltb-false}
 use Rattle.vocabulary.specs.Bytes.{Bytes}
 use Rattle.vocabulary.specs.Lists.{All, joined}
 use Rattle.vocabulary.specs.ListLaws.{At, All-getD, All-map, map-cong}
 use Rattle.vocabulary.specs.Ranges.{picked, listed, blocks, total}
-use Rattle.vocabulary.specs.RangeLaws.{picked-length-le, listed-cong, listed-back, blocks-moved, blocks-cong, blocks-length, joined-mapped, total-cong, total-agree, total-grows, total-has, total-mono}
+use Rattle.vocabulary.specs.RangeLaws.{listed-cong, listed-back, blocks-moved, blocks-cong, blocks-length, joined-mapped, total-cong, total-agree, total-grows, total-has, total-mono}
 use Rattle.vocabulary.specs.CountLaws.{total-add}
 use Rattle.layout.specs.Words.{wordAt}
 use Rattle.mesh.specs.Mesh.{firstCell, cellCount}
-use Rattle.mesh.specs.Walks.{Near, reach, layer, steps, stepsTo, bad13}
+use Rattle.mesh.specs.Walks.{Near, reach, layer, steps, bad13}
 use Rattle.mesh.specs.WalkLaws.{reach-in}
 use Rattle.reaches.specs.Tables.{entryCount}
 use Rattle.reaches.proofs.EntryLaws.{count-more}
@@ -123,18 +123,7 @@ module _ (m : Bytes) (parts : ℕ) (owners st table : Bytes) (ends : List ℕ) (
   row-more : (q : ℕ) → q < cellCount m → getD ends (q + 1) 0 ≡ getD ends q 0 + length (reach m st (firstCell m + q))
   row-more q h = omega (arith, row-start q h, R .ended .each (q + 1) (omega arith), count-more m st q)
 
-  -- how many entries a reach has, and the first cells' reaches together
-  reach-few : (c : ℕ) → length (reach m st c) ≤ 2000
-  unfolding reach
-  reach-few c =
-      omega (
-        arith,
-        length-map {B = Near} (picked (firstCell m) (cellCount m) (λ x. ltb 0 (length (stepsTo m st c x)))) (λ x. record { cell = x; layer = layer m st c x }),
-        picked-length-le (firstCell m) (λ x. ltb 0 (length (stepsTo m st c x))) (cellCount m),
-        R .mesh .cells-in,
-        R .mesh .sizes .n-high,
-      )
-
+  -- how many entries the first cells' reaches have together
   pub entries-few : bad13 m st ≡ false → (q : ℕ) → q ≤ cellCount m → entryCount m st q ≤ 8000
   unfolding bad13 entryCount
   entries-few e q h = omega (arith, ltb-false 8000 (total (firstCell m) (cellCount m) (λ c. length (reach m st c))) e, total-grows (firstCell m) (λ c. length (reach m st c)) q (cellCount m) h)
@@ -192,10 +181,6 @@ module _ (m : Bytes) (parts : ℕ) (owners st table : Bytes) (ends : List ℕ) (
       pub got-all : gotEnds owners table ends i first cells own 16 ≡ n
       unfolding importEnds
       got-all = omega (arith, got-ends 16 (omega arith), order-length S i, import-total S (split-reach m parts owners st) owner-in i few-parts)
-
-      pub got-few : (j : ℕ) → j ≤ 16 → gotEnds owners table ends i first cells own j ≤ n
-      unfolding importEnds
-      got-few j h = omega (arith, got-all, got-ends 16 (omega arith), got-ends j h, total-grows 1 (λ k. length (imports S i k)) j 16 h)
 
       -- ---- the order
 
@@ -259,12 +244,6 @@ module _ (m : Bytes) (parts : ℕ) (owners st table : Bytes) (ends : List ℕ) (
         pub row-size : rowSize table ends first order l ≡ length (reachOf S i L l)
         unfolding rowSize
         row-size = omega (arith, row-more place place-in, ap length reach-is)
-
-        pub row-size-small : rowSize table ends first order l ≤ 2000
-        row-size-small = omega (arith, row-size, ap length reach-is, reach-few (firstCell m + place))
-
-        pub row-few : bad13 m st ≡ false → getD ends (placeAt table ends first order l + 1) 0 ≤ 8000
-        row-few e = omega (arith, R .ended .each (place + 1) (omega (arith, place-in)), entries-few e (place + 1) (omega (arith, place-in)))
 
         -- the cell of an entry
         entry-cell : (t : ℕ) → t < length (reach m st (firstCell m + place))

@@ -1,7 +1,7 @@
 // Start and state size.
 use cell_lists::inner::add_order;
-use cell_lists::inner::count_class;
 use layout::Answer;
+use layout::number_at;
 use mesh::inner::cell_count;
 use mesh::inner::first_cell;
 use parts::inner::clear;
@@ -13,6 +13,10 @@ use split::inner::MOST_CELLS;
 use split::inner::classify;
 use split::inner::prepare;
 use split::split_number;
+use start_lists::inner::CLASSES;
+use start_lists::inner::MOST_PARTS;
+use start_lists::inner::count_classes;
+use start_lists::inner::count_sent;
 use start_lists::inner::lists_length;
 use start_lists::inner::put_cells;
 use start_lists::inner::put_lists;
@@ -24,12 +28,13 @@ ghost use lib.ListN.{length, replicate};
 ghost use Rattle.vocabulary.specs.Bytes.{over};
 ghost use Rattle.vocabulary.specs.Ranges.{blocks};
 ghost use Rattle.layout.specs.Words.{bytesOf};
+ghost use Rattle.mesh.specs.Mesh.{cellCount};
 ghost use Rattle.mesh.specs.Walks.{steps};
 ghost use Rattle.rules.specs.Rules.{bad11};
 ghost use Rattle.split.specs.Lists.{splitNumber, sizesNumber};
 ghost use Rattle.split.specs.Classes.{Prepared};
 ghost use Rattle.starts.specs.Start.{sizeAnswer, startAnswer, startState};
-ghost use Rattle.start_lists.specs.Starting.{rowEnds, sentEnds, startWords, startDepth, Fit, Cells};
+ghost use Rattle.start_lists.specs.Starting.{rowEnds, sentEnds, startWords, startDepth, Got, Sent, Fit, Cells};
 ghost use Rattle.starts.specs.Planning.{Planned};
 
 // How many cells a part holds and owns, and how many words its lists have.
@@ -39,7 +44,7 @@ pub struct Plan {
     pub long: usize,
 }
 
-// Writes a whole state at round 0.
+// Writes a whole state at round 0. The row is work space.
 fn put_state(
     b: &mut [u8],
     long: usize,
@@ -56,9 +61,11 @@ fn put_state(
     n: usize,
     owned: usize,
     f: &[u8],
-    list: &mut [u16],
+    got: &[u16],
+    sent: &[u16],
+    class: &mut [u8],
 )
-    requires { ⌜ Fit (now owners) (now table) (now ends) i first cells (now order) n owned × (long ≡ 46 + n + owned + 2 * rowEnds (now table) (now ends) first (now order) owned + sentEnds (now owners) (now table) (now ends) i first cells 16) × (2 * long + 34 + 4 * n ≤ length (now b)) × (steps < 65536) × (kind < 65536) × (length (now list) ≡ 2000) × Cells (now f) first (now order) n ⌝ }
+    requires { ⌜ Fit (now owners) (now table) (now ends) i first cells (now order) n owned × (long ≡ 46 + n + owned + 2 * rowEnds (now table) (now ends) first (now order) owned + sentEnds (now owners) (now table) (now ends) i first cells 16) × (2 * long + 34 + 4 * n ≤ length (now b)) × (steps < 65536) × (kind < 65536) × Got (now owners) (now table) (now ends) i cells (now got) × Sent (now owners) (now table) (now ends) i cells 16 (now sent) × (length (now class) ≡ 2000) × Cells (now f) first (now order) n ⌝ }
     ensures { λ _. ⌜ now (b .exit) ≡ over (now (b .entry)) 0 (bytesOf (startWords (now (owners .entry)) (now (table .entry)) (now (ends .entry)) i first cells (now (order .entry)) n owned steps kind (now (v .entry))) ++ (replicate 34 0 ++ blocks 1 n (startDepth (now (f .entry)) first (now (order .entry))))) ⌝ }
 {
     put_lists(
@@ -76,13 +83,15 @@ fn put_state(
         order,
         n,
         owned,
-        list,
+        got,
+        sent,
+        class,
     );
     clear(b, 2 * long, 34);
     put_cells(b, 2 * long + 34, f, first, order, n);
 }
 
-// The local order of part i, and what comes of it.
+// The local order of part i, and what comes of it, with the counts of the imports and exports in cleared arrays. The row is work space.
 fn make_plan(
     m: &[u8],
     parts: usize,
@@ -94,17 +103,21 @@ fn make_plan(
     holders: &[u8],
     class: &mut [u8],
     order: &mut [u16],
+    got: &mut [u16],
+    sent: &mut [u16],
 ) -> Plan
-    requires { ⌜ (splitNumber (now m) parts (now owners) (i ∷ i ∷ []) (now st) ≡ 0) × (sizesNumber (now m) parts (now owners) (now st) ≡ 0) × Prepared (now m) parts (now owners) (now st) (now table) (now ends) (now holders) × (length (now class) ≡ 2000) × (length (now order) ≡ 2000) ⌝ }
-    ensures { λ p. ⌜ Planned (now (m .entry)) parts (now (owners .entry)) i (now (st .entry)) (now (table .entry)) (now (ends .entry)) (now (order .exit)) (p .held) (p .owned) (p .long) ⌝ }
+    requires { ⌜ (splitNumber (now m) parts (now owners) (i ∷ i ∷ []) (now st) ≡ 0) × (sizesNumber (now m) parts (now owners) (now st) ≡ 0) × Prepared (now m) parts (now owners) (now st) (now table) (now ends) (now holders) × (length (now class) ≡ 2000) × (length (now order) ≡ 2000) × (now got ≡ replicate 19 0) × (now sent ≡ replicate 17 0) ⌝ }
+    ensures { λ p. ⌜ Planned (now (m .entry)) parts (now (owners .entry)) i (now (st .entry)) (now (table .entry)) (now (ends .entry)) (now (order .exit)) (p .held) (p .owned) (p .long) × Got (now (owners .entry)) (now (table .entry)) (now (ends .entry)) i (cellCount (now (m .entry))) (now (got .exit)) × Sent (now (owners .entry)) (now (table .entry)) (now (ends .entry)) i (cellCount (now (m .entry))) 16 (now (sent .exit)) ⌝ }
 {
     let first = first_cell(m);
     let cells = cell_count(m);
     classify(owners, table, ends, cells, i, class);
     let n = add_order(class, first, cells, parts, order);
-    let inner = count_class(class, cells, INTERIOR as usize);
-    let owned = inner + count_class(class, cells, HALO as usize);
-    let long = lists_length(owners, table, ends, i, first, cells, order, n, owned);
+    count_classes(class, cells, got);
+    let inner = number_at(got, INTERIOR as usize) as usize;
+    let owned = inner + number_at(got, HALO as usize) as usize;
+    count_sent(owners, table, ends, i, cells, parts, class, sent);
+    let long = lists_length(table, ends, first, order, n, owned, sent);
     Plan {
         held: n,
         owned,
@@ -124,11 +137,26 @@ fn size_from(
     holders: &[u8],
     class: &mut [u8],
     order: &mut [u16],
+    got: &mut [u16],
+    sent: &mut [u16],
 ) -> Answer
-    requires { ⌜ (splitNumber (now m) parts (now owners) (i ∷ i ∷ []) (now st) ≡ 0) × (sizesNumber (now m) parts (now owners) (now st) ≡ 0) × Prepared (now m) parts (now owners) (now st) (now table) (now ends) (now holders) × (length (now class) ≡ 2000) × (length (now order) ≡ 2000) ⌝ }
+    requires { ⌜ (splitNumber (now m) parts (now owners) (i ∷ i ∷ []) (now st) ≡ 0) × (sizesNumber (now m) parts (now owners) (now st) ≡ 0) × Prepared (now m) parts (now owners) (now st) (now table) (now ends) (now holders) × (length (now class) ≡ 2000) × (length (now order) ≡ 2000) × (now got ≡ replicate 19 0) × (now sent ≡ replicate 17 0) ⌝ }
     ensures { λ r. ⌜ r ≡ sizeAnswer (now (m .entry)) parts (now (owners .entry)) i (now (st .entry)) ⌝ }
 {
-    let p = make_plan(m, parts, owners, i, st, table, ends, holders, class, order);
+    let p = make_plan(
+        m,
+        parts,
+        owners,
+        i,
+        st,
+        table,
+        ends,
+        holders,
+        class,
+        order,
+        got,
+        sent,
+    );
     Answer::Done((2 * p.long + 34 + 4 * p.held) as u32)
 }
 
@@ -145,6 +173,8 @@ fn size_passed(m: &[u8], parts: u32, owners: &[u8], i: u32, st: &[u8]) -> Answer
     let mut holders = [0u8; MOST_CELLS];
     let mut class = [0u8; MOST_CELLS];
     let mut order = [0u16; 2000];
+    let mut got = [0u16; CLASSES];
+    let mut sent = [0u16; MOST_PARTS + 1];
     let number = prepare(
         m,
         parts,
@@ -172,6 +202,8 @@ fn size_passed(m: &[u8], parts: u32, owners: &[u8], i: u32, st: &[u8]) -> Answer
         &holders,
         &mut class,
         &mut order,
+        &mut got,
+        &mut sent,
     )
 }
 
@@ -201,10 +233,11 @@ fn start_from(
     holders: &[u8],
     class: &mut [u8],
     order: &mut [u16],
-    list: &mut [u16],
+    got: &mut [u16],
+    sent: &mut [u16],
     b: &mut [u8],
 ) -> Answer
-    requires { ⌜ (splitNumber (now m) parts (now owners) (i ∷ i ∷ []) (now st) ≡ 0) × (sizesNumber (now m) parts (now owners) (now st) ≡ 0) × Prepared (now m) parts (now owners) (now st) (now table) (now ends) (now holders) × (length (now class) ≡ 2000) × (length (now order) ≡ 2000) × (bad11 kind (steps (now st)) (now v) ≡ false) × (length (now list) ≡ 2000) ⌝ }
+    requires { ⌜ (splitNumber (now m) parts (now owners) (i ∷ i ∷ []) (now st) ≡ 0) × (sizesNumber (now m) parts (now owners) (now st) ≡ 0) × Prepared (now m) parts (now owners) (now st) (now table) (now ends) (now holders) × (length (now class) ≡ 2000) × (length (now order) ≡ 2000) × (bad11 kind (steps (now st)) (now v) ≡ false) × (now got ≡ replicate 19 0) × (now sent ≡ replicate 17 0) ⌝ }
     ensures { λ r. ⌜ (r ≡ startAnswer (now (m .entry)) parts (now (owners .entry)) i (now (st .entry)) kind (now (v .entry)) (now (f .entry)) (now (b .entry))) × (now (b .exit) ≡ startState (now (m .entry)) parts (now (owners .entry)) i (now (st .entry)) kind (now (v .entry)) (now (f .entry)) (now (b .entry))) ⌝ }
 {
     let first = first_cell(m);
@@ -212,7 +245,20 @@ fn start_from(
     if bad_field(cells, f) {
         return Answer::Refused(14);
     }
-    let p = make_plan(m, parts, owners, i, st, table, ends, holders, class, order);
+    let p = make_plan(
+        m,
+        parts,
+        owners,
+        i,
+        st,
+        table,
+        ends,
+        holders,
+        class,
+        order,
+        got,
+        sent,
+    );
     let long = p.long;
     let n = p.held;
     let owned = p.owned;
@@ -236,7 +282,9 @@ fn start_from(
         n,
         owned,
         f,
-        list,
+        got,
+        sent,
+        class,
     );
     Answer::Done(size as u32)
 }
@@ -264,7 +312,8 @@ fn start_passed(
     let mut holders = [0u8; MOST_CELLS];
     let mut class = [0u8; MOST_CELLS];
     let mut order = [0u16; 2000];
-    let mut list = [0u16; 2000];
+    let mut got = [0u16; CLASSES];
+    let mut sent = [0u16; MOST_PARTS + 1];
     let number = prepare(
         m,
         parts,
@@ -295,7 +344,8 @@ fn start_passed(
         &holders,
         &mut class,
         &mut order,
-        &mut list,
+        &mut got,
+        &mut sent,
         b,
     )
 }

@@ -10,6 +10,11 @@ put-borders-spec =
     tie.close
     (tie.spec
     (λ c κs. search needs)
-    (λ c κs. (omega (arith, c .before .before .before .before .before .before .before .before .before .before .pre .0, words-count _ _ _ _ _ _ (c .before .before .before .put-ends .ensures), c .before .before .b .given), omega (arith, c .before .before .before .before .before .before .before .before .before .before .pre .1, words-count _ _ _ _ _ _ (c .before .before .before .put-ends .ensures)), search needs, c .before .before .before .before .before .before .before .before .before .before .pre .2, c .before .before .before .before .before .before .before .before .before .before .pre .3, c .before .before .before .before .before .before .before .before .before .before .pre .4, c .before .before .before .before .before .before .before .before .before .before .pre .6))
+    (λ c κs.
+    let pre = c .before .before .before .before .before .before .before .before .pre in
+    let t = words-count _ _ _ _ _ _ (c .before .before .before .put-ends .ensures) in
+    (omega (arith, pre .0, t, c .before .before .b .given), omega (arith, pre .1, t), pre .3))
     (λ c. search needs)
-    (λ c. put-both _ _ _ _ _ _ _ _ (c .before .before .before .before .before .before .put-ends .ensures) (c .before .before .put-ends2 .ensures) (omega (arith, c .before .before .before .before .before .before .before .before .before .before .before .before .before .pre .0, words-count _ _ _ _ _ _ (c .before .before .before .before .before .before .put-ends .ensures)))))
+    (λ c.
+    let got = c .before .before .before .before .before .before .put-ends .ensures in
+    put-both _ _ _ _ _ _ _ _ got (c .before .before .put-ends2 .ensures) (omega (arith, c .before .before .before .before .before .before .before .before .before .before .before .pre .0, words-count _ _ _ _ _ _ got))))

@@ -12,75 +12,36 @@ put-entries-spec =
     (tie.spec
     (λ c κs. search needs)
     (λ c κs.
-    let start = c .before .before .before .before .before .before .before .before .before .before .before .before in
-    let put-list = c .before .before .before .put-list in
-    let b = c .before .before .b in (
-      omega (arith, start .pre .0, list-count _ _ _ _ _ _ (put-list .ensures) (start .pre .5), b .given),
-      omega (
-        arith,
-        start .pre .1,
-        list-count _ _ _ _ _ _ (put-list .ensures) (start .pre .5),
-      ),
-      omega (arith, start .pre .1),
-      start .pre .2,
-      start .pre .3,
-      start .pre .4,
-      start .pre .7,
-    ))
+    let pre = c .before .before .before .before .before .before .before .before .before .before .before .before .before .pre in
+    let t = list-count _ _ _ _ _ _ (c .before .before .before .put-list .ensures) (pre .4) in
+    (omega (arith, pre .0, t, c .before .before .b .given), omega (arith, pre .1, t), omega (arith, pre .1), pre .5, omega (arith, pre .1)))
     (λ c κs.
-    let start = c .before .before .before .before .before .before .before .before .before .before .before .before .before .before .before .before in
-    let put-list = c .before .before .before .before .before .before .before .put-list in
-    let put-ends = c .before .before .before .put-ends in
-    let b = c .before .before .before .before .before .before .b in
-    let b2 = c .before .before .b2 in (
-      omega (arith, start .pre .0, list-count _ _ _ _ _ _ (put-list .ensures) (start .pre .5), words-count _ _ _ _ _ _ (put-ends .ensures), b .given, b2 .given),
-      omega (arith, start .pre .1, list-count _ _ _ _ _ _ (put-list .ensures) (start .pre .5), words-count _ _ _ _ _ _ (put-ends .ensures)),
-      omega (arith, start .pre .1),
-      start .pre .8,
-    ))
+    let pre = c .before .before .before .before .before .before .before .before .before .before .before .before .before .before .before .before .before .pre in
+    let t = list-count _ _ _ _ _ _ (c .before .before .before .before .before .before .before .put-list .ensures) (pre .4) in
+    let u = words-count _ _ _ _ _ _ (c .before .before .before .put-row-ends .ensures) in
+    (omega (arith, pre .0, t, u, c .before .before .before .before .before .before .b .given, c .before .before .b2 .given), omega (arith, pre .1, t, u), omega (arith, pre .1), pre .5))
     (λ c κs.
-    let start = c .before .before .before .before .before .before .before .before .before .before .before .before .before .before .before .before .before .before .before .before .before in
-    let put-list = c .before .before .before .before .before .before .before .before .before .before .before .before .put-list in
-    let put-ends = c .before .before .before .before .before .before .before .before .put-ends in
-    let put-rows = c .before .before .before .before .put-rows in
-    let b = c .before .before .before .before .before .before .before .before .before .before .before .b in
-    let b2 = c .before .before .before .before .before .before .before .b2 in
-    let b3 = c .before .before .before .b3 in (
-      omega (
-        arith,
-        start .pre .0,
-        list-count _ _ _ _ _ _ (put-list .ensures) (start .pre .5),
-        words-count _ _ _ _ _ _ (put-ends .ensures),
-        many-count _ _ _ (rows-long _ _ _ _ _ _) _ _ _ _ (put-rows .ensures),
-        b .given,
-        b2 .given,
-        b3 .given,
-      ),
-      omega (
-        arith,
-        start .pre .1,
-        list-count _ _ _ _ _ _ (put-list .ensures) (start .pre .5),
-        words-count _ _ _ _ _ _ (put-ends .ensures),
-        many-count _ _ _ (rows-long _ _ _ _ _ _) _ _ _ _ (put-rows .ensures),
-      ),
-      start .pre .3,
-      start .pre .4,
-      start .pre .6,
-      start .pre .9,
+    let pre = c .before .before .before .before .before .before .before .before .before .before .before .before .before .before .before .before .before .before .before .before .before .before .pre in
+    let t = list-count _ _ _ _ _ _ (c .before .before .before .before .before .before .before .before .before .before .before .before .put-list .ensures) (pre .4) in
+    let u = words-count _ _ _ _ _ _ (c .before .before .before .before .before .before .before .before .put-row-ends .ensures) in
+    let w = many-count _ _ _ (rows-long _ _ _ _ _ _) _ _ _ _ (c .before .before .before .before .put-rows .ensures) in (
+      omega (arith, pre .0, t, u, w, c .before .before .before .before .before .before .before .before .before .before .before .b .given, c .before .before .before .before .before .before .before .b2 .given, c .before .before .before .b3 .given),
+      omega (arith, pre .1, t, u, w),
+      pre .2,
+      pre .3,
+      pre .6,
+      pre .7,
     ))
     (λ c. search needs)
     (λ c. search needs)
     (λ c.
-    let start = c .before .before .before .before .before .before .before .before .before .before .before .before .before .before .before .before .before .before .before .before .before .before .before .before .before .before in
-    let put-list = c .before .before .before .before .before .before .before .before .before .before .before .before .before .before .before .before .before .put-list in
-    let put-ends = c .before .before .before .before .before .before .before .before .before .before .before .before .before .put-ends in
-    let put-rows = c .before .before .before .before .before .before .before .before .before .put-rows in
-    let put-sent = c .before .before .before .before .put-sent in
-    put-four _ _ _ _ _ _ _ _ _ _ _ _ _ _ (omega (
-      arith,
-      start .pre .0,
-      list-count _ _ _ _ _ _ (put-list .ensures) (start .pre .5),
-      words-count _ _ _ _ _ _ (put-ends .ensures),
-      many-count _ _ _ (rows-long _ _ _ _ _ _) _ _ _ _ (put-rows .ensures),
-      many-count _ _ _ (all-long _ _ _ _ _ _ _) _ _ _ _ (put-sent .ensures),
-    )) (put-list .ensures) (put-ends .ensures) (put-rows .ensures) (put-sent .ensures)))
+    let pre = c .before .before .before .before .before .before .before .before .before .before .before .before .before .before .before .before .before .before .before .before .before .before .before .before .before .before .before .pre in
+    let order = c .before .before .before .before .before .before .before .before .before .before .before .before .before .before .before .before .before .put-list .ensures in
+    let ends = c .before .before .before .before .before .before .before .before .before .before .before .before .before .put-row-ends .ensures in
+    let rows = c .before .before .before .before .before .before .before .before .before .put-rows .ensures in
+    let sent = c .before .before .before .before .put-sent .ensures in
+    let t = list-count _ _ _ _ _ _ order (pre .4) in
+    let u = words-count _ _ _ _ _ _ ends in
+    let w = many-count _ _ _ (rows-long _ _ _ _ _ _) _ _ _ _ rows in
+    let x = many-count _ _ _ (all-long _ _ _ _ _ _ _) _ _ _ _ sent in
+    put-four _ _ _ _ _ _ _ _ _ _ _ _ _ _ (omega (arith, pre .0, t, u, w, x)) order ends rows sent))

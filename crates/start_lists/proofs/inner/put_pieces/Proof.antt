@@ -1,6 +1,6 @@
 -- `start_lists::inner::put_pieces` meets its contract. Assumes nothing.
 use native.Mathlib.Omega.{arith}
-use Rattle.start_lists.proofs.StartLists.{head-count, borders-count, lists-put}
+use Rattle.start_lists.proofs.StartLists.{head-count, got-is, sent-is, borders-count, lists-put}
 use borrow.Author.Needs.{needs}
 use Rattle.start_lists.proofs.inner.put_pieces.Statement.{statement}
 use Rattle.start_lists.proofs.inner.put_pieces.Tie as tie
@@ -10,65 +10,35 @@ put-pieces-spec =
     tie.close
     (tie.spec
     (λ c κs.
-    let start = c .before .before .before .before .before .before .before .before .before in (
-      omega (arith, start .pre .1, start .pre .2),
-      omega (arith, start .pre .1, start .pre .0 .long),
-      start .pre .0 .part,
-      start .pre .3,
-      start .pre .4,
-      start .pre .0 .first-small,
-      omega (arith, start .pre .0 .cells-few),
+    let pre = c .before .before .before .before .before .before .before .before .before .before .before .pre in
+    let fit = pre .0 in
+    (omega (arith, pre .1, pre .2), omega (arith, pre .1, fit .long), fit .part, pre .3, pre .4, fit .first-small, omega (arith, fit .cells-few)))
+    (λ c κs.
+    let start = c .before .before .before .before .before .before .before .before .before .before .before .before .before .before .before in
+    let pre = start .pre in
+    let fit = pre .0 in
+    let s = head-count _ _ _ _ _ _ _ _ _ _ (c .before .before .before .put-head .ensures) in (
+      omega (arith, pre .1, pre .2, s, c .before .before .b .given),
+      omega (arith, s),
+      omega (arith, got-is _ _ _ _ (start .args .first) _ _ (pre .5) (start .args .owned) 16 (omega arith), fit .got),
+      omega (arith, sent-is _ _ _ _ (start .args .first) _ _ (pre .6) 16 (omega arith), fit .long),
     ))
     (λ c κs.
-    let start = c .before .before .before .before .before .before .before .before .before .before .before .before .before in
-    let put-head = c .before .before .before .put-head in
-    let b = c .before .before .b in (
-      omega (arith, start .pre .1, start .pre .2, head-count _ _ _ _ _ _ _ _ _ _ (put-head .ensures), b .given),
-      omega (
-        arith,
-        head-count _ _ _ _ _ _ _ _ _ _ (put-head .ensures),
-      ),
-      start .pre .0 .part,
-      start .pre .0 .cells-fit,
-      start .pre .0 .cells-few,
-      start .pre .0 .got,
-      start .pre .0 .sent,
-    ))
-    (λ c κs.
-    let start = c .before .before .before .before .before .before .before .before .before .before .before .before .before .before .before .before .before .before in
-    let put-head = c .before .before .before .before .before .before .before .before .put-head in
-    let put-borders = c .before .before .before .before .put-borders in
-    let b = c .before .before .before .before .before .before .before .b in
-    let b2 = c .before .before .before .b2 in (
-      omega (
-        arith,
-        start .pre .1,
-        start .pre .2,
-        head-count _ _ _ _ _ _ _ _ _ _ (put-head .ensures),
-        borders-count _ _ _ _ _ _ _ _ _ _ _ _ (put-borders .ensures),
-        b .given,
-        b2 .given,
-      ),
-      omega (
-        arith,
-        start .pre .0 .long,
-        head-count _ _ _ _ _ _ _ _ _ _ (put-head .ensures),
-        borders-count _ _ _ _ _ _ _ _ _ _ _ _ (put-borders .ensures),
-      ),
-      start .pre .0 .part,
-      start .pre .0 .cells-fit,
-      start .pre .0 .cells-few,
-      start .pre .0 .order-there,
-      start .pre .5,
-      start .pre .0 .reached,
-      start .pre .0 .near,
-      start .pre .0 .part-few,
+    let pre = c .before .before .before .before .before .before .before .before .before .before .before .before .before .before .before .before .before .before .before .before .pre in
+    let fit = pre .0 in
+    let s = head-count _ _ _ _ _ _ _ _ _ _ (c .before .before .before .before .before .before .before .before .put-head .ensures) in
+    let t = borders-count _ _ _ _ _ _ _ (c .before .before .before .before .put-borders .ensures) in (
+      omega (arith, pre .1, pre .2, s, t, c .before .before .before .before .before .before .before .b .given, c .before .before .before .b2 .given),
+      omega (arith, fit .long, s, t),
+      fit .cells-fit,
+      fit .cells-few,
+      fit .order-there,
+      fit .near,
+      pre .6,
+      pre .7,
     ))
     (λ c. search needs)
     (λ c. search needs)
     (λ c.
-    let start = c .before .before .before .before .before .before .before .before .before .before .before .before .before .before .before .before .before .before .before .before .before .before .before in
-    let put-head = c .before .before .before .before .before .before .before .before .before .before .before .before .before .put-head in
-    let put-borders = c .before .before .before .before .before .before .before .before .before .put-borders in
-    let put-entries = c .before .before .before .before .put-entries in
-    lists-put _ _ _ _ _ _ _ _ _ _ _ _ _ _ (start .pre .1) _ _ _ _ _ _ _ (omega (arith, start .pre .1, start .pre .2)) (put-head .ensures) (put-borders .ensures) (put-entries .ensures)))
+    let pre = c .before .before .before .before .before .before .before .before .before .before .before .before .before .before .before .before .before .before .before .before .before .before .before .before .before .pre in
+    lists-put _ _ _ _ _ _ _ _ _ _ _ _ _ _ (pre .1) _ _ _ _ _ _ _ _ _ (pre .5) (pre .6) (omega (arith, pre .1, pre .2)) (c .before .before .before .before .before .before .before .before .before .before .before .before .before .put-head .ensures) (c .before .before .before .before .before .before .before .before .before .put-borders .ensures) (c .before .before .before .before .put-entries .ensures)))

@@ -5,17 +5,16 @@ use lib.ListN.{length}
 use Rattle.vocabulary.specs.Ranges.{blocks}
 use Rattle.start_lists.specs.Starting.{Put, sentWords}
 use Rattle.start_lists.proofs.PutLaws.{many-start, many-end, many-room, many-turn}
-use Rattle.start_lists.proofs.StartCounts.{sent-long, all-long}
+use Rattle.start_lists.proofs.StartCounts.{sent-long, all-long, sent-here}
 use borrow.Author.Needs.{needs}
 use Rattle.start_lists.proofs.inner.put_sent.Statement.{statement}
 use Rattle.start_lists.proofs.inner.put_sent.Tie as tie
 
 abbrev Inv-loop : tie.InvT-loop
-Inv-loop b₀ s owners table ends i first cells local list₀ u₀ j₀ b list u j = (1 ≤ j) × (j ≤ 17) × (length b ≡ length b₀) × (length list ≡ 2000) × Put b₀ b s u
-    (blocks 1 (j - 1) (sentWords owners table ends i first cells local))
+Inv-loop b₀ s owners table ends i first cells local sent class₀ u₀ j₀ b class u j = (1 ≤ j) × (j ≤ 17) × (length b ≡ length b₀) × (length class ≡ 2000) × Put b₀ b s u (blocks 1 (j - 1) (sentWords owners table ends i first cells local))
 
 abbrev μ-loop : tie.MeasureT-loop
-μ-loop b₀ s owners table ends i first cells local list₀ u₀ j₀ b list u j = 17 - j
+μ-loop b₀ s owners table ends i first cells local sent class₀ u₀ j₀ b class u j = 17 - j
 
 pub put-sent-spec : {M : Type 1} → statement M
 put-sent-spec =
@@ -24,30 +23,24 @@ put-sent-spec =
     Inv-loop
     μ-loop
     (λ c. (search needs, search needs, search needs, search needs, search many-start))
+    (λ c κs. search needs)
+    (λ c. search needs)
     (λ c κs.
-    let w =
-    many-room _ 16 _ (all-long _ _ _ _ _ _ _) _ (sent-long _ _ _ _ _ _ _) _ _ _ _ _ (c .before .before .before .loop .inv .0) (c .before .before .loop-test .taken)
-    (c .before .before .before .before .before .before .before .before .before .before .pre .0)
-    (c .before .before .before .before .before .before .before .before .before .before .pre .1) (c .before .before .before .loop .inv .2) (c .before .before .before .loop .inv .4) in (
-      w .0,
-      w .1,
-      c .before .before .before .before .before .before .before .before .before .before .pre .5,
-      c .before .before .before .before .before .before .before .before .before .before .pre .2,
-      c .before .before .before .before .before .before .before .before .before .before .pre .3,
-      c .before .before .before .loop .inv .3,
-    ))
+    let inv = c .before .before .before .before .loop .inv in
+    let taken = c .before .before .before .loop-test .taken in
+    let pre = c .before .before .before .before .before .before .before .before .before .before .before .before .pre in
+    let w = many-room _ 16 _ (all-long _ _ _ _ _ _ _) _ (sent-long _ _ _ _ _ _ _) _ _ _ _ _ (inv .0) taken (pre .0) (pre .1) (inv .2) (inv .4) in
+    (w .0, w .1, pre .2, pre .3, sent-here _ _ _ _ _ _ _ _ _ (pre .4) (c .before .before .number-at .ensures) (inv .0) taken, inv .3))
     (λ c. search needs)
     (λ c. search needs)
     (λ c.
-    let put-sent-to = c .before .before .before .before .put-sent-to in
-    let loop = c .before .before .before .before .before .before .before .before .loop in
-    let loop-test = c .before .before .before .before .before .before .before .loop-test in
-    let start = c .before .before .before .before .before .before .before .before .before .before .before .before .before .before .before in (
+    let inv = c .before .before .before .before .before .before .before .before .before .loop .inv in
+    let told = c .before .before .before .before .put-sent-to .ensures in (
       search needs,
       search needs,
       search needs,
-      put-sent-to .ensures .1,
-      many-turn _ 16 _ (all-long _ _ _ _ _ _ _) _ _ _ _ _ _ _ (loop .inv .0) (loop-test .taken) (start .pre .0) (loop .inv .4) (put-sent-to .ensures .0),
+      told .1,
+      many-turn _ 16 _ (all-long _ _ _ _ _ _ _) _ _ _ _ _ _ _ (inv .0) (c .before .before .before .before .before .before .before .before .loop-test .taken) (c .before .before .before .before .before .before .before .before .before .before .before .before .before .before .before .before .before .pre .0) (inv .4) (told .0),
     ))
     (λ c. search needs)
     (λ c. search needs)

@@ -1,7 +1,5 @@
 -- `start_lists::inner::put_sent_to` meets its contract. Assumes nothing.
-use native.Mathlib.Omega.{arith}
-use mathlib.Core.Path.{_∙_}
-use Rattle.start_lists.proofs.StartCounts.{sent-count, sent-put}
+use Rattle.start_lists.proofs.StartCounts.{sent-none, sent-room, sent-put}
 use borrow.Author.Needs.{needs}
 use Rattle.start_lists.proofs.inner.put_sent_to.Statement.{statement}
 use Rattle.start_lists.proofs.inner.put_sent_to.Tie as tie
@@ -10,12 +8,13 @@ pub put-sent-to-spec : {M : Type 1} → statement M
 put-sent-to-spec =
     tie.close
     (tie.spec
-    (λ c. search needs)
+    (λ c. (search sent-none, search needs))
     (λ c κs. search needs)
+    (λ c κs.
+    let pre = c .before .before .before .before .before .before .before .before .before .before .before .before .before .pre in
+    (sent-room _ _ _ _ _ _ _ _ _ _ (pre .3) (c .before .before .before .before .classify .ensures) (pre .0), pre .1, pre .2, pre .3))
     (λ c. search needs)
     (λ c. search needs)
-    (λ c κs. search needs)
-    (λ c κs. let e = sent-count _ _ _ _ _ _ _ _ _ _ _ (c .before .before .before .before .before .before .before .before .before .before .before .before .before .before .before .before .pre .4) (c .before .before .before .before .before .before .before .before .classify .ensures) (c .before .before .before .before .add-class .ensures .0) in (omega (arith, c .before .before .before .before .before .before .before .before .before .before .before .before .before .before .before .before .pre .0, e), c .before .before .before .before .before .before .before .before .before .before .before .before .before .before .before .before .pre .1, omega (arith, c .before .before .before .before .add-class .ensures .0 .size, c .before .before .before .before .add-class .ensures .1, c .before .before .before .before .before .before .before .before .before .before .before .before .before .before .before .before .pre .4, c .before .before .before .before .before .before .before .before .before .before .before .before .before .before .before .before .pre .5), omega (arith, c .before .before .before .before .add-class .ensures .1, c .before .before .before .before .before .before .before .before .before .before .before .before .before .before .before .before .pre .4)))
-    (λ c. search needs)
-    (λ c. search needs)
-    (λ c. (sent-put _ _ _ _ _ _ _ _ _ _ _ _ _ _ _ _ (c .before .before .before .before .before .before .before .before .before .before .before .before .before .before .before .before .before .before .before .pre .4) (c .before .before .before .before .before .before .before .before .before .before .before .classify .ensures) (c .before .before .before .before .before .before .before .add-class .ensures .0) (c .before .before .before .before .before .before .before .before .before .before .before .before .before .before .before .before .before .before .before .pre .5) (omega (arith, c .before .before .before .before .before .before .before .add-class .ensures .1, c .before .before .before .before .before .before .before .before .before .before .before .before .before .before .before .before .before .before .before .pre .4)) (c .before .before .put-locals .ensures), c .before .before .before .before .before .before .before .add-class .ensures .0 .size ∙ c .before .before .before .before .before .before .before .before .before .before .before .before .before .before .before .before .before .before .before .pre .5)))
+    (λ c.
+    let row = c .before .before .before .before .before .before .before .classify .ensures in
+    (sent-put _ _ _ _ _ _ _ _ _ _ _ _ _ (c .before .before .before .before .before .before .before .before .before .before .before .before .before .before .before .before .pre .3) row (c .before .before .put-class-cells .ensures), search needs)))

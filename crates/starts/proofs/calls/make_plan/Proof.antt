@@ -1,5 +1,6 @@
 -- `starts::calls::make_plan` meets its contract. Assumes nothing.
-use Rattle.starts.proofs.PlanLaws.{plan-bounds, plan-fit, plan-made}
+use native.Mathlib.Omega.{arith}
+use Rattle.starts.proofs.PlanLaws.{plan-bounds, plan-mapped, plan-sent, plan-fit, plan-got, plan-made}
 use borrow.Author.Needs.{needs}
 use Rattle.starts.proofs.calls.make_plan.Statement.{statement}
 use Rattle.starts.proofs.calls.make_plan.Tie as tie
@@ -10,14 +11,62 @@ make-plan-spec =
     (tie.spec
     (λ c κs. search needs)
     (λ c κs. search needs)
-    (λ c κs. (plan-bounds _ _ _ _ _ _ _ _ (c .before .before .before .before .before .before .before .before .before .before .before .pre .0) (c .before .before .before .before .before .before .before .before .before .before .before .pre .1) (c .before .before .before .before .before .before .before .before .before .before .before .pre .2) _ _ (c .before .before .first-cell .ensures) (c .before .cell-count .ensures .0) .2, c .before .before .before .before .before .before .before .before .before .before .before .pre .3))
-    (λ c κs. let b = plan-bounds _ _ _ _ _ _ _ _ (c .before .before .before .before .before .before .before .before .before .before .before .before .before .before .before .before .pre .0) (c .before .before .before .before .before .before .before .before .before .before .before .before .before .before .before .before .pre .1) (c .before .before .before .before .before .before .before .before .before .before .before .before .before .before .before .before .pre .2) _ _ (c .before .before .before .before .before .before .before .first-cell .ensures) (c .before .before .before .before .before .before .cell-count .ensures .0) in (b .1, b .2, b .3))
+    (λ c κs.
+    let pre = c .before .before .before .before .before .before .before .before .before .before .before .before .before .pre in
+    let first = c .before .before .first-cell .ensures in
+    let cells = c .before .cell-count .ensures .0 in
+    (plan-bounds _ _ _ _ _ _ _ _ (pre .0) (pre .1) (pre .2) _ _ first cells .2, pre .3))
+    (λ c κs.
+    let pre = c .before .before .before .before .before .before .before .before .before .before .before .before .before .before .before .before .before .before .pre in
+    let first = c .before .before .before .before .before .before .before .first-cell .ensures in
+    let cells = c .before .before .before .before .before .before .cell-count .ensures .0 in
+    let b = plan-bounds _ _ _ _ _ _ _ _ (pre .0) (pre .1) (pre .2) _ _ first cells in
+    (b .1, b .2, b .3))
+    (λ c κs.
+    let pre = c .before .before .before .before .before .before .before .before .before .before .before .before .before .before .before .before .before .before .before .before .before .before .before .pre in
+    let first = c .before .before .before .before .before .before .before .before .before .before .before .before .first-cell .ensures in
+    let cells = c .before .before .before .before .before .before .before .before .before .before .before .cell-count .ensures .0 in
+    (plan-bounds _ _ _ _ _ _ _ _ (pre .0) (pre .1) (pre .2) _ _ first cells .2, pre .5))
     (λ c. search needs)
-    (λ c κs. plan-bounds _ _ _ _ _ _ _ _ (c .before .before .before .before .before .before .before .before .before .before .before .before .before .before .before .before .before .before .before .before .pre .0) (c .before .before .before .before .before .before .before .before .before .before .before .before .before .before .before .before .before .before .before .before .pre .1) (c .before .before .before .before .before .before .before .before .before .before .before .before .before .before .before .before .before .before .before .before .pre .2) _ _ (c .before .before .before .before .before .before .before .before .before .before .before .first-cell .ensures) (c .before .before .before .before .before .before .before .before .before .before .cell-count .ensures .0) .2)
-    (λ c. search needs)
-    (λ c κs. plan-bounds _ _ _ _ _ _ _ _ (c .before .before .before .before .before .before .before .before .before .before .before .before .before .before .before .before .before .before .before .before .before .before .pre .0) (c .before .before .before .before .before .before .before .before .before .before .before .before .before .before .before .before .before .before .before .before .before .before .pre .1) (c .before .before .before .before .before .before .before .before .before .before .before .before .before .before .before .before .before .before .before .before .before .before .pre .2) _ _ (c .before .before .before .before .before .before .before .before .before .before .before .before .before .first-cell .ensures) (c .before .before .before .before .before .before .before .before .before .before .before .before .cell-count .ensures .0) .2)
-    (λ c. search needs)
-    (λ c κs. plan-fit _ _ _ _ _ _ _ _ (c .before .before .before .before .before .before .before .before .before .before .before .before .before .before .before .before .before .before .before .before .before .before .before .before .pre .0) (c .before .before .before .before .before .before .before .before .before .before .before .before .before .before .before .before .before .before .before .before .before .before .before .before .pre .1) (c .before .before .before .before .before .before .before .before .before .before .before .before .before .before .before .before .before .before .before .before .before .before .before .before .pre .2) _ _ (c .before .before .before .before .before .before .before .before .before .before .before .before .before .before .before .first-cell .ensures) (c .before .before .before .before .before .before .before .before .before .before .before .before .before .before .cell-count .ensures .0) _ (c .before .before .before .before .before .before .before .before .before .before .before .before .classify .ensures) _ _ _ _ _ (c .before .before .before .before .before .before .before .add-order .ensures) (c .before .before .before .before .before .before .before .before .before .before .before .before .before .before .before .before .before .before .before .before .before .before .before .before .pre .4) (c .before .before .before .count-class .ensures .0) (c .before .count-class2 .ensures .0))
+    (λ c κs. search needs)
     (λ c. search needs)
     (λ c. search needs)
-    (λ c. plan-made _ _ _ _ _ _ _ _ (c .before .before .before .before .before .before .before .before .before .before .before .before .before .before .before .before .before .before .before .before .before .before .before .before .before .pre .0) (c .before .before .before .before .before .before .before .before .before .before .before .before .before .before .before .before .before .before .before .before .before .before .before .before .before .pre .1) (c .before .before .before .before .before .before .before .before .before .before .before .before .before .before .before .before .before .before .before .before .before .before .before .before .before .pre .2) _ _ (c .before .before .before .before .before .before .before .before .before .before .before .before .before .before .before .before .first-cell .ensures) (c .before .before .before .before .before .before .before .before .before .before .before .before .before .before .before .cell-count .ensures .0) _ (c .before .before .before .before .before .before .before .before .before .before .before .before .before .classify .ensures) _ _ _ _ _ (c .before .before .before .before .before .before .before .before .add-order .ensures) (c .before .before .before .before .before .before .before .before .before .before .before .before .before .before .before .before .before .before .before .before .before .before .before .before .before .pre .4) (c .before .before .before .before .count-class .ensures .0) (c .before .before .count-class2 .ensures .0) _ (c .lists-length .ensures .0)))
+    (λ c κs. search needs)
+    (λ c. search needs)
+    (λ c. search needs)
+    (λ c κs.
+    let pre = c .before .before .before .before .before .before .before .before .before .before .before .before .before .before .before .before .before .before .before .before .before .before .before .before .before .before .before .before .before .before .before .before .pre in
+    let first = c .before .before .before .before .before .before .before .before .before .before .before .before .before .before .before .before .before .before .before .before .before .first-cell .ensures in
+    let cells = c .before .before .before .before .before .before .before .before .before .before .before .before .before .before .before .before .before .before .before .before .cell-count .ensures .0 in
+    let b = plan-bounds _ _ _ _ _ _ _ _ (pre .0) (pre .1) (pre .2) _ _ first cells in
+    let map = plan-mapped _ _ _ _ _ _ _ _ (pre .0) (pre .1) (pre .2) _ _ first cells in
+    (map .0, b .2, b .3, map .1, c .before .before .before .before .before .before .before .before .before .before .before .before .before .before .before .before .before .before .classify .ensures .room, pre .6))
+    (λ c κs.
+    let pre = c .before .before .before .before .before .before .before .before .before .before .before .before .before .before .before .before .before .before .before .before .before .before .before .before .before .before .before .before .before .before .before .before .before .before .before .before .before .before .before .pre in
+    let first = c .before .before .before .before .before .before .before .before .before .before .before .before .before .before .before .before .before .before .before .before .before .before .before .before .before .before .before .before .first-cell .ensures in
+    let cells = c .before .before .before .before .before .before .before .before .before .before .before .before .before .before .before .before .before .before .before .before .before .before .before .before .before .before .before .cell-count .ensures .0 in
+    let row = c .before .before .before .before .before .before .before .before .before .before .before .before .before .before .before .before .before .before .before .before .before .before .before .before .before .classify .ensures in
+    let order = c .before .before .before .before .before .before .before .before .before .before .before .before .before .before .before .before .before .before .before .before .add-order .ensures in
+    let tally = c .before .before .before .before .before .before .before .before .before .before .before .before .before .before .before .count-classes .ensures in
+    let inner = c .before .before .before .before .before .before .before .before .before .before .before .number-at .ensures in
+    let outer = c .before .before .before .before .before .before .before .before .before .number-at2 .ensures in
+    let fit = plan-fit _ _ _ _ _ _ _ _ (pre .0) (pre .1) (pre .2) _ _ first cells _ row _ _ _ _ _ order (pre .4) _ tally inner outer in
+    (fit .order-few, fit .owned-few, fit .near, omega (arith, fit .long)))
+    (λ c. search needs)
+    (λ c. search needs)
+    (λ c. search needs)
+    (λ c. search needs)
+    (λ c.
+    let pre = c .before .before .before .before .before .before .before .before .before .before .before .before .before .before .before .before .before .before .before .before .before .before .before .before .before .before .before .before .before .before .before .before .before .before .before .before .before .before .before .before .pre in
+    let first = c .before .before .before .before .before .before .before .before .before .before .before .before .before .before .before .before .before .before .before .before .before .before .before .before .before .before .before .before .before .first-cell .ensures in
+    let cells = c .before .before .before .before .before .before .before .before .before .before .before .before .before .before .before .before .before .before .before .before .before .before .before .before .before .before .before .before .cell-count .ensures .0 in
+    let row = c .before .before .before .before .before .before .before .before .before .before .before .before .before .before .before .before .before .before .before .before .before .before .before .before .before .before .classify .ensures in
+    let order = c .before .before .before .before .before .before .before .before .before .before .before .before .before .before .before .before .before .before .before .before .before .add-order .ensures in
+    let tally = c .before .before .before .before .before .before .before .before .before .before .before .before .before .before .before .before .count-classes .ensures in
+    let inner = c .before .before .before .before .before .before .before .before .before .before .before .before .number-at .ensures in
+    let outer = c .before .before .before .before .before .before .before .before .before .before .number-at2 .ensures in
+    let sent = c .before .before .before .before .before .before .before .count-sent .ensures in (
+      plan-made _ _ _ _ _ _ _ _ (pre .0) (pre .1) (pre .2) _ _ first cells _ row _ _ _ _ _ order (pre .4) _ tally inner outer _ _ sent (c .lists-length .ensures),
+      plan-got _ _ _ _ _ _ _ _ (pre .0) (pre .1) (pre .2) _ _ first cells _ row _ _ _ _ _ order (pre .4) _ tally inner outer,
+      plan-sent _ _ _ _ _ _ _ _ (pre .0) (pre .1) (pre .2) _ _ first cells _ sent,
+    )))

@@ -1,4 +1,5 @@
 -- `starts::calls::put_state` meets its contract. Assumes nothing.
+use native.Mathlib.Omega.{arith}
 use Rattle.starts.proofs.PlanLaws.{state-put}
 use Rattle.start_lists.proofs.StartLists.{words-long}
 use borrow.Author.Needs.{needs}
@@ -9,7 +10,9 @@ pub put-state-spec : {M : Type 1} → statement M
 put-state-spec =
     tie.close
     (tie.spec
-    (λ c κs. search needs)
+    (λ c κs.
+    let pre = c .before .before .before .before .before .before .before .before .before .before .before .before .pre in
+    (pre .0, pre .1, omega (arith, pre .2), pre .3, pre .4, pre .5, pre .6, pre .7))
     (λ c. search needs)
     (λ c κs. search needs)
     (λ c. search needs)
@@ -18,9 +21,6 @@ put-state-spec =
     (λ c. search needs)
     (λ c. search needs)
     (λ c.
-    let start = c .before .before .before .before .before .before .before .before .before .before .before .before .before .before .before .before .before .before .before .before .before .before .before in
-    let put-lists = c .before .before .before .before .before .before .before .before .before .before .before .before .put-lists in
-    let clear = c .before .before .before .before .before .before .clear in
-    let put-cells = c .before .before .put-cells in
-    state-put _ _ _ _ _ _ _ _ _ _ _ (start .pre .2) (words-long _ _ _ _ _ _ _ _ _ _ _ _ _ _ (start .pre .1) (start .pre .0 .order-there)) (put-lists .ensures)
-    (clear .ensures) (put-cells .ensures)))
+    let pre = c .before .before .before .before .before .before .before .before .before .before .before .before .before .before .before .before .before .before .before .before .before .before .before .before .before .pre in
+    state-put _ _ _ _ _ _ _ _ _ _ _ (pre .2) (words-long _ _ _ _ _ _ _ _ _ _ _ _ _ _ (pre .1) (pre .0 .order-there)) (c .before .before .before .before .before .before .before .before .before .before .before .before .put-lists .ensures)
+    (c .before .before .before .before .before .before .clear .ensures) (c .before .before .put-cells .ensures)))

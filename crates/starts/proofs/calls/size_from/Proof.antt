@@ -16,4 +16,8 @@ size-from-spec =
     (λ c. search needs)
     (λ c. search needs)
     (λ c. search needs)
-    (λ c. size-done _ _ _ _ _ (c .before .before .before .before .before .before .before .before .before .before .before .before .before .before .before .before .before .pre .0) (c .before .before .before .before .before .before .before .before .before .before .before .before .before .before .before .before .before .pre .1) _ _ _ (c .before .before .before .before .before .before .before .before .before .before .before .before .before .before .before .before .before .pre .2) _ _ _ _ (c .before .before .before .before .before .before .make-plan .ensures)))
+    (λ c. search needs)
+    (λ c. search needs)
+    (λ c.
+    let pre = c .before .before .before .before .before .before .before .before .before .before .before .before .before .before .before .before .before .before .before .before .before .before .before .before .before .pre in
+    size-done _ _ _ _ _ (pre .0) (pre .1) _ _ _ (pre .2) _ _ _ _ (c .before .before .before .before .before .before .before .before .before .before .make-plan .ensures .0)))

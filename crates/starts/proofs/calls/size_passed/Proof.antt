@@ -17,12 +17,20 @@ size-passed-spec =
     (λ c. search needs)
     (λ c. search needs)
     (λ c. search needs)
-    (λ c κs. let f = passed-facts _ _ _ _ _ _ (c .before .before .before .before .before .before .before .before .before .before .pre) in (f .mesh, f .map, f .stencil, refl, refl, refl, refl, refl, refl, refl))
+    (λ c κs.
+    let f = passed-facts _ _ _ _ _ _ (c .before .before .before .before .before .before .before .before .before .before .pre) in
+    (f .mesh, f .map, f .stencil, refl, refl, refl, refl, refl, refl, refl))
     (λ c. size-sizes _ _ _ _ _ (c .before .before .before .before .before .before .before .before .before .before .before .before .before .before .before .before .before .before .before .pre) _ (c .before .before .before .before .before .before .before .before .prepare .ensures .0) (c .if1 .taken))
     (λ c. search needs)
     (λ c. search needs)
     (λ c. search needs)
     (λ c. search needs)
     (λ c. search needs)
-    (λ c κs. (c .before .before .before .before .before .before .before .before .before .before .before .before .before .before .before .before .before .before .before .before .before .before .before .before .pre, (sym (c .before .before .before .before .before .before .before .before .before .before .before .before .before .prepare .ensures .0) ∙ c .before .before .before .before .before .if1 .left), c .before .before .before .before .before .before .before .before .before .before .before .before .before .prepare .ensures .1 (c .before .before .before .before .before .if1 .left), search needs, search needs))
+    (λ c. search needs)
+    (λ c. search needs)
+    (λ c κs.
+    let pre = c .before .before .before .before .before .before .before .before .before .before .before .before .before .before .before .before .before .before .before .before .before .before .before .before .before .before .pre in
+    let told = c .before .before .before .before .before .before .before .before .before .before .before .before .before .before .before .prepare .ensures in
+    let zero = c .before .before .before .before .before .before .before .if1 .left in
+    (pre, sym (told .0) ∙ zero, told .1 zero, search needs, search needs, refl, refl))
     (λ c. search needs))

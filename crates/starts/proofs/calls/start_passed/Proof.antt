@@ -17,14 +17,23 @@ start-passed-spec =
     (λ c. search needs)
     (λ c. search needs)
     (λ c. search needs)
-    (λ c κs. let f = passed-facts _ _ _ _ _ _ (c .before .before .before .before .before .before .before .before .before .before .before .before .before .pre .0) in (f .mesh, f .map, f .stencil, refl, refl, refl, refl, refl, refl, refl))
-    (λ c. start-sizes _ _ _ _ _ _ _ _ _ (c .before .before .before .before .before .before .before .before .before .before .before .before .before .before .before .before .before .before .before .before .before .before .pre .0) (c .before .before .before .before .before .before .before .before .before .before .before .before .before .before .before .before .before .before .before .before .before .before .pre .1) _ (c .before .before .before .before .before .before .before .before .prepare .ensures .0) (c .if1 .taken))
+    (λ c κs.
+    let f = passed-facts _ _ _ _ _ _ (c .before .before .before .before .before .before .before .before .before .before .before .before .before .pre .0) in
+    (f .mesh, f .map, f .stencil, refl, refl, refl, refl, refl, refl, refl))
+    (λ c.
+    let pre = c .before .before .before .before .before .before .before .before .before .before .before .before .before .before .before .before .before .before .before .before .before .before .pre in
+    start-sizes _ _ _ _ _ _ _ _ _ (pre .0) (pre .1) _ (c .before .before .before .before .before .before .before .before .prepare .ensures .0) (c .if1 .taken))
     (λ c. search needs)
     (λ c. search needs)
     (λ c. search needs)
     (λ c. search needs)
     (λ c. search needs)
     (λ c. search needs)
-    (λ c κs. (c .before .before .before .before .before .before .before .before .before .before .before .before .before .before .before .before .before .before .before .before .before .before .before .before .before .before .before .before .before .pre .0, (sym (c .before .before .before .before .before .before .before .before .before .before .before .before .before .before .before .prepare .ensures .0) ∙ c .before .before .before .before .before .before .before .if1 .left), c .before .before .before .before .before .before .before .before .before .before .before .before .before .before .before .prepare .ensures .1 (c .before .before .before .before .before .before .before .if1 .left), search needs, search needs, c .before .before .before .before .before .before .before .before .before .before .before .before .before .before .before .before .before .before .before .before .before .before .before .before .before .before .before .before .before .pre .1, search needs))
+    (λ c. search needs)
+    (λ c κs.
+    let pre = c .before .before .before .before .before .before .before .before .before .before .before .before .before .before .before .before .before .before .before .before .before .before .before .before .before .before .before .before .before .before .pre in
+    let told = c .before .before .before .before .before .before .before .before .before .before .before .before .before .before .before .before .prepare .ensures in
+    let zero = c .before .before .before .before .before .before .before .before .if1 .left in
+    (pre .0, sym (told .0) ∙ zero, told .1 zero, search needs, search needs, pre .1, refl, refl))
     (λ c. search needs)
     (λ c. search needs))
