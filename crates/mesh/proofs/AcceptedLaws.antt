@@ -1,25 +1,25 @@
 -- A mesh that no test refuses has what `Accepted` says. Assumes nothing.
-use mathlib.Core.Path.{ap, _≡_, refl, sym, _∙_, subst}
+use mathlib.Core.Path.{_≡_, refl, sym, _∙_, subst}
 use mathlib.Core.Bool.{Bool, true, false, not, _||_}
 use mathlib.Core.List.{[], map}
-use Prim.Native.Nat.{ℕ, zero, suc, _+_, _-_, _≤_, _<_}
+use Prim.Native.Nat.{ℕ, zero, suc, _+_, _-_, _≤_}
 use native.Mathlib.Omega.{arith}
-use lib.Dec.{eqb, ltb, leb}
+use lib.Dec.{ltb, leb}
 use lib.ListN.{length}
-use borrow.Author.Tests.{ltb-false, leb-true, le-leb, lt-leb, eqb-true, eqb-false, not-false}
+use borrow.Author.Tests.{ltb-false, leb-true, eqb-true, not-false}
 use Rattle.vocabulary.specs.Bytes.{Bytes}
 use Rattle.vocabulary.specs.Ranges.{isUpTo, some}
 use Rattle.vocabulary.specs.RangeLaws.{some-at, some-witness, blocks-each, blocks-all}
 use Rattle.vocabulary.specs.Lists.{isIn, repeats, someOf, All}
 use Rattle.vocabulary.specs.ListLaws.{or-false, and-true, All-map, All-split, All-both, All-getD, someOf-false, isIn-at, once-few, repeats-parts}
 use Rattle.vocabulary.specs.TestLaws.{holdsOf, passed-by}
-use Rattle.mesh.specs.Mesh.{top, counted, below, elements, recordCount, firstCell, cellCount, dimension, headOf, elementIn, follow, records, chain, allRecords, wrongCount, headed, wrongIn, wrongAt, leaves, unclosed, bare, bad1, bad2, bad3, bad4, bad5, bad6, bad7, meshLength, meshTests, meshNumber}
+use Rattle.mesh.specs.Mesh.{top, counted, below, elements, recordCount, firstCell, cellCount, dimension, headOf, elementIn, follow, records, chain, allRecords, headed, wrongIn, wrongAt, leaves, unclosed, bare, bad1, bad2, bad3, bad4, bad5, bad6, bad7, meshLength, meshTests, meshNumber}
 use Rattle.mesh.specs.Meet.{Sizes}
 use Rattle.mesh.specs.Accepted.{Element, Cell, Accepted}
 use Rattle.mesh.proofs.MeetLaws.{outside}
-use Rattle.mesh.proofs.DimensionLaws.{lower-right, below-more}
-use Rattle.mesh.proofs.RecordLaws.{follow-positive}
-use Rattle.mesh.proofs.NumberLaws.{sized}
+use Rattle.mesh.proofs.DimensionLaws.{lower-right, below-next}
+use Rattle.mesh.proofs.FollowLaws.{follow-positive}
+use Rattle.mesh.proofs.NumberLaws.{counts, no-counts, sized}
 
 -- the seven tests of a mesh whose number is 0
 record Passed (m : Bytes) : Type 0 where
@@ -41,51 +41,16 @@ all-passed m e =
 at-one : (p : ℕ → Bool) (n x : ℕ) → some 1 n p ≡ false → 1 ≤ x → x ≤ n → p x ≡ false
 at-one p n x s l h = let q : 1 + (x - 1) ≡ x = omega arith in rw q at (some-at 1 p n (x - 1) s (omega arith))
 
-module _ (m : Bytes) (p : Passed m) where
-  fine-sizes : Sizes m (top m) (elements m) (recordCount m)
-  fine-sizes = sized m false false (top m) (elements m) (recordCount m) (sym (p .one)) refl (sym (p .two)) refl refl refl refl
-
-  top-least : 1 ≤ top m
-  unfolding bad1
-  top-least =
-      let a = or-false (ltb (length m) 12 || ltb (top m) 1) (ltb 3 (top m)) (p .one) in
-      ltb-false _ _ (or-false (ltb (length m) 12) (ltb (top m) 1) (a .0) .1)
-
-  -- 2: no count is wrong
-  count-right : (k : ℕ) → k < 4 → wrongCount m k ≡ false
-  unfolding bad2
-  count-right k h =
-      let a = or-false (some 0 4 (wrongCount m) || ltb 2000 (elements m)) (ltb 12000 (recordCount m)) (p .two) in
-      let b = or-false (some 0 4 (wrongCount m)) (ltb 2000 (elements m)) (a .0) in
-      let q : 0 + k ≡ k = omega arith in
-      rw q at (some-at 0 (wrongCount m) 4 k (b .0) h)
-
-  counts : (k : ℕ) → k ≤ top m → 1 ≤ counted m k
-  unfolding wrongCount
-  counts k h =
-      let w : eqb (counted m k) 0 ≡ false = rw (le-leb k (top m) h) at (count-right k (omega (arith, fine-sizes .d-high))) in
-      let n : counted m k ≡ 0 → ⊥ = eqb-false (counted m k) 0 w in
-      omega arith
-
-  no-counts : (k : ℕ) → top m < k → k < 4 → counted m k ≡ 0
-  unfolding wrongCount
-  no-counts k h l =
-      let w : ltb 0 (counted m k) ≡ false = rw (lt-leb k (top m) h) at (count-right k l) in
-      omega (arith, ltb-false 0 (counted m k) w)
-
-  long : length m ≡ meshLength m
-  unfolding bad3
-  long = eqb-true _ _ (not-false _ (p .three))
-
-  -- 4
+-- what test 4 leaves
+module _ (m : Bytes) (four : bad4 m ≡ false) where
   parts4 : (some 1 (counted m 0) (headed m) || someOf (allRecords m) (ltb (recordCount m)) ≡ false) × (repeats (allRecords m) ≡ false)
   unfolding bad4
-  parts4 = or-false (some 1 (counted m 0) (headed m) || someOf (allRecords m) (ltb (recordCount m))) (repeats (allRecords m)) (p .four)
+  parts4 = or-false (some 1 (counted m 0) (headed m) || someOf (allRecords m) (ltb (recordCount m))) (repeats (allRecords m)) four
 
   parts4a : (some 1 (counted m 0) (headed m) ≡ false) × (someOf (allRecords m) (ltb (recordCount m)) ≡ false)
   parts4a = or-false (some 1 (counted m 0) (headed m)) (someOf (allRecords m) (ltb (recordCount m))) (parts4 .0)
 
-  bare-point : (e : ℕ) → 1 ≤ e → e ≤ counted m 0 → chain m e ≡ []
+  pub bare-point : (e : ℕ) → 1 ≤ e → e ≤ counted m 0 → chain m e ≡ []
   unfolding headed chain records follow
   bare-point e l h =
       let z : headOf m e ≡ 0 = (let y : headOf m e ≤ 0 = ltb-false 0 (headOf m e) (at-one (headed m) (counted m 0) e (parts4a .0) l h) in omega arith) in
@@ -122,33 +87,37 @@ module _ (m : Bytes) (p : Passed m) where
       (blocks-all 1 (records m) (λ i. (1 ≤ i) × (i ≤ recordCount m)) (elements m) (λ j h. fine-records (1 + j) (record { low = omega arith; high = omega arith })))
       (parts4 .1)
 
-  -- no element is of a dimension above that of the cells
-  none-above : (j k : ℕ) → k + j ≡ 4 → top m < k → below m k ≡ below m 4
-  none-above zero k e h = ap (below m) (omega arith)
-  none-above (suc j) k e h =
-      let z : counted m k ≡ 0 = no-counts k h (omega arith) in
-      let s : below m (suc k) ≡ below m k = (let y : below m (suc k) ≡ below m k + counted m k = below-more m k in omega arith) in
-      sym s ∙ none-above j (suc k) (omega arith) (omega arith)
-
-  last-cells : firstCell m + cellCount m ≡ elements m + 1
-  last-cells =
-      let q : below m (suc (top m)) ≡ below m 4 = none-above (3 - top m) (suc (top m)) (omega (arith, fine-sizes .d-high)) (omega arith) in
-      let y : below m (suc (top m)) ≡ below m (top m) + counted m (top m) = below-more m (top m) in
-      omega arith
-
-  -- 5
+-- what test 5 leaves
+module _ (m : Bytes) (high : top m ≤ 3) (five : bad5 m ≡ false) where
   right-chain : (e : ℕ) → Element m e → (someOf (chain m e) (wrongIn m e) ≡ false) × (repeats (chain m e) ≡ false)
   unfolding bad5 wrongAt
-  right-chain e x = or-false (someOf (chain m e) (wrongIn m e)) (repeats (chain m e)) (at-one (wrongAt m) (elements m) e (p .five) (x .low) (x .high))
+  right-chain e x = or-false (someOf (chain m e) (wrongIn m e)) (repeats (chain m e)) (at-one (wrongAt m) (elements m) e five (x .low) (x .high))
 
-  lower-chain : (e : ℕ) → Element m e → All (λ g. (1 ≤ g) × (g ≤ below m (dimension m e))) (chain m e)
+  pub lower-chain : (e : ℕ) → Element m e → All (λ g. (1 ≤ g) × (g ≤ below m (dimension m e))) (chain m e)
   unfolding outside isUpTo
   lower-chain e x =
       All-map (chain m e)
       (λ g q.
-      let w = and-true (leb 1 g) (leb g (below m (dimension m e))) (not-false _ (lower-right m e g (fine-sizes .d-high) ∙ q)) in
+      let w = and-true (leb 1 g) (leb g (below m (dimension m e))) (not-false _ (lower-right m e g high ∙ q)) in
       (leb-true 1 g (w .0), leb-true g (below m (dimension m e)) (w .1)))
       (someOf-false (wrongIn m e) (chain m e) (right-chain e x .0))
+
+module _ (m : Bytes) (p : Passed m) where
+  fine-sizes : Sizes m (top m) (elements m) (recordCount m)
+  fine-sizes = sized m false false (top m) (elements m) (recordCount m) (sym (p .one)) refl (sym (p .two)) refl refl refl refl
+
+  top-least : 1 ≤ top m
+  unfolding bad1
+  top-least =
+      let a = or-false (ltb (length m) 12 || ltb (top m) 1) (ltb 3 (top m)) (p .one) in
+      ltb-false _ _ (or-false (ltb (length m) 12) (ltb (top m) 1) (a .0) .1)
+
+  long : length m ≡ meshLength m
+  unfolding bad3
+  long = eqb-true _ _ (not-false _ (p .three))
+
+  last-cells : firstCell m + cellCount m ≡ elements m + 1
+  last-cells = omega (arith, below-next m (top m), fine-sizes .n-last)
 
   -- 6
   closed-chain : (e f g : ℕ) → Element m e → isIn f (chain m e) ≡ true → isIn g (chain m f) ≡ true → isIn g (chain m e) ≡ true
@@ -176,16 +145,16 @@ accepted-mesh m e =
     record {
       sizes = fine-sizes m p;
       top-low = top-least m p;
-      some-counted = counts m p;
-      none-counted = no-counts m p;
+      some-counted = λ k h. counts m (p .two) k h (omega (arith, fine-sizes m p .d-high));
+      none-counted = no-counts m (p .two);
       length-is = long m p;
       cells-in = last-cells m p;
-      point-bare = bare-point m p;
-      records-in = fine-records m p;
-      chains-end = fine-end m p;
-      records-few = few-records m p;
-      chain-lower = lower-chain m p;
-      chain-once = λ x h. right-chain m p x h .1;
+      point-bare = bare-point m (p .four);
+      records-in = fine-records m (p .four);
+      chains-end = fine-end m (p .four);
+      records-few = few-records m (p .four);
+      chain-lower = lower-chain m (fine-sizes m p .d-high) (p .five);
+      chain-once = λ x h. right-chain m (fine-sizes m p .d-high) (p .five) x h .1;
       chain-closed = closed-chain m p;
       covered = in-cell m p;
     }

@@ -1,5 +1,5 @@
 -- The dimension of an element by the counts of those below it. Assumes nothing.
-use mathlib.Core.Path.{_≡_, refl, sym, ap, _∙_}
+use mathlib.Core.Path.{_≡_, refl, ap, _∙_}
 use mathlib.Core.Bool.{Bool, true, false, not, _||_, _&&_, cond}
 use mathlib.Core.List.{[], _∷_}
 use Prim.Native.Nat.{ℕ, zero, suc, _+_, _≤_, _<_}
@@ -87,53 +87,6 @@ module _ (m : Bytes) (e : ℕ) where
   pub below-after : (k : ℕ) → 1 ≤ k → k ≤ top m → k ≤ dimension m e → below m k < e
   unfolding dimension passed
   below-after k l h = threshold (below m) (below-grows m) e (top m) k l h .1
-
--- e comes after all elements below dimension k
-pub record Past (m : Bytes) (e k : ℕ) : Type 0 where
-  pub each : 1 ≤ k → below m k < e
-
-pub past-none : (m : Bytes) (e : ℕ) → Past m e 0
-past-none m e = record { each = λ h. let z : ⊥ = omega arith in absurd z }
-
-module _ (m : Bytes) (d e low k c : ℕ) (de : d ≡ top m) (le : low ≡ below m k) (ce : c ≡ counted m k) where
-  next-below : below m (k + 1) ≡ low + c
-  next-below = below-next m k ∙ (let q : below m k + counted m k ≡ low + c = omega arith in q)
-
-  pub lower-turn : low + c ≡ below m (k + 1)
-  lower-turn = sym next-below
-
-  pub past-turn : low + c < e → Past m e (k + 1)
-  past-turn h = record { each = λ l. omega (arith, next-below) }
-
-  pub dimension-found : Past m e k → k < d → e ≤ low + c → k ≡ dimension m e
-  dimension-found p h g = go (eqb k 0) refl
-    where
-      lesser : (b : Bool) → ltb k (dimension m e) ≡ b → dimension m e < k + 1
-      lesser true t = let z : ⊥ = omega (arith, below-after m e (k + 1) (omega arith) (omega (arith, de)) (omega (arith, ltb-true k (dimension m e) t)), next-below) in absurd z
-      lesser false t = omega (arith, ltb-false k (dimension m e) t)
-
-      at-most : dimension m e < k + 1
-      at-most = lesser (ltb k (dimension m e)) refl
-
-      go : (b : Bool) → eqb k 0 ≡ b → k ≡ dimension m e
-      go true z = omega (arith, eqb-true k 0 z, at-most)
-      go false z =
-          let q : k ≡ 0 → ⊥ = eqb-false k 0 z in
-          let l : 1 ≤ k = omega arith in
-          omega (arith, at-most, after-below m e k l (omega (arith, de)) (p .each l))
-
-pub dimension-end : (m : Bytes) (d e k : ℕ) → d ≡ top m → Past m e k → k ≤ d → d ≤ k → d ≡ dimension m e
-dimension-end m d e k de p g h = go (eqb k 0) refl
-  where
-    go : (b : Bool) → eqb k 0 ≡ b → d ≡ dimension m e
-    go true z = omega (arith, eqb-true k 0 z, dimension-le m e, de)
-    go false z =
-        let q : k ≡ 0 → ⊥ = eqb-false k 0 z in
-        let l : 1 ≤ k = omega arith in
-        omega (arith, dimension-le m e, de, after-below m e k l (omega (arith, de)) (p .each l))
-
-pub lower-told : (m : Bytes) (e k r : ℕ) → k ≡ dimension m e → r ≡ below m k → r ≡ below m (dimension m e)
-lower-told m e k r f g = g ∙ ap (below m) f
 
 pub lower-small : (m : Bytes) (d low k : ℕ) → low ≡ below m k → k ≤ d → d ≤ 3 → low ≤ elements m
 lower-small m d low k le g h = omega (arith, below-grows m k 4 (omega arith))

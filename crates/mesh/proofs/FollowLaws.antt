@@ -1,19 +1,16 @@
--- Following a chain one record at a time, and what the code has met on the way. Assumes nothing.
+-- Following a chain one record at a time. Assumes nothing.
 use mathlib.Core.Path.{_≡_, refl, sym, ap, _∙_}
-use mathlib.Core.Bool.{Bool, true, false, not, _||_}
-use mathlib.Core.List.{List, [], _∷_, map}
+use mathlib.Core.Bool.{Bool, true, false, not}
+use mathlib.Core.List.{List, [], _∷_}
 use Prim.Native.Nat.{ℕ, zero, suc, _+_, _-_, _≤_, _<_}
 use native.Mathlib.Omega.{arith}
-use lib.Dec.{eqb, ltb, leb}
-use lib.ListN.{getD, set}
-use borrow.Author.Tests.{le-leb, lt-leb, lt-ltb, eq-eqb, ne-eqb}
+use lib.Dec.{eqb, ltb}
+use borrow.Author.Tests.{lt-ltb, eq-eqb, ne-eqb, eqb-false}
 use Rattle.vocabulary.specs.Bytes.{Bytes}
-use Rattle.vocabulary.specs.Ranges.{isUpTo, some}
-use Rattle.vocabulary.specs.Lists.{someOf}
-use Rattle.vocabulary.specs.ListLaws.{and-right}
+use Rattle.vocabulary.specs.Ranges.{some}
+use Rattle.vocabulary.specs.Lists.{All}
 use Rattle.vocabulary.specs.ScanLaws.{some-stop-from, some-turn-from}
 use Rattle.mesh.specs.Mesh.{nextOf, headOf, follow, headed}
-use Rattle.mesh.specs.Meet.{Met, met, meet, stamp}
 
 -- ---- points with heads
 
@@ -54,61 +51,13 @@ module _ (m : Bytes) (n k i : ℕ) where
   pub chain-more : k < n → 1 ≤ i → follow m (n - k) i ≡ i ∷ follow m (n - (k + 1)) (nextOf m i)
   chain-more h z = let q : n - k ≡ suc (n - (k + 1)) = omega arith in rw q (follow-more m (n - (k + 1)) i z)
 
--- ---- a loop that meets what f makes of each record: w is what meeting the whole chain gives
-
-module _ (m : Bytes) (f : ℕ → ℕ) (v r n k i : ℕ) (s : List ℕ) (w : Met) (inv : meet v r s (map f (follow m (n - k) i)) ≡ w) where
-  pub meet-done : follow m (n - k) i ≡ [] → met false s ≡ w
-  unfolding meet
-  meet-done z = rw z at inv
-
-  module _ (h : k < n) (z : 1 ≤ i) (g : ℕ) (e : g ≡ f i) where
-    opened : meet v r s (g ∷ map f (follow m (n - (k + 1)) (nextOf m i))) ≡ w
-    opened = rw e (rw (chain-more m n k i h z) at inv)
-
-    pub meet-zero : g < 1 → met true s ≡ w
-    unfolding meet isUpTo
-    meet-zero a = simp (lt-leb 1 g a, meet) at opened
-
-    pub meet-above : r < g → met true s ≡ w
-    unfolding meet isUpTo
-    meet-above a = simp (and-right (leb 1 g) (leb g r) (lt-leb g r a), meet) at opened
-
-    module _ (a : 1 ≤ g) (b : g ≤ r) where
-      inside : elim (eqb (getD s g 0) v) as (λ _. Met) [ true ↦ met true s | false ↦ meet v r (set s g v) (map f (follow m (n - (k + 1)) (nextOf m i))) ] ≡ w
-      unfolding meet isUpTo
-      inside = simp (le-leb _ _ a, le-leb _ _ b, meet) at opened
-
-      pub meet-again : getD s g 0 ≡ v → met true s ≡ w
-      meet-again q = rw (eq-eqb (getD s g 0) v q) at inside
-
-      pub meet-turn : (x : ℕ) → (getD s g 0 ≡ v → ⊥) → x ≡ nextOf m i → meet v r (set s g v) (map f (follow m (n - (k + 1)) x)) ≡ w
-      meet-turn x q y = rw y (rw (ne-eqb (getD s g 0) v q) at inside)
-
--- ---- a loop that marks what f makes of each record: w is what marking the whole chain gives
-
-module _ (m : Bytes) (f : ℕ → ℕ) (v n k i : ℕ) (s : List ℕ) (w : List ℕ) (inv : stamp v s (map f (follow m (n - k) i)) ≡ w) where
-  pub stamp-done : follow m (n - k) i ≡ [] → s ≡ w
-  unfolding stamp
-  stamp-done z = rw z at inv
-
-  pub stamp-turn : (t : List ℕ) (g x : ℕ) → k < n → 1 ≤ i → g ≡ f i → t ≡ set s g v → x ≡ nextOf m i → stamp v t (map f (follow m (n - (k + 1)) x)) ≡ w
-  unfolding stamp
-  stamp-turn t g x h z e q y = rw (q, e, y) (rw (chain-more m n k i h z) at inv)
-
--- ---- a loop that tries what f makes of each record: w is whether some of the whole chain passes
-
-module _ (m : Bytes) (f : ℕ → ℕ) (p : ℕ → Bool) (n k i : ℕ) (w : Bool) (inv : someOf (map f (follow m (n - k) i)) p ≡ w) where
-  pub try-done : follow m (n - k) i ≡ [] → false ≡ w
-  unfolding someOf
-  try-done z = rw z at inv
-
-  module _ (h : k < n) (z : 1 ≤ i) (g : ℕ) (e : g ≡ f i) (b : Bool) (t : b ≡ p g) where
-    tried : b || someOf (map f (follow m (n - (k + 1)) (nextOf m i))) p ≡ w
-    unfolding someOf
-    tried = rw (t, e) (rw (chain-more m n k i h z) at inv)
-
-    pub try-found : b ≡ true → true ≡ w
-    try-found q = rw q at tried
-
-    pub try-turn : (x : ℕ) → b ≡ false → x ≡ nextOf m i → someOf (map f (follow m (n - (k + 1)) x)) p ≡ w
-    try-turn x q y = rw y (rw q at tried)
+-- a record that is followed is not 0
+pub follow-positive : (m : Bytes) (n i : ℕ) → All (λ x. 1 ≤ x) (follow m n i)
+unfolding follow
+follow-positive m zero i = tt
+follow-positive m (suc n) i = go (eqb i 0) refl (follow-positive m n (nextOf m i))
+  where
+    go : (b : Bool) → eqb i 0 ≡ b → All (λ x. 1 ≤ x) (follow m n (nextOf m i))
+        → All (λ x. 1 ≤ x) (elim b as (λ _. List ℕ) [ true ↦ [] | false ↦ i ∷ follow m n (nextOf m i) ])
+    go true e ih = tt
+    go false e ih = let z : i ≡ 0 → ⊥ = eqb-false i 0 e in (omega arith, ih)

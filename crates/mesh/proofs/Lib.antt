@@ -1,7 +1,6 @@
 pub mod ReaderLaws
 pub mod FollowLaws
 pub mod MeetLaws
-pub mod RecordLaws
 pub mod DimensionLaws
 pub mod NumberLaws
 pub mod AcceptedLaws

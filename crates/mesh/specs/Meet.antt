@@ -3,13 +3,12 @@
 use mathlib.Core.Bool.{Bool, true, false, not}
 use mathlib.Core.List.{List, [], _∷_}
 use mathlib.Core.Path.{_≡_}
-use Prim.Native.Nat.{ℕ, _≤_, _<_}
+use Prim.Native.Nat.{ℕ, _+_, _≤_, _<_}
 use lib.Dec.{eqb}
 use lib.ListN.{length, getD, set}
 use Rattle.vocabulary.specs.Ranges.{isUpTo}
 use Rattle.vocabulary.specs.Bytes.{Bytes}
-use Rattle.vocabulary.specs.Lists.{someOf}
-use Rattle.mesh.specs.Mesh.{top, elements, recordCount, chain}
+use Rattle.mesh.specs.Mesh.{top, below, elements, recordCount}
 
 -- what the tests 1 to 3 leave of a mesh's sizes: d, N and R
 pub record Sizes (m : Bytes) (d n r : ℕ) : Type 0 where
@@ -17,6 +16,8 @@ pub record Sizes (m : Bytes) (d n r : ℕ) : Type 0 where
   pub d-high : d ≤ 3
   pub n-is : n ≡ elements m
   pub n-high : n ≤ 2000
+  -- no element is of a dimension above d
+  pub n-last : below m (d + 1) ≡ n
   pub r-is : r ≡ recordCount m
   pub r-high : r ≤ 12000
 
@@ -24,10 +25,6 @@ pub record Sizes (m : Bytes) (d n r : ℕ) : Type 0 where
 pub record Under (e : ℕ) (s : List ℕ) : Type 0 where
   pub size : length s ≡ 2001
   pub each : (i : ℕ) → getD s i 0 < e
-
--- the number that is met at a record, where that is the record itself
-abbrev pub itself : ℕ → ℕ
-itself i = i
 
 -- whether something was amiss, and the marks then
 pub data Met : Type 0 where
@@ -50,7 +47,3 @@ stamp v s (g ∷ gs) = stamp v (set s g v) gs
 -- g does not bear the mark v
 unfoldable pub unlike : ℕ → List ℕ → ℕ → Bool
 unlike v s g = not (eqb (getD s g 0) v)
-
--- some element of the chain of f does not bear the mark v
-unfoldable pub leavesBy : Bytes → ℕ → List ℕ → ℕ → Bool
-leavesBy m v s f = someOf (chain m f) (unlike v s)

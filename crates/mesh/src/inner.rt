@@ -5,7 +5,7 @@ pub use crate::reader::read_record;
 use layout::word_at;
 ghost use mathlib.Core.Path.{_≡_};
 ghost use Prim.Native.Nat.{ℕ, _+_, _*_, _<_, _≤_};
-ghost use Rattle.mesh.specs.Mesh.{top, counted, below, elements, recordCount, firstCell, cellCount, dimension, headOf};
+ghost use Rattle.mesh.specs.Mesh.{top, counted, below, elements, recordCount, firstCell, cellCount, headOf};
 
 // The dimension of the cells.
 pub fn top_of(m: &[u8]) -> usize
@@ -59,21 +59,6 @@ pub fn cell_count(m: &[u8]) -> usize
     ensures { λ r. ⌜ (r ≡ cellCount (now (m .entry))) × (r < 65536) ⌝ }
 {
     count_of(m, top_of(m))
-}
-
-// The dimension of element e, in a mesh whose cells have dimension d.
-pub fn dimension_of(m: &[u8], d: usize, e: usize) -> usize
-    requires { ⌜ (d ≡ top (now m)) × (d ≤ 3) ⌝ }
-    ensures { λ r. ⌜ (r ≡ dimension (now (m .entry)) e) × (r ≤ d) ⌝ }
-{
-    let mut last = 0;
-    for k in 0..d {
-        last += count_of(m, k);
-        if e <= last {
-            return k;
-        }
-    }
-    d
 }
 
 // The head of element e.

@@ -1,22 +1,29 @@
 -- The elements of the chains met one chain after another: test 5. Assumes nothing.
-use mathlib.Core.Path.{_≡_, refl, ap, _∙_}
+use mathlib.Core.Path.{_≡_, refl, sym, ap, ap₂, _∙_}
 use mathlib.Core.Bool.{Bool, true, false, _||_}
-use mathlib.Core.List.{List, [], _∷_, map}
+use mathlib.Core.List.{List, [], _∷_}
 use Prim.Native.Nat.{ℕ, _+_, _-_, _≤_, _<_}
 use native.Mathlib.Omega.{arith}
 use lib.Dec.{eqb, ltb}
-use lib.ListN.{length-set, length, getD, set}
+use lib.ListN.{length-set, length, getD, set, replicate}
 use lib.Seq.{getD-set-same, getD-set-other, set-out}
 use borrow.Author.Tests.{ltb-true, ltb-false, eqb-true, eqb-false}
-use Rattle.vocabulary.specs.Bytes.{Bytes}
 use Rattle.vocabulary.specs.Ranges.{isUpTo, some}
-use Rattle.vocabulary.specs.ScanLaws.{some-stop-from, some-end-from}
+use Rattle.vocabulary.specs.RangeLaws.{some-in, some-at, some-none, some-witness}
+use Rattle.vocabulary.specs.ScanLaws.{some-stop-from, some-turn-from, some-end-from}
 use Rattle.vocabulary.specs.Lists.{repeats, someOf}
-use Rattle.vocabulary.specs.ListLaws.{someOf-cong, All-intro}
-use Rattle.mesh.specs.Mesh.{elements, below, dimension, headOf, elementIn, follow, records, chain, wrongAt}
-use Rattle.mesh.specs.Meet.{Met, met, meet, Sizes, Under}
+use Rattle.vocabulary.specs.ListLaws.{someOf-cong, All-intro, zeros}
+use Rattle.mesh.specs.Mesh.{top, counted, elements, below, dimension, chain, wrongIn, wrongAt, bad5}
+use Rattle.mesh.specs.Meet.{Met, met, meet, Under}
+use Rattle.mesh.specs.WalkLaws.{below-grows}
 use Rattle.mesh.proofs.MeetLaws.{outside, marks, fresh-tells}
-use Rattle.mesh.proofs.DimensionLaws.{lower-right}
+use Rattle.mesh.proofs.DimensionLaws.{below-next, lower-right, after-below, below-after, dimension-le}
+use Rattle.mesh.proofs.AcceptedLaws.{bare-point}
+use Rattle.mesh_chains.specs.Written.{stretch, Written}
+use Rattle.mesh_chains.proofs.StretchLaws.{end-in, row-is}
+
+pub zeros-under : (e : ℕ) → Under (e + 1) (replicate 2001 0)
+zeros-under e = record { size = zeros 2001 .size; each = λ i. omega (arith, zeros 2001 .each i) }
 
 pub set-under : (v i : ℕ) (s : List ℕ) → Under (v + 1) s → Under (v + 1) (set s i v)
 set-under v i s u = record { size = simp length-set (u .size); each = λ j. go j (eqb j i) refl (ltb i (length s)) refl }
@@ -37,27 +44,109 @@ meet-under v r s (i ∷ is) u = go (isUpTo r i) (eqb (getD s i 0) v) (meet-under
     go true true ih = u
     go true false ih = ih
 
-module _ (m : Bytes) (d n r : ℕ) (z : Sizes m d n r) (e h low : ℕ) (he : h ≡ headOf m e) (le : low ≡ below m (dimension m e))
-    (s t : List ℕ) (b : Bool) (u : Under e s) (f : met b t ≡ meet e low s (map (elementIn m) (follow m (r + 1) h))) where
-  here : map (elementIn m) (follow m (r + 1) h) ≡ chain m e
-  unfolding chain records
-  here = rw (← z .r-is, ← he)
+module _ (m items ends : List ℕ) (W : Written m items ends) where
+  pub few-elements : elements m ≤ 2000
+  few-elements = W .sizes .n-high
 
-  pub chain-told : low ≤ elements m → b ≡ wrongAt m e
-  unfolding wrongAt
-  chain-told k =
-      fresh-tells e low s (chain m e) t b (λ i q. let y : ⊥ = omega (arith, u .each i) in y) (omega (arith, z .n-is, z .n-high, u .size)) (f ∙ ap (meet e low s) here)
-      ∙ ap (λ x. x || repeats (chain m e))
-      (ap (λ x. someOf (chain m e) (outside x)) le
-      ∙ someOf-cong _ _ (chain m e) (All-intro _ (chain m e) 0 (λ l q. lower-right m e (getD (chain m e) l 0) (omega (arith, z .d-is, z .d-high)))))
+  pub ends-size : length ends ≡ 2001
+  ends-size = W .wrote .ends-long
 
-  pub under-turn : Under (e + 1) t
-  under-turn = rw (ap marks f) (meet-under e low s (map (elementIn m) (follow m (r + 1) h)) (record { size = u .size; each = λ i. omega (arith, u .each i) }))
+  -- ---- the elements of dimension k, above points: `low` elements are of a lower one
 
--- a test over all elements, one after the other
-module _ (m : Bytes) (d n r : ℕ) (z : Sizes m d n r) (p : ℕ → Bool) (e : ℕ) where
-  pub one-found : (b : Bool) → b ≡ p e → b ≡ true → 1 ≤ e → e < 1 + n → true ≡ some 1 (elements m) p
-  one-found b f t l g = rw (z .n-is) at (some-stop-from 1 p n e b f t l g)
+  module _ (k : ℕ) (kl : 1 ≤ k) (kh : k ≤ top m) (low count : ℕ) (le : low ≡ below m k) (ce : count ≡ counted m k) where
+    pub dimension-in : low + count ≤ elements m
+    dimension-in = omega (arith, below-next m k, below-grows m (k + 1) 4 (omega (arith, W .sizes .d-high)))
 
-  pub none-found : some 1 (e - 1) p ≡ false → e ≤ 1 + n → 1 + n ≤ e → false ≡ some 1 (elements m) p
-  none-found i g h = rw (z .n-is) at (some-end-from 1 p n e i g h)
+    module _ (e : ℕ) (l : low + 1 ≤ e) where
+      pub under-all : (s : List ℕ) → Under e s → e ≤ low + 1 + count → Under (below m (k + 1) + 1) s
+      under-all s u g = record { size = u .size; each = λ i. omega (arith, u .each i, below-next m k) }
+
+      pub wrong-none : some (low + 1) (e - (low + 1)) (wrongAt m) ≡ false → e ≤ low + 1 + count → low + 1 + count ≤ e → false ≡ some (low + 1) (counted m k) (wrongAt m)
+      wrong-none i g h = rw ce at (some-end-from (low + 1) (wrongAt m) count e i g h)
+
+      module _ (g : e < low + 1 + count) where
+        dimension-is : dimension m e ≡ k
+        dimension-is = go (ltb k (dimension m e)) refl
+          where
+            least : k ≤ dimension m e
+            least = after-below m e k kl kh (omega arith)
+
+            go : (b : Bool) → ltb k (dimension m e) ≡ b → dimension m e ≡ k
+            go true t =
+                let h : k < dimension m e = ltb-true _ _ t in
+                let z : ⊥ = omega (arith, below-after m e (k + 1) (omega arith) (omega (arith, dimension-le m e)) (omega arith), below-next m k) in absurd z
+            go false t = omega (arith, least, ltb-false k (dimension m e) t)
+
+        pub end-here : (to : ℕ) → to ≡ getD ends e 0 → to ≤ length items
+        end-here to te = rw te (end-in m items ends W e (omega (arith, dimension-in)))
+
+        module _ (from to : ℕ) (fe : from ≡ getD ends (e - 1) 0) (te : to ≡ getD ends e 0) (s t : List ℕ) (b : Bool) (u : Under e s)
+            (f : met b t ≡ meet e low s (stretch items from to)) where
+          chain-told : b ≡ wrongAt m e
+          unfolding wrongAt
+          chain-told =
+              fresh-tells e low s (chain m e) t b (λ i q. let y : ⊥ = omega (arith, u .each i) in y) (omega (arith, dimension-in, few-elements, u .size))
+              (f ∙ ap (meet e low s) (ap₂ (stretch items) fe te ∙ row-is m items ends W e (omega arith) (omega (arith, dimension-in))))
+              ∙ ap (λ x. x || repeats (chain m e))
+              (ap (λ x. someOf (chain m e) (outside x)) (le ∙ ap (below m) (sym dimension-is))
+              ∙ someOf-cong _ _ (chain m e) (All-intro _ (chain m e) 0 (λ j q. lower-right m e (getD (chain m e) j 0) (W .sizes .d-high))))
+
+          under-turn : Under (e + 1) t
+          under-turn = rw (ap marks f) (meet-under e low s _ (record { size = u .size; each = λ i. omega (arith, u .each i) }))
+
+          pub under-found : Under (below m (k + 1) + 1) t
+          under-found = record { size = under-turn .size; each = λ i. omega (arith, under-turn .each i, below-next m k) }
+
+          pub wrong-found : b ≡ true → true ≡ some (low + 1) (counted m k) (wrongAt m)
+          wrong-found q = rw ce at (some-stop-from (low + 1) (wrongAt m) count e b chain-told q l g)
+
+          pub wrong-turn : some (low + 1) (e - (low + 1)) (wrongAt m) ≡ false → b ≡ false → Under (e + 1) t × (some (low + 1) (e + 1 - (low + 1)) (wrongAt m) ≡ false)
+          wrong-turn i q = (under-turn, some-turn-from (low + 1) (wrongAt m) e b l i chain-told q)
+
+  -- ---- one dimension after another
+
+  pub points-below : (low : ℕ) → low ≡ counted m 0 → low ≡ below m 1
+  unfolding below
+  points-below low e = omega arith
+
+  pub points-few : (low : ℕ) → low ≡ counted m 0 → low ≤ 2000
+  points-few low e = omega (arith, points-below low e, below-grows m 1 4 (omega arith), few-elements)
+
+  -- points have no chains
+  pub points-right : (low : ℕ) → low ≡ counted m 0 → some 1 low (wrongAt m) ≡ false
+  unfolding wrongAt someOf repeats
+  points-right low e =
+      some-none 1 (wrongAt m) low (λ i h. ap (λ xs. someOf xs (wrongIn m (1 + i)) || repeats xs) (bare-point m (W .four) (1 + i) (omega arith) (omega arith)))
+
+  module _ (d : ℕ) (de : d ≡ top m) (k low : ℕ) (kl : 1 ≤ k) (le : low ≡ below m k) (i : some 1 low (wrongAt m) ≡ false) where
+    pub lower-end : k ≤ 1 + d → 1 + d ≤ k → false ≡ bad5 m
+    unfolding bad5
+    lower-end g h =
+        let q : k ≡ top m + 1 = omega arith in
+        sym i ∙ ap (λ x. some 1 x (wrongAt m)) (le ∙ ap (below m) q ∙ W .sizes .n-last)
+
+    module _ (b : Bool) (f : b ≡ some (low + 1) (counted m k) (wrongAt m)) where
+      pub lower-found : k < 1 + d → b ≡ true → true ≡ bad5 m
+      unfolding bad5
+      lower-found g q =
+          let w = some-witness (low + 1) (wrongAt m) (counted m k) (sym f ∙ q) in
+          sym (some-in 1 (wrongAt m) (elements m) (low + 1 + w .0) (omega arith) (omega (arith, w .1, dimension-in k kl (omega arith) low (counted m k) le refl)) (w .2))
+
+      pub lower-turn : (c : ℕ) → c ≡ counted m k → b ≡ false → some 1 (low + c) (wrongAt m) ≡ false
+      lower-turn c ce q = some-none 1 (wrongAt m) (low + c) (λ j h. go j h (ltb j low) refl)
+        where
+          go : (j : ℕ) → j < low + c → (x : Bool) → ltb j low ≡ x → wrongAt m (1 + j) ≡ false
+          go j h true t = some-at 1 (wrongAt m) low j i (ltb-true j low t)
+          go j h false t =
+              let y : low ≤ j = ltb-false j low t in
+              let p : low + 1 + (j - low) ≡ 1 + j = omega arith in
+              rw p at (some-at (low + 1) (wrongAt m) (counted m k) (j - low) (sym f ∙ q) (omega arith))
+
+    pub next-few : (c : ℕ) → c ≡ counted m k → k < 1 + d → low + c ≤ 2000
+    next-few c ce h = omega (arith, dimension-in k kl (omega arith) low c le ce, few-elements)
+
+    pub next-under : (c : ℕ) (s : List ℕ) → c ≡ counted m k → Under (below m (k + 1) + 1) s → Under (low + c + 1) s
+    next-under c s ce u = record { size = u .size; each = λ i. omega (arith, u .each i, below-next m k) }
+
+    pub next-below : (c : ℕ) → c ≡ counted m k → low + c ≡ below m (k + 1)
+    next-below c ce = omega (arith, below-next m k)

@@ -1,1 +1,4 @@
+pub mod RecordLaws
+pub mod NoteLaws
+pub mod StretchLaws
 pub mod ElementLaws

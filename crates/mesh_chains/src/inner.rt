@@ -1,19 +1,28 @@
 // The tests 4 and 5: records and elements of the chains. Each function answers true where the mesh is to be refused.
-use mesh::inner::below_of;
+use layout::put_number_at;
 use mesh::inner::count_of;
-use mesh::inner::dimension_of;
 use mesh::inner::head_of;
 use mesh::inner::is_empty;
 use mesh::inner::read_record;
 ghost use mathlib.Core.Path.{_≡_};
-ghost use mathlib.Core.Bool.{_||_};
-ghost use mathlib.Core.List.{map};
+ghost use mathlib.Core.Bool.{false, _||_};
 ghost use Prim.Native.Nat.{ℕ, _+_, _<_, _≤_};
 ghost use lib.Dec.{ltb};
+ghost use lib.ListN.{length, getD};
 ghost use Rattle.vocabulary.specs.Ranges.{some};
-ghost use Rattle.vocabulary.specs.Lists.{repeats, someOf};
-ghost use Rattle.mesh.specs.Mesh.{top, elements, recordCount, below, dimension, elementIn, follow, allRecords, headed, wrongAt, bad4, bad5};
-ghost use Rattle.mesh.specs.Meet.{Met, meet, itself, Sizes, Under};
+ghost use Rattle.vocabulary.specs.Lists.{repeats, someOf, Zeros};
+ghost use Rattle.mesh.specs.Mesh.{top, counted, below, elements, follow, allRecords, headed, wrongAt, bad4, bad5};
+ghost use Rattle.mesh.specs.Meet.{Met, meet, Sizes, Under};
+ghost use Rattle.mesh_chains.specs.Written.{Noted, note, stretch, Wrote, Written};
+
+// The most records that a mesh may have. The chains that test 4 accepts have no more elements together.
+pub const MOST_RECORDS: usize = 12000;
+
+// The room for a mark of each record; none is numbered 0.
+const MARKS: usize = 12001;
+
+// The room for a number of each element; none is numbered 0.
+pub const NUMBERS: usize = 2001;
 
 fn point_headed(m: &[u8], points: usize) -> bool
     requires { ⌜ points < 65536 ⌝ }
@@ -27,83 +36,111 @@ fn point_headed(m: &[u8], points: usize) -> bool
     false
 }
 
-// Follows the chain from record h on and marks what it meets; true where it meets a record above r or a marked one.
-fn meet_chain(m: &[u8], n: usize, r: usize, h: usize, seen: &mut [u8; 12001]) -> bool
-    requires { ⌜ (n ≡ elements (now m)) × (n ≤ 2000) × (r ≤ 12000) × (h < 65536) ⌝ }
-    ensures { λ b. ⌜ Met.met b (now (seen .exit)) ≡ meet 1 r (now (seen .entry)) (map itself (follow (now (m .entry)) (r + 1) h)) ⌝ }
+// What following a chain tells: whether something is amiss, and the place after its last element.
+struct Followed {
+    amiss: bool,
+    end: usize,
+}
+
+// Follows the chain from record h on, marks what it meets and writes its elements down from place `from` on; amiss is a record above r or a
+// marked one. Where nothing is amiss there is a place for every element.
+fn write_chain(
+    m: &[u8],
+    n: usize,
+    r: usize,
+    h: usize,
+    from: usize,
+    seen: &mut [u8; MARKS],
+    items: &mut [u16],
+) -> Followed
+    requires { ⌜ (n ≡ elements (now m)) × (n ≤ 2000) × (r ≤ 12000) × (h < 65536) × (from ≤ 12000) ⌝ }
+    ensures { λ f. ⌜ Noted.noted (f .amiss) (now (seen .exit)) (f .end) (now (items .exit))
+        ≡ note (now (m .entry)) r (now (seen .entry)) from (now (items .entry)) (follow (now (m .entry)) (r + 1) h) ⌝ }
 {
     let mut i = h;
-    for _k in 0..r + 1 {
+    for t in from..from + r + 1 {
         if i < 1 {
-            return false;
+            return Followed {
+                amiss: false,
+                end: t,
+            };
         }
         if r < i {
-            return true;
+            return Followed {
+                amiss: true,
+                end: t,
+            };
         }
         if seen[i] == 1 {
-            return true;
+            return Followed {
+                amiss: true,
+                end: t,
+            };
         }
         seen[i] = 1;
         let here = read_record(m, n, i);
+        put_number_at(items, t, here.element as u16);
         i = here.next;
     }
-    false
+    Followed {
+        amiss: false,
+        end: from + r + 1,
+    }
 }
 
-// Whether some chain meets a record above r, or one that it or another chain met before.
-fn meet_all(m: &[u8], n: usize, r: usize) -> bool
-    requires { ⌜ (n ≡ elements (now m)) × (n ≤ 2000) × (r ≡ recordCount (now m)) × (r ≤ 12000) ⌝ }
-    ensures { λ b. ⌜ b ≡ someOf (allRecords (now (m .entry))) (ltb r) || repeats (allRecords (now (m .entry))) ⌝ }
+// Whether some chain meets a record above r, or one that it or another chain met before. Where none does, all chains are written down.
+fn write_all(m: &[u8], d: usize, n: usize, r: usize, items: &mut [u16], ends: &mut [u16]) -> bool
+    requires { ⌜ Sizes (now m) d n r × (length (now items) ≡ 12000) × Zeros 2001 (now ends) ⌝ }
+    ensures { λ b. ⌜ (b ≡ someOf (allRecords (now (m .entry))) (ltb r) || repeats (allRecords (now (m .entry))))
+        × (b ≡ false → Wrote (now (m .entry)) n (now (items .exit)) (now (ends .exit))) ⌝ }
 {
-    let mut seen = [0u8; 12001];
+    let mut seen = [0u8; MARKS];
+    let mut end = 0;
     for e in 1..1 + n {
         let h = head_of(m, e);
-        if meet_chain(m, n, r, h, &mut seen) {
+        let chain = write_chain(m, n, r, h, end, &mut seen, items);
+        if chain.amiss {
             return true;
         }
+        end = chain.end;
+        ends[e] = end as u16;
     }
     false
 }
 
-pub fn bad4(m: &[u8], d: usize, n: usize, r: usize) -> bool
-    requires { ⌜ Sizes (now m) d n r ⌝ }
-    ensures { λ b. ⌜ b ≡ bad4 (now (m .entry)) ⌝ }
+pub fn bad4(m: &[u8], d: usize, n: usize, r: usize, items: &mut [u16], ends: &mut [u16]) -> bool
+    requires { ⌜ Sizes (now m) d n r × (length (now items) ≡ 12000) × Zeros 2001 (now ends) ⌝ }
+    ensures { λ b. ⌜ (b ≡ bad4 (now (m .entry))) × (b ≡ false → Written (now (m .entry)) (now (items .exit)) (now (ends .exit))) ⌝ }
 {
     let points = count_of(m, 0);
     if point_headed(m, points) {
         return true;
     }
-    meet_all(m, n, r)
+    write_all(m, d, n, r, items, ends)
 }
 
-// How many elements have a lower dimension than e.
-fn lower_of(m: &[u8], d: usize, e: usize) -> usize
-    requires { ⌜ (d ≡ top (now m)) × (d ≤ 3) ⌝ }
-    ensures { λ r. ⌜ (r ≡ below (now (m .entry)) (dimension (now (m .entry)) e)) × (r ≤ elements (now (m .entry))) ⌝ }
+// The number at place i of a list that has one there.
+pub fn number_in(list: &[u16], i: usize) -> usize
+    requires { ⌜ i < length (now list) ⌝ }
+    ensures { λ r. ⌜ (r ≡ getD (now (list .entry)) i 0) × (r < 65536) ⌝ }
 {
-    below_of(m, dimension_of(m, d, e))
+    list[i] as usize
 }
 
-// Follows the chain from record h on and marks its elements; true where one is not from 1 to low, or is marked already.
-fn wrong_chain(
-    m: &[u8],
-    n: usize,
-    r: usize,
-    h: usize,
+// Marks the items from place `from` up to `to`; true where one is not from 1 to low, or is marked already.
+fn wrong_items(
+    items: &[u16],
+    from: usize,
+    to: usize,
     low: usize,
     mark: u16,
-    marks: &mut [u16; 2001],
+    marks: &mut [u16; NUMBERS],
 ) -> bool
-    requires { ⌜ (n ≡ elements (now m)) × (n ≤ 2000) × (r ≤ 12000) × (h < 65536) × (low ≤ 2000) ⌝ }
-    ensures { λ b. ⌜ Met.met b (now (marks .exit)) ≡ meet mark low (now (marks .entry)) (map (elementIn (now (m .entry))) (follow (now (m .entry)) (r + 1) h)) ⌝ }
+    requires { ⌜ (to ≤ length (now items)) × (low ≤ 2000) ⌝ }
+    ensures { λ b. ⌜ Met.met b (now (marks .exit)) ≡ meet mark low (now (marks .entry)) (stretch (now (items .entry)) from to) ⌝ }
 {
-    let mut i = h;
-    for _k in 0..r + 1 {
-        if i < 1 {
-            return false;
-        }
-        let here = read_record(m, n, i);
-        let g = here.element;
+    for t in from..to {
+        let g = number_in(items, t);
         if g < 1 {
             return true;
         }
@@ -114,30 +151,45 @@ fn wrong_chain(
             return true;
         }
         marks[g] = mark;
-        i = here.next;
     }
     false
 }
 
-// Whether something is wrong in the chain of e; every mark is below e before, and at most e after.
-fn wrong_at(m: &[u8], d: usize, n: usize, r: usize, e: usize, marks: &mut [u16; 2001]) -> bool
-    requires { ⌜ Sizes (now m) d n r × (e ≤ 2000) × Under e (now marks) ⌝ }
-    ensures { λ b. ⌜ (b ≡ wrongAt (now (m .entry)) e) × Under (e + 1) (now (marks .exit)) ⌝ }
+// Whether something is wrong in the chain of an element of dimension k, where `low` elements are of a lower one. Every mark is at most low before.
+fn wrong_dimension(
+    m: &[u8],
+    k: usize,
+    low: usize,
+    items: &[u16],
+    ends: &[u16],
+    marks: &mut [u16; NUMBERS],
+) -> bool
+    requires { ⌜ Written (now m) (now items) (now ends) × (1 ≤ k) × (k ≤ top (now m)) × (low ≡ below (now m) k) × (low ≤ 2000) × Under (low + 1) (now marks) ⌝ }
+    ensures { λ b. ⌜ (b ≡ some (low + 1) (counted (now (m .entry)) k) (wrongAt (now (m .entry)))) × Under (below (now (m .entry)) (k + 1) + 1) (now (marks .exit)) ⌝ }
 {
-    let h = head_of(m, e);
-    let low = lower_of(m, d, e);
-    wrong_chain(m, n, r, h, low, e as u16, marks)
-}
-
-pub fn bad5(m: &[u8], d: usize, n: usize, r: usize) -> bool
-    requires { ⌜ Sizes (now m) d n r ⌝ }
-    ensures { λ b. ⌜ b ≡ bad5 (now (m .entry)) ⌝ }
-{
-    let mut marks = [0u16; 2001];
-    for e in 1..1 + n {
-        if wrong_at(m, d, n, r, e, &mut marks) {
+    let count = count_of(m, k);
+    for e in low + 1..low + 1 + count {
+        let from = number_in(ends, e - 1);
+        let to = number_in(ends, e);
+        if wrong_items(items, from, to, low, e as u16, marks) {
             return true;
         }
+    }
+    false
+}
+
+// Points have no chains.
+pub fn bad5(m: &[u8], d: usize, items: &[u16], ends: &[u16]) -> bool
+    requires { ⌜ Written (now m) (now items) (now ends) × (d ≡ top (now m)) ⌝ }
+    ensures { λ b. ⌜ b ≡ bad5 (now (m .entry)) ⌝ }
+{
+    let mut marks = [0u16; NUMBERS];
+    let mut low = count_of(m, 0);
+    for k in 1..1 + d {
+        if wrong_dimension(m, k, low, items, ends, &mut marks) {
+            return true;
+        }
+        low += count_of(m, k);
     }
     false
 }

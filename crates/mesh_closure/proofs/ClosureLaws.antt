@@ -1,33 +1,28 @@
 -- Marked chains against the definitions: tests 6 and 7. Assumes nothing.
 use mathlib.Core.Path.{_≡_, refl, sym, ap, ap₂, _∙_}
-use mathlib.Core.Bool.{Bool, true, false, not, _||_, _&&_}
-use mathlib.Core.List.{List, [], _∷_, _++_, map}
+use mathlib.Core.Bool.{Bool, true, false, not, _||_}
+use mathlib.Core.List.{List, [], _∷_}
 use Prim.Native.Nat.{ℕ, _+_, _-_, _≤_, _<_}
-use native.Mathlib.Nat.{sub-zero}
 use native.Mathlib.Omega.{arith}
-use lib.Dec.{eqb, leb}
+use lib.Dec.{eqb, ltb}
 use lib.ListN.{length, getD, set, replicate, length-set}
-use lib.Seq.{getD-set-same, getD-set-other}
-use borrow.Author.Tests.{eqb-true, eqb-false, eq-eqb, ne-eqb, leb-true, not-false}
-use Rattle.vocabulary.specs.Bytes.{Bytes}
-use Rattle.vocabulary.specs.Ranges.{isUpTo, some, blocks}
-use Rattle.vocabulary.specs.RangeLaws.{some-at, blocks-turn, blocks-all, isIn-blocks, at-last}
+use lib.Seq.{getD-set-same, getD-set-other, getD-take}
+use borrow.Author.Tests.{eqb-true, eqb-false, eq-eqb, ne-eqb, ltb-true, ltb-false}
+use Rattle.vocabulary.specs.Ranges.{some, blocks}
+use Rattle.vocabulary.specs.RangeLaws.{some-none, blocks-all, blocks-inner, isIn-blocks}
 use Rattle.vocabulary.specs.ScanLaws.{some-stop-from, some-turn-from, some-end-from}
 use Rattle.vocabulary.specs.Lists.{isIn, someOf, All}
-use Rattle.vocabulary.specs.ListLaws.{or-nothing, someOf-cong, someOf-false, All-intro, All-map, or-false, and-true}
-use Rattle.mesh.specs.Mesh.{counted, elements, recordCount, below, dimension, headOf, elementIn, follow, records, chain, wrongIn, wrongAt, leaves, unclosed, bare, bad5, bad7}
-use Rattle.mesh.specs.Meet.{Sizes, Under, stamp, unlike, leavesBy}
-use Rattle.mesh.proofs.MeetLaws.{outside}
-use Rattle.mesh.proofs.DimensionLaws.{below-next, lower-right, lower-small, dimension-le}
+use Rattle.vocabulary.specs.ListLaws.{or-nothing, someOf-cong, someOf-none, All-map, All-intro, All-getD}
+use Rattle.mesh.specs.Mesh.{top, counted, elements, below, firstCell, cellCount, dimension, chain, leaves, unclosed, bare, bad5, bad6, bad7}
+use Rattle.mesh.specs.Meet.{Under, stamp, unlike}
 use Rattle.mesh.specs.WalkLaws.{below-grows}
-use Rattle.mesh_chains.proofs.ElementLaws.{set-under}
 use Rattle.mesh.proofs.MeetLaws.{under-none}
-
--- ---- one mark
-
-pub mark-told : (s : List ℕ) (g v x : ℕ) → x ≡ getD s g 0 → not (eqb x v) ≡ unlike v s g
-unfolding unlike
-mark-told s g v x e = ap (λ y. not (eqb y v)) e
+use Rattle.mesh.proofs.DimensionLaws.{below-next, below-after, dimension-le}
+use Rattle.mesh.proofs.AcceptedLaws.{bare-point, lower-chain}
+use Rattle.mesh_chains.specs.Written.{stretch, chains, Written}
+use Rattle.mesh_chains.proofs.StretchLaws.{end-in, rows-are, row-is}
+use Rattle.mesh_chains.proofs.ElementLaws.{set-under}
+use Rattle.mesh_closure.specs.Rows.{leavesBy, Named, Rows}
 
 -- ---- all marks of a list
 
@@ -64,103 +59,146 @@ fresh-stamp v g s xs u a =
     ap not (stamp-told v g s xs (All-map xs (λ x h. omega (arith, u .size)) a)
     ∙ ap (λ b. isIn g xs || b) (ne-eqb (getD s g 0) v (λ q. let z : ⊥ = omega (arith, u .each g) in z)) ∙ or-nothing (isIn g xs))
 
--- ---- test 6
+-- ---- the chains of a mesh that the tests 4 and 5 accept
 
--- an element of a chain that is not wrong has its place among the marks
-chain-small : (m : Bytes) (d n r e : ℕ) → Sizes m d n r → 1 ≤ e → e ≤ n → bad5 m ≡ false → All (λ x. x < 2001) (chain m e)
-unfolding bad5 wrongAt outside isUpTo
-chain-small m d n r e z l g b =
-    All-map (chain m e) (λ x q. small x (lower-right m e x (omega (arith, z .d-is, z .d-high)) ∙ q)) (someOf-false (wrongIn m e) (chain m e) (or-false _ _ fine .0))
-  where
-    fine : wrongAt m e ≡ false
-    fine =
-        let q : 1 + (e - 1) ≡ e = omega arith in
-        rw q at (some-at 1 (wrongAt m) (elements m) (e - 1) b (omega (arith, z .n-is)))
+module _ (m items ends : List ℕ) (W : Written m items ends) (five : bad5 m ≡ false) where
+  -- a chain names lower elements
+  lower : (e : ℕ) → 1 ≤ e → e ≤ elements m → All (λ g. (1 ≤ g) × (g ≤ below m (dimension m e))) (chain m e)
+  lower e l h = lower-chain m (W .sizes .d-high) five e (record { low = l; high = h })
 
-    small : (x : ℕ) → not (leb 1 x && leb x (below m (dimension m e))) ≡ false → x < 2001
-    small x q =
-        omega (
-          arith,
-          leb-true x (below m (dimension m e)) (and-true (leb 1 x) _ (not-false _ q) .1),
-          lower-small m 3 (below m (dimension m e)) (dimension m e) refl (omega (arith, dimension-le m e, z .d-is, z .d-high)) (omega arith),
-          z .n-is,
-          z .n-high,
-        )
+  fine : (e : ℕ) → 1 ≤ e → e ≤ elements m → All (λ g. (1 ≤ g) × (g ≤ elements m)) (chain m e)
+  fine e l h =
+      All-map (chain m e) (λ g w. (w .0, omega (arith, w .1, below-grows m (dimension m e) 4 (omega (arith, dimension-le m e, W .sizes .d-high))))) (lower e l h)
 
--- the loop over the chain of f
-pub leaves-begin : (m : Bytes) (r f h v : ℕ) (s : List ℕ) → r ≡ recordCount m → h ≡ headOf m f
-    → someOf (map (elementIn m) (follow m (r + 1 - 0) h)) (unlike v s) ≡ leavesBy m v s f
-unfolding leavesBy chain records
-leaves-begin m r f h v s re he = simp (sub-zero, re, he)
+  small : (e : ℕ) → 1 ≤ e → e ≤ elements m → All (λ g. g < 2001) (chain m e)
+  small e l h = All-map (chain m e) (λ g w. omega (arith, w .1, W .sizes .n-high)) (fine e l h)
 
-module _ (m : Bytes) (d n r : ℕ) (z : Sizes m d n r) (e h : ℕ) (he : h ≡ headOf m e) (s t : List ℕ) (u : Under e s)
-    (f : t ≡ stamp e s (map (elementIn m) (follow m (r + 1) h))) where
-  here : map (elementIn m) (follow m (r + 1) h) ≡ chain m e
-  unfolding chain records
-  here = rw (← z .r-is, ← he)
+  -- what is written before the end of a chain
+  item : (e t : ℕ) → e ≤ elements m → t < getD ends e 0 → (1 ≤ getD items t 0) × (getD items t 0 ≤ elements m)
+  unfolding chains
+  item e t h l =
+      let q : 1 + 0 ≡ 1 = omega arith in
+      let a : length (blocks 1 e (chain m)) ≤ length (blocks 1 (elements m) (chain m)) = rw q at (blocks-inner 1 (chain m) 0 e (elements m) (omega arith)) in
+      let k : t < length (chains m (elements m)) = omega (arith, W .wrote .ends-are e h) in
+      let i : getD (chains m (elements m)) t 0 ≡ getD items t 0 = ap (λ (xs : List ℕ). getD xs t 0) (sym (W .wrote .items-are)) ∙ getD-take _ items t 0 k in
+      let w = All-getD (λ g. (1 ≤ g) × (g ≤ elements m)) (chains m (elements m)) t 0
+      (blocks-all 1 (chain m) (λ g. (1 ≤ g) × (g ≤ elements m)) (elements m) (λ j p. fine (1 + j) (omega arith) (omega arith))) k in
+      (omega (arith, w .0), omega (arith, w .1))
 
-  pub stamped-under : Under (e + 1) t
-  stamped-under = rw f (stamp-under e s _ (record { size = u .size; each = λ i. omega (arith, u .each i) }))
+  named : (e : ℕ) → e ≤ elements m → Named items (getD ends e 0)
+  named e h = record {
+    there = end-in m items ends W e h;
+    low = λ t l. item e t h l .0;
+    high = λ t l. omega (arith, item e t h l .1, W .sizes .n-high);
+  }
 
-  pub unclosed-told : (b : Bool) → 1 ≤ e → e ≤ n → bad5 m ≡ false → b ≡ someOf (map (elementIn m) (follow m (r + 1) h)) (leavesBy m e t) → b ≡ unclosed m e
-  unfolding unclosed leavesBy leaves
-  unclosed-told b l g w q =
-      q ∙ ap (λ xs. someOf xs (leavesBy m e t)) here
-      ∙ someOf-cong (leavesBy m e t) (leaves m e) (chain m e) (All-intro _ (chain m e) 0 (λ i k.
-      someOf-cong _ _ (chain m (getD (chain m e) i 0)) (All-intro _ (chain m (getD (chain m e) i 0)) 0 (λ j p. marked (getD (chain m (getD (chain m e) i 0)) j 0)))))
+  pub rows-here : (n e to : ℕ) → n ≡ elements m → e < 1 + n → to ≡ getD ends e 0 → Rows items ends to
+  rows-here n e to ne h te = rw te (record { names = named e (omega arith); long = W .wrote .ends-long; row = λ t l. named (getD items t 0) (item e t (omega arith) l .1) })
+
+  pub elements-few : (n : ℕ) → n ≡ elements m → n ≤ 2000
+  elements-few n ne = omega (arith, W .sizes .n-high)
+
+  -- ---- test 6
+
+  -- a chain of points alone is closed
+  closed : (e : ℕ) → 1 ≤ e → e ≤ below m 2 → unclosed m e ≡ false
+  unfolding unclosed leaves someOf
+  closed e l h =
+      someOf-none (leaves m e) (chain m e)
+      (All-map (chain m e)
+      (λ f w. ap (λ xs. someOf xs (λ g. not (isIn g (chain m e)))) (bare-point m (W .four) f (w .0) (omega (arith, w .1, flat (ltb 1 (dimension m e)) refl, points))))
+      (lower e l (omega (arith, below-grows m 2 4 (omega arith)))))
     where
+      points : below m 1 ≡ counted m 0
+      points = unfold below in omega arith
+
+      flat : (b : Bool) → ltb 1 (dimension m e) ≡ b → below m (dimension m e) ≤ below m 1
+      flat true t =
+          let q : 1 < dimension m e = ltb-true 1 (dimension m e) t in
+          let z : ⊥ = omega (arith, below-after m e 2 (omega arith) (omega (arith, dimension-le m e)) (omega arith)) in absurd z
+      flat false t = below-grows m (dimension m e) 1 (ltb-false 1 (dimension m e) t)
+
+  module _ (low : ℕ) (le : low ≡ below m 2) where
+    pub closed-start : some 1 (low + 1 - 1) (unclosed m) ≡ false
+    closed-start = some-none 1 (unclosed m) (low + 1 - 1) (λ i h. closed (1 + i) (omega arith) (omega arith))
+
+    pub closed-in : (n : ℕ) → n ≡ elements m → low + 1 ≤ 1 + n
+    closed-in n ne = omega (arith, below-grows m 2 4 (omega arith))
+
+  module _ (n : ℕ) (ne : n ≡ elements m) (e : ℕ) (l : 1 ≤ e) where
+    pub closed-end : some 1 (e - 1) (unclosed m) ≡ false → e ≤ 1 + n → 1 + n ≤ e → false ≡ bad6 m
+    unfolding bad6
+    closed-end i g h = rw ne at (some-end-from 1 (unclosed m) n e i g h)
+
+    module _ (h : e < 1 + n) (from to : ℕ) (fe : from ≡ getD ends (e - 1) 0) (te : to ≡ getD ends e 0) (s t : List ℕ) (u : Under e s)
+        (f : t ≡ stamp e s (stretch items from to)) (b : Bool) (q : b ≡ someOf (stretch items from to) (leavesBy items ends e t)) where
+      here : stretch items from to ≡ chain m e
+      here = ap₂ (stretch items) fe te ∙ row-is m items ends W e l (omega arith)
+
       marked : (x : ℕ) → unlike e t x ≡ not (isIn x (chain m e))
-      marked x = ap (λ (y : List ℕ). unlike e y x) (f ∙ ap (stamp e s) here) ∙ fresh-stamp e x s (chain m e) u (chain-small m d n r e z l g w)
+      marked x = ap (λ (y : List ℕ). unlike e y x) (f ∙ ap (stamp e s) here) ∙ fresh-stamp e x s (chain m e) u (small e l (omega arith))
 
--- ---- test 7
+      unclosed-told : b ≡ unclosed m e
+      unfolding unclosed leavesBy leaves
+      unclosed-told =
+          q ∙ ap (λ (xs : List ℕ). someOf xs (leavesBy items ends e t)) here
+          ∙ someOf-cong (leavesBy items ends e t) (leaves m e) (chain m e) (All-map (chain m e)
+          (λ x w. ap (λ (xs : List ℕ). someOf xs (unlike e t)) (row-is m items ends W x (w .0) (w .1)) ∙ someOf-cong _ _ (chain m x) (All-intro _ (chain m x) 0 (λ j p. marked (getD (chain m x) j 0))))
+          (fine e l (omega arith)))
 
-stamp-append : (v : ℕ) (s xs ys : List ℕ) → stamp v s (xs ++ ys) ≡ stamp v (stamp v s xs) ys
-unfolding stamp
-stamp-append v s [] ys = refl
-stamp-append v s (x ∷ xs) ys = stamp-append v (set s x v) xs ys
+      pub unclosed-found : b ≡ true → true ≡ bad6 m
+      unfolding bad6
+      unclosed-found y = rw ne at (some-stop-from 1 (unclosed m) n e b unclosed-told y l h)
 
-pub cells-start : (m : Bytes) (v first : ℕ) (s : List ℕ) → s ≡ stamp v s (blocks first (first - first) (chain m))
-unfolding stamp blocks
-cells-start m v first s = let z : first - first ≡ 0 = omega arith in rw z
+      pub unclosed-turn : some 1 (e - 1) (unclosed m) ≡ false → b ≡ false → Under (e + 1) t × (some 1 (e + 1 - 1) (unclosed m) ≡ false)
+      unclosed-turn i y = (
+        rw f (stamp-under e s (stretch items from to) (record { size = u .size; each = λ i. omega (arith, u .each i) })),
+        some-turn-from 1 (unclosed m) e b l i unclosed-told y,
+      )
 
-pub cells-turn : (m : Bytes) (r first e h v : ℕ) (s₀ s t : List ℕ) → r ≡ recordCount m → h ≡ headOf m e → first ≤ e → s ≡ stamp v s₀ (blocks first (e - first) (chain m))
-    → t ≡ stamp v s (map (elementIn m) (follow m (r + 1) h)) → t ≡ stamp v s₀ (blocks first (e + 1 - first) (chain m))
-unfolding chain records
-cells-turn m r first e h v s₀ s t re he l f g =
-    let q : e + 1 - first ≡ e - first + 1 = omega arith in
-    let p : first + (e - first) ≡ e = omega arith in
-    rw (q, blocks-turn first (chain m) (e - first), p)
-    (g ∙ ap (λ (x : List ℕ). stamp v x (map (elementIn m) (follow m (r + 1) h))) f
-    ∙ sym (stamp-append v s₀ (blocks first (e - first) (chain m)) (map (elementIn m) (follow m (r + 1) h)))
-    ∙ ap (λ (x : List ℕ). stamp v s₀ (blocks first (e - first) (chain m) ++ x)) (rw (re, he) refl))
+  -- ---- test 7
 
-pub cells-end : (m : Bytes) (first cells e v : ℕ) (s₀ s : List ℕ) → s ≡ stamp v s₀ (blocks first (e - first) (chain m)) → e ≤ first + cells → first + cells ≤ e
-    → s ≡ stamp v s₀ (blocks first cells (chain m))
-cells-end m first cells e v s₀ s f g h = at-last (λ k. s ≡ stamp v s₀ (blocks first k (chain m))) (e - first) cells (omega arith) (omega arith) f
+  pub last-there : (n : ℕ) → n ≡ elements m → n < length ends
+  last-there n ne = omega (arith, W .sizes .n-high, W .wrote .ends-long)
 
-module _ (m : Bytes) (d n r : ℕ) (z : Sizes m d n r) (w : bad5 m ≡ false) (low cells : ℕ) (le : low ≡ below m d) (ce : cells ≡ counted m d)
-    (s : List ℕ) (f : s ≡ stamp 1 (replicate 2001 0) (blocks (low + 1) cells (chain m))) where
-  -- the cells are elements
-  cells-in : low + cells ≤ n
-  cells-in =
-      omega (arith, below-next m d, below-grows m (d + 1) 4 (omega (arith, z .d-high)), z .n-is)
+  pub last-named : (n to : ℕ) → n ≡ elements m → to ≡ getD ends n 0 → Named items to
+  last-named n to ne te = rw te (named n (omega arith))
 
-  bare-told : (g : ℕ) → unlike 1 s g ≡ bare m g
-  unfolding bare
-  bare-told g =
-      ap (λ (x : List ℕ). unlike 1 x g) f
-      ∙ fresh-stamp 1 g (replicate 2001 0) (blocks (low + 1) cells (chain m)) under-none
-      (blocks-all (low + 1) (chain m) (λ x. x < 2001) cells (λ j h. chain-small m d n r (low + 1 + j) z (omega arith) (omega (arith, cells-in)) w))
-      ∙ ap not (isIn-blocks g (low + 1) cells (chain m)
-      ∙ ap₂ (λ a c. some a c (λ x. isIn g (chain m x))) (ap (λ x. x + 1) (le ∙ ap (below m) (z .d-is))) (ce ∙ ap (counted m) (z .d-is)))
+  module _ (d n low : ℕ) (de : d ≡ top m) (ne : n ≡ elements m) (le : low ≡ below m d) where
+    pub low-few : low ≤ 2000
+    low-few = omega (arith, below-grows m d 4 (omega (arith, W .sizes .d-high)), W .sizes .n-high)
 
-  pub bare-found : (g : ℕ) (b : Bool) → b ≡ unlike 1 s g → b ≡ true → 1 ≤ g → g < 1 + low → true ≡ bad7 m
-  unfolding bad7
-  bare-found g b e t l h = rw (ap (below m) (sym (z .d-is)), ← le) (some-stop-from 1 (bare m) low g b (e ∙ bare-told g) t l h)
+    pub low-there : low < length ends
+    low-there = omega (arith, low-few, W .wrote .ends-long)
 
-  pub bare-turn : (g : ℕ) (b : Bool) → 1 ≤ g → some 1 (g - 1) (bare m) ≡ false → b ≡ unlike 1 s g → b ≡ false → some 1 (g + 1 - 1) (bare m) ≡ false
-  bare-turn g b l i e t = some-turn-from 1 (bare m) g b l i (e ∙ bare-told g) t
+    module _ (from to : ℕ) (fe : from ≡ getD ends low 0) (te : to ≡ getD ends n 0) (s : List ℕ) (f : s ≡ stamp 1 (replicate 2001 0) (stretch items from to)) where
+      -- the cells are the last elements
+      last : low + cellCount m ≡ n
+      last = omega (arith, ap (below m) de, below-next m (top m), W .sizes .n-last)
 
-  pub bare-end : (g : ℕ) → some 1 (g - 1) (bare m) ≡ false → g ≤ 1 + low → 1 + low ≤ g → false ≡ bad7 m
-  unfolding bad7
-  bare-end g i h k = rw (ap (below m) (sym (z .d-is)), ← le) (some-end-from 1 (bare m) low g i h k)
+      rows : stretch items from to ≡ blocks (firstCell m) (cellCount m) (chain m)
+      rows =
+          let q : 1 + low ≡ firstCell m = omega (arith, ap (below m) de) in
+          ap₂ (stretch items) fe (te ∙ ap (λ x. getD ends x 0) (sym last)) ∙ rows-are m items ends W low (cellCount m) (omega (arith, last))
+          ∙ ap (λ x. blocks x (cellCount m) (chain m)) q
+
+      bare-told : (g : ℕ) → unlike 1 s g ≡ bare m g
+      unfolding bare
+      bare-told g =
+          ap (λ (x : List ℕ). unlike 1 x g) (f ∙ ap (stamp 1 (replicate 2001 0)) rows)
+          ∙ fresh-stamp 1 g (replicate 2001 0) (blocks (firstCell m) (cellCount m) (chain m)) under-none
+          (blocks-all (firstCell m) (chain m) (λ x. x < 2001) (cellCount m) (λ j h. small (firstCell m + j) (omega arith) (omega (arith, last, ap (below m) de))))
+          ∙ ap not (isIn-blocks g (firstCell m) (cellCount m) (chain m))
+
+      module _ (g : ℕ) (l : 1 ≤ g) where
+        pub bare-found : (getD s g 0 ≡ 1 → ⊥) → g < 1 + low → true ≡ bad7 m
+        unfolding bad7 unlike
+        bare-found q h = rw (ap (below m) (sym de), ← le) (some-stop-from 1 (bare m) low g true (ap not (sym (ne-eqb (getD s g 0) 1 q)) ∙ bare-told g) refl l h)
+
+        pub bare-turn : some 1 (g - 1) (bare m) ≡ false → getD s g 0 ≡ 1 → some 1 (g + 1 - 1) (bare m) ≡ false
+        unfolding unlike
+        bare-turn i q = some-turn-from 1 (bare m) g false l i (ap not (sym (eq-eqb (getD s g 0) 1 q)) ∙ bare-told g) refl
+
+    pub bare-end : (g : ℕ) → some 1 (g - 1) (bare m) ≡ false → g ≤ 1 + low → 1 + low ≤ g → false ≡ bad7 m
+    unfolding bad7
+    bare-end g i h k = rw (ap (below m) (sym de), ← le) (some-end-from 1 (bare m) low g i h k)

@@ -1,6 +1,8 @@
 // Whether bytes are a mesh: the tests 1 to 7.
+mod chains;
 mod head;
 
+use chains::chain_number;
 use head::bad1;
 use head::bad2;
 use head::bad3;
@@ -9,10 +11,6 @@ use mesh::inner::cell_count;
 use mesh::inner::elements_of;
 use mesh::inner::record_count;
 use mesh::inner::top_of;
-use mesh_chains::inner::bad4;
-use mesh_chains::inner::bad5;
-use mesh_closure::inner::bad6;
-use mesh_closure::inner::bad7;
 ghost use mathlib.Core.Path.{_≡_};
 ghost use Rattle.mesh.specs.Mesh.{meshNumber, checkAnswer};
 
@@ -32,19 +30,7 @@ pub fn mesh_number(m: &[u8]) -> u32
     let d = top_of(m);
     let n = elements_of(m);
     let r = record_count(m);
-    if bad4(m, d, n, r) {
-        return 4;
-    }
-    if bad5(m, d, n, r) {
-        return 5;
-    }
-    if bad6(m, d, n, r) {
-        return 6;
-    }
-    if bad7(m, d, n, r) {
-        return 7;
-    }
-    0
+    chain_number(m, d, n, r)
 }
 
 // Whether the bytes are a mesh: the count of its cells, or its refusal.

@@ -2,7 +2,6 @@
 use Rattle.vocabulary.specs.TestLaws.{told-here, told-later}
 use Rattle.mesh.specs.Mesh.{meshTests, meshNumber}
 use Rattle.mesh.proofs.NumberLaws.{sized}
-use mathlib.Core.Path.{sym, _∙_}
 use borrow.Author.Needs.{needs}
 use Rattle.mesh_tests.proofs.mesh_number.Statement.{statement}
 use Rattle.mesh_tests.proofs.mesh_number.Tie as tie
@@ -22,11 +21,4 @@ mesh-number-spec =
     (λ c κs. search needs)
     (λ c κs. search needs)
     (λ c κs. search sized)
-    (λ c. search (told-here, told-later))
-    (λ c κs. search sized)
-    (λ c. search (told-here, told-later) depth 9 fits 4000)
-    (λ c κs. (search sized, sym (c .before .bad5 .ensures) ∙ c .if5 .left))
-    (λ c. search (told-here, told-later) depth 9 fits 4000)
-    (λ c κs. (search sized, sym (c .before .before .before .bad5 .ensures) ∙ c .before .before .if5 .left))
-    (λ c. search (told-here, told-later) depth 9 fits 4000)
-    (λ c. search told-later depth 9 fits 4000))
+    (λ c. search told-later))

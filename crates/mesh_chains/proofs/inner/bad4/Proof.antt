@@ -1,5 +1,9 @@
 -- `mesh_chains::inner::bad4` meets its contract. Assumes nothing.
-use Rattle.mesh.proofs.RecordLaws.{point-told, records-told}
+use mathlib.Core.Path.{refl}
+use mathlib.Core.Bool.{true}
+use Rattle.vocabulary.specs.ListLaws.{not-both}
+use Rattle.mesh_chains.proofs.RecordLaws.{point-told, records-told}
+use Rattle.mesh_chains.proofs.NoteLaws.{written}
 use borrow.Author.Needs.{needs}
 use Rattle.mesh_chains.proofs.inner.bad4.Statement.{statement}
 use Rattle.mesh_chains.proofs.inner.bad4.Tie as tie
@@ -10,6 +14,8 @@ bad4-spec =
     (tie.spec
     (λ c κs. search needs)
     (λ c κs. search needs)
-    (λ c. search point-told)
+    (λ c. (search point-told, λ q. absurd (not-both true refl q)))
     (λ c κs. search needs)
-    (λ c. search records-told))
+    (λ c. search needs)
+    (λ c. search needs)
+    (λ c. (search records-told, search written)))

@@ -1,35 +1,35 @@
--- `mesh_chains::inner::bad5` meets its contract. The invariant: no chain so far is wrong, and every mark is below e. Assumes nothing.
-use mathlib.Core.Path.{_≡_, refl}
+-- `mesh_chains::inner::bad5` meets its contract. The invariant: no chain of a lower dimension is wrong, and every mark is at most low. Assumes nothing.
+use mathlib.Core.Path.{_≡_}
 use mathlib.Core.Bool.{false}
 use Prim.Native.Nat.{_+_, _-_, _≤_}
 use Rattle.vocabulary.specs.Ranges.{some}
-use Rattle.vocabulary.specs.ScanLaws.{some-start-from, some-turn-from}
-use Rattle.mesh.specs.Mesh.{wrongAt, bad5}
+use Rattle.mesh.specs.Mesh.{below, wrongAt}
 use Rattle.mesh.specs.Meet.{Under}
-use Rattle.mesh.proofs.MeetLaws.{under-none}
-use Rattle.mesh_chains.proofs.ElementLaws.{one-found, none-found}
+use Rattle.mesh_chains.proofs.ElementLaws.{points-below, zeros-under, points-few, points-right, lower-found, lower-turn, lower-end, next-below, next-few, next-under}
 use borrow.Author.Needs.{needs}
 use Rattle.mesh_chains.proofs.inner.bad5.Statement.{statement}
 use Rattle.mesh_chains.proofs.inner.bad5.Tie as tie
 
 abbrev Inv-loop : tie.InvT-loop
-Inv-loop m d n r marks₀ e₀ e-end marks e = (1 ≤ e) × (e ≤ 1 + n) × (e-end ≡ 1 + n) × Under e marks × (some 1 (e - 1) (wrongAt m) ≡ false)
+Inv-loop m d items ends marks₀ low₀ k₀ k-end marks low k = (1 ≤ k) × (k ≤ 1 + d) × (k-end ≡ 1 + d) × (low ≡ below m k) × (low ≤ 2000) × Under (low + 1) marks × (some 1 low (wrongAt m) ≡ false)
 
 abbrev μ-loop : tie.MeasureT-loop
-μ-loop m d n r marks₀ e₀ e-end marks e = e-end - e
+μ-loop m d items ends marks₀ low₀ k₀ k-end marks low k = k-end - k
 
 pub bad5-spec : {M : Type 1} → statement M
-unfolding bad5
 bad5-spec =
     tie.close
     (tie.spec
     Inv-loop
     μ-loop
-    (λ c. search needs)
-    (λ c. (search needs, search needs, refl, search under-none, search some-start-from))
     (λ c κs. search needs)
-    (λ c. search one-found)
+    (λ c. search needs)
+    (λ c. (search needs, search needs, search needs, search points-below, search points-few, search zeros-under, search points-right))
+    (λ c κs. search needs)
+    (λ c. search lower-found)
+    (λ c κs. search needs)
     (λ c. search needs)
     (λ c. search needs)
-    (λ c. (search needs, search needs, search needs, search needs, search some-turn-from))
-    (λ c. search none-found))
+    (λ c. search needs)
+    (λ c. (search needs, search needs, search needs, search next-below, search next-few, search next-under, search lower-turn))
+    (λ c. search lower-end))

@@ -1,21 +1,19 @@
--- `mesh_closure::inner::any_leaves` meets its contract. The invariant: what is left of the chain tells what the whole chain tells. Assumes nothing.
+-- `mesh_closure::inner::any_leaves` meets its contract. The invariant: what is left tells what the whole stretch tells. Assumes nothing.
 use mathlib.Core.Path.{_≡_, refl}
-use mathlib.Core.List.{map}
-use Prim.Native.Nat.{_+_, _-_, _<_}
-use native.Mathlib.Nat.{sub-zero}
+use Prim.Native.Nat.{_-_}
 use Rattle.vocabulary.specs.Lists.{someOf}
-use Rattle.mesh.specs.Mesh.{elementIn, follow}
-use Rattle.mesh.specs.Meet.{leavesBy}
-use Rattle.mesh.proofs.FollowLaws.{chain-ended, chain-spent, try-done, try-found, try-turn}
+use Rattle.mesh_chains.specs.Written.{stretch}
+use Rattle.mesh_closure.specs.Rows.{leavesBy}
+use Rattle.mesh_closure.proofs.RowLaws.{row-there, row-low, row-high, row-names, try-found, try-turn, try-done}
 use borrow.Author.Needs.{needs}
 use Rattle.mesh_closure.proofs.inner.any_leaves.Statement.{statement}
 use Rattle.mesh_closure.proofs.inner.any_leaves.Tie as tie
 
 abbrev Inv-loop : tie.InvT-loop
-Inv-loop m n r h v marks i₀ -k₀ -k-end i -k = (-k-end ≡ r + 1) × (i < 65536) × (someOf (map (elementIn m) (follow m (-k-end - -k) i)) (leavesBy m v marks) ≡ someOf (map (elementIn m) (follow m (r + 1) h)) (leavesBy m v marks))
+Inv-loop items ends from to v marks t₀ t = someOf (stretch items t to) (leavesBy items ends v marks) ≡ someOf (stretch items from to) (leavesBy items ends v marks)
 
 abbrev μ-loop : tie.MeasureT-loop
-μ-loop m n r h v marks i₀ -k₀ -k-end i -k = -k-end - -k
+μ-loop items ends from to v marks t₀ t = to - t
 
 pub any-leaves-spec : {M : Type 1} → statement M
 any-leaves-spec =
@@ -23,13 +21,11 @@ any-leaves-spec =
     (tie.spec
     Inv-loop
     μ-loop
-    (λ c. search needs)
-    (λ c. (refl, search needs, simp sub-zero))
-    (λ c. search (try-done, chain-ended))
-    (λ c κs. search needs)
-    (λ c κs. search needs)
+    (λ c. refl)
+    (λ c κs. search row-there)
+    (λ c κs. (search row-low, search row-high, search row-names))
     (λ c. search try-found)
     (λ c. search needs)
     (λ c. search needs)
-    (λ c. (search needs, search needs, search try-turn))
-    (λ c. search (try-done, chain-spent)))
+    (λ c. search try-turn)
+    (λ c. search try-done))

@@ -5,16 +5,16 @@ use Prim.Native.Nat.{_+_, _-_, _≤_}
 use Rattle.vocabulary.specs.Ranges.{some}
 use Rattle.vocabulary.specs.ScanLaws.{some-start-from}
 use Rattle.mesh.specs.Mesh.{bare}
-use Rattle.mesh_closure.proofs.ClosureLaws.{bare-found, bare-turn, bare-end}
+use Rattle.mesh_closure.proofs.ClosureLaws.{last-there, last-named, low-few, low-there, bare-found, bare-turn, bare-end}
 use borrow.Author.Needs.{needs}
 use Rattle.mesh_closure.proofs.inner.bad7.Statement.{statement}
 use Rattle.mesh_closure.proofs.inner.bad7.Tie as tie
 
 abbrev Inv-loop : tie.InvT-loop
-Inv-loop m d n r low cells marks g₀ g-end g = (1 ≤ g) × (g ≤ 1 + low) × (g-end ≡ 1 + low) × (some 1 (g - 1) (bare m) ≡ false)
+Inv-loop m d n items ends low from to marks g₀ g-end g = (1 ≤ g) × (g ≤ 1 + low) × (g-end ≡ 1 + low) × (low ≤ 2000) × (some 1 (g - 1) (bare m) ≡ false)
 
 abbrev μ-loop : tie.MeasureT-loop
-μ-loop m d n r low cells marks g₀ g-end g = g-end - g
+μ-loop m d n items ends low from to marks g₀ g-end g = g-end - g
 
 pub bad7-spec : {M : Type 1} → statement M
 bad7-spec =
@@ -23,16 +23,15 @@ bad7-spec =
     Inv-loop
     μ-loop
     (λ c κs. search needs)
-    (λ c κs. search needs)
+    (λ c κs. search low-there)
+    (λ c κs. search last-there)
+    (λ c κs. search last-named)
+    (λ c. search needs)
+    (λ c. (search needs, search needs, refl, search low-few, search some-start-from))
     (λ c. search needs)
     (λ c. search needs)
-    (λ c κs. search needs)
-    (λ c. search needs)
-    (λ c. (search needs, search needs, refl, search some-start-from))
-    (λ c. search needs)
-    (λ c κs. search needs)
     (λ c. search bare-found)
     (λ c. search needs)
     (λ c. search needs)
-    (λ c. (search needs, search needs, search needs, search bare-turn))
+    (λ c. (search needs, search needs, search needs, search needs, search bare-turn))
     (λ c. search bare-end))

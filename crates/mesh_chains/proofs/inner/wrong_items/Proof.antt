@@ -1,0 +1,35 @@
+-- `mesh_chains::inner::wrong_items` meets its contract. The invariant: meeting what is left gives what meeting the whole stretch gives. Assumes nothing.
+use mathlib.Core.Path.{_≡_, refl}
+use Prim.Native.Nat.{_-_}
+use Rattle.mesh.specs.Meet.{meet}
+use Rattle.mesh_chains.specs.Written.{stretch}
+use Rattle.mesh_chains.proofs.StretchLaws.{items-done, items-zero, items-above, items-again, items-turn}
+use borrow.Author.Needs.{needs}
+use Rattle.mesh_chains.proofs.inner.wrong_items.Statement.{statement}
+use Rattle.mesh_chains.proofs.inner.wrong_items.Tie as tie
+
+abbrev Inv-loop : tie.InvT-loop
+Inv-loop items from to low mark marks₀ t₀ marks t = (meet mark low marks (stretch items t to) ≡ meet mark low marks₀ (stretch items from to))
+
+abbrev μ-loop : tie.MeasureT-loop
+μ-loop items from to low mark marks₀ t₀ marks t = to - t
+
+pub wrong-items-spec : {M : Type 1} → statement M
+wrong-items-spec =
+    tie.close
+    (tie.spec
+    Inv-loop
+    μ-loop
+    (λ c. refl)
+    (λ c κs. search needs)
+    (λ c. search items-zero)
+    (λ c. search items-above)
+    (λ c. search needs)
+    (λ c. search needs)
+    (λ c. search items-again)
+    (λ c. search needs)
+    (λ c. search needs)
+    (λ c. search needs)
+    (λ c. search needs)
+    (λ c. search items-turn)
+    (λ c. search items-done))
