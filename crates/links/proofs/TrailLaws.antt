@@ -1,6 +1,6 @@
--- From an element the trail of its entries leads to exactly the cells whose chains have it. Assumes nothing.
+-- From an element the trail of its entries leads to exactly the cells whose chains have it, falling. Assumes nothing.
 use mathlib.Core.Path.{_≡_, refl, sym, ap, ap₂, _∙_}
-use mathlib.Core.Bool.{Bool, true, false, _||_, _&&_}
+use mathlib.Core.Bool.{Bool, true, false, _||_, _&&_, cond}
 use mathlib.Core.List.{List, [], _∷_}
 use Prim.Native.Nat.{ℕ, zero, suc, _+_, _≤_, _<_}
 use native.Mathlib.Omega.{arith}
@@ -10,10 +10,10 @@ use lib.Seq.{getD-set-same, getD-set-other}
 use borrow.Author.Tests.{eqb-true, eqb-false, ne-eqb}
 use Rattle.vocabulary.specs.Bytes.{Bytes}
 use Rattle.vocabulary.specs.Ranges.{some, blocks}
-use Rattle.vocabulary.specs.Lists.{isIn, All}
-use Rattle.vocabulary.specs.ListLaws.{or-swap, zeros-at}
+use Rattle.vocabulary.specs.Lists.{isIn, repeats, All}
+use Rattle.vocabulary.specs.ListLaws.{or-swap, or-nothing, or-false, not-both, zeros-at}
 use Rattle.mesh.specs.Mesh.{chain}
-use Rattle.links.specs.Links.{Links, links, link, linkAll, linkCells, trail}
+use Rattle.links.specs.Links.{Links, links, link, linkAll, linkCells, trail, pickedDown, cellsWith}
 use Rattle.links.proofs.LinkLaws.{entries, linkAll-count}
 
 -- ---- trails
@@ -46,17 +46,17 @@ trail-same cell prev cell′ prev′ t low same (suc n) (suc n′) s a b c = go 
         let l : 1 ≤ s = omega arith in
         trail-more cell′ prev′ n′ s z ∙ ap₂ (λ x y. x ∷ trail cell′ prev′ n′ y) (same s l c .0) (same s l c .1) ∙ ap (λ r. getD cell s 0 ∷ r) (ih l) ∙ sym (trail-more cell prev n s z)
 
--- ---- what the links tell: P x y where element x stands in the chain of cell y
+-- ---- what the links tell: W x, the cells in whose chains element x stands
 
-pub record Linked (t : ℕ) (cell prev last : List ℕ) (P : ℕ → ℕ → Bool) : Type 0 where
+pub record Linked (t : ℕ) (cell prev last : List ℕ) (W : ℕ → List ℕ) : Type 0 where
   pub cells-long : length cell ≡ 12001
   pub prev-long : length prev ≡ 12001
   pub last-long : length last ≡ 2001
   pub falls : (s : ℕ) → 1 ≤ s → s ≤ t → getD prev s 0 < s
   pub within : (x : ℕ) → getD last x 0 ≤ t
-  pub told : (x y : ℕ) → x ≤ 2000 → isIn y (trail cell prev t (getD last x 0)) ≡ P x y
+  pub told : (x : ℕ) → x ≤ 2000 → trail cell prev t (getD last x 0) ≡ W x
 
-module _ (t : ℕ) (cell prev last : List ℕ) (P : ℕ → ℕ → Bool) (K : Linked t cell prev last P) (room : t < 12000) (c g : ℕ) (small : g ≤ 2000) where
+module _ (t : ℕ) (cell prev last : List ℕ) (W : ℕ → List ℕ) (K : Linked t cell prev last W) (room : t < 12000) (c g : ℕ) (small : g ≤ 2000) where
   abbrev cell′ : List ℕ
   cell′ = set cell (t + 1) c
 
@@ -93,15 +93,14 @@ module _ (t : ℕ) (cell prev last : List ℕ) (P : ℕ → ℕ → Bool) (K : L
       ∙ ap₂ (λ x y. x ∷ trail cell′ prev′ t y) new-cell new-prev
       ∙ ap (λ r. c ∷ r) (old-trail t (getD last g 0) (K .within g) (K .within g))
 
-  linked-one : Linked (t + 1) cell′ prev′ last′ (λ x y. (eqb x g && eqb y c) || P x y)
-  unfolding isIn
+  linked-one : Linked (t + 1) cell′ prev′ last′ (λ x. cond (eqb x g) (c ∷ W x) (W x))
   linked-one = record {
     cells-long = length-set cell (t + 1) c ∙ K .cells-long;
     prev-long = length-set prev (t + 1) (getD last g 0) ∙ K .prev-long;
     last-long = length-set last g (t + 1) ∙ K .last-long;
     falls = λ s l h. fall s l h (eqb s (t + 1)) refl;
     within = λ x. bound x (eqb x g) refl;
-    told = λ x y h. tell x y h (eqb x g) refl;
+    told = λ x h. tell x h (eqb x g) refl;
   }
     where
       fall : (s : ℕ) → 1 ≤ s → s ≤ t + 1 → (b : Bool) → eqb s (t + 1) ≡ b → getD prev′ s 0 < s
@@ -118,67 +117,59 @@ module _ (t : ℕ) (cell prev last : List ℕ) (P : ℕ → ℕ → Bool) (K : L
       bound x true e = omega (arith, ap (λ y. getD last′ y 0) (eqb-true x g e), last-here)
       bound x false e = omega (arith, last-there x (eqb-false x g e), K .within x)
 
-      tell : (x y : ℕ) → x ≤ 2000 → (b : Bool) → eqb x g ≡ b → isIn y (trail cell′ prev′ (t + 1) (getD last′ x 0)) ≡ (b && eqb y c) || P x y
-      tell x y h true e =
+      tell : (x : ℕ) → x ≤ 2000 → (b : Bool) → eqb x g ≡ b → trail cell′ prev′ (t + 1) (getD last′ x 0) ≡ cond b (c ∷ W x) (W x)
+      tell x h true e =
           let z : x ≡ g = eqb-true x g e in
-          ap (λ s. isIn y (trail cell′ prev′ (t + 1) s)) (ap (λ w. getD last′ w 0) z ∙ last-here)
-          ∙ ap (isIn y) new-trail
-          ∙ ap (λ r. eqb y c || r) (K .told g y small ∙ ap (λ w. P w y) (sym z))
-      tell x y h false e =
-          let k : getD last′ x 0 ≡ getD last x 0 = last-there x (eqb-false x g e) in
-          ap (λ s. isIn y (trail cell′ prev′ (t + 1) s)) k
-          ∙ ap (isIn y) (old-trail (t + 1) (getD last x 0) (omega (arith, K .within x)) (K .within x))
-          ∙ K .told x y h
+          ap (λ s. trail cell′ prev′ (t + 1) s) (ap (λ w. getD last′ w 0) z ∙ last-here) ∙ new-trail ∙ ap (λ r. c ∷ r) (K .told g small ∙ ap W (sym z))
+      tell x h false e =
+          ap (λ s. trail cell′ prev′ (t + 1) s) (last-there x (eqb-false x g e))
+          ∙ old-trail (t + 1) (getD last x 0) (omega (arith, K .within x)) (K .within x)
+          ∙ K .told x h
 
-abbrev pub LinkedAs : Links → (ℕ → ℕ → Bool) → Type 0
-LinkedAs (links t cell prev last) P = Linked t cell prev last P
+abbrev pub LinkedAs : Links → (ℕ → List ℕ) → Type 0
+LinkedAs (links t cell prev last) W = Linked t cell prev last W
 
--- where P and Q agree
-linked-as : (L : Links) (P Q : ℕ → ℕ → Bool) → ((x y : ℕ) → P x y ≡ Q x y) → LinkedAs L P → LinkedAs L Q
-linked-as (links t cell prev last) P Q f K = record {
+-- where U and W agree
+linked-as : (L : Links) (U W : ℕ → List ℕ) → ((x : ℕ) → U x ≡ W x) → LinkedAs L U → LinkedAs L W
+linked-as (links t cell prev last) U W f K = record {
   cells-long = K .cells-long;
   prev-long = K .prev-long;
   last-long = K .last-long;
   falls = K .falls;
   within = K .within;
-  told = λ x y h. K .told x y h ∙ f x y;
+  told = λ x h. K .told x h ∙ f x;
 }
 
 -- ---- a chain, and the chains of all cells
 
-spread : (a b c p : Bool) → (a && c) || ((b && c) || p) ≡ ((b || a) && c) || p
-spread true true true p = refl
-spread true true false p = refl
-spread true false true p = refl
-spread true false false p = refl
-spread false true true p = refl
-spread false true false p = refl
-spread false false c p = refl
-
-linked-all : (c : ℕ) (L : Links) (P : ℕ → ℕ → Bool) (gs : List ℕ) → LinkedAs L P → entries L + length gs ≤ 12000 → All (λ g. g ≤ 2000) gs
-    → LinkedAs (linkAll c L gs) (λ x y. (isIn x gs && eqb y c) || P x y)
-unfolding linkAll link isIn
-linked-all c (links t cell prev last) P [] K room a = K
-linked-all c (links t cell prev last) P (g ∷ gs) K room a =
-    linked-as (linkAll c (link c g (links t cell prev last)) gs) _ _ (λ x y. spread (isIn x gs) (eqb x g) (eqb y c) (P x y))
-    (linked-all c (link c g (links t cell prev last)) _ gs (linked-one t cell prev last P K (omega arith) c g (a .0)) (omega arith) (a .1))
-
--- element x stands in the chain of cell y, of the n cells from `first` on
-unfoldable pub pairs : Bytes → ℕ → ℕ → ℕ → ℕ → Bool
-pairs m first n x y = some first n (λ c. isIn x (chain m c) && eqb y c)
+-- a chain that names no element twice
+linked-all : (c : ℕ) (L : Links) (W : ℕ → List ℕ) (gs : List ℕ) → LinkedAs L W → entries L + length gs ≤ 12000 → All (λ g. g ≤ 2000) gs → repeats gs ≡ false
+    → LinkedAs (linkAll c L gs) (λ x. cond (isIn x gs) (c ∷ W x) (W x))
+unfolding linkAll link isIn repeats
+linked-all c (links t cell prev last) W [] K room a once = K
+linked-all c (links t cell prev last) W (g ∷ gs) K room a once =
+    let o = or-false (isIn g gs) (repeats gs) once in
+    linked-as (linkAll c (link c g (links t cell prev last)) gs) _ _ (λ x. join x (o .0) (eqb x g) refl (isIn x gs) refl)
+    (linked-all c (link c g (links t cell prev last)) _ gs (linked-one t cell prev last W K (omega arith) c g (a .0)) (omega arith) (a .1) (o .1))
+  where
+    join : (x : ℕ) → isIn g gs ≡ false → (p : Bool) → eqb x g ≡ p → (q : Bool) → isIn x gs ≡ q
+        → cond q (c ∷ cond p (c ∷ W x) (W x)) (cond p (c ∷ W x) (W x)) ≡ cond (p || q) (c ∷ W x) (W x)
+    join x out true e true f = absurd (not-both (isIn x gs) f (ap (λ y. isIn y gs) (eqb-true x g e) ∙ out))
+    join x out true e false f = refl
+    join x out false e q f = refl
 
 abbrev pub empty : Links
 empty = links 0 (replicate 12001 0) (replicate 12001 0) (replicate 2001 0)
 
-linked-none : (P : ℕ → ℕ → Bool) → ((x y : ℕ) → P x y ≡ false) → LinkedAs empty P
-unfolding trail isIn
-linked-none P f = record {
+linked-none : LinkedAs empty (λ x. [])
+unfolding trail
+linked-none = record {
   cells-long = length-replicate {A = ℕ} 12001 0;
   prev-long = length-replicate {A = ℕ} 12001 0;
   last-long = length-replicate {A = ℕ} 2001 0;
   falls = λ s l h. let z : ⊥ = omega arith in absurd z;
   within = λ x. omega (arith, zeros-at 2001 x);
-  told = λ x y h. sym (f x y);
+  told = λ x h. refl;
 }
 
 pub count-cells : (m : Bytes) (first n : ℕ) → entries (linkCells m first n empty) ≡ length (blocks first n (chain m))
@@ -189,15 +180,25 @@ count-cells m first (suc n) =
     ∙ ap (λ x. x + length (chain m (first + n))) (count-cells m first n)
     ∙ sym (length-append (blocks first n (chain m)) (chain m (first + n)))
 
-pub linked-cells : (m : Bytes) (first n : ℕ) → length (blocks first n (chain m)) ≤ 12000 → ((j : ℕ) → j < n → All (λ g. g ≤ 2000) (chain m (first + j)))
-    → LinkedAs (linkCells m first n empty) (pairs m first n)
-unfolding linkCells pairs some
-linked-cells m first zero room a = linked-none _ (λ x y. refl)
+pub linked-cells : (m : Bytes) (first n : ℕ) → length (blocks first n (chain m)) ≤ 12000
+    → ((j : ℕ) → j < n → All (λ g. g ≤ 2000) (chain m (first + j)) × (repeats (chain m (first + j)) ≡ false)) → LinkedAs (linkCells m first n empty) (cellsWith m first n)
+unfolding linkCells cellsWith pickedDown
+linked-cells m first zero room a = linked-none
 linked-cells m first (suc n) room a =
-    linked-as (linkAll (first + n) (linkCells m first n empty) (chain m (first + n))) _ _ (λ x y. or-swap (isIn x (chain m (first + n)) && eqb y (first + n)) (pairs m first n x y))
-    (linked-all (first + n) (linkCells m first n empty) (pairs m first n) (chain m (first + n))
+    linked-all (first + n) (linkCells m first n empty) (cellsWith m first n) (chain m (first + n))
     (linked-cells m first n (omega (arith, split)) (λ j h. a j (omega arith)))
-    (omega (arith, count-cells m first n, split)) (a n (omega arith)))
+    (omega (arith, count-cells m first n, split)) (a n (omega arith) .0) (a n (omega arith) .1)
   where
     split : length (blocks first (suc n) (chain m)) ≡ length (blocks first n (chain m)) + length (chain m (first + n))
     split = unfold blocks in length-append (blocks first n (chain m)) (chain m (first + n))
+
+-- and so the trail of x has y exactly if y is one of the cells and x stands in its chain
+pub cells-with : (m : Bytes) (first n x y : ℕ) → isIn y (cellsWith m first n x) ≡ some first n (λ c. isIn x (chain m c) && eqb y c)
+unfolding cellsWith pickedDown some isIn
+cells-with m first zero x y = refl
+cells-with m first (suc n) x y = go (isIn x (chain m (first + n))) (cells-with m first n x y)
+  where
+    go : (b : Bool) → isIn y (cellsWith m first n x) ≡ some first n (λ c. isIn x (chain m c) && eqb y c)
+        → isIn y (cond b ((first + n) ∷ cellsWith m first n x) (cellsWith m first n x)) ≡ some first n (λ c. isIn x (chain m c) && eqb y c) || (b && eqb y (first + n))
+    go true ih = ap (λ r. eqb y (first + n) || r) ih ∙ or-swap (eqb y (first + n)) (some first n (λ c. isIn x (chain m c) && eqb y c))
+    go false ih = ih ∙ sym (or-nothing (some first n (λ c. isIn x (chain m c) && eqb y c)))

@@ -14,17 +14,16 @@ use Rattle.vocabulary.specs.Lists.{isIn, All}
 use Rattle.vocabulary.specs.ListLaws.{and-true, and-intro, same-test, All-map}
 use Rattle.mesh.specs.Mesh.{top, elements, firstCell, cellCount, dimension, elementIn, records, chain, allRecords}
 use Rattle.mesh.specs.Walks.{bad10, steps}
-use Rattle.mesh.specs.Accepted.{Accepted}
+use Rattle.mesh.specs.Accepted.{Accepted, Element}
 use Rattle.mesh.proofs.DimensionLaws.{dimension-le}
 use Rattle.mesh.specs.WalkLaws.{below-grows}
-use Rattle.links.specs.Links.{links, linkCells}
+use Rattle.links.specs.Links.{links, linkCells, cellsWith}
 use Rattle.walks.specs.Walking.{isCell, Ground}
-use Rattle.links.proofs.TrailLaws.{Linked, LinkedAs, pairs, empty, linked-cells, trail-same, count-cells}
+use Rattle.links.proofs.TrailLaws.{Linked, LinkedAs, empty, linked-cells, cells-with, trail-same, count-cells}
 use Rattle.links.proofs.LinkLaws.{entries}
 
-pairs-told : (m : Bytes) (first n x y : ℕ) → pairs m first n x y ≡ (leb first y && ltb y (first + n)) && isIn x (chain m y)
-unfolding pairs
-pairs-told m first n x y = same-test _ _ left right
+cells-told : (m : Bytes) (first n x y : ℕ) → isIn y (cellsWith m first n x) ≡ (leb first y && ltb y (first + n)) && isIn x (chain m y)
+cells-told m first n x y = cells-with m first n x y ∙ same-test _ _ left right
   where
     left : some first n (λ c. isIn x (chain m c) && eqb y c) ≡ true → (leb first y && ltb y (first + n)) && isIn x (chain m y) ≡ true
     left e =
@@ -50,21 +49,24 @@ module _ (m : Bytes) (A : Accepted m) (first cells : ℕ) (fe : first ≡ firstC
       let f : length (blocks (1 + (first - 1)) cells (records m)) ≡ length (blocks first cells (records m)) = ap (λ x. length (blocks x cells (records m))) q in
       omega (arith, A .records-few, A .sizes .r-high)
 
+  element : (j : ℕ) → j < cells → Element m (first + j)
+  element j h = record { low = omega (arith, fe); high = omega (arith, fe, ce, A .cells-in) }
+
   small : (j : ℕ) → j < cells → All (λ g. g ≤ 2000) (chain m (first + j))
   small j h =
       All-map (chain m (first + j)) (λ g w. omega (arith, w .1, below-grows m (dimension m (first + j)) 4 (omega (arith, dimension-le m (first + j), A .sizes .d-high)), A .sizes .n-high))
-      (A .chain-lower (first + j) (record { low = omega (arith, fe); high = omega (arith, fe, ce, A .cells-in) }))
+      (A .chain-lower (first + j) (element j h))
 
   -- the entries of all cells' chains
-  turned : LinkedAs (linkCells m first cells empty) (pairs m first cells)
-  turned = linked-cells m first cells room small
+  turned : LinkedAs (linkCells m first cells empty) (cellsWith m first cells)
+  turned = linked-cells m first cells room (λ j h. (small j h, A .chain-once (first + j) (element j h)))
 
   few : entries (linkCells m first cells empty) ≤ 12000
   few = omega (arith, count-cells m first cells, room)
 
   module _ (st : Bytes) (bad : bad10 (top m) st ≡ false) (s : ℕ) (cell prev last : List ℕ) (e : links s cell prev last ≡ linkCells m first cells empty) where
-    K : Linked s cell prev last (pairs m first cells)
-    K = subst (λ L. LinkedAs L (pairs m first cells)) (sym e) turned
+    K : Linked s cell prev last (cellsWith m first cells)
+    K = subst (λ L. LinkedAs L (cellsWith m first cells)) (sym e) turned
 
     short : s ≤ 12000
     short = subst (λ L. entries L ≤ 12000) (sym e) few
@@ -75,9 +77,8 @@ module _ (m : Bytes) (A : Accepted m) (first cells : ℕ) (fe : first ≡ firstC
       mesh = A;
       stencil = bad;
       told = λ x y h.
-          ap (isIn y) (trail-same cell prev cell prev s (K .falls) (λ i a b. (refl, refl)) s 12001 (getD last x 0) (K .within x) (omega (arith, K .within x, short)) (K .within x))
-          ∙ K .told x y h
-          ∙ pairs-told m first cells x y
+          ap (isIn y) (trail-same cell prev cell prev s (K .falls) (λ i a b. (refl, refl)) s 12001 (getD last x 0) (K .within x) (omega (arith, K .within x, short)) (K .within x) ∙ K .told x h)
+          ∙ cells-told m first cells x y
           ∙ ap₂ (λ a b. (leb a y && ltb y (a + b)) && isIn x (chain m y)) fe ce;
     }
 
