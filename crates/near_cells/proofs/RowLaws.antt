@@ -176,7 +176,7 @@ rows-start m a w near K = record { rows = record { each = λ q h. let o : ⊥ = 
 
 module _ (m : Bytes) (a q w s c : ℕ) (from near near′ : List ℕ) (F : Filled m a near w q) (R : NearRow m a c from 1 s) (ce : c ≡ firstCell m + q) (few : s - 1 ≤ w)
     (M : (take (s - 1) (drop (q * w) near′) ≡ take (s - 1) (drop 1 from)) × (length near′ ≡ length near) × (take (q * w) near′ ≡ take (q * w) near)
-        × (drop (q * w + (s - 1)) near′ ≡ drop (q * w + (s - 1)) near)) where
+    × (drop (q * w + (s - 1)) near′ ≡ drop (q * w + (s - 1)) near)) where
   put : (j : ℕ) → j < s - 1 → getD near′ (q * w + j) 0 ≡ getD from (1 + j) 0
   put j l =
       sym (getD-drop (q * w) near′ j 0) ∙ sym (getD-take (s - 1) (drop (q * w) near′) j 0 l) ∙ ap (λ (l : List ℕ). getD l j 0) (M .0)

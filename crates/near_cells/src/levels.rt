@@ -95,16 +95,7 @@ pub fn walk_near(
     let mut old = 0;
     let mut met = reach_cell(0, c, layers, found, 0);
     for j in 0..n / 2 {
-        let s = reach_level(
-            near,
-            w,
-            first,
-            (2 * j + 2) as u16,
-            old,
-            met,
-            layers,
-            found,
-        );
+        let s = reach_level(near, w, first, (2 * j + 2) as u16, old, met, layers, found);
         old = met;
         met = s;
     }

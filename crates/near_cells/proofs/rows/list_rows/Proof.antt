@@ -16,7 +16,7 @@ use Rattle.near_cells.proofs.rows.list_rows.Tie as tie
 abbrev Inv-loop : tie.InvT-loop
 Inv-loop m sizes st a w cell prev last marks₀ from₀ found₀ near₀ q₀ q-end marks from found near q =
     (q ≤ sizes .cells) × (q-end ≡ sizes .cells) × Under (2 * q + 1) marks × (length marks ≡ length marks₀) × (length from ≡ length from₀) × (length found ≡ length found₀) ×
-        (length near ≡ length near₀) × Filled m a near w q
+    (length near ≡ length near₀) × Filled m a near w q
 
 abbrev μ-loop : tie.MeasureT-loop
 μ-loop m sizes st a w cell prev last marks₀ from₀ found₀ near₀ q₀ q-end marks from found near q = sizes .cells - q

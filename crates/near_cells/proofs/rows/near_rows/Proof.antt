@@ -51,9 +51,9 @@ near-rows-spec =
     let at-if1 = at-byte-at .before .before in
     let start = at-if1 .before .before .before .before .before .before .before .before .before .before in
     ready-rows _ _ _ _ _ _ _ _ _ _ _ _ (start .pre .0) (start .pre .2) (at-if1 .if1 .left) (at-byte-at .byte-at .ensures)
-        (some-width _ _ _ (start .pre .0 .mesh) (start .pre .1 .cells-is) (at-lesser .lesser .ensures .2))
-        (rows-fit _ _ _ (start .pre .0 .mesh) (start .pre .1 .cells-is) (at-lesser .lesser .ensures .1)) (at-list-rows .list-rows .ensures .0 (at-if3 .if3 .taken))
-        (at-list-rows .list-rows .ensures .1) (at-list-rows .list-rows .ensures .3) (at-list-rows .list-rows .ensures .4) (at-clear .clear .ensures))
+    (some-width _ _ _ (start .pre .0 .mesh) (start .pre .1 .cells-is) (at-lesser .lesser .ensures .2))
+    (rows-fit _ _ _ (start .pre .0 .mesh) (start .pre .1 .cells-is) (at-lesser .lesser .ensures .1)) (at-list-rows .list-rows .ensures .0 (at-if3 .if3 .taken))
+    (at-list-rows .list-rows .ensures .1) (at-list-rows .list-rows .ensures .3) (at-list-rows .list-rows .ensures .4) (at-clear .clear .ensures))
     (λ c κs.
     let at-list-rows = c .before .before .before .before .before .before .before .before .before .before in
     at-list-rows .list-rows .ensures .4)
