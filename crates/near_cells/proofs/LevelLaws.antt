@@ -1,12 +1,12 @@
 -- Cells listed one after another. Assumes nothing.
-use mathlib.Core.Path.{_≡_, refl, sym, ap, ap₂, _∙_, subst}
-use mathlib.Core.Bool.{Bool, true, false, not, _||_, _&&_, cond}
+use mathlib.Core.Path.{_≡_, refl, sym, ap, _∙_}
+use mathlib.Core.Bool.{Bool, true, false, not, _||_, _&&_}
 use mathlib.Core.List.{List, [], _∷_, _++_}
 use Prim.Native.Nat.{ℕ, _+_, _-_, _*_, _≤_, _<_}
 use native.Mathlib.Numerals.{add-one}
 use native.Mathlib.Omega.{arith}
 use lib.Dec.{eqb, ltb}
-use lib.ListN.{length, getD, set, take, length-set, length-take, length-append}
+use lib.ListN.{length, getD, set, take, length-set, length-append}
 use lib.Seq.{getD-set-same, getD-set-other, getD-take, take-suc-set}
 use borrow.Author.Tests.{eqb-true, eqb-false, eq-eqb, ne-eqb, ltb-true, ltb-false}
 use Rattle.vocabulary.specs.Ranges.{some}
@@ -15,7 +15,7 @@ use Rattle.vocabulary.specs.Lists.{isIn, repeats, All}
 use Rattle.vocabulary.specs.ListLaws.{and-true, not-both, same-test, or-nothing, or-always, once-few, All-append, isIn-append, repeats-snoc}
 use Rattle.visits.specs.Visits.{Grown}
 use Rattle.visits.proofs.VisitLaws.{grown-none, grown-new, grown-both}
-use Rattle.walks.specs.Walking.{noted, Noted}
+use Rattle.walks.specs.Walking.{noted}
 use Rattle.walks.proofs.NoteLaws.{note-old, note-new, twice}
 use Rattle.near_cells.specs.NearCells.{names, inRow, Listed, Spread, RowFits, fromCell, fromLevel, LevelFits}
 
@@ -60,7 +60,9 @@ module _ (k y n x : ℕ) (layers found : List ℕ) (L : Listed layers found n) (
 
         mark : (z : ℕ) (b : Bool) → eqb z y ≡ b → not (eqb (getD layers′ z 0) 0) ≡ isIn z (take n found) || (b || false)
         mark z true q =
-            ap not (ne-eqb (getD layers′ z 0) 0 (λ w. let o : ⊥ = omega (arith, w, at z, ap (λ i. getD (set layers y (k + 1)) i 0) (eqb-true z y q), getD-set-same layers y (k + 1) 0 (omega (arith, L .size))) in o))
+            let new : getD layers′ z 0 ≡ k + 1 =
+            at z ∙ ap (λ i. getD (set layers y (k + 1)) i 0) (eqb-true z y q) ∙ getD-set-same layers y (k + 1) 0 (omega (arith, L .size)) in
+            ap not (ne-eqb (getD layers′ z 0) 0 (omega arith))
             ∙ sym (or-always (isIn z (take n found)))
         mark z false q = ap (λ i. not (eqb i 0)) (at z ∙ getD-set-other layers y z (k + 1) 0 (eqb-false z y q)) ∙ L .marked z ∙ sym (or-nothing (isIn z (take n found)))
 

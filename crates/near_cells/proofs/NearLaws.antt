@@ -8,12 +8,12 @@ use native.Mathlib.Omega.{arith}
 use lib.Dec.{eqb, ltb}
 use lib.ListN.{length, getD, take, length-take}
 use lib.Seq.{getD-take}
-use borrow.Author.Tests.{eqb-true, eqb-false, eq-eqb, ne-eqb, ltb-true, ltb-false, not-true}
+use borrow.Author.Tests.{eqb-true, eqb-false, eq-eqb, ne-eqb, ltb-true, ltb-false}
 use Rattle.vocabulary.specs.Bytes.{Bytes, byteAt}
 use Rattle.vocabulary.specs.Ranges.{picked, some}
 use Rattle.vocabulary.specs.RangeLaws.{picked-some, some-in, some-witness}
 use Rattle.vocabulary.specs.Lists.{isIn, repeats, All, Zeros}
-use Rattle.vocabulary.specs.ListLaws.{and-true, and-intro, not-both, same-test, eqb-swap, isIn-at, at-isIn, at-all, All-intro, All-map}
+use Rattle.vocabulary.specs.ListLaws.{and-true, and-intro, not-both, same-test, eqb-swap, isIn-at, at-isIn, at-all, All-intro}
 use Rattle.mesh.specs.Mesh.{top, firstCell, cellCount}
 use Rattle.mesh.specs.Walks.{stepTo}
 use Rattle.mesh.specs.WalkLaws.{stencil-parts, stencil-even}
@@ -21,7 +21,7 @@ use Rattle.mesh.specs.Accepted.{Accepted, Cell}
 use Rattle.walks.specs.Walking.{walkedFrom, firstMark, layerMark, noted, Within, Widened}
 use Rattle.walks.proofs.StepLaws.{step-from, step-to}
 use Rattle.walks.proofs.WalkLaws.{walked-even, alike-places, layer-more, marked-by}
-use Rattle.near_cells.specs.NearCells.{nearTo, inRow, NearRow, NearRows, NearGround, Listed, Spread, RowFits, fromCell, fromLevel, LevelFits, Past, Level, Layered}
+use Rattle.near_cells.specs.NearCells.{nearTo, NearRow, NearGround, Listed, Spread, RowFits, fromCell, fromLevel, LevelFits, Level, Layered}
 
 -- ---- what has a layer was walked to
 
@@ -159,7 +159,8 @@ module _ (m st : Bytes) (near : List ℕ) (w : ℕ) (G : NearGround m st near w)
                 → some old (met - old) (λ i. fromCell near w first (getD found i 0) z) ≡ true
             go {x} t l q i n true p =
                 let g : t < old = ltb-true t old p in
-                let P = L .past x (at-isIn x (take old found) (record { place = t; place-lt = omega (arith, length-take old found, L .rising, L .listed .few, L .listed .room); place-is = getD-take old found t 0 g ∙ q })) in
+                let f : t < length (take old found) = omega (arith, length-take old found, L .rising, L .listed .few, L .listed .room) in
+                let P = L .past x (at-isIn x (take old found) (record { place = t; place-lt = f; place-is = getD-take old found t 0 g ∙ q })) in
                 no-walk (suc (suc (P .steps))) (omega (arith, P .few)) (omega (arith, P .even)) (near-walked (P .steps) x z (P .even) (omega (arith, P .few)) (P .ends) n)
             go {x} t l q i n false p =
                 let g : old ≤ t = ltb-false t old p in

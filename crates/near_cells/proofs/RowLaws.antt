@@ -1,6 +1,6 @@
 -- The rows of near cells, as the code lists them. Assumes nothing.
-use mathlib.Core.Path.{_≡_, refl, sym, ap, ap₂, _∙_, subst, subst₂}
-use mathlib.Core.Bool.{Bool, true, false, not, _||_, _&&_}
+use mathlib.Core.Path.{_≡_, refl, sym, ap, _∙_, subst}
+use mathlib.Core.Bool.{Bool, true, false, not, _||_}
 use mathlib.Core.Logic.{⊎-elim}
 use mathlib.Core.List.{List, [], _∷_}
 use Prim.Native.Nat.{ℕ, zero, suc, _+_, _-_, _*_, _/_, _≤_, _<_}
@@ -13,10 +13,10 @@ use borrow.Author.Tests.{eqb-true, eqb-false, eq-eqb, ne-eqb, ltb-true, ltb-fals
 use Rattle.vocabulary.specs.Bytes.{Bytes, byteAt}
 use Rattle.vocabulary.specs.Ranges.{some}
 use Rattle.vocabulary.specs.RangeLaws.{some-in, some-has, some-witness}
-use Rattle.vocabulary.specs.Lists.{isIn, All, Zeros}
+use Rattle.vocabulary.specs.Lists.{isIn, Zeros}
 use Rattle.vocabulary.specs.ListLaws.{and-true, and-intro, not-both, or-true, or-right, or-nothing, same-test, isIn-at, at-isIn, at-all, All-intro}
 use Rattle.mesh.specs.Meet.{Under}
-use Rattle.mesh.specs.Mesh.{top, counted, below, firstCell, cellCount}
+use Rattle.mesh.specs.Mesh.{top, firstCell, cellCount}
 use Rattle.mesh.specs.Walks.{stepTo}
 use Rattle.mesh.specs.WalkLaws.{below-grows, stencil-odd}
 use Rattle.mesh.specs.Accepted.{Accepted, Cell}
@@ -26,16 +26,13 @@ use Rattle.walks.specs.Walking.{Ground, Lowers, stepped, orAmong, throughOne}
 use Rattle.walks.proofs.StepLaws.{step-from}
 use Rattle.walks.proofs.WalkLaws.{step-like}
 use Rattle.walks.proofs.NoteLaws.{begin}
-use Rattle.near_cells.specs.NearCells.{nearTo, names, inRow, NearRow, NearRows, Filled, NearGround, Ready}
+use Rattle.near_cells.specs.NearCells.{nearTo, names, inRow, NearRow, NearRows, Filled, Ready}
 
 -- ---- the row of one cell
 
 -- what was marked with v before lies under the next mark
 pub next-mark : (v n : ℕ) (marks found : List ℕ) → Gathered v marks found n → Under (v + 1) marks
 next-mark v n marks found G = record { size = G .size; each = λ y. omega (arith, G .top y) }
-
-pub twice-next : (v n : ℕ) (marks found : List ℕ) → Gathered (v + 1) marks found n → Under (v + 2) marks
-twice-next v n marks found G = record { size = G .size; each = λ y. omega (arith, G .top y) }
 
 pub begin-next : (v n c : ℕ) (marks found list after : List ℕ) → Gathered v marks found n → length list ≡ 2001 → after ≡ set list 0 c → Gathered (v + 1) marks after 0
 begin-next v n c marks found list after G r e = begin (v + 1) marks after (next-mark v n marks found G) (ap length e ∙ length-set list 0 c ∙ r)
@@ -251,16 +248,16 @@ clear-end list j r h K = record { size = r; each = λ i. go i (ltb i j) refl }
 
 -- ---- the width
 
-module _ (m : Bytes) (cells w : ℕ) (A : Accepted m) (e : cells ≡ cellCount m) where
-  pub some-cells : 1 ≤ cells
-  some-cells = omega (arith, A .some-counted (top m) (omega arith))
+pub some-cells : (m : Bytes) (cells : ℕ) → Accepted m → cells ≡ cellCount m → 1 ≤ cells
+some-cells m cells A e = omega (arith, A .some-counted (top m) (omega arith))
 
+module _ (m : Bytes) (cells w : ℕ) (A : Accepted m) (e : cells ≡ cellCount m) where
   pub rows-fit : w ≤ 2001 / cells → cellCount m * w ≤ 2001
   rows-fit h = subst (λ k. k * w ≤ 2001) e (le-trans (mul-le-mul-left cells h) (mul-div-le 2001 cells))
 
   pub some-width : ((x : ℕ) → x ≤ 12 → x ≤ 2001 / cells → x ≤ w) → w ≡ 0 → ⊥
   some-width most z =
-      let one : 1 ≤ 2001 / cells = le-div-iff-mul-le {k = cells} {x = 1} {y = 2001} some-cells .1 (omega (arith, A .cells-in, A .sizes .n-high)) in
+      let one : 1 ≤ 2001 / cells = le-div-iff-mul-le {k = cells} {x = 1} {y = 2001} (some-cells m cells A e) .1 (omega (arith, A .cells-in, A .sizes .n-high)) in
       let o : ⊥ = omega (arith, most 1 (omega arith) one) in o
 
 pub through : (m st : Bytes) (cell prev last : List ℕ) (a : ℕ) → Ground m st cell prev last → 2 ≤ length st → a ≡ byteAt st 1 → a < top m

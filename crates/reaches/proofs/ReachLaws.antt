@@ -7,8 +7,8 @@ use native.Mathlib.Nat.{zero-add}
 use native.Mathlib.Omega.{arith}
 use lib.Dec.{eqb, leb, ltb}
 use borrow.Author.Tests.{eqb-true, eqb-false, eq-eqb, ne-eqb, lt-ltb, leb-true, leb-false, ltb-true, ltb-false}
-use lib.Seq.{getD-set-same, getD-set-other, take-suc-set}
-use lib.ListN.{length, getD, set, take, length-append}
+use lib.Seq.{getD-set-same, getD-set-other}
+use lib.ListN.{length, getD, set, length-append}
 use Rattle.vocabulary.specs.Bytes.{Bytes, byteAt}
 use Rattle.vocabulary.specs.Ranges.{picked, blocks, total}
 use Rattle.vocabulary.specs.RangeLaws.{blocks-turn, total-grows, picked-cong, blocks-part}

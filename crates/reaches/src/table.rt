@@ -153,7 +153,8 @@ pub fn reach_all(
     table: &mut [u8],
     ends: &mut [u16],
 ) -> usize
-    requires { ⌜ Ground (now m) (now st) (now cell) (now prev) (now last) × (e ≡ elements (now m)) × (r ≡ recordCount (now m)) × (first ≡ firstCell (now m)) × (cells ≡ cellCount (now m)) × (n + 1 ≡ length (now st)) × (n ≤ 8) × (length (now table) ≡ 32000) × (length (now ends) ≡ 2001) ⌝ }
+    requires { ⌜ Ground (now m) (now st) (now cell) (now prev) (now last) × (e ≡ elements (now m)) × (r ≡ recordCount (now m)) × (first ≡ firstCell (now m))
+        × (cells ≡ cellCount (now m)) × (n + 1 ≡ length (now st)) × (n ≤ 8) × (length (now table) ≡ 32000) × (length (now ends) ≡ 2001) ⌝ }
     ensures { λ s. ⌜ Tabled (now (m .entry)) (now (st .entry)) (now (table .entry)) (now (table .exit)) (now (ends .exit)) s ⌝ }
 {
     let single = through_one(st);

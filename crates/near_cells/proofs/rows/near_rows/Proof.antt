@@ -19,7 +19,7 @@ near-rows-spec =
     (λ c. search needs)
     (λ c.
     let start = c .before .before .before .before .before .before .before .before .before .before .before .before .before in
-    some-cells _ _ 0 (start .pre .0 .mesh) (start .pre .1 .cells-is))
+    some-cells _ _ (start .pre .0 .mesh) (start .pre .1 .cells-is))
     (λ c κs. search needs)
     (λ c κs.
     let at-lesser = c .before .before .before .before in

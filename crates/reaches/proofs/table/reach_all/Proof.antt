@@ -47,7 +47,8 @@ reach-all-spec =
     ))
     (λ c κs. search needs)
     (λ c.
-    let start = c .before .before .before .before .before .before .before .before .before .before .before .before .before .before .before .before .before .before .before .before .before in
+    let midway = c .before .before .before .before .before .before .before .before .before .before in
+    let start = midway .before .before .before .before .before .before .before .before .before .before .before in
     omega (arith, first-small _ _ (start .pre .0 .mesh) (start .pre .3), cells-few _ _ (start .pre .0 .mesh) (start .pre .4)))
     (λ c.
     let at-put-number-at = c .before .before in
@@ -87,27 +88,32 @@ reach-all-spec =
     (λ c. search needs)
     (λ c.
     let at-loop = c .before .before .before .before .before .before .before .before .before .before .before .before .before .before in
-    let start = at-loop .before .before .before .before .before .before .before .before .before .before .before .before .before .before .before .before .before .before .before .before .before .before in
+    let midway = at-loop .before .before .before .before .before .before .before .before .before .before .before in
+    let start = midway .before .before .before .before .before .before .before .before .before .before .before in
     at-loop .loop .inv .7 ∙ sym (start .pre .8))
     (λ c.
     let at-reach-of = c .before .before .before .before .before .before .before in
     let at-loop-test = at-reach-of .before .before .before .before .before .before in
     let at-loop = at-loop-test .before in
-    let start = at-loop .before .before .before .before .before .before .before .before .before .before .before .before .before .before .before .before .before .before .before .before .before .before in
+    let midway = at-loop .before .before .before .before .before .before .before .before .before .before .before in
+    let start = midway .before .before .before .before .before .before .before .before .before .before .before in
     table-over _ _ _ _ (start .pre .3) (at-loop .loop .inv .0) _ _ _ _ _ _ _ (start .pre .7) (start .pre .4) (at-loop-test .loop-test .taken) (at-loop .loop .inv .8)
     (at-reach-of .reach-of .ensures .0) (c .if1 .taken))
     (λ c.
-    let start = c .before .before .before .before .before .before .before .before .before .before .before .before .before .before .before .before .before .before .before .before .before .before .before .before .before .before .before .before .before .before .before .before .before .before .before .before in
+    let midway = c .before .before .before .before .before .before .before .before .before .before .before .before .before .before .before .before .before .before in
+    let start = midway .before .before .before .before .before .before .before .before .before .before .before .before .before .before .before .before .before .before in
     omega (arith, start .pre .6))
     (λ c.
     let at-loop-test = c .before .before .before .before .before .before .before .before .before .before .before .before .before in
     let at-loop = at-loop-test .before in
-    let start = at-loop .before .before .before .before .before .before .before .before .before .before .before .before .before .before .before .before .before .before .before .before .before .before in
+    let midway = at-loop .before .before .before .before .before .before .before .before .before .before .before in
+    let start = midway .before .before .before .before .before .before .before .before .before .before .before in
     omega (arith, at-loop .loop .inv .4, at-loop-test .loop-test .taken, cells-few _ _ (start .pre .0 .mesh) (start .pre .4), start .pre .6))
     (λ c.
     let at-loop-test = c .before .before .before .before .before .before .before .before .before .before .before .before .before .before in
     let at-loop = at-loop-test .before in
-    let start = at-loop .before .before .before .before .before .before .before .before .before .before .before .before .before .before .before .before .before .before .before .before .before .before in
+    let midway = at-loop .before .before .before .before .before .before .before .before .before .before .before in
+    let start = midway .before .before .before .before .before .before .before .before .before .before .before in
     omega (arith, at-loop-test .loop-test .taken, at-loop .loop .inv .2, first-small _ _ (start .pre .0 .mesh) (start .pre .3), cells-few _ _ (start .pre .0 .mesh) (start .pre .4)))
     (λ c.
     let at-loop = c .before .before .before .before .before .before .before .before .before .before .before .before .before .before .before in
@@ -119,7 +125,8 @@ reach-all-spec =
     (λ c.
     let at-loop-test = c .before .before .before .before .before .before .before .before .before .before .before .before .before .before .before .before .before in
     let at-loop = at-loop-test .before in
-    let start = at-loop .before .before .before .before .before .before .before .before .before .before .before .before .before .before .before .before .before .before .before .before .before .before in
+    let midway = at-loop .before .before .before .before .before .before .before .before .before .before .before in
+    let start = midway .before .before .before .before .before .before .before .before .before .before .before in
     omega (arith, at-loop-test .loop-test .taken, at-loop .loop .inv .2, first-small _ _ (start .pre .0 .mesh) (start .pre .3), cells-few _ _ (start .pre .0 .mesh) (start .pre .4)))
     (λ c.
     let at-loop-test = c .before .before .before .before .before .before .before .before .before .before .before .before .before .before .before .before .before in
@@ -130,7 +137,8 @@ reach-all-spec =
     let at-reach-of = at-if1 .before .before .before .before .before .before .before in
     let at-loop-test = at-reach-of .before .before .before .before .before .before in
     let at-loop = at-loop-test .before in
-    let start = at-loop .before .before .before .before .before .before .before .before .before .before .before .before .before .before .before .before .before .before .before .before .before .before in (
+    let midway = at-loop .before .before .before .before .before .before .before .before .before .before .before in
+    let start = midway .before .before .before .before .before .before .before .before .before .before .before in (
       search needs,
       search needs,
       search needs,
