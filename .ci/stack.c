@@ -13,7 +13,7 @@
 
 enum { STACK = 1 << 20, PAINT = 0xa5, MOST_CELLS = 880, MOST_PARTS = 16, ROOM = 1 << 16 };
 
-/* One split of a row of cells, and what is made of it. The stencil walks n / 2 cells far. */
+/* One split of a row of cells or of a star, and what is made of it. The stencil walks n / 2 cells far. */
 static uint8_t mesh[2 * (6 + 2 * MOST_CELLS + 1 + 4 * MOST_CELLS)], owners[MOST_CELLS], stencil[9], weights[10];
 static uint8_t field[4 * MOST_CELLS], out[ROOM], states[MOST_PARTS][ROOM], message[ROOM];
 static size_t mesh_len, cells, steps, message_len;
@@ -25,8 +25,11 @@ static void put_word(uint8_t *at, size_t v)
     at[1] = (uint8_t)v;
 }
 
-/* Cell c of the row has the points c and c + 1; record 2c + 1 is the first of its chain. */
-static void make_row(size_t count, size_t n, uint32_t p)
+/*
+ * Cell c has the points c and c + 1 of a row, or the first point of all and c + 1 of a star; record 2c + 1 is the first of its chain. A row is walked
+ * by its rows of near cells, a star step by step.
+ */
+static void make_cells(int star, size_t count, size_t n, uint32_t p)
 {
     size_t points = count + 1, elements = points + count;
     cells = count, steps = n, parts = p;
@@ -38,7 +41,7 @@ static void make_row(size_t count, size_t n, uint32_t p)
     for (size_t c = 0; c < count; c++) {
         uint8_t *record = mesh + 2 * (6 + elements) + 8 * c;
         put_word(mesh + 2 * (6 + points + c), 2 * c + 1);
-        put_word(record, c + 1);
+        put_word(record, star ? 1 : c + 1);
         put_word(record + 2, 2 * c + 2);
         put_word(record + 4, c + 2);
         owners[c] = (uint8_t)(1 + c * p / count);
@@ -135,14 +138,18 @@ static size_t depth(uint64_t (*call)(void))
 int main(void)
 {
     static const struct {
+        int star;
         size_t cells, steps;
         uint32_t parts;
-    } splits[] = {{5, 2, 2}, {5, 8, 2}, {300, 8, 1}, {300, 8, 16}, {MOST_CELLS, 8, 1}, {MOST_CELLS, 8, 2}, {MOST_CELLS, 8, 16}};
+    } splits[] = {
+        {0, 5, 2, 2}, {0, 5, 8, 2}, {0, 300, 8, 1}, {0, 300, 8, 16}, {0, MOST_CELLS, 8, 1}, {0, MOST_CELLS, 8, 2}, {0, MOST_CELLS, 8, 16},
+        {1, 80, 8, 1}, {1, 80, 8, 2},
+    };
     size_t deepest[CALLS] = {0};
     int failed = 0;
     for (size_t s = 0; s < sizeof splits / sizeof splits[0]; s++) {
-        make_row(splits[s].cells, splits[s].steps, splits[s].parts);
-        /* what part 2 sends to part 1 in round 0; each part of such a split has neighbours on either side only */
+        make_cells(splits[s].star, splits[s].cells, splits[s].steps, splits[s].parts);
+        /* what part 2 sends to part 1 in round 0; part 1 has no other neighbour, as long as a star has two parts */
         if (parts > 1) {
             if (jem_refusal(jem_start(mesh, mesh_len, parts, owners, cells, 2, stencil, steps + 1, RULE, states[1], ROOM)))
                 fail("part 2 was not started");

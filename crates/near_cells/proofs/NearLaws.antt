@@ -3,17 +3,17 @@ use mathlib.Core.Path.{_≡_, refl, sym, ap, ap₂, _∙_, subst}
 use mathlib.Core.Bool.{Bool, true, false, not, _||_, _&&_, cond}
 use mathlib.Core.List.{List, [], _∷_}
 use Prim.Native.Nat.{ℕ, suc, _+_, _-_, _*_, _/_, _%_, _≤_, _<_}
-use native.Mathlib.Nat.{zero-add}
+use native.Mathlib.Nat.{zero-add, mul-le-mul-right}
 use native.Mathlib.Omega.{arith}
 use lib.Dec.{eqb, ltb}
 use lib.ListN.{length, getD, take, length-take}
 use lib.Seq.{getD-take}
-use borrow.Author.Tests.{eqb-true, eqb-false, eq-eqb, ne-eqb, ltb-true, ltb-false, not-true}
+use borrow.Author.Tests.{eqb-true, eqb-false, eq-eqb, ne-eqb, ltb-true, ltb-false}
 use Rattle.vocabulary.specs.Bytes.{Bytes, byteAt}
 use Rattle.vocabulary.specs.Ranges.{picked, some}
 use Rattle.vocabulary.specs.RangeLaws.{picked-some, some-in, some-witness}
 use Rattle.vocabulary.specs.Lists.{isIn, repeats, All, Zeros}
-use Rattle.vocabulary.specs.ListLaws.{and-true, and-intro, not-both, same-test, eqb-swap, isIn-at, at-isIn, at-all, All-intro, All-map}
+use Rattle.vocabulary.specs.ListLaws.{and-true, and-intro, not-both, same-test, eqb-swap, isIn-at, at-isIn, at-all, All-intro}
 use Rattle.mesh.specs.Mesh.{top, firstCell, cellCount}
 use Rattle.mesh.specs.Walks.{stepTo}
 use Rattle.mesh.specs.WalkLaws.{stencil-parts, stencil-even}
@@ -21,7 +21,7 @@ use Rattle.mesh.specs.Accepted.{Accepted, Cell}
 use Rattle.walks.specs.Walking.{walkedFrom, firstMark, layerMark, noted, Within, Widened}
 use Rattle.walks.proofs.StepLaws.{step-from, step-to}
 use Rattle.walks.proofs.WalkLaws.{walked-even, alike-places, layer-more, marked-by}
-use Rattle.near_cells.specs.NearCells.{nearTo, inRow, NearRow, NearRows, NearGround, Listed, Spread, RowFits, fromCell, fromLevel, LevelFits, Past, Level, Layered}
+use Rattle.near_cells.specs.NearCells.{nearTo, NearRow, NearGround, Listed, Spread, RowFits, fromCell, fromLevel, LevelFits, Level, Layered}
 
 -- ---- what has a layer was walked to
 
@@ -65,7 +65,7 @@ module _ (m : Bytes) (a z : ℕ) (es : List ℕ) where
       let q : u .0 ≡ x = at-all (λ y. y ≡ x) (u .0) (x ∷ []) (refl, tt) (isIn-at (u .0) (x ∷ []) (u .1)) in
       step-to m (top m) z (stepTo m a es) (w .0) (step-to m a (w .0) es (u .0) (ap (λ y. isIn y es) q ∙ i) (u .2) (u .3) (u .4)) (w .2) (w .3) (w .4)
 
-module _ (m st : Bytes) (near ends : List ℕ) (G : NearGround m st near ends) (c : ℕ) (C : Cell m c) where
+module _ (m st : Bytes) (near : List ℕ) (w : ℕ) (G : NearGround m st near w) (c : ℕ) (C : Cell m c) where
   abbrev walks : ℕ → List ℕ
   walks k = walkedFrom m st (c ∷ []) k
 
@@ -83,14 +83,17 @@ module _ (m st : Bytes) (near ends : List ℕ) (G : NearGround m st near ends) (
   near-walked k x z o h i e = ap (isIn z) (two-more k o h) ∙ two-to m (byteAt st 1) z (walks k) x i e
 
   module _ (first : ℕ) (fe : first ≡ firstCell m) where
-    row-at : (x : ℕ) → Cell m x → NearRow m (byteAt st 1) x near (getD ends (x - first) 0) (getD ends (x - first + 1) 0)
+    row-at : (x : ℕ) → Cell m x → NearRow m (byteAt st 1) x near ((x - first) * w) ((x - first) * w + w)
     row-at x K =
         let e : firstCell m + (x - first) ≡ x = omega (arith, K .low) in
-        subst (λ y. NearRow m (byteAt st 1) y near (getD ends (x - first) 0) (getD ends (x - first + 1) 0)) e (G .rows .each (x - first) (omega (arith, K .low, K .high)))
+        subst (λ y. NearRow m (byteAt st 1) y near ((x - first) * w) ((x - first) * w + w)) e (G .rows .each (x - first) (omega (arith, K .low, K .high)))
 
-    row-told : (x z : ℕ) → Cell m x → (z ≡ x → ⊥) → fromCell near ends first x z ≡ isIn z (nearTo m (byteAt st 1) x)
+    row-told : (x z : ℕ) → Cell m x → (z ≡ x → ⊥) → fromCell near w first x z ≡ isIn z (nearTo m (byteAt st 1) x)
     unfolding fromCell
     row-told x z K n = row-at x K .told z n
+
+    row-room : (x : ℕ) → Cell m x → (x - first) * w + w ≤ 2001
+    row-room x K = omega (arith, G .room, mul-le-mul-right {m = x - first + 1} {n = cellCount m} w (omega (arith, K .low, K .high)))
 
     -- ---- one level
 
@@ -106,18 +109,20 @@ module _ (m st : Bytes) (near ends : List ℕ) (G : NearGround m st near ends) (
       found-at : (i : ℕ) → i < met → isIn (getD found i 0) (take met found) ≡ true
       found-at i h = at-isIn (getD found i 0) (take met found) (record { place = i; place-lt = omega (arith, L .listed .count); place-is = getD-take met found i 0 h })
 
-      pub level-fits : k < length st → LevelFits near ends first found old met
+      pub level-fits : k < length st → LevelFits near w first found old met
       level-fits h = record {
         rising = L .rising;
         cells = λ i a b. omega (arith, cell-of (getD found i 0) h (found-at i b) .low);
+        room = λ i a b. row-room (getD found i 0) (cell-of (getD found i 0) h (found-at i b));
         rows = λ i a b. row-fits (row-at (getD found i 0) (cell-of (getD found i 0) h (found-at i b)));
       }
         where
           row-fits : {a x lo hi : ℕ} → NearRow m a x near lo hi → RowFits near lo hi
-          row-fits R = record {
-            rising = R .rising;
-            each = λ t l g. (omega (arith, R .each t l g .low), omega (arith, R .each t l g .high, G .mesh .cells-in, G .mesh .sizes .n-high));
-          }
+          row-fits {a} {x} {lo} {hi} R = record { rising = R .rising; each = λ t l g. small t l g (eqb (getD near t 0) 0) refl; closed = R .closed }
+            where
+              small : (t : ℕ) → lo ≤ t → t < hi → (b : Bool) → eqb (getD near t 0) 0 ≡ b → getD near t 0 ≤ 2000
+              small t l g true q = omega (arith, eqb-true (getD near t 0) 0 q)
+              small t l g false q = omega (arith, R .each t l g (eqb-false (getD near t 0) 0 q) .high, G .mesh .cells-in, G .mesh .sizes .n-high)
 
       module _ (h : suc (suc k) < length st) (z : ℕ) (none : eqb (mark k z) 0 ≡ true) where
         -- z has no layer, so no walk of at most k steps ends there
@@ -127,10 +132,10 @@ module _ (m st : Bytes) (near ends : List ℕ) (G : NearGround m st near ends) (
         other : (x : ℕ) → isIn x (take met found) ≡ true → z ≡ x → ⊥
         other x e q = not-both (not (eqb (mark k z) 0)) (ap (λ y. not (eqb (mark k y) 0)) q ∙ sym (has-layer x) ∙ e) (ap not none)
 
-        there : fromLevel near ends first found old met z ≡ true → isIn z (walks (suc (suc k))) ≡ true
+        there : fromLevel near w first found old met z ≡ true → isIn z (walks (suc (suc k))) ≡ true
         unfolding fromLevel
         there e =
-            let w = some-witness old (λ i. fromCell near ends first (getD found i 0) z) (met - old) e in
+            let w = some-witness old (λ i. fromCell near w first (getD found i 0) z) (met - old) e in
             let x : ℕ = getD found (old + w .0) 0 in
             let i : isIn x (take met found) ≡ true = found-at (old + w .0) (omega (arith, w .1)) in
             let u = layer-from m st (c ∷ []) k x (sym (has-layer x) ∙ i) in
@@ -141,7 +146,7 @@ module _ (m st : Bytes) (near ends : List ℕ) (G : NearGround m st near ends) (
             go i l p t true q = subst (λ j. isIn z (walks (suc (suc j))) ≡ true) (eqb-true i k q) t
             go i l p t false q = let n : i ≡ k → ⊥ = eqb-false i k q in no-walk (suc (suc i)) (omega arith) (omega arith) t
 
-        back : isIn z (walks (suc (suc k))) ≡ true → fromLevel near ends first found old met z ≡ true
+        back : isIn z (walks (suc (suc k))) ≡ true → fromLevel near w first found old met z ≡ true
         unfolding fromLevel
         back e =
             let w = two-from m (byteAt st 1) z (walks k) (ap (isIn z) (sym (two-more k o h)) ∙ e) in
@@ -151,17 +156,18 @@ module _ (m st : Bytes) (near ends : List ℕ) (G : NearGround m st near ends) (
             go (t .place) l (sym (getD-take met found (t .place) 0 l) ∙ t .place-is) i (w .2) (ltb (t .place) old) refl
           where
             go : {x : ℕ} (t : ℕ) → t < met → getD found t 0 ≡ x → isIn x (take met found) ≡ true → isIn z (nearTo m (byteAt st 1) x) ≡ true → (b : Bool) → ltb t old ≡ b
-                → some old (met - old) (λ i. fromCell near ends first (getD found i 0) z) ≡ true
+                → some old (met - old) (λ i. fromCell near w first (getD found i 0) z) ≡ true
             go {x} t l q i n true p =
                 let g : t < old = ltb-true t old p in
-                let P = L .past x (at-isIn x (take old found) (record { place = t; place-lt = omega (arith, length-take old found, L .rising, L .listed .few, L .listed .room); place-is = getD-take old found t 0 g ∙ q })) in
+                let f : t < length (take old found) = omega (arith, length-take old found, L .rising, L .listed .few, L .listed .room) in
+                let P = L .past x (at-isIn x (take old found) (record { place = t; place-lt = f; place-is = getD-take old found t 0 g ∙ q })) in
                 no-walk (suc (suc (P .steps))) (omega (arith, P .few)) (omega (arith, P .even)) (near-walked (P .steps) x z (P .even) (omega (arith, P .few)) (P .ends) n)
             go {x} t l q i n false p =
                 let g : old ≤ t = ltb-false t old p in
-                some-in old (λ i. fromCell near ends first (getD found i 0) z) (met - old) t g (omega arith)
-                (ap (λ y. fromCell near ends first y z) q ∙ row-told x z (cell-of x (omega arith) i) (other x i) ∙ n)
+                some-in old (λ i. fromCell near w first (getD found i 0) z) (met - old) t g (omega arith)
+                (ap (λ y. fromCell near w first y z) q ∙ row-told x z (cell-of x (omega arith) i) (other x i) ∙ n)
 
-      module _ (h : suc (suc k) < length st) (s : ℕ) (layers′ found′ : List ℕ) (S : Spread (k + 2) layers found met layers′ found′ s (fromLevel near ends first found old met)) where
+      module _ (h : suc (suc k) < length st) (s : ℕ) (layers′ found′ : List ℕ) (S : Spread (k + 2) layers found met layers′ found′ s (fromLevel near w first found old met)) where
         two : k + 2 ≡ suc (suc k)
         two = omega arith
 
@@ -177,9 +183,9 @@ module _ (m st : Bytes) (near ends : List ℕ) (G : NearGround m st near ends) (
             ∙ ap₂ (λ b x. noted (suc (suc k)) (b && isIn z (walks (suc (suc k)))) x) (eq-eqb (suc (suc k) % 2) 0 (omega arith)) (skipped z)
             ∙ ap (λ i. noted i (isIn z (walks (suc (suc k)))) (mark k z)) (sym two)
 
-        same : (z : ℕ) (b : Bool) → eqb (mark k z) 0 ≡ b → noted (k + 2) (fromLevel near ends first found old met z) (mark k z) ≡ noted (k + 2) (isIn z (walks (suc (suc k)))) (mark k z)
+        same : (z : ℕ) (b : Bool) → eqb (mark k z) 0 ≡ b → noted (k + 2) (fromLevel near w first found old met z) (mark k z) ≡ noted (k + 2) (isIn z (walks (suc (suc k)))) (mark k z)
         same z true q = ap (λ b. noted (k + 2) b (mark k z)) (same-test _ _ (there h z q) (back h z q))
-        same z false q = kept (fromLevel near ends first found old met z) ∙ sym (kept (isIn z (walks (suc (suc k)))))
+        same z false q = kept (fromLevel near w first found old met z) ∙ sym (kept (isIn z (walks (suc (suc k)))))
           where
             kept : (b : Bool) → noted (k + 2) b (mark k z) ≡ mark k z
             kept true = unfold noted in ap (λ b. cond b (k + 2 + 1) (mark k z)) q
@@ -188,7 +194,7 @@ module _ (m st : Bytes) (near ends : List ℕ) (G : NearGround m st near ends) (
         pub level-more : Level m st c (k + 2) layers′ found′ met s
         level-more = record {
           listed = S .listed;
-          layered = λ z. S .notes .each z ∙ ap (noted (k + 2) (fromLevel near ends first found old met z)) (L .layered z) ∙ same z (eqb (mark k z) 0) refl ∙ sym (noted-more z);
+          layered = λ z. S .notes .each z ∙ ap (noted (k + 2) (fromLevel near w first found old met z)) (L .layered z) ∙ same z (eqb (mark k z) 0) refl ∙ sym (noted-more z);
           rising = S .grown .more;
           past = λ x e.
               let w = layer-from m st (c ∷ []) k x (sym (has-layer x) ∙ ap (isIn x) (sym (S .grown .front)) ∙ e) in
@@ -224,16 +230,16 @@ level-none m st c s layers found layers′ found′ K S = record {
 
 -- ---- the loop over the levels, and its end
 
-module _ (m st : Bytes) (near ends : List ℕ) (G : NearGround m st near ends) (c : ℕ) (C : Cell m c) (first : ℕ) (fe : first ≡ firstCell m) (n : ℕ) (len : n + 1 ≡ length st)
+module _ (m st : Bytes) (near : List ℕ) (w : ℕ) (G : NearGround m st near w) (c : ℕ) (C : Cell m c) (first : ℕ) (fe : first ≡ firstCell m) (n : ℕ) (len : n + 1 ≡ length st)
     (j old met : ℕ) (layers found : List ℕ) (L : Level m st c (2 * j) layers found old met) where
-  pub fits-at : j < n / 2 → LevelFits near ends first found old met
-  fits-at h = level-fits m st near ends G c C first fe (2 * j) old met layers found (omega arith) L (omega arith)
+  pub fits-at : j < n / 2 → LevelFits near w first found old met
+  fits-at h = level-fits m st near w G c C first fe (2 * j) old met layers found (omega arith) L (omega arith)
 
-  pub level-next : (s : ℕ) (layers′ found′ : List ℕ) → j < n / 2 → Spread (2 * j + 2) layers found met layers′ found′ s (fromLevel near ends first found old met)
+  pub level-next : (s : ℕ) (layers′ found′ : List ℕ) → j < n / 2 → Spread (2 * j + 2) layers found met layers′ found′ s (fromLevel near w first found old met)
       → Level m st c (2 * (j + 1)) layers′ found′ met s
   level-next s layers′ found′ h S =
       let e : 2 * (j + 1) ≡ 2 * j + 2 = omega arith in
-      rw e (level-more m st near ends G c C first fe (2 * j) old met layers found (omega arith) L (omega arith) s layers′ found′ S)
+      rw e (level-more m st near w G c C first fe (2 * j) old met layers found (omega arith) L (omega arith) s layers′ found′ S)
 
   module _ (a : j ≤ n / 2) (b : n / 2 ≤ j) where
     all-steps : 2 * j ≡ n
@@ -253,7 +259,7 @@ module _ (m st : Bytes) (near ends : List ℕ) (G : NearGround m st near ends) (
       where
         cells : All (λ y. (firstCell m ≤ y) × (y < firstCell m + cellCount m)) (take met found)
         cells = All-intro _ (take met found) 0 (λ i h.
-            let K = cell-of m st near ends G c C first fe (2 * j) old met layers found (omega arith) L (getD (take met found) i 0) (omega arith)
+            let K = cell-of m st near w G c C first fe (2 * j) old met layers found (omega arith) L (getD (take met found) i 0) (omega arith)
             (at-isIn _ (take met found) (record { place = i; place-lt = h; place-is = refl })) in
             (K .low, K .high))
 

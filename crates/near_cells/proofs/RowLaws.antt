@@ -1,22 +1,22 @@
 -- The rows of near cells, as the code lists them. Assumes nothing.
-use mathlib.Core.Path.{_≡_, refl, sym, ap, ap₂, _∙_, subst, subst₂}
+use mathlib.Core.Path.{_≡_, refl, sym, ap, _∙_, subst}
 use mathlib.Core.Bool.{Bool, true, false, not, _||_}
 use mathlib.Core.Logic.{⊎-elim}
 use mathlib.Core.List.{List, [], _∷_}
 use Prim.Native.Nat.{ℕ, zero, suc, _+_, _-_, _*_, _/_, _≤_, _<_}
-use native.Mathlib.Nat.{le-trans, mul-le-mul-left, mul-le-mul-right, mul-div-le}
+use native.Mathlib.Nat.{le-trans, mul-le-mul-left, mul-le-mul-right, mul-div-le, le-div-iff-mul-le}
 use native.Mathlib.Omega.{arith}
-use lib.Dec.{eqb}
-use lib.ListN.{length, getD, set, take, drop, length-set, length-take}
+use lib.Dec.{eqb, ltb}
+use lib.ListN.{length, getD, set, take, drop, length-set, length-take, List·getD-eq-default}
 use lib.Seq.{getD-set-same, getD-set-other, getD-take, getD-drop}
-use borrow.Author.Tests.{eqb-true, eqb-false, eq-eqb, not-false}
+use borrow.Author.Tests.{eqb-true, eqb-false, eq-eqb, ne-eqb, ltb-true, ltb-false, not-false}
 use Rattle.vocabulary.specs.Bytes.{Bytes, byteAt}
 use Rattle.vocabulary.specs.Ranges.{some}
-use Rattle.vocabulary.specs.RangeLaws.{some-in, some-witness}
-use Rattle.vocabulary.specs.Lists.{isIn, All}
-use Rattle.vocabulary.specs.ListLaws.{or-true, or-right, or-nothing, same-test, isIn-at, at-isIn, at-all, All-intro}
+use Rattle.vocabulary.specs.RangeLaws.{some-in, some-has, some-witness}
+use Rattle.vocabulary.specs.Lists.{isIn, Zeros}
+use Rattle.vocabulary.specs.ListLaws.{and-true, and-intro, not-both, or-true, or-right, or-nothing, same-test, isIn-at, at-isIn, at-all, All-intro}
 use Rattle.mesh.specs.Meet.{Under}
-use Rattle.mesh.specs.Mesh.{top, counted, below, firstCell, cellCount}
+use Rattle.mesh.specs.Mesh.{top, firstCell, cellCount}
 use Rattle.mesh.specs.Walks.{stepTo}
 use Rattle.mesh.specs.WalkLaws.{below-grows, stencil-odd}
 use Rattle.mesh.specs.Accepted.{Accepted, Cell}
@@ -26,16 +26,13 @@ use Rattle.walks.specs.Walking.{Ground, Lowers, stepped, orAmong, throughOne}
 use Rattle.walks.proofs.StepLaws.{step-from}
 use Rattle.walks.proofs.WalkLaws.{step-like}
 use Rattle.walks.proofs.NoteLaws.{begin}
-use Rattle.near_cells.specs.NearCells.{nearTo, inRow, NearRow, NearRows, Filled, NearGround}
+use Rattle.near_cells.specs.NearCells.{nearTo, names, inRow, NearRow, NearRows, Filled, Ready}
 
 -- ---- the row of one cell
 
 -- what was marked with v before lies under the next mark
 pub next-mark : (v n : ℕ) (marks found : List ℕ) → Gathered v marks found n → Under (v + 1) marks
 next-mark v n marks found G = record { size = G .size; each = λ y. omega (arith, G .top y) }
-
-pub twice-next : (v n : ℕ) (marks found : List ℕ) → Gathered (v + 1) marks found n → Under (v + 2) marks
-twice-next v n marks found G = record { size = G .size; each = λ y. omega (arith, G .top y) }
 
 pub begin-next : (v n c : ℕ) (marks found list after : List ℕ) → Gathered v marks found n → length list ≡ 2001 → after ≡ set list 0 c → Gathered (v + 1) marks after 0
 begin-next v n c marks found list after G r e = begin (v + 1) marks after (next-mark v n marks found G) (ap length e ∙ length-set list 0 c ∙ r)
@@ -87,124 +84,141 @@ module _ (m : Bytes) (a c n : ℕ) (from found₀ found : List ℕ) (one : take 
     near-cell z e = let w = step-from m (top m) z (stepTo m a (c ∷ [])) e in record { low = w .3; high = w .4 }
 
     pub near-row : NearRow m a c from₂ 1 s
-    unfolding inRow
+    unfolding inRow names
     near-row = record {
       rising = omega (arith, some-own, U .grown .more);
-      each = λ t l h. ⊎-elim (λ e. subst (Cell m) (sym (own-only _ e)) C) (λ e. near-cell _ e) (or-true _ _ (sym (went-up (getD from₂ t 0)) ∙ stands t h));
+      each = λ t l h _. ⊎-elim (λ e. subst (Cell m) (sym (own-only _ e)) C) (λ e. near-cell _ e) (or-true _ _ (sym (went-up (getD from₂ t 0)) ∙ stands t h));
       told = λ z ne. same-test _ _ (there z ne) (back z ne);
+      closed = λ t u l g h e. let o : ⊥ = omega (arith, positive t (omega arith)) in absurd o;
     }
       where
         stands : (t : ℕ) → t < s → isIn (getD from₂ t 0) (take s from₂) ≡ true
         stands t h = at-isIn (getD from₂ t 0) (take s from₂) (record { place = t; place-lt = omega (arith, U .gathered .count); place-is = getD-take s from₂ t 0 h })
 
-        there : (z : ℕ) → (z ≡ c → ⊥) → some 1 (s - 1) (λ t. eqb (getD from₂ t 0) z) ≡ true → isIn z (nearTo m a c) ≡ true
+        positive : (t : ℕ) → t < s → 1 ≤ getD from₂ t 0
+        positive t h = at-all (λ y. (1 ≤ y) × (y ≤ 2000)) (getD from₂ t 0) (take s from₂) (U .gathered .in-range) (isIn-at _ (take s from₂) (stands t h)) .0
+
+        there : (z : ℕ) → (z ≡ c → ⊥) → some 1 (s - 1) (λ t. names (getD from₂ t 0) z) ≡ true → isIn z (nearTo m a c) ≡ true
         there z ne e =
-            let w = some-witness 1 (λ t. eqb (getD from₂ t 0) z) (s - 1) e in
-            let q : getD from₂ (1 + w .0) 0 ≡ z = eqb-true (getD from₂ (1 + w .0) 0) z (w .2) in
+            let w = some-witness 1 (λ t. names (getD from₂ t 0) z) (s - 1) e in
+            let y : ℕ = getD from₂ (1 + w .0) 0 in
+            let q : y ≡ z = eqb-true y z (and-true (not (eqb y 0)) (eqb y z) (w .2) .1) in
             ⊎-elim (λ x. absurd (ne (own-only z x))) (λ x. x)
             (or-true (isIn z (take own from₁)) (isIn z (nearTo m a c)) (sym (went-up z) ∙ ap (λ y. isIn y (take s from₂)) (sym q) ∙ stands (1 + w .0) (omega (arith, w .1))))
 
-        back : (z : ℕ) → (z ≡ c → ⊥) → isIn z (nearTo m a c) ≡ true → some 1 (s - 1) (λ t. eqb (getD from₂ t 0) z) ≡ true
+        back : (z : ℕ) → (z ≡ c → ⊥) → isIn z (nearTo m a c) ≡ true → some 1 (s - 1) (λ t. names (getD from₂ t 0) z) ≡ true
         back z ne e =
             let t = isIn-at z (take s from₂) (went-up z ∙ or-right (isIn z (take own from₁)) (isIn z (nearTo m a c)) e) in
             let h : t .place < s = omega (arith, t .place-lt, U .gathered .count) in
             go (t .place) h (sym (getD-take s from₂ (t .place) 0 h) ∙ t .place-is)
           where
-            go : (t : ℕ) → t < s → getD from₂ t 0 ≡ z → some 1 (s - 1) (λ t. eqb (getD from₂ t 0) z) ≡ true
+            go : (t : ℕ) → t < s → getD from₂ t 0 ≡ z → some 1 (s - 1) (λ t. names (getD from₂ t 0) z) ≡ true
             go zero h q = absurd (ne (sym q ∙ first-own))
-            go (suc t) h q = some-in 1 (λ t. eqb (getD from₂ t 0) z) (s - 1) (suc t) (omega arith) (omega arith) (eq-eqb (getD from₂ (suc t) 0) z q)
+            go (suc t) h q =
+                some-in 1 (λ t. names (getD from₂ t 0) z) (s - 1) (suc t) (omega arith) (omega arith)
+                (and-intro (not (eqb (getD from₂ (suc t) 0) 0)) (eqb (getD from₂ (suc t) 0) z) (ap not (ne-eqb (getD from₂ (suc t) 0) 0 (omega (arith, positive (suc t) h))))
+                (eq-eqb (getD from₂ (suc t) 0) z q))
 
 -- ---- the rows one after another
 
-some-moved : (a b n : ℕ) (p q : ℕ → Bool) → ((i : ℕ) → i < n → p (a + i) ≡ q (b + i)) → some a n p ≡ some b n q
-unfolding some
-some-moved a b zero p q e = refl
-some-moved a b (suc n) p q e = ap₂ _||_ (some-moved a b n p q (λ i h. e i (omega arith))) (e n (omega arith))
+-- a row that stands elsewhere, with zeros after it
+module _ (m : Bytes) (a c lo hi lo′ hi′ : ℕ) (xs ys : List ℕ) (R : NearRow m a c xs lo hi) (wide : lo′ + (hi - lo) ≤ hi′)
+    (same : (j : ℕ) → j < hi - lo → getD ys (lo′ + j) 0 ≡ getD xs (lo + j) 0) (bare : (t : ℕ) → lo′ + (hi - lo) ≤ t → t < hi′ → getD ys t 0 ≡ 0) where
+  -- where a place of it was before
+  data-at : (t : ℕ) → lo′ ≤ t → t < hi′ → (getD ys t 0 ≡ 0 → ⊥) → (j : ℕ) × (j < hi - lo) × (t ≡ lo′ + j)
+  data-at t l h ne = go (ltb t (lo′ + (hi - lo))) refl
+    where
+      go : (b : Bool) → ltb t (lo′ + (hi - lo)) ≡ b → (j : ℕ) × (j < hi - lo) × (t ≡ lo′ + j)
+      go true q = let g : t < lo′ + (hi - lo) = ltb-true t (lo′ + (hi - lo)) q in (t - lo′, omega arith, omega arith)
+      go false q = absurd (ne (bare t (ltb-false t (lo′ + (hi - lo)) q) h))
 
--- a row that stands elsewhere
-row-moved : (m : Bytes) (a c lo hi lo′ hi′ : ℕ) (xs ys : List ℕ) → NearRow m a c xs lo hi → hi′ ≡ lo′ + (hi - lo) → ((j : ℕ) → j < hi - lo → getD ys (lo′ + j) 0 ≡ getD xs (lo + j) 0)
-    → NearRow m a c ys lo′ hi′
-unfolding inRow
-row-moved m a c lo hi lo′ hi′ xs ys R e same = record {
-  rising = omega arith;
-  each = λ t l h.
-      let q : lo′ + (t - lo′) ≡ t = omega arith in
-      subst (Cell m) (sym (same (t - lo′) (omega arith)) ∙ ap (λ i. getD ys i 0) q) (R .each (lo + (t - lo′)) (omega arith) (omega (arith, R .rising)));
-  told = λ z ne.
-      let q : hi′ - lo′ ≡ hi - lo = omega arith in
-      ap (λ n. some lo′ n (λ t. eqb (getD ys t 0) z)) q
-      ∙ some-moved lo′ lo (hi - lo) (λ t. eqb (getD ys t 0) z) (λ t. eqb (getD xs t 0) z) (λ i h. ap (λ x. eqb x z) (same i h))
-      ∙ R .told z ne;
-}
+  not-zero : (y z : ℕ) → names y z ≡ true → y ≡ 0 → ⊥
+  unfolding names
+  not-zero y z e q = not-both (not (eqb y 0)) (and-true (not (eqb y 0)) (eqb y z) e .0) (ap not (eq-eqb y 0 q))
 
-pub rows-start : (m : Bytes) (a : ℕ) (near ends after : List ℕ) → length ends ≡ 2001 → after ≡ set ends 0 0 → Filled m a near after 0 0
-rows-start m a near ends after r e = record {
-  rows = record { each = λ q h. let o : ⊥ = omega arith in absurd o };
-  last = first;
-  before = λ q h. let z : q ≡ 0 = omega arith in subst (λ i. getD after i 0 ≤ 0) (sym z) (omega (arith, first));
-}
-  where
-    first : getD after 0 0 ≡ 0
-    first = ap (λ (l : List ℕ). getD l 0 0) e ∙ getD-set-same ends 0 0 0 (omega arith)
-
-module _ (m : Bytes) (a q t s c : ℕ) (from near near′ ends ends′ : List ℕ) (F : Filled m a near ends q t) (R : NearRow m a c from 1 s) (ce : c ≡ firstCell m + q) (h : q + 1 < length ends)
-    (M : (take (s - 1) (drop t near′) ≡ take (s - 1) (drop 1 from)) × (length near′ ≡ length near) × (take t near′ ≡ take t near)) (ee : ends′ ≡ set ends (q + 1) (t + (s - 1))) where
-  put : (j : ℕ) → j < s - 1 → getD near′ (t + j) 0 ≡ getD from (1 + j) 0
-  put j l =
-      sym (getD-drop t near′ j 0) ∙ sym (getD-take (s - 1) (drop t near′) j 0 l) ∙ ap (λ (l : List ℕ). getD l j 0) (M .0)
-      ∙ getD-take (s - 1) (drop 1 from) j 0 l ∙ getD-drop 1 from j 0
-
-  kept : (j : ℕ) → j < t → getD near′ j 0 ≡ getD near j 0
-  kept j l = sym (getD-take t near′ j 0 l) ∙ ap (λ (l : List ℕ). getD l j 0) (M .2) ∙ getD-take t near j 0 l
-
-  end-new : getD ends′ (q + 1) 0 ≡ t + (s - 1)
-  end-new = ap (λ (l : List ℕ). getD l (q + 1) 0) ee ∙ getD-set-same ends (q + 1) (t + (s - 1)) 0 h
-
-  end-old : (p : ℕ) → p ≤ q → getD ends′ p 0 ≡ getD ends p 0
-  end-old p l = ap (λ (l : List ℕ). getD l p 0) ee ∙ getD-set-other ends (q + 1) p (t + (s - 1)) 0 (omega arith)
-
-  row-new : NearRow m a (firstCell m + q) near′ (getD ends′ q 0) (getD ends′ (q + 1) 0)
-  row-new =
-      let e : getD ends′ q 0 ≡ t = end-old q (omega arith) ∙ F .last in
-      subst (λ x. NearRow m a x near′ (getD ends′ q 0) (getD ends′ (q + 1) 0)) ce
-      (row-moved m a c 1 s (getD ends′ q 0) (getD ends′ (q + 1) 0) from near′ R (omega (arith, end-new)) (λ j l. ap (λ i. getD near′ (i + j) 0) e ∙ put j l))
-
-  row-old : (p : ℕ) → p < q → NearRow m a (firstCell m + p) near′ (getD ends′ p 0) (getD ends′ (p + 1) 0)
-  row-old p l =
-      let O = F .rows .each p l in
-      let e = end-old p (omega arith) in
-      row-moved m a (firstCell m + p) (getD ends p 0) (getD ends (p + 1) 0) (getD ends′ p 0) (getD ends′ (p + 1) 0) near near′ O
-      (omega (arith, e, end-old (p + 1) (omega arith), O .rising))
-      (λ j g. ap (λ i. getD near′ (i + j) 0) e ∙ kept (getD ends p 0 + j) (omega (arith, F .before (p + 1) (omega arith), O .rising)))
-
-  pub rows-turn : Filled m a near′ ends′ (q + 1) (t + (s - 1))
-  rows-turn = record {
-    rows = record { each = λ p l. go p l (eqb p q) refl };
-    last = end-new;
-    before = λ p l. early p l (eqb p (q + 1)) refl;
+  pub row-moved : NearRow m a c ys lo′ hi′
+  unfolding inRow
+  row-moved = record {
+    rising = omega arith;
+    each = λ t l h ne.
+        let d = data-at t l h ne in
+        let e : getD ys t 0 ≡ getD xs (lo + d .0) 0 = ap (λ i. getD ys i 0) (d .2) ∙ same (d .0) (d .1) in
+        subst (Cell m) (sym e) (R .each (lo + d .0) (omega arith) (omega (arith, d .1)) (λ q. ne (e ∙ q)));
+    told = λ z ne. same-test _ _ (there z) (back z) ∙ R .told z ne;
+    closed = λ t u l g h e. zero t u l g h e (ltb u (lo′ + (hi - lo))) refl;
   }
     where
-      go : (p : ℕ) → p < q + 1 → (b : Bool) → eqb p q ≡ b → NearRow m a (firstCell m + p) near′ (getD ends′ p 0) (getD ends′ (p + 1) 0)
-      go p l true e = subst (λ i. NearRow m a (firstCell m + i) near′ (getD ends′ i 0) (getD ends′ (i + 1) 0)) (sym (eqb-true p q e)) row-new
+      there : (z : ℕ) → some lo′ (hi′ - lo′) (λ t. names (getD ys t 0) z) ≡ true → some lo (hi - lo) (λ t. names (getD xs t 0) z) ≡ true
+      there z e =
+          let w = some-witness lo′ (λ t. names (getD ys t 0) z) (hi′ - lo′) e in
+          let d = data-at (lo′ + w .0) (omega arith) (omega (arith, w .1)) (not-zero (getD ys (lo′ + w .0) 0) z (w .2)) in
+          some-has lo (λ t. names (getD xs t 0) z) (hi - lo) (d .0) (d .1) (ap (λ y. names y z) (sym (same (d .0) (d .1)) ∙ ap (λ i. getD ys i 0) (sym (d .2))) ∙ w .2)
+
+      back : (z : ℕ) → some lo (hi - lo) (λ t. names (getD xs t 0) z) ≡ true → some lo′ (hi′ - lo′) (λ t. names (getD ys t 0) z) ≡ true
+      back z e =
+          let w = some-witness lo (λ t. names (getD xs t 0) z) (hi - lo) e in
+          some-has lo′ (λ t. names (getD ys t 0) z) (hi′ - lo′) (w .0) (omega (arith, w .1)) (ap (λ y. names y z) (same (w .0) (w .1)) ∙ w .2)
+
+      zero : (t u : ℕ) → lo′ ≤ t → t ≤ u → u < hi′ → getD ys t 0 ≡ 0 → (b : Bool) → ltb u (lo′ + (hi - lo)) ≡ b → getD ys u 0 ≡ 0
+      zero t u l g h e true q =
+          let r : u < lo′ + (hi - lo) = ltb-true u (lo′ + (hi - lo)) q in
+          let tt′ : lo′ + (t - lo′) ≡ t = omega arith in
+          let uu : lo′ + (u - lo′) ≡ u = omega arith in
+          ap (λ i. getD ys i 0) (sym uu) ∙ same (u - lo′) (omega arith)
+          ∙ R .closed (lo + (t - lo′)) (lo + (u - lo′)) (omega arith) (omega arith) (omega (arith, R .rising)) (sym (same (t - lo′) (omega arith)) ∙ ap (λ i. getD ys i 0) tt′ ∙ e)
+      zero t u l g h e false q = bare u (ltb-false u (lo′ + (hi - lo)) q) h
+
+pub rows-start : (m : Bytes) (a w : ℕ) (near : List ℕ) → Zeros 2001 near → Filled m a near w 0
+rows-start m a w near K = record { rows = record { each = λ q h. let o : ⊥ = omega arith in absurd o }; bare = λ i h. K .each i }
+
+module _ (m : Bytes) (a q w s c : ℕ) (from near near′ : List ℕ) (F : Filled m a near w q) (R : NearRow m a c from 1 s) (ce : c ≡ firstCell m + q) (few : s - 1 ≤ w)
+    (M : (take (s - 1) (drop (q * w) near′) ≡ take (s - 1) (drop 1 from)) × (length near′ ≡ length near) × (take (q * w) near′ ≡ take (q * w) near)
+    × (drop (q * w + (s - 1)) near′ ≡ drop (q * w + (s - 1)) near)) where
+  put : (j : ℕ) → j < s - 1 → getD near′ (q * w + j) 0 ≡ getD from (1 + j) 0
+  put j l =
+      sym (getD-drop (q * w) near′ j 0) ∙ sym (getD-take (s - 1) (drop (q * w) near′) j 0 l) ∙ ap (λ (l : List ℕ). getD l j 0) (M .0)
+      ∙ getD-take (s - 1) (drop 1 from) j 0 l ∙ getD-drop 1 from j 0
+
+  kept : (j : ℕ) → j < q * w → getD near′ j 0 ≡ getD near j 0
+  kept j l = sym (getD-take (q * w) near′ j 0 l) ∙ ap (λ (l : List ℕ). getD l j 0) (M .2) ∙ getD-take (q * w) near j 0 l
+
+  bare-after : (i : ℕ) → q * w + (s - 1) ≤ i → getD near′ i 0 ≡ 0
+  bare-after i l =
+      let e : q * w + (s - 1) + (i - (q * w + (s - 1))) ≡ i = omega arith in
+      ap (λ j. getD near′ j 0) (sym e) ∙ sym (getD-drop (q * w + (s - 1)) near′ (i - (q * w + (s - 1))) 0) ∙ ap (λ (l : List ℕ). getD l (i - (q * w + (s - 1))) 0) (M .3)
+      ∙ getD-drop (q * w + (s - 1)) near (i - (q * w + (s - 1))) 0 ∙ ap (λ j. getD near j 0) e ∙ F .bare i (omega arith)
+
+  row-new : NearRow m a (firstCell m + q) near′ (q * w) (q * w + w)
+  row-new =
+      subst (λ x. NearRow m a x near′ (q * w) (q * w + w)) ce
+      (row-moved m a c 1 s (q * w) (q * w + w) from near′ R (omega arith) put (λ t l h. bare-after t l))
+
+  row-old : (p : ℕ) → p < q → NearRow m a (firstCell m + p) near′ (p * w) (p * w + w)
+  row-old p l =
+      let b : p * w + w ≤ q * w = omega (arith, mul-le-mul-right {m = p + 1} {n = q} w (omega arith)) in
+      row-moved m a (firstCell m + p) (p * w) (p * w + w) (p * w) (p * w + w) near near′ (F .rows .each p l) (omega arith) (λ j g. kept (p * w + j) (omega arith))
+      (λ t g h. let o : ⊥ = omega arith in absurd o)
+
+  pub rows-turn : Filled m a near′ w (q + 1)
+  rows-turn = record {
+    rows = record { each = λ p l. go p l (eqb p q) refl };
+    bare = λ i l. bare-after i (omega arith);
+  }
+    where
+      go : (p : ℕ) → p < q + 1 → (b : Bool) → eqb p q ≡ b → NearRow m a (firstCell m + p) near′ (p * w) (p * w + w)
+      go p l true e = subst (λ i. NearRow m a (firstCell m + i) near′ (i * w) (i * w + w)) (sym (eqb-true p q e)) row-new
       go p l false e = let n : p ≡ q → ⊥ = eqb-false p q e in row-old p (omega arith)
 
-      early : (p : ℕ) → p ≤ q + 1 → (b : Bool) → eqb p (q + 1) ≡ b → getD ends′ p 0 ≤ t + (s - 1)
-      early p l true e = omega (arith, ap (λ i. getD ends′ i 0) (eqb-true p (q + 1) e), end-new)
-      early p l false e = let n : p ≡ q + 1 → ⊥ = eqb-false p (q + 1) e in omega (arith, end-old p (omega arith), F .before p (omega arith))
-
-pub rows-end : (m : Bytes) (a q n t : ℕ) (near ends : List ℕ) → q ≤ n → n ≤ q → n ≡ cellCount m → Filled m a near ends q t → NearRows m a near ends (cellCount m)
-rows-end m a q n t near ends g h e F = let w : q ≡ cellCount m = omega arith in subst (NearRows m a near ends) w (F .rows)
+pub rows-end : (m : Bytes) (a q n w : ℕ) (near : List ℕ) → q ≤ n → n ≤ q → n ≡ cellCount m → Filled m a near w q → NearRows m a near w (cellCount m)
+rows-end m a q n w near g h e F = let z : q ≡ cellCount m = omega arith in subst (NearRows m a near w) z (F .rows)
 
 -- ---- what the calls suppose
 
 pub under-more : (v w : ℕ) (marks : List ℕ) → v ≤ w → Under v marks → Under w marks
 under-more v w marks h U = record { size = U .size; each = λ y. omega (arith, U .each y) }
 
-pub row-room : (q n k t s most : ℕ) → q < n → n ≡ k → k * most ≤ 2400 → t ≤ q * most → s - 1 ≤ most → t + (s - 1) ≤ 2400
-row-room q n k t s most h e b l g = omega (arith, mul-le-mul-right {m = q + 1} {n = k} most (omega arith))
-
-pub row-grows : (q t s most : ℕ) → t ≤ q * most → s - 1 ≤ most → t + (s - 1) ≤ (q + 1) * most
-row-grows q t s most l g = omega arith
+pub row-room : (q n k w : ℕ) → q < n → n ≡ k → k * w ≤ 2001 → q * w + w ≤ 2001
+row-room q n k w h e b = omega (arith, mul-le-mul-right {m = q + 1} {n = k} w (omega arith))
 
 module _ (m : Bytes) (A : Accepted m) (first cells q : ℕ) (fe : first ≡ firstCell m) (ce : cells ≡ cellCount m) (h : q < cells) where
   pub cell-at : Cell m (first + q)
@@ -216,20 +230,63 @@ module _ (m : Bytes) (A : Accepted m) (first cells q : ℕ) (fe : first ≡ firs
   pub place-high : q < 2000
   place-high = omega (arith, A .cells-in, A .sizes .n-high)
 
+-- ---- all numbers set to 0
+
+pub clear-turn : (list : List ℕ) (j : ℕ) → j < length list → ((i : ℕ) → i < j → getD list i 0 ≡ 0) → (i : ℕ) → i < j + 1 → getD (set list j 0) i 0 ≡ 0
+clear-turn list j h K i l = go (eqb i j) refl
+  where
+    go : (b : Bool) → eqb i j ≡ b → getD (set list j 0) i 0 ≡ 0
+    go true q = ap (λ k. getD (set list j 0) k 0) (eqb-true i j q) ∙ getD-set-same list j 0 0 h
+    go false q = let n : i ≡ j → ⊥ = eqb-false i j q in getD-set-other list j i 0 0 n ∙ K i (omega arith)
+
+pub clear-end : (list : List ℕ) (j : ℕ) → length list ≡ 2001 → 2001 ≤ j → ((i : ℕ) → i < j → getD list i 0 ≡ 0) → Zeros 2001 list
+clear-end list j r h K = record { size = r; each = λ i. go i (ltb i j) refl }
+  where
+    go : (i : ℕ) (b : Bool) → ltb i j ≡ b → getD list i 0 ≡ 0
+    go i true q = K i (ltb-true i j q)
+    go i false q = List·getD-eq-default list 0 (omega (arith, ltb-false i j q))
+
+-- ---- the width
+
 pub some-cells : (m : Bytes) (cells : ℕ) → Accepted m → cells ≡ cellCount m → 1 ≤ cells
 some-cells m cells A e = omega (arith, A .some-counted (top m) (omega arith))
 
-pub rows-fit : (m : Bytes) (cells most : ℕ) → Accepted m → cells ≡ cellCount m → most ≤ 2400 / cells → cellCount m * most ≤ 2400
-rows-fit m cells most A e h = subst (λ k. k * most ≤ 2400) e (le-trans (mul-le-mul-left cells h) (mul-div-le 2400 cells))
+module _ (m : Bytes) (cells w : ℕ) (A : Accepted m) (e : cells ≡ cellCount m) where
+  pub rows-fit : w ≤ 2001 / cells → cellCount m * w ≤ 2001
+  rows-fit h = subst (λ k. k * w ≤ 2001) e (le-trans (mul-le-mul-left cells h) (mul-div-le 2001 cells))
+
+  pub some-width : ((x : ℕ) → x ≤ 12 → x ≤ 2001 / cells → x ≤ w) → w ≡ 0 → ⊥
+  some-width most z =
+      let one : 1 ≤ 2001 / cells = le-div-iff-mul-le {k = cells} {x = 1} {y = 2001} (some-cells m cells A e) .1 (omega (arith, A .cells-in, A .sizes .n-high)) in
+      let o : ⊥ = omega (arith, most 1 (omega arith) one) in o
 
 pub through : (m st : Bytes) (cell prev last : List ℕ) (a : ℕ) → Ground m st cell prev last → 2 ≤ length st → a ≡ byteAt st 1 → a < top m
 through m st cell prev last a G h e = omega (arith, stencil-odd (top m) st (G .stencil) 1 (omega arith) refl)
 
-pub near-ground : (m st : Bytes) (cell prev last near ends : List ℕ) (single : Bool) (a : ℕ) → Ground m st cell prev last → single ≡ throughOne st → not single ≡ false → a ≡ byteAt st 1
-    → NearRows m a near ends (cellCount m) → NearGround m st near ends
-near-ground m st cell prev last near ends single a G se t e R = record {
-  mesh = G .mesh;
-  stencil = G .stencil;
-  one = sym se ∙ not-false single t;
-  rows = subst (λ x. NearRows m x near ends (cellCount m)) e R;
+-- ---- what is ready
+
+pub ready-steps : (m st : Bytes) (v : ℕ) (marks from found near : List ℕ) → Under v marks → v ≤ 4001 → length from ≡ 2001 → length found ≡ 2001 → Zeros 2001 near
+    → Ready m st 0 4001 marks from found near
+ready-steps m st v marks from found near U h f g K = record {
+  marks-low = under-more v 4001 marks h U;
+  from-room = f;
+  found-room = g;
+  near-room = K .size;
+  rows = λ n. absurd (n refl);
+  steps = λ _. K;
+}
+
+pub ready-rows : (m st : Bytes) (cell prev last marks from found near : List ℕ) (single : Bool) (a w : ℕ) → Ground m st cell prev last → single ≡ throughOne st → not single ≡ false
+    → a ≡ byteAt st 1 → (w ≡ 0 → ⊥) → cellCount m * w ≤ 2001 → NearRows m a near w (cellCount m) → Under 4001 marks → length found ≡ 2001 → length near ≡ 2001 → Zeros 2001 from
+    → Ready m st w 4001 marks from found near
+ready-rows m st cell prev last marks from found near single a w G se t e some-w fit R U g l K = record {
+  marks-low = U;
+  from-room = K .size;
+  found-room = g;
+  near-room = l;
+  rows = λ _. (
+    record { mesh = G .mesh; stencil = G .stencil; one = sym se ∙ not-false single t; rows = subst (λ x. NearRows m x near w (cellCount m)) e R; room = fit },
+    K,
+  );
+  steps = λ z. absurd (some-w z);
 }

@@ -1,4 +1,3 @@
 // The lists of near cells, and the walks that go by them.
 pub use crate::levels::walk_near;
-pub use crate::rows::NEAR;
 pub use crate::rows::near_rows;

@@ -28,7 +28,7 @@ fn reach_cell(k: u16, y: usize, layers: &mut [u16], found: &mut [u16], n: usize)
     n + 1
 }
 
-// Goes on to the cells that stand in `near` from place lo on and before hi.
+// Goes on to the cells that stand in `near` from place lo on and before hi, up to the first 0.
 fn reach_row(
     near: &[u16],
     lo: usize,
@@ -43,15 +43,19 @@ fn reach_row(
 {
     let mut s = n;
     for t in lo..hi {
-        s = reach_cell(k, entry(near, t), layers, found, s);
+        let y = entry(near, t);
+        if y < 1 {
+            return s;
+        }
+        s = reach_cell(k, y, layers, found, s);
     }
     s
 }
 
-// Goes on from the cells in `found` from place old on and before n to their near cells, which get the layer k.
+// Goes on from the cells in `found` from place old on and before n to the cells of their rows, each w places wide, which get the layer k.
 fn reach_level(
     near: &[u16],
-    ends: &[u16],
+    w: usize,
     first: usize,
     k: u16,
     old: usize,
@@ -59,56 +63,39 @@ fn reach_level(
     layers: &mut [u16],
     found: &mut [u16],
 ) -> usize
-    requires { ⌜ LevelFits (now near) (now ends) first (now found) old n × (k < 65535) × Listed (now layers) (now found) n ⌝ }
+    requires { ⌜ LevelFits (now near) w first (now found) old n × (k < 65535) × Listed (now layers) (now found) n ⌝ }
     ensures { λ s. ⌜ Spread k (now (layers .entry)) (now (found .entry)) n (now (layers .exit)) (now (found .exit)) s
-        (fromLevel (now (near .entry)) (now (ends .entry)) first (now (found .entry)) old n) ⌝ }
+        (fromLevel (now (near .entry)) w first (now (found .entry)) old n) ⌝ }
 {
     let mut s = n;
     for i in old..n {
-        let q = entry(found, i) - first;
-        s = reach_row(
-            near,
-            entry(ends, q),
-            entry(ends, q + 1),
-            k,
-            layers,
-            found,
-            s,
-        );
+        let lo = (entry(found, i) - first) * w;
+        s = reach_row(near, lo, lo + w, k, layers, found, s);
     }
     s
 }
 
-// The walks of n steps from cell c: each cell met bears its layer, and the bounds hold all cells met.
+// The walks of n steps from cell c, by the rows of near cells, each w places wide: each cell met bears its layer, and the bounds hold all cells met.
 pub fn walk_near(
     m: &[u8],
     st: &[u8],
     near: &[u16],
-    ends: &[u16],
+    w: usize,
     first: usize,
     c: usize,
     n: usize,
     layers: &mut [u16],
     found: &mut [u16],
 ) -> Ends
-    requires { ⌜ NearGround (now m) (now st) (now near) (now ends) × (first ≡ firstCell (now m)) × Cell (now m) c × (n + 1 ≡ length (now st)) × (n ≤ 8)
+    requires { ⌜ NearGround (now m) (now st) (now near) w × (first ≡ firstCell (now m)) × Cell (now m) c × (n + 1 ≡ length (now st)) × (n ≤ 8)
         × Zeros 2001 (now layers) × (length (now found) ≡ 2001) ⌝ }
-    ensures { λ w. ⌜ Layered (now (m .entry)) (now (st .entry)) (c ∷ []) n (now (layers .exit)) × Within (now (m .entry)) (now (layers .exit)) (w .low) (w .high)
+    ensures { λ b. ⌜ Layered (now (m .entry)) (now (st .entry)) (c ∷ []) n (now (layers .exit)) × Within (now (m .entry)) (now (layers .exit)) (b .low) (b .high)
         × (length (now (found .exit)) ≡ 2001) ⌝ }
 {
     let mut old = 0;
     let mut met = reach_cell(0, c, layers, found, 0);
     for j in 0..n / 2 {
-        let s = reach_level(
-            near,
-            ends,
-            first,
-            (2 * j + 2) as u16,
-            old,
-            met,
-            layers,
-            found,
-        );
+        let s = reach_level(near, w, first, (2 * j + 2) as u16, old, met, layers, found);
         old = met;
         met = s;
     }

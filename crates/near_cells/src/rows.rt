@@ -11,14 +11,15 @@ ghost use mathlib.Core.Path.{_≡_};
 ghost use mathlib.Core.Bool.{true};
 ghost use Prim.Native.Nat.{_+_, _*_, _<_, _≤_};
 ghost use lib.ListN.{length};
+ghost use Rattle.vocabulary.specs.Lists.{Zeros};
 ghost use Rattle.mesh.specs.Meet.{Under};
 ghost use Rattle.mesh.specs.Mesh.{top, cellCount};
 ghost use Rattle.mesh.specs.Accepted.{Cell};
 ghost use Rattle.walks.specs.Walking.{Ground, Sized, throughOne};
-ghost use Rattle.near_cells.specs.NearCells.{NearRow, NearRows, NearGround};
+ghost use Rattle.near_cells.specs.NearCells.{NearRow, NearRows, Ready};
 
 // The room for all rows.
-pub const NEAR: usize = 2400;
+const ROOM: usize = 2001;
 
 // The most cells in a row: longer ones are walked faster step by step.
 const LONGEST: usize = 12;
@@ -61,13 +62,13 @@ fn near_to(
     )
 }
 
-// Lists the rows of all cells, one after another, unless one is longer than `most`. Gives whether they are listed.
+// Lists the rows of all cells, each w places wide, unless one is longer. Gives whether they are listed.
 fn list_rows(
     m: &[u8],
     sizes: MeshSizes,
     st: &[u8],
     a: usize,
-    most: usize,
+    w: usize,
     cell: &[u16],
     prev: &[u16],
     last: &[u16],
@@ -75,15 +76,12 @@ fn list_rows(
     from: &mut [u16],
     found: &mut [u16],
     near: &mut [u16],
-    ends: &mut [u16],
 ) -> bool
-    requires { ⌜ Ground (now m) (now st) (now cell) (now prev) (now last) × Sized (now m) sizes × (a < top (now m)) × (cellCount (now m) * most ≤ 2400) × Under 1 (now marks)
-        × (length (now from) ≡ 2001) × (length (now found) ≡ 2001) × (length (now near) ≡ 2400) × (length (now ends) ≡ 2001) ⌝ }
-    ensures { λ b. ⌜ (b ≡ true → NearRows (now (m .entry)) a (now (near .exit)) (now (ends .exit)) (cellCount (now (m .entry)))) × Under 4001 (now (marks .exit))
-        × (length (now (from .exit)) ≡ 2001) × (length (now (found .exit)) ≡ 2001) ⌝ }
+    requires { ⌜ Ground (now m) (now st) (now cell) (now prev) (now last) × Sized (now m) sizes × (a < top (now m)) × (cellCount (now m) * w ≤ 2001) × Under 1 (now marks)
+        × (length (now from) ≡ 2001) × (length (now found) ≡ 2001) × Zeros 2001 (now near) ⌝ }
+    ensures { λ b. ⌜ (b ≡ true → NearRows (now (m .entry)) a (now (near .exit)) w (cellCount (now (m .entry)))) × Under 4001 (now (marks .exit))
+        × (length (now (from .exit)) ≡ 2001) × (length (now (found .exit)) ≡ 2001) × (length (now (near .exit)) ≡ 2001) ⌝ }
 {
-    let mut t = 0;
-    put_number_at(ends, 0, 0);
     for q in 0..sizes.cells {
         let s = near_to(
             m,
@@ -100,18 +98,26 @@ fn list_rows(
             found,
         );
         let len = s - 1;
-        if most < len {
+        if w < len {
             return false;
         }
-        copy_part(from, 1, len, near, t);
-        t += len;
-        put_number_at(ends, q + 1, t as u16);
+        copy_part(from, 1, len, near, q * w);
     }
     true
 }
 
-// Lists the cells two steps from each cell, if the stencil goes through one dimension, which `single` tells, and the rows are short. Gives whether
-// they are listed.
+// Sets all numbers of a list to 0.
+fn clear(list: &mut [u16])
+    requires { ⌜ length (now list) ≡ 2001 ⌝ }
+    ensures { λ _. ⌜ Zeros 2001 (now (list .exit)) ⌝ }
+{
+    for j in 0..list.len() {
+        list[j] = 0;
+    }
+}
+
+// Lists the cells two steps from each cell, if the stencil goes through one dimension, which `single` tells, and the rows are short. Gives their
+// width, and 0 where they are not listed.
 pub fn near_rows(
     m: &[u8],
     sizes: MeshSizes,
@@ -124,27 +130,25 @@ pub fn near_rows(
     from: &mut [u16],
     found: &mut [u16],
     near: &mut [u16],
-    ends: &mut [u16],
-) -> bool
+) -> usize
     requires { ⌜ Ground (now m) (now st) (now cell) (now prev) (now last) × Sized (now m) sizes × (single ≡ throughOne (now st)) × Under 1 (now marks)
-        × (length (now from) ≡ 2001) × (length (now found) ≡ 2001) × (length (now near) ≡ 2400) × (length (now ends) ≡ 2001) ⌝ }
-    ensures { λ b. ⌜ (b ≡ true → NearGround (now (m .entry)) (now (st .entry)) (now (near .exit)) (now (ends .exit))) × Under 4001 (now (marks .exit))
-        × (length (now (from .exit)) ≡ 2001) × (length (now (found .exit)) ≡ 2001) ⌝ }
+        × (length (now from) ≡ 2001) × (length (now found) ≡ 2001) × Zeros 2001 (now near) ⌝ }
+    ensures { λ w. ⌜ Ready (now (m .entry)) (now (st .entry)) w 4001 (now (marks .exit)) (now (from .exit)) (now (found .exit)) (now (near .exit)) ⌝ }
 {
     if !single {
-        return false;
+        return 0;
     }
     if st.len() < 2 {
-        return false;
+        return 0;
     }
     let a = byte_at(st, 1) as usize;
-    let most = lesser(LONGEST, NEAR / sizes.cells);
-    list_rows(
+    let w = lesser(LONGEST, ROOM / sizes.cells);
+    if list_rows(
         m,
         sizes,
         st,
         a,
-        most,
+        w,
         cell,
         prev,
         last,
@@ -152,6 +156,10 @@ pub fn near_rows(
         from,
         found,
         near,
-        ends,
-    )
+    ) {
+        clear(from);
+        return w;
+    }
+    clear(near);
+    0
 }

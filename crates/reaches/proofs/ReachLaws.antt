@@ -7,17 +7,19 @@ use native.Mathlib.Nat.{zero-add}
 use native.Mathlib.Omega.{arith}
 use lib.Dec.{eqb, leb, ltb}
 use borrow.Author.Tests.{eqb-true, eqb-false, eq-eqb, ne-eqb, lt-ltb, leb-true, leb-false, ltb-true, ltb-false}
-use lib.Seq.{getD-set-same, getD-set-other, take-suc-set}
-use lib.ListN.{length, getD, set, take, length-append}
+use lib.Seq.{getD-set-same, getD-set-other}
+use lib.ListN.{length, getD, set, length-append}
 use Rattle.vocabulary.specs.Bytes.{Bytes, byteAt}
 use Rattle.vocabulary.specs.Ranges.{picked, blocks, total}
 use Rattle.vocabulary.specs.RangeLaws.{blocks-turn, total-grows, picked-cong, blocks-part}
 use Rattle.vocabulary.specs.Lists.{isIn, joined, Zeros}
 use Rattle.vocabulary.specs.ListLaws.{map-append}
+use Rattle.mesh.specs.Meet.{Under}
 use Rattle.mesh.specs.Mesh.{firstCell, cellCount}
 use Rattle.mesh.specs.Walks.{Near, steps, stepsTo, layer, reach, stepTo, walked}
 use Rattle.walks.specs.Walking.{Ground, firstMark, layerMark, walkedFrom, Walk, Within}
-use Rattle.near_cells.specs.NearCells.{Layered}
+use Rattle.near_cells.specs.NearCells.{Layered, Ready}
+use Rattle.near_cells.proofs.RowLaws.{under-more}
 use Rattle.walks.proofs.WalkLaws.{cell-layer}
 use Rattle.walks.proofs.GroundLaws.{steps-is}
 use Rattle.mesh.specs.Accepted.{Accepted, Cell}
@@ -114,6 +116,30 @@ all-clear m low high layers after r I C = record { size = C .size ∙ r; each = 
     go z true p b q = let l : z < low = ltb-true z low p in C .lower z l ∙ I .before z l
     go z false p true q = C .inside z (ltb-false z low p) (ltb-true z high q)
     go z false p false q = let l : high ≤ z = ltb-false z high q in C .upper z l ∙ I .after z l
+
+-- ---- ready for the next cell
+
+pub ready-by-rows : (m st : Bytes) (w v n : ℕ) (marks from found near from′ found′ : List ℕ) → Ready m st w v marks from found near → (w ≡ 0 → ⊥) → Zeros 2001 from′ → length found′ ≡ 2001
+    → Ready m st w (v + (n + 1)) marks from′ found′ near
+ready-by-rows m st w v n marks from found near from′ found′ R nz K r = record {
+  marks-low = under-more v (v + (n + 1)) marks (omega arith) (R .marks-low);
+  from-room = K .size;
+  found-room = r;
+  near-room = R .near-room;
+  rows = λ _. (R .rows nz .0, K);
+  steps = λ z. absurd (nz z);
+}
+
+pub ready-by-steps : (m st : Bytes) (w v : ℕ) (marks from found near : List ℕ) → w ≡ 0 → Under v marks → length from ≡ 2001 → length found ≡ 2001 → Zeros 2001 near
+    → Ready m st w v marks from found near
+ready-by-steps m st w v marks from found near z U f g K = record {
+  marks-low = U;
+  from-room = f;
+  found-room = g;
+  near-room = K .size;
+  rows = λ nz. absurd (nz z);
+  steps = λ _. K;
+}
 
 words-length : (first : ℕ) (es : List Near) → length (joined (map (placed first) es)) ≡ 2 * length es
 unfolding joined placed

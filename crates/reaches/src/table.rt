@@ -6,27 +6,23 @@ use mesh::inner::cell_count;
 use mesh::inner::elements_of;
 use mesh::inner::first_cell;
 use mesh::inner::record_count;
-use near_cells::inner::NEAR;
 use near_cells::inner::near_rows;
 use near_cells::inner::walk_near;
 use visits::inner::entry;
-use walks::inner::Ends;
 use walks::inner::MeshSizes;
 use walks::inner::through_one;
 use walks::inner::walk;
 ghost use mathlib.Core.Path.{_≡_};
-ghost use mathlib.Core.Bool.{true, false};
+ghost use mathlib.Core.Bool.{false};
 ghost use mathlib.Core.List.{[], _∷_};
 ghost use Prim.Native.Nat.{ℕ, _+_, _-_, _*_, _<_, _≤_};
 ghost use lib.ListN.{length, set};
-ghost use Rattle.mesh.specs.Meet.{Under};
 ghost use Rattle.vocabulary.specs.Bytes.{over};
-ghost use Rattle.vocabulary.specs.Lists.{Zeros};
 ghost use Rattle.vocabulary.specs.Ranges.{blocks};
 ghost use Rattle.layout.specs.Words.{bytesOf};
 ghost use Rattle.reaches.specs.Tables.{row, Cleared, Emitted, cellWords, Tabled};
-ghost use Rattle.walks.specs.Walking.{Ground, Sized, throughOne, Within};
-ghost use Rattle.near_cells.specs.NearCells.{NearGround, Layered};
+ghost use Rattle.walks.specs.Walking.{Ground, Sized, throughOne};
+ghost use Rattle.near_cells.specs.NearCells.{Ready};
 ghost use Rattle.mesh.specs.Mesh.{top, elements, recordCount, firstCell, cellCount};
 ghost use Rattle.mesh.specs.Walks.{bad10};
 ghost use Rattle.mesh.specs.Accepted.{Accepted, Cell};
@@ -92,8 +88,9 @@ fn emit(
     s
 }
 
-// The walks of n steps from cell c: by the rows of near cells where they are listed, and else step by step.
-fn walk_from(
+// The entries of the reach of cell c, for a stencil of n steps: by the rows of near cells, each w places wide, or step by step where w is 0. The layers
+// stand in `from` or in `near`, whichever the walk leaves free.
+fn reach_of(
     m: &[u8],
     sizes: MeshSizes,
     st: &[u8],
@@ -102,27 +99,27 @@ fn walk_from(
     cell: &[u16],
     prev: &[u16],
     last: &[u16],
-    listed: bool,
-    near: &[u16],
-    rows: &[u16],
+    w: usize,
     c: usize,
     v: usize,
     marks: &mut [u16],
     from: &mut [u16],
     found: &mut [u16],
-    layers: &mut [u16],
-) -> Ends
+    near: &mut [u16],
+    table: &mut [u8],
+    t: usize,
+) -> usize
     requires { ⌜ Ground (now m) (now st) (now cell) (now prev) (now last) × Sized (now m) sizes × Cell (now m) c × (n + 1 ≡ length (now st)) × (single ≡ throughOne (now st)) × (n ≤ 8)
-        × (listed ≡ true → NearGround (now m) (now st) (now near) (now rows)) × (v ≤ 60000) × Under v (now marks) × (length (now from) ≡ 2001) × (length (now found) ≡ 2001)
-        × Zeros 2001 (now layers) ⌝ }
-    ensures { λ w. ⌜ Layered (now (m .entry)) (now (st .entry)) (c ∷ []) n (now (layers .exit)) × Within (now (m .entry)) (now (layers .exit)) (w .low) (w .high)
-        × Under (v + (n + 1)) (now (marks .exit)) × (length (now (from .exit)) ≡ 2001) × (length (now (found .exit)) ≡ 2001) ⌝ }
+        × Ready (now m) (now st) w v (now marks) (now from) (now found) (now near) × (v ≤ 60000) × (length (now table) ≡ 32000) × (t ≤ 8001) ⌝ }
+    ensures { λ s. ⌜ Emitted (now (table .entry)) (now (table .exit)) t s (cellWords (now (m .entry)) (now (st .entry)) c) × (s ≤ 8001)
+        × Ready (now (m .entry)) (now (st .entry)) w (v + (n + 1)) (now (marks .exit)) (now (from .exit)) (now (found .exit)) (now (near .exit)) ⌝ }
 {
-    if listed {
-        return walk_near(m, st, near, rows, sizes.first, c, n, layers, found);
+    if w != 0 {
+        let b = walk_near(m, st, near, w, sizes.first, c, n, from, found);
+        return emit(from, sizes.first, b.low, b.high, table, t);
     }
     put_number_at(from, 0, c as u16);
-    walk(
+    let b = walk(
         m,
         sizes,
         st,
@@ -136,58 +133,9 @@ fn walk_from(
         marks,
         from,
         found,
-        layers,
-    )
-}
-
-// The entries of the reach of cell c, for a stencil of n steps.
-fn reach_of(
-    m: &[u8],
-    sizes: MeshSizes,
-    st: &[u8],
-    n: usize,
-    single: bool,
-    cell: &[u16],
-    prev: &[u16],
-    last: &[u16],
-    listed: bool,
-    near: &[u16],
-    rows: &[u16],
-    c: usize,
-    v: usize,
-    marks: &mut [u16],
-    from: &mut [u16],
-    found: &mut [u16],
-    layers: &mut [u16],
-    table: &mut [u8],
-    t: usize,
-) -> usize
-    requires { ⌜ Ground (now m) (now st) (now cell) (now prev) (now last) × Sized (now m) sizes × Cell (now m) c × (n + 1 ≡ length (now st)) × (single ≡ throughOne (now st)) × (n ≤ 8)
-        × (listed ≡ true → NearGround (now m) (now st) (now near) (now rows)) × (v ≤ 60000) × Under v (now marks) × (length (now from) ≡ 2001) × (length (now found) ≡ 2001)
-        × Zeros 2001 (now layers) × (length (now table) ≡ 32000) × (t ≤ 8001) ⌝ }
-    ensures { λ s. ⌜ Emitted (now (table .entry)) (now (table .exit)) t s (cellWords (now (m .entry)) (now (st .entry)) c) × (s ≤ 8001) × Under (v + (n + 1)) (now (marks .exit))
-        × (length (now (from .exit)) ≡ 2001) × (length (now (found .exit)) ≡ 2001) × Zeros 2001 (now (layers .exit)) ⌝ }
-{
-    let w = walk_from(
-        m,
-        sizes,
-        st,
-        n,
-        single,
-        cell,
-        prev,
-        last,
-        listed,
         near,
-        rows,
-        c,
-        v,
-        marks,
-        from,
-        found,
-        layers,
     );
-    emit(layers, sizes.first, w.low, w.high, table, t)
+    emit(near, sizes.first, b.low, b.high, table, t)
 }
 
 // The reaches of all cells, from the chains turned round.
@@ -205,7 +153,8 @@ pub fn reach_all(
     table: &mut [u8],
     ends: &mut [u16],
 ) -> usize
-    requires { ⌜ Ground (now m) (now st) (now cell) (now prev) (now last) × (e ≡ elements (now m)) × (r ≡ recordCount (now m)) × (first ≡ firstCell (now m)) × (cells ≡ cellCount (now m)) × (n + 1 ≡ length (now st)) × (n ≤ 8) × (length (now table) ≡ 32000) × (length (now ends) ≡ 2001) ⌝ }
+    requires { ⌜ Ground (now m) (now st) (now cell) (now prev) (now last) × (e ≡ elements (now m)) × (r ≡ recordCount (now m)) × (first ≡ firstCell (now m))
+        × (cells ≡ cellCount (now m)) × (n + 1 ≡ length (now st)) × (n ≤ 8) × (length (now table) ≡ 32000) × (length (now ends) ≡ 2001) ⌝ }
     ensures { λ s. ⌜ Tabled (now (m .entry)) (now (st .entry)) (now (table .entry)) (now (table .exit)) (now (ends .exit)) s ⌝ }
 {
     let single = through_one(st);
@@ -218,10 +167,8 @@ pub fn reach_all(
     let mut marks = [0u16; NUMBERS];
     let mut from = [0u16; NUMBERS];
     let mut found = [0u16; NUMBERS];
-    let mut layers = [0u16; NUMBERS];
-    let mut near = [0u16; NEAR];
-    let mut rows = [0u16; NUMBERS];
-    let listed = near_rows(
+    let mut near = [0u16; NUMBERS];
+    let w = near_rows(
         m,
         sizes,
         st,
@@ -233,7 +180,6 @@ pub fn reach_all(
         &mut from,
         &mut found,
         &mut near,
-        &mut rows,
     );
     let mut t = 0;
     let mut v = AFTER_ROWS;
@@ -248,15 +194,13 @@ pub fn reach_all(
             cell,
             prev,
             last,
-            listed,
-            &near,
-            &rows,
+            w,
             x,
             v,
             &mut marks,
             &mut from,
             &mut found,
-            &mut layers,
+            &mut near,
             table,
             t,
         );

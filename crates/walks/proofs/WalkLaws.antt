@@ -8,7 +8,7 @@ use native.Mathlib.Numerals.{add-one}
 use native.Mathlib.Omega.{arith}
 use lib.Dec.{eqb, ltb}
 use lib.ListN.{length, getD, set, take, drop, length-take, length-drop, length-append, List·getD-append}
-use lib.Seq.{take-suc, take-suc-set, take-set-le, drop-set-add, take-add, getD-drop, getD-append-add}
+use lib.Seq.{take-suc, take-suc-set, take-set-le, drop-set-lt, drop-set-add, take-add, getD-drop, getD-append-add}
 use borrow.Author.Tests.{eqb-true, eqb-false, eq-eqb, ne-eqb, lt-ltb, not-true}
 use Rattle.mesh.specs.Meet.{Under}
 use Rattle.vocabulary.specs.Bytes.{Bytes, byteAt}
@@ -41,6 +41,9 @@ copy-turn src dst at to j n h a b e =
 
 pub copy-front : (dst₀ dst : List ℕ) (to j x : ℕ) → take to dst ≡ take to dst₀ → take to (set dst (to + j) x) ≡ take to dst₀
 copy-front dst₀ dst to j x e = take-set-le to dst (to + j) x (omega arith) ∙ e
+
+pub copy-rest : (dst₀ dst : List ℕ) (to j n x : ℕ) → j < n → drop (to + n) dst ≡ drop (to + n) dst₀ → drop (to + n) (set dst (to + j) x) ≡ drop (to + n) dst₀
+copy-rest dst₀ dst to j n x h e = drop-set-lt (to + n) dst (to + j) x (omega arith) ∙ e
 
 pub copy-end : (src dst : List ℕ) (at to j n : ℕ) → j ≤ n → n ≤ j → take j (drop to dst) ≡ take j (drop at src) → take n (drop to dst) ≡ take n (drop at src)
 copy-end src dst at to j n g h e = at-last (λ i. take i (drop to dst) ≡ take i (drop at src)) j n g h e

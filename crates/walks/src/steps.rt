@@ -135,7 +135,7 @@ fn step(
 pub fn copy_part(src: &[u16], at: usize, n: usize, dst: &mut [u16], to: usize)
     requires { ⌜ (at + n ≤ length (now src)) × (to + n ≤ length (now dst)) × (length (now src) < 65536) × (length (now dst) < 65536) ⌝ }
     ensures { λ _. ⌜ (take n (drop to (now (dst .exit))) ≡ take n (drop at (now (src .entry)))) × (length (now (dst .exit)) ≡ length (now (dst .entry)))
-        × (take to (now (dst .exit)) ≡ take to (now (dst .entry))) ⌝ }
+        × (take to (now (dst .exit)) ≡ take to (now (dst .entry))) × (drop (to + n) (now (dst .exit)) ≡ drop (to + n) (now (dst .entry))) ⌝ }
 {
     for j in 0..n {
         dst[to + j] = src[at + j];

@@ -3,13 +3,14 @@ use mathlib.Core.Path.{_≡_, refl}
 use Prim.Native.Nat.{_-_, _≤_}
 use lib.ListN.{length}
 use Rattle.near_cells.specs.NearCells.{inRow, Spread}
-use Rattle.near_cells.proofs.LevelLaws.{row-start, row-turn, row-end, row-low, row-high}
+use Rattle.near_cells.proofs.LevelLaws.{row-start, row-turn, row-stop, row-end, row-high}
 use borrow.Author.Needs.{needs}
 use Rattle.near_cells.proofs.levels.reach_row.Statement.{statement}
 use Rattle.near_cells.proofs.levels.reach_row.Tie as tie
 
 abbrev Inv-loop : tie.InvT-loop
-Inv-loop near lo hi k layers₀ found₀ n s₀ t₀ layers found s t = (lo ≤ t) × (t ≤ hi) × (length layers ≡ length layers₀) × (length found ≡ length found₀) × Spread k layers₀ found₀ n layers found s (inRow near lo t)
+Inv-loop near lo hi k layers₀ found₀ n s₀ t₀ layers found s t =
+    (lo ≤ t) × (t ≤ hi) × (length layers ≡ length layers₀) × (length found ≡ length found₀) × Spread k layers₀ found₀ n layers found s (inRow near lo t)
 
 abbrev μ-loop : tie.MeasureT-loop
 μ-loop near lo hi k layers₀ found₀ n s₀ t₀ layers found s t = hi - t
@@ -22,7 +23,10 @@ reach-row-spec =
     μ-loop
     (λ c. (search needs, search needs, refl, refl, search row-start))
     (λ c κs. search needs)
-    (λ c κs. (search needs, search row-low, search row-high, search needs))
+    (λ c. search needs)
+    (λ c. search needs)
+    (λ c. search row-stop)
+    (λ c κs. (search needs, search needs, search row-high, search needs))
     (λ c. search needs)
     (λ c. search needs)
     (λ c. (search needs, search needs, search needs, search needs, search row-turn))

@@ -1,8 +1,9 @@
 -- `near_cells::rows::near_to` meets its contract. Assumes nothing.
+use native.Mathlib.Omega.{arith}
 use Rattle.walks.proofs.NoteLaws.{begin}
 use Rattle.walks.proofs.WalkLaws.{front, one-cell}
 use Rattle.near_cells.proofs.NearLaws.{cell-small}
-use Rattle.near_cells.proofs.RowLaws.{next-mark, begin-next, lowers, near-row, twice-next}
+use Rattle.near_cells.proofs.RowLaws.{next-mark, begin-next, lowers, near-row, under-more}
 use borrow.Author.Needs.{needs}
 use Rattle.near_cells.proofs.rows.near_to.Statement.{statement}
 use Rattle.near_cells.proofs.rows.near_to.Tie as tie
@@ -60,7 +61,7 @@ near-to-spec =
       near-row _ _ _ _ _ _ _ (front (start .args .from .now) _ _ (start .pre .6) (at-put-number-at .put-number-at .ensures)) (at-walk-down .walk-down .ensures .all) _ _ _ _ _ _
           (start .pre .3) (at-visit .visit .ensures .all) (at-walk-up .walk-up .ensures),
       at-walk-up .walk-up .ensures .few,
-      twice-next _ _ _ _ (at-walk-up .walk-up .ensures .gathered),
+      under-more _ _ _ (omega arith) (next-mark _ _ _ _ (at-walk-up .walk-up .ensures .gathered)),
       at-walk-up .walk-up .ensures .gathered .room,
       at-walk-down .walk-down .ensures .gathered .room,
     )))

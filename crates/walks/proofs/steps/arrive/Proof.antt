@@ -35,5 +35,5 @@ arrive-spec =
     let at-if1 = at-note-all .before .before .before in
     let at-kept = at-if1 .before in
     let at-copy-part = at-kept .before .before .before in
-    arrived-even _ _ _ _ _ _ _ _ _ _ _ refl _ (at-kept .kept .ensures) (at-copy-part .copy-part .ensures .0, at-copy-part .copy-part .ensures .1) (at-if1 .if1 .left) _ _ _ _ _ (at-note-all .note-all .ensures)
-    (c .widen .ensures)))
+    arrived-even _ _ _ _ _ _ _ _ _ _ _ refl _ (at-kept .kept .ensures) (at-copy-part .copy-part .ensures .0, at-copy-part .copy-part .ensures .1) (at-if1 .if1 .left) _ _ _ _ _
+    (at-note-all .note-all .ensures) (c .widen .ensures)))
