@@ -6,7 +6,7 @@ use Prim.Native.Nat.{ℕ, _+_, _≤_, _<_}
 use native.Mathlib.Omega.{arith}
 use lib.Dec.{eqb, ltb}
 use lib.ListN.{List·getD-eq-default, length, getD, set, replicate, length-set, length-replicate}
-use lib.Seq.{getD-set-same, getD-set-other}
+use lib.Seq.{getD-set-same, getD-set-other, ext-getD}
 use borrow.Author.Tests.{eqb-true, eqb-false, ne-eqb, ltb-true, ltb-false}
 use Rattle.vocabulary.specs.Bytes.{Bytes, byteAt}
 use Rattle.vocabulary.specs.ListLaws.{zeros-at}
@@ -167,3 +167,25 @@ module _ (counts : List ℕ) where
       ends-small k e x h p q =
           let g : endsBy counts base (k + 1) ≤ endsBy counts base 16 = unfold endsBy in omega (arith, total-grows 1 (countAt counts) (k + 1) 16 (omega arith)) in
           omega (arith, small, ends-turn k e x p q)
+
+-- ---- an array cleared place by place
+
+pub record Zeroed (q : ℕ) (list : List ℕ) : Type 0 where
+  pub each : (x : ℕ) → x < q → getD list x 0 ≡ 0
+
+pub zero-start : (list : List ℕ) → Zeroed 0 list
+zero-start list = record { each = λ x h. let no : ⊥ = omega arith in absurd no }
+
+pub zero-turn : (q n m : ℕ) (list : List ℕ) → q < n → length list ≡ m → m ≡ n → Zeroed q list → Zeroed (q + 1) (set list q 0)
+zero-turn q n m list h e f Z = record { each = λ x l. told x l (eqb q x) refl }
+  where
+    told : (x : ℕ) → x < q + 1 → (b : Bool) → eqb q x ≡ b → getD (set list q 0) x 0 ≡ 0
+    told x l true w = ap (λ y. getD (set list q 0) y 0) (sym (eqb-true q x w)) ∙ getD-set-same list q 0 0 (omega arith)
+    told x l false w =
+        let no : q ≡ x → ⊥ = eqb-false q x w in
+        getD-set-other list q x 0 0 (λ p. no (sym p)) ∙ Z .each x (omega arith)
+
+pub zero-end : (q n m : ℕ) (list : List ℕ) → n ≤ q → length list ≡ m → m ≡ n → Zeroed q list → list ≡ replicate n 0
+zero-end q n m list h e f Z =
+    let r : length (replicate {A = ℕ} n 0) ≡ n = length-replicate {A = ℕ} n 0 in
+    ext-getD 0 list (replicate n 0) (e ∙ f ∙ sym r) (λ x l. Z .each x (omega arith) ∙ sym (zeros-at n x))

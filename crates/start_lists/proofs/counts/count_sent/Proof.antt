@@ -31,13 +31,19 @@ count-sent-spec =
     (λ c. search needs)
     (λ c. search needs)
     (λ c.
-    let turn = c .before .before .before .before .before .before .before .before .before .before .before in
+    let after-put-number-at = c .before .before in
+    let after-count-class = after-put-number-at .before in
+    let after-classify = after-count-class .before .before .before .before .before in
+    let after-loop-test = after-classify .before .before in
+    let start = after-loop-test .before in
+    let turn = start in
     let pre = turn .before .before .before .before .before .before .pre in
-    let row = c .before .before .before .before .before .before .before .before .classify .ensures in (
+    let row = after-classify .classify .ensures in (
       search needs,
       row .room,
       search needs,
-      sent-turn _ _ _ _ _ _ _ _ _ _ (pre .1) (omega (arith, c .before .before .before .before .before .before .before .before .before .before .loop-test .taken, pre .2)) (turn .loop .inv .3) row (c .before .before .before .count-class .ensures .0) (c .before .before .put-number-at .ensures),
+      sent-turn _ _ _ _ _ _ _ _ _ _ (pre .1) (omega (arith, after-loop-test .loop-test .taken, pre .2)) (turn .loop .inv .3) row
+          (after-count-class .count-class .ensures .0) (after-put-number-at .put-number-at .ensures),
     ))
     (λ c. search needs)
     (λ c. search needs)
