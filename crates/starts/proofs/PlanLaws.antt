@@ -66,8 +66,8 @@ module _ (m : Bytes) (parts : ℕ) (owners : Bytes) (i : ℕ) (st table : Bytes)
     pub plan-bounds : (i < 65536) × (first + cells ≤ 65536) × (cells ≤ 2000) × (parts ≤ 16)
     plan-bounds = (omega (arith, P .i-in .1), cells-fit m first cells (P .mesh) fe ce, cells-few m cells (P .mesh) ce, P .few)
 
-    pub plan-mapped : (1 ≤ i) × Mapped owners cells parts
-    plan-mapped = (P .i-in .0, record { each = λ q h. map-facts m parts owners [] (R .map) .owner-in q (omega (arith, ce)) .1 })
+    pub plan-mapped : (1 ≤ i) × (i ≤ 16) × Mapped owners cells parts
+    plan-mapped = (P .i-in .0, P .i-in .1, record { each = λ q h. map-facts m parts owners [] (R .map) .owner-in q (omega (arith, ce)) .1 })
 
     pub plan-sent : (sent : List ℕ) → Sent owners table ends i cells 16 sent → Sent owners table ends i (cellCount m) 16 sent
     plan-sent sent X = subst (λ x. Sent owners table ends i x 16 sent) ce X

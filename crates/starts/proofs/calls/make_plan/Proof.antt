@@ -51,7 +51,7 @@ make-plan-spec =
     let cells = after-cell-count .cell-count .ensures .0 in
     let b = plan-bounds _ _ _ _ _ _ _ _ (pre .0) (pre .1) (pre .2) _ _ first cells in
     let map = plan-mapped _ _ _ _ _ _ _ _ (pre .0) (pre .1) (pre .2) _ _ first cells in
-    (map .0, b .2, b .3, map .1, after-classify .classify .ensures .room, pre .6))
+    (map .0, map .1, b .2, b .3, map .2, after-classify .classify .ensures .room, pre .6))
     (λ c κs.
     let after-number-at2 = c .before .before .before .before .before .before .before .before .before in
     let after-number-at = after-number-at2 .before .before in
