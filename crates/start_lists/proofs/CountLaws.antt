@@ -6,13 +6,13 @@ use Prim.Native.Nat.{ℕ, _+_, _≤_, _<_}
 use native.Mathlib.Omega.{arith}
 use lib.Dec.{eqb, ltb}
 use lib.ListN.{List·getD-eq-default, length, getD, set, replicate, length-set, length-replicate}
-use lib.Seq.{getD-set-same, getD-set-other}
+use lib.Seq.{getD-set-same, getD-set-other, ext-getD}
 use borrow.Author.Tests.{eqb-true, eqb-false, ne-eqb, ltb-true, ltb-false}
 use Rattle.vocabulary.specs.Bytes.{Bytes, byteAt}
 use Rattle.vocabulary.specs.ListLaws.{zeros-at}
 use Rattle.vocabulary.specs.Ranges.{some, total}
-use Rattle.vocabulary.specs.RangeLaws.{at-last, blocks-empty, some-none, total-start, total-turn, total-grows}
-use Rattle.split.specs.Classes.{ownsAt, reachHas, reachedAt, classAt, classCount, partCells, Classed}
+use Rattle.vocabulary.specs.RangeLaws.{at-last, blocks-empty, blocks-length, some-none, total-cong, total-start, total-turn, total-grows}
+use Rattle.split.specs.Classes.{ownsAt, insideAt, reachHas, reachedAt, classAt, classCount, partCells, Classed}
 use Rattle.cell_lists.proofs.AddLaws.{count-start, count-turn, place-one, place-none, class-count, class-few}
 use Rattle.cell_lists.proofs.ClassLists.{row-cells}
 use Rattle.start_lists.specs.Starting.{countAt, endsBy, Tallied, Got, Sent, Mapped}
@@ -76,6 +76,41 @@ module _ (owners table : Bytes) (ends : List ℕ) (i cells : ℕ) where
   pub got-told : (class : Bytes) (got : List ℕ) → cells ≤ 2000 → Classed owners table ends i cells class → Tallied class cells got → Got owners table ends i cells got
   got-told class got few C T = record { each = λ first k low high. row-told i first k (countAt got k) class few C (T .each k (omega arith)) }
 
+  -- how many they are does not depend on where the cells' numbers begin
+  cells-many : (j first k : ℕ) → length (partCells owners table ends j first cells k) ≡ length (partCells owners table ends j 0 cells k)
+  unfolding partCells
+  cells-many j first k =
+      blocks-length 0 (λ q. cond (eqb (classAt owners table ends j cells q) k) ((first + q) ∷ []) []) cells
+      ∙ total-cong 0 (λ q. length (cond (eqb (classAt owners table ends j cells q) k) ((first + q) ∷ []) []))
+      (λ q. length (cond (eqb (classAt owners table ends j cells q) k) ((0 + q) ∷ []) [])) cells (λ q h. one (0 + q) (eqb (classAt owners table ends j cells (0 + q)) k))
+      ∙ sym (blocks-length 0 (λ q. cond (eqb (classAt owners table ends j cells q) k) ((0 + q) ∷ []) []) cells)
+    where
+      one : (q : ℕ) (b : Bool) → length (cond b ((first + q) ∷ []) []) ≡ length (cond b ((0 + q) ∷ []) [])
+      one q true = refl
+      one q false = refl
+
+  -- in its own row no cell has the part's number
+  own-class : 1 ≤ i → i ≤ 16 → (q : ℕ) → eqb (classAt owners table ends i cells q) i ≡ false
+  unfolding classAt ownsAt
+  own-class low high q = go (eqb (byteAt owners q) i) refl (ltb q cells) (insideAt owners table ends i q) (reachedAt owners table ends i cells q)
+    where
+      go : (a : Bool) → eqb (byteAt owners q) i ≡ a → (l s r : Bool) → eqb (cond a (cond l (cond s 17 18) 0) (cond r (byteAt owners q) 0)) i ≡ false
+      go true e true true r = ne-eqb 17 i (λ z. let no : ⊥ = omega arith in no)
+      go true e true false r = ne-eqb 18 i (λ z. let no : ⊥ = omega arith in no)
+      go true e false s r = ne-eqb 0 i (λ z. let no : ⊥ = omega arith in no)
+      go false e l s true = e
+      go false e l s false = ne-eqb 0 i (λ z. let no : ⊥ = omega arith in no)
+
+  pub sent-own : (j : ℕ) → 1 ≤ i → i ≤ 16 → j ≡ i → 0 ≡ length (partCells owners table ends j 0 cells i)
+  unfolding partCells
+  sent-own j low high e =
+      sym (ap (λ x. length (partCells owners table ends x 0 cells i)) e
+      ∙ ap length (blocks-empty 0 (λ q. cond (eqb (classAt owners table ends i cells q) i) ((0 + q) ∷ []) []) cells
+      (λ q h. ap (λ b. cond b ((0 + (0 + q)) ∷ []) []) (own-class low high (0 + q)))))
+
+  pub sent-row : (j n : ℕ) (class : Bytes) → cells ≤ 2000 → Classed owners table ends j cells class → n ≡ classCount class cells i → n ≡ length (partCells owners table ends j 0 cells i)
+  sent-row j n class few C e = row-told j 0 i n class few C e
+
   pub sent-start : (sent : List ℕ) → sent ≡ replicate 17 0 → Sent owners table ends i cells 0 sent
   sent-start sent e = record {
     size = ap length e ∙ length-replicate {A = ℕ} 17 0;
@@ -83,10 +118,10 @@ module _ (owners table : Bytes) (ends : List ℕ) (i cells : ℕ) where
     rest = λ k h. cleared 17 k sent e;
   }
 
-  pub sent-turn : (j n : ℕ) (class : Bytes) (sent after : List ℕ) → cells ≤ 2000 → j < 16 → Sent owners table ends i cells j sent → Classed owners table ends (j + 1) cells class
-      → n ≡ classCount class cells i → after ≡ set sent (j + 1) n → Sent owners table ends i cells (j + 1) after
+  pub sent-turn : (j parts n : ℕ) (sent after : List ℕ) → j < parts → parts ≤ 16 → Sent owners table ends i cells j sent → n ≡ length (partCells owners table ends (j + 1) 0 cells i)
+      → after ≡ set sent (j + 1) n → Sent owners table ends i cells (j + 1) after
   unfolding countAt
-  sent-turn j n class sent after few h X C ne e = record {
+  sent-turn j parts n sent after h few X ne e = record {
     size = ap length e ∙ length-set sent (j + 1) n ∙ X .size;
     each = λ first k low high. ap (λ (l : List ℕ). getD l k 0) e ∙ told first k low high (eqb (j + 1) k) refl;
     rest = λ k l. ap (λ (l : List ℕ). getD l k 0) e ∙ getD-set-other sent (j + 1) k n 0 (λ p. let no : ⊥ = omega arith in no) ∙ X .rest k (omega arith);
@@ -97,7 +132,8 @@ module _ (owners table : Bytes) (ends : List ℕ) (i cells : ℕ) where
           let p : j + 1 ≡ k = eqb-true (j + 1) k w in
           ap (λ x. getD (set sent (j + 1) n) x 0) (sym p)
           ∙ getD-set-same sent (j + 1) n 0 (omega (arith, X .size))
-          ∙ row-told (j + 1) first i n class few C ne
+          ∙ ne
+          ∙ sym (cells-many (j + 1) first i)
           ∙ ap (λ x. length (partCells owners table ends x first cells i)) p
       told first k low high false w =
           let no : j + 1 ≡ k → ⊥ = eqb-false (j + 1) k w in
@@ -167,3 +203,25 @@ module _ (counts : List ℕ) where
       ends-small k e x h p q =
           let g : endsBy counts base (k + 1) ≤ endsBy counts base 16 = unfold endsBy in omega (arith, total-grows 1 (countAt counts) (k + 1) 16 (omega arith)) in
           omega (arith, small, ends-turn k e x p q)
+
+-- ---- an array cleared place by place
+
+pub record Zeroed (q : ℕ) (list : List ℕ) : Type 0 where
+  pub each : (x : ℕ) → x < q → getD list x 0 ≡ 0
+
+pub zero-start : (list : List ℕ) → Zeroed 0 list
+zero-start list = record { each = λ x h. let no : ⊥ = omega arith in absurd no }
+
+pub zero-turn : (q n m : ℕ) (list : List ℕ) → q < n → length list ≡ m → m ≡ n → Zeroed q list → Zeroed (q + 1) (set list q 0)
+zero-turn q n m list h e f Z = record { each = λ x l. told x l (eqb q x) refl }
+  where
+    told : (x : ℕ) → x < q + 1 → (b : Bool) → eqb q x ≡ b → getD (set list q 0) x 0 ≡ 0
+    told x l true w = ap (λ y. getD (set list q 0) y 0) (sym (eqb-true q x w)) ∙ getD-set-same list q 0 0 (omega arith)
+    told x l false w =
+        let no : q ≡ x → ⊥ = eqb-false q x w in
+        getD-set-other list q x 0 0 (λ p. no (sym p)) ∙ Z .each x (omega arith)
+
+pub zero-end : (q n m : ℕ) (list : List ℕ) → n ≤ q → length list ≡ m → m ≡ n → Zeroed q list → list ≡ replicate n 0
+zero-end q n m list h e f Z =
+    let r : length (replicate {A = ℕ} n 0) ≡ n = length-replicate {A = ℕ} n 0 in
+    ext-getD 0 list (replicate n 0) (e ∙ f ∙ sym r) (λ x l. Z .each x (omega arith) ∙ sym (zeros-at n x))

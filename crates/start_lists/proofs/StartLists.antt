@@ -4,15 +4,16 @@ use mathlib.Core.List.{List, [], _∷_, _++_, append-assoc}
 use Prim.Native.Nat.{ℕ, _+_, _-_, _*_, _≤_, _<_}
 use native.Mathlib.Nat.{zero-add}
 use native.Mathlib.Omega.{arith}
-use lib.ListN.{length, getD, take, drop, length-append}
+use lib.ListN.{length, getD, take, drop, replicate, length-append}
 use lib.Seq.{length-take-le}
 use Rattle.vocabulary.specs.Bytes.{Bytes, over}
 use Rattle.vocabulary.specs.Ranges.{listed, blocks, total}
 use Rattle.vocabulary.specs.RangeLaws.{listed-cong, listed-length, total-agree}
 use Rattle.layout.specs.Words.{wordAt}
+use Rattle.split.specs.Numbering.{numbering}
 use Rattle.depths.specs.Depths.{four}
 use Rattle.depths.specs.DepthLaws.{length-four, fours-store}
-use Rattle.start_lists.specs.Starting.{Put, numbersOf, startWords, gotEnds, sentEnds, sentWords, rowEnds, rowWords, numberedWords, startDepth, Cells}
+use Rattle.start_lists.specs.Starting.{Put, startWords, gotEnds, sentEnds, sentWords, rowEnds, rowWords, numberedWords, startDepth, Cells}
 use Rattle.start_lists.specs.Starting.{gotFrom, sentFrom, countAt, endsBy, Got, Sent}
 use Rattle.parts.proofs.OpenedLaws.{four-cut}
 use Rattle.start_lists.proofs.PutLaws.{put-as, put-both, put-length}
@@ -110,10 +111,10 @@ module _ (owners table : Bytes) (ends : List ℕ) (i first cells : ℕ) (order :
 
 -- the lists by the local numbers of the order
 pub lists-numbered : (a b : Bytes) (s t : ℕ) (owners table : Bytes) (ends : List ℕ) (i first cells : ℕ) (order : List ℕ)
-    (n owned steps kind : ℕ) (v : Bytes) (local : List ℕ) → local ≡ numbersOf order n
+    (n owned steps kind : ℕ) (v : Bytes) (empty local : List ℕ) → empty ≡ replicate 2001 0 → local ≡ numbering 0 (take n order) empty
     → Put a b s t (numberedWords owners table ends i first cells order n local owned steps kind v) → Put a b s t (startWords owners table ends i first cells order n owned steps kind v)
-lists-numbered a b s t owners table ends i first cells order n owned steps kind v local e P =
-    put-as a b s t _ _ (ap (λ l. numberedWords owners table ends i first cells order n l owned steps kind v) e) P
+lists-numbered a b s t owners table ends i first cells order n owned steps kind v empty local z e P =
+    put-as a b s t _ _ (ap (λ l. numberedWords owners table ends i first cells order n l owned steps kind v) (e ∙ ap (numbering 0 (take n order)) z)) P
 
 -- ---- the depths
 

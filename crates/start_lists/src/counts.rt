@@ -8,6 +8,7 @@ ghost use mathlib.Core.Path.{_≡_};
 ghost use Prim.Native.Nat.{_*_, _≤_};
 ghost use lib.ListN.{length, replicate};
 ghost use Rattle.vocabulary.specs.Ranges.{total};
+ghost use Rattle.split.specs.Classes.{partCells};
 ghost use Rattle.start_lists.specs.Starting.{countAt, Tallied, Mapped, Sent};
 
 // The most parts.
@@ -28,6 +29,26 @@ pub fn count_classes(class: &[u8], cells: usize, counts: &mut [u16])
     }
 }
 
+// How many cells part i exports to part j: to itself none. The row is work space.
+fn sent_to(
+    owners: &[u8],
+    table: &[u8],
+    ends: &[u16],
+    i: usize,
+    cells: usize,
+    j: usize,
+    class: &mut [u8],
+) -> usize
+    requires { ⌜ (1 ≤ i) × (i ≤ 16) × (cells ≤ 2000) × (length (now class) ≡ 2000) ⌝ }
+    ensures { λ n. ⌜ (n ≡ length (partCells (now (owners .entry)) (now (table .entry)) (now (ends .entry)) j 0 cells i)) × (n ≤ 2000) ⌝ }
+{
+    if j == i {
+        return 0;
+    }
+    classify(owners, table, ends, cells, j, class);
+    count_class(class, cells, i)
+}
+
 // Counts what part i exports to each part, in a cleared array. The row is work space.
 pub fn count_sent(
     owners: &[u8],
@@ -39,12 +60,12 @@ pub fn count_sent(
     class: &mut [u8],
     sent: &mut [u16],
 )
-    requires { ⌜ (1 ≤ i) × (cells ≤ 2000) × (parts ≤ 16) × Mapped (now owners) cells parts × (length (now class) ≡ 2000) × (now sent ≡ replicate 17 0) ⌝ }
+    requires { ⌜ (1 ≤ i) × (i ≤ 16) × (cells ≤ 2000) × (parts ≤ 16) × Mapped (now owners) cells parts × (length (now class) ≡ 2000) × (now sent ≡ replicate 17 0) ⌝ }
     ensures { λ _. ⌜ Sent (now (owners .entry)) (now (table .entry)) (now (ends .entry)) i cells 16 (now (sent .exit)) ⌝ }
 {
     for j in 0..parts {
-        classify(owners, table, ends, cells, j + 1, class);
-        put_number_at(sent, j + 1, count_class(class, cells, i) as u16);
+        let n = sent_to(owners, table, ends, i, cells, j + 1, class);
+        put_number_at(sent, j + 1, n as u16);
     }
 }
 

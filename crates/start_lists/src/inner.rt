@@ -12,6 +12,7 @@ use layout::inner::copy;
 use layout::inner::put_word;
 use layout::number_at;
 use layout::word_at;
+use split::inner::MOST_CELLS;
 use split::inner::classify;
 use split::inner::number_cells;
 use split::inner::to_global;
@@ -19,13 +20,23 @@ use split::inner::to_local;
 ghost use mathlib.Core.Path.{_≡_};
 ghost use mathlib.Core.List.{[], _∷_, _++_, map};
 ghost use Prim.Native.Nat.{_+_, _-_, _*_, _<_, _≤_};
-ghost use lib.ListN.{length, getD, take};
+ghost use lib.ListN.{length, getD, take, replicate};
 ghost use Rattle.vocabulary.specs.Bytes.{over};
 ghost use Rattle.vocabulary.specs.Ranges.{listed, blocks, total};
 ghost use Rattle.layout.specs.Words.{wordAt};
 ghost use Rattle.split.specs.Classes.{ofClass, classCells, partCells};
 ghost use Rattle.start_lists.specs.Starting.{Put, localIn, rowSize, countAt, endsBy, Got, Sent, entryWords, rowEnds, rowWords, sentEnds, sentWords};
 ghost use Rattle.start_lists.specs.Starting.{Row, Rows, Fit, numberedWords, startWords, startDepth, Cells};
+
+// What the lists of a part are made by: the part, the mesh's cells, how many of them it holds and owns, and how many words the lists have.
+pub struct Plan {
+    pub part: usize,
+    pub first: usize,
+    pub cells: usize,
+    pub held: usize,
+    pub owned: usize,
+    pub long: usize,
+}
 
 // Writes w as word s, and gives how many words there are then.
 fn put_one(b: &mut [u8], s: usize, w: usize) -> usize
@@ -123,7 +134,13 @@ fn put_row_ends(
     order: &[u16],
     owned: usize,
 ) -> usize
-    requires { ⌜ (2 * (s + owned + 1) ≤ length (now b)) × (s < 65536) × (owned < 65535) × Rows (now table) (now ends) first (now order) owned × (rowEnds (now table) (now ends) first (now order) owned < 65536) ⌝ }
+    requires { ⌜
+        (2 * (s + owned + 1) ≤ length (now b))
+        × (s < 65536)
+        × (owned < 65535)
+        × Rows (now table) (now ends) first (now order) owned
+        × (rowEnds (now table) (now ends) first (now order) owned < 65536)
+        ⌝ }
     ensures { λ t. ⌜ Put (now (b .entry)) (now (b .exit)) s t (listed 0 (owned + 1) (rowEnds (now (table .entry)) (now (ends .entry)) first (now (order .entry)))) ⌝ }
 {
     let mut e = 0;
@@ -180,7 +197,12 @@ fn put_rows(
     local: &[u16],
     owned: usize,
 ) -> usize
-    requires { ⌜ (2 * (s + 2 * rowEnds (now table) (now ends) first (now order) owned) ≤ length (now b)) × (s + 2 * rowEnds (now table) (now ends) first (now order) owned < 65536) × (owned < 65535) × Rows (now table) (now ends) first (now order) owned ⌝ }
+    requires { ⌜
+        (2 * (s + 2 * rowEnds (now table) (now ends) first (now order) owned) ≤ length (now b))
+        × (s + 2 * rowEnds (now table) (now ends) first (now order) owned < 65536)
+        × (owned < 65535)
+        × Rows (now table) (now ends) first (now order) owned
+        ⌝ }
     ensures { λ u. ⌜ Put (now (b .entry)) (now (b .exit)) s u (blocks 1 owned (rowWords (now (table .entry)) (now (ends .entry)) first (now (order .entry)) (now (local .entry)))) ⌝ }
 {
     let mut u = s;
@@ -237,22 +259,31 @@ fn put_sent_to(
     owners: &[u8],
     table: &[u8],
     ends: &[u16],
-    i: usize,
-    first: usize,
-    cells: usize,
+    plan: Plan,
     local: &[u16],
     j: usize,
     count: usize,
     class: &mut [u8],
 ) -> usize
-    requires { ⌜ (2 * (s + length (partCells (now owners) (now table) (now ends) j first cells i)) ≤ length (now b)) × (s < 65536) × (first + cells ≤ 65536) × (cells ≤ 2000) × (count ≡ length (partCells (now owners) (now table) (now ends) j first cells i)) × (length (now class) ≡ 2000) ⌝ }
-    ensures { λ u. ⌜ Put (now (b .entry)) (now (b .exit)) s u (sentWords (now (owners .entry)) (now (table .entry)) (now (ends .entry)) i first cells (now (local .entry)) j) × (length (now (class .exit)) ≡ 2000) ⌝ }
+    requires { ⌜
+        (2 * (s + length (partCells (now owners) (now table) (now ends) j (plan .first) (plan .cells) (plan .part))) ≤ length (now b))
+        × (s < 65536)
+        × (plan .first + plan .cells ≤ 65536)
+        × (plan .cells ≤ 2000)
+        × (count ≡ length (partCells (now owners) (now table) (now ends) j (plan .first) (plan .cells) (plan .part)))
+        × (length (now class) ≡ 2000)
+        ⌝ }
+    ensures { λ u. ⌜
+        Put (now (b .entry)) (now (b .exit)) s u (sentWords (now (owners .entry)) (now (table .entry)) (now (ends .entry)) (plan .part) (plan .first)
+        (plan .cells) (now (local .entry)) j)
+        × (length (now (class .exit)) ≡ 2000)
+        ⌝ }
 {
     if count == 0 {
         return s;
     }
-    classify(owners, table, ends, cells, j, class);
-    put_class_cells(b, s, class, first, cells, i, local)
+    classify(owners, table, ends, plan.cells, j, class);
+    put_class_cells(b, s, class, plan.first, plan.cells, plan.part, local)
 }
 
 // Writes the exports to all parts.
@@ -262,58 +293,44 @@ fn put_sent(
     owners: &[u8],
     table: &[u8],
     ends: &[u16],
-    i: usize,
-    first: usize,
-    cells: usize,
+    plan: Plan,
     local: &[u16],
     sent: &[u16],
     class: &mut [u8],
 ) -> usize
-    requires { ⌜ (2 * (s + sentEnds (now owners) (now table) (now ends) i first cells 16) ≤ length (now b)) × (s + sentEnds (now owners) (now table) (now ends) i first cells 16 < 65536) × (first + cells ≤ 65536) × (cells ≤ 2000) × Sent (now owners) (now table) (now ends) i cells 16 (now sent) × (length (now class) ≡ 2000) ⌝ }
-    ensures { λ u. ⌜ Put (now (b .entry)) (now (b .exit)) s u (blocks 1 16 (sentWords (now (owners .entry)) (now (table .entry)) (now (ends .entry)) i first cells (now (local .entry)))) ⌝ }
+    requires { ⌜
+        (2 * (s + sentEnds (now owners) (now table) (now ends) (plan .part) (plan .first) (plan .cells) 16) ≤ length (now b))
+        × (s + sentEnds (now owners) (now table) (now ends) (plan .part) (plan .first) (plan .cells) 16 < 65536)
+        × (plan .first + plan .cells ≤ 65536)
+        × (plan .cells ≤ 2000)
+        × Sent (now owners) (now table) (now ends) (plan .part) (plan .cells) 16 (now sent)
+        × (length (now class) ≡ 2000)
+        ⌝ }
+    ensures { λ u. ⌜
+        Put (now (b .entry)) (now (b .exit)) s u (blocks 1 16 (sentWords (now (owners .entry)) (now (table .entry)) (now (ends .entry)) (plan .part)
+        (plan .first) (plan .cells) (now (local .entry))))
+        ⌝ }
 {
     let mut u = s;
     for j in 1..17 {
         let count = number_at(sent, j) as usize;
-        u = put_sent_to(
-            b,
-            u,
-            owners,
-            table,
-            ends,
-            i,
-            first,
-            cells,
-            local,
-            j,
-            count,
-            class,
-        );
+        u = put_sent_to(b, u, owners, table, ends, plan, local, j, count, class);
     }
     u
 }
 
 // Writes what stands before the tables: the length of the lists, the part, the stencil's steps, the rule, and the mesh's cells.
-fn put_head(
-    b: &mut [u8],
-    long: usize,
-    i: usize,
-    steps: usize,
-    kind: usize,
-    v: &[u8],
-    first: usize,
-    cells: usize,
-) -> usize
-    requires { ⌜ (22 ≤ length (now b)) × (long < 65536) × (i < 65536) × (steps < 65536) × (kind < 65536) × (first < 65536) × (cells < 65536) ⌝ }
-    ensures { λ t. ⌜ Put (now (b .entry)) (now (b .exit)) 0 t ((long ∷ i ∷ steps ∷ kind ∷ []) ++ (listed 0 5 (wordAt (now (v .entry))) ++ (first ∷ cells ∷ []))) ⌝ }
+fn put_head(b: &mut [u8], plan: Plan, steps: usize, kind: usize, v: &[u8]) -> usize
+    requires { ⌜ (22 ≤ length (now b)) × (plan .long < 65536) × (plan .part < 65536) × (steps < 65536) × (kind < 65536) × (plan .first < 65536) × (plan .cells < 65536) ⌝ }
+    ensures { λ t. ⌜ Put (now (b .entry)) (now (b .exit)) 0 t (((plan .long) ∷ (plan .part) ∷ steps ∷ kind ∷ []) ++ (listed 0 5 (wordAt (now (v .entry))) ++ ((plan .first) ∷ (plan .cells) ∷ []))) ⌝ }
 {
-    put_one(b, 0, long);
-    put_one(b, 1, i);
+    put_one(b, 0, plan.long);
+    put_one(b, 1, plan.part);
     put_one(b, 2, steps);
     put_one(b, 3, kind);
     put_weights(b, 4, v, 5);
-    put_one(b, 9, first);
-    put_one(b, 10, cells)
+    put_one(b, 9, plan.first);
+    put_one(b, 10, plan.cells)
 }
 
 // Writes the tables of the imports' and exports' ends.
@@ -332,35 +349,35 @@ fn put_entries(
     owners: &[u8],
     table: &[u8],
     ends: &[u16],
-    i: usize,
-    first: usize,
-    cells: usize,
+    plan: Plan,
     order: &[u16],
-    n: usize,
     local: &[u16],
-    owned: usize,
     sent: &[u16],
     class: &mut [u8],
 ) -> usize
-    requires { ⌜ (2 * (s + n + owned + 1 + 2 * rowEnds (now table) (now ends) first (now order) owned + sentEnds (now owners) (now table) (now ends) i first cells 16) ≤ length (now b)) × (s + n + owned + 1 + 2 * rowEnds (now table) (now ends) first (now order) owned + sentEnds (now owners) (now table) (now ends) i first cells 16 < 65536) × (first + cells ≤ 65536) × (cells ≤ 2000) × (n ≤ length (now order)) × Rows (now table) (now ends) first (now order) owned × Sent (now owners) (now table) (now ends) i cells 16 (now sent) × (length (now class) ≡ 2000) ⌝ }
-    ensures { λ t. ⌜ Put (now (b .entry)) (now (b .exit)) s t (take n (now (order .entry)) ++ (listed 0 (owned + 1) (rowEnds (now (table .entry)) (now (ends .entry)) first (now (order .entry))) ++ (blocks 1 owned (rowWords (now (table .entry)) (now (ends .entry)) first (now (order .entry)) (now (local .entry))) ++ blocks 1 16 (sentWords (now (owners .entry)) (now (table .entry)) (now (ends .entry)) i first cells (now (local .entry)))))) ⌝ }
+    requires { ⌜
+        (2 * (s + plan .held + plan .owned + 1 + 2 * rowEnds (now table) (now ends) (plan .first) (now order) (plan .owned) + sentEnds (now owners) (now table)
+        (now ends) (plan .part) (plan .first) (plan .cells) 16) ≤ length (now b))
+        × (s + plan .held + plan .owned + 1 + 2 * rowEnds (now table) (now ends) (plan .first) (now order) (plan .owned) + sentEnds (now owners) (now table)
+        (now ends) (plan .part) (plan .first) (plan .cells) 16 < 65536)
+        × (plan .first + plan .cells ≤ 65536)
+        × (plan .cells ≤ 2000)
+        × (plan .held ≤ length (now order))
+        × Rows (now table) (now ends) (plan .first) (now order) (plan .owned)
+        × Sent (now owners) (now table) (now ends) (plan .part) (plan .cells) 16 (now sent)
+        × (length (now class) ≡ 2000)
+        ⌝ }
+    ensures { λ t. ⌜
+        Put (now (b .entry)) (now (b .exit)) s t (take (plan .held) (now (order .entry)) ++ (listed 0 (plan .owned + 1) (rowEnds (now (table .entry))
+        (now (ends .entry)) (plan .first) (now (order .entry))) ++ (blocks 1 (plan .owned) (rowWords (now (table .entry)) (now (ends .entry)) (plan .first)
+        (now (order .entry)) (now (local .entry))) ++ blocks 1 16 (sentWords (now (owners .entry)) (now (table .entry)) (now (ends .entry)) (plan .part)
+        (plan .first) (plan .cells) (now (local .entry))))))
+        ⌝ }
 {
-    let t = put_list(b, s, order, n);
-    let u = put_row_ends(b, t, table, ends, first, order, owned);
-    let w = put_rows(b, u, table, ends, first, order, local, owned);
-    put_sent(
-        b,
-        w,
-        owners,
-        table,
-        ends,
-        i,
-        first,
-        cells,
-        local,
-        sent,
-        class,
-    )
+    let t = put_list(b, s, order, plan.held);
+    let u = put_row_ends(b, t, table, ends, plan.first, order, plan.owned);
+    let w = put_rows(b, u, table, ends, plan.first, order, local, plan.owned);
+    put_sent(b, w, owners, table, ends, plan, local, sent, class)
 }
 
 // How many words the lists have.
@@ -379,91 +396,99 @@ pub fn lists_length(
     46 + n + owned + 2 * row_total(table, ends, first, order, owned) + count_total(sent)
 }
 
-// Writes the lists, which are `long` words, by an array of local numbers. The row is work space.
+// Writes the lists by an array of local numbers. The row is work space.
 fn put_pieces(
     b: &mut [u8],
-    long: usize,
+    plan: Plan,
     steps: usize,
     kind: usize,
     v: &[u8],
     owners: &[u8],
     table: &[u8],
     ends: &[u16],
-    i: usize,
-    first: usize,
-    cells: usize,
     order: &[u16],
-    n: usize,
     local: &[u16],
-    owned: usize,
     got: &[u16],
     sent: &[u16],
     class: &mut [u8],
 ) -> usize
-    requires { ⌜ Fit (now owners) (now table) (now ends) i first cells (now order) n owned × (long ≡ 46 + n + owned + 2 * rowEnds (now table) (now ends) first (now order) owned + sentEnds (now owners) (now table) (now ends) i first cells 16) × (2 * long ≤ length (now b)) × (steps < 65536) × (kind < 65536) × Got (now owners) (now table) (now ends) i cells (now got) × Sent (now owners) (now table) (now ends) i cells 16 (now sent) × (length (now class) ≡ 2000) ⌝ }
-    ensures { λ t. ⌜ Put (now (b .entry)) (now (b .exit)) 0 t (numberedWords (now (owners .entry)) (now (table .entry)) (now (ends .entry)) i first cells (now (order .entry)) n (now (local .entry)) owned steps kind (now (v .entry))) ⌝ }
+    requires { ⌜
+        Fit (now owners) (now table) (now ends) (plan .part) (plan .first) (plan .cells) (now order) (plan .held) (plan .owned)
+        × (plan .long ≡ 46 + plan .held + plan .owned + 2 * rowEnds (now table) (now ends) (plan .first) (now order) (plan .owned) + sentEnds (now owners)
+        (now table) (now ends) (plan .part) (plan .first) (plan .cells) 16)
+        × (2 * plan .long ≤ length (now b))
+        × (steps < 65536)
+        × (kind < 65536)
+        × Got (now owners) (now table) (now ends) (plan .part) (plan .cells) (now got)
+        × Sent (now owners) (now table) (now ends) (plan .part) (plan .cells) 16 (now sent)
+        × (length (now class) ≡ 2000)
+        ⌝ }
+    ensures { λ t. ⌜
+        Put (now (b .entry)) (now (b .exit)) 0 t (numberedWords (now (owners .entry)) (now (table .entry)) (now (ends .entry)) (plan .part) (plan .first)
+        (plan .cells) (now (order .entry)) (plan .held) (now (local .entry)) (plan .owned) steps kind (now (v .entry)))
+        ⌝ }
 {
-    let s = put_head(b, long, i, steps, kind, v, first, cells);
-    let t = put_borders(b, s, owned, got, sent);
-    put_entries(
-        b,
-        t,
-        owners,
-        table,
-        ends,
-        i,
-        first,
-        cells,
-        order,
-        n,
-        local,
-        owned,
-        sent,
-        class,
-    )
+    let s = put_head(b, plan, steps, kind, v);
+    let t = put_borders(b, s, plan.owned, got, sent);
+    put_entries(b, t, owners, table, ends, plan, order, local, sent, class)
 }
 
-// Writes the lists, which are `long` words. The row is work space.
+// Clears an array of local numbers.
+fn clear_numbers(local: &mut [u16])
+    requires { ⌜ length (now local) ≡ 2001 ⌝ }
+    ensures { λ _. ⌜ now (local .exit) ≡ replicate 2001 0 ⌝ }
+{
+    for q in 0..MOST_CELLS + 1 {
+        local[q] = 0;
+    }
+}
+
+// Writes the lists. The row is work space, and so is the array for the local numbers.
 pub fn put_lists(
     b: &mut [u8],
-    long: usize,
+    plan: Plan,
     steps: usize,
     kind: usize,
     v: &[u8],
     owners: &[u8],
     table: &[u8],
     ends: &[u16],
-    i: usize,
-    first: usize,
-    cells: usize,
     order: &[u16],
-    n: usize,
-    owned: usize,
+    local: &mut [u16],
     got: &[u16],
     sent: &[u16],
     class: &mut [u8],
 ) -> usize
-    requires { ⌜ Fit (now owners) (now table) (now ends) i first cells (now order) n owned × (long ≡ 46 + n + owned + 2 * rowEnds (now table) (now ends) first (now order) owned + sentEnds (now owners) (now table) (now ends) i first cells 16) × (2 * long ≤ length (now b)) × (steps < 65536) × (kind < 65536) × Got (now owners) (now table) (now ends) i cells (now got) × Sent (now owners) (now table) (now ends) i cells 16 (now sent) × (length (now class) ≡ 2000) ⌝ }
-    ensures { λ t. ⌜ Put (now (b .entry)) (now (b .exit)) 0 t (startWords (now (owners .entry)) (now (table .entry)) (now (ends .entry)) i first cells (now (order .entry)) n owned steps kind (now (v .entry))) ⌝ }
+    requires { ⌜
+        Fit (now owners) (now table) (now ends) (plan .part) (plan .first) (plan .cells) (now order) (plan .held) (plan .owned)
+        × (plan .long ≡ 46 + plan .held + plan .owned + 2 * rowEnds (now table) (now ends) (plan .first) (now order) (plan .owned) + sentEnds (now owners)
+        (now table) (now ends) (plan .part) (plan .first) (plan .cells) 16)
+        × (2 * plan .long ≤ length (now b))
+        × (steps < 65536)
+        × (kind < 65536)
+        × Got (now owners) (now table) (now ends) (plan .part) (plan .cells) (now got)
+        × Sent (now owners) (now table) (now ends) (plan .part) (plan .cells) 16 (now sent)
+        × (length (now class) ≡ 2000)
+        × (length (now local) ≡ 2001)
+        ⌝ }
+    ensures { λ t. ⌜
+        Put (now (b .entry)) (now (b .exit)) 0 t (startWords (now (owners .entry)) (now (table .entry)) (now (ends .entry)) (plan .part) (plan .first)
+        (plan .cells) (now (order .entry)) (plan .held) (plan .owned) steps kind (now (v .entry)))
+        ⌝ }
 {
-    let mut local = [0u16; 2001];
-    number_cells(order, n, &mut local);
+    clear_numbers(local);
+    number_cells(order, plan.held, local);
     put_pieces(
         b,
-        long,
+        plan,
         steps,
         kind,
         v,
         owners,
         table,
         ends,
-        i,
-        first,
-        cells,
         order,
-        n,
-        &local,
-        owned,
+        local,
         got,
         sent,
         class,

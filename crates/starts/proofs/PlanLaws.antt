@@ -57,8 +57,8 @@ module _ (m : Bytes) (parts : ℕ) (owners : Bytes) (i : ℕ) (st table : Bytes)
     pub plan-bounds : (i < 65536) × (first + cells ≤ 65536) × (cells ≤ 2000) × (parts ≤ 16)
     plan-bounds = (omega (arith, P .i-in .1), cells-fit m first cells (P .mesh) fe ce, cells-few m cells (P .mesh) ce, P .few)
 
-    pub plan-mapped : (1 ≤ i) × Mapped owners cells parts
-    plan-mapped = (P .i-in .0, record { each = λ q h. map-facts m parts owners [] (R .map) .owner-in q (omega (arith, ce)) .1 })
+    pub plan-mapped : (1 ≤ i) × (i ≤ 16) × Mapped owners cells parts
+    plan-mapped = (P .i-in .0, P .i-in .1, record { each = λ q h. map-facts m parts owners [] (R .map) .owner-in q (omega (arith, ce)) .1 })
 
     pub plan-sent : (sent : List ℕ) → Sent owners table ends i cells 16 sent → Sent owners table ends i (cellCount m) 16 sent
     plan-sent sent X = subst (λ x. Sent owners table ends i x 16 sent) ce X
@@ -244,18 +244,24 @@ module _ (m : Bytes) (parts : ℕ) (owners : Bytes) (i : ℕ) (st : Bytes) (kind
           pub start-16 : length b < 2 * long + 34 + 4 * n → Answered (Refused 16) b
           start-16 h = refused 16 (in-rest ∙ simp (fourteen, uf, lt-ltb (length b) (stateSize m parts owners i st) (omega (arith, size)))) (λ z. omega (arith, z))
 
-          module _ (first : ℕ) (fe : first ≡ firstCell m) where
-            pub start-fit : Fit owners table ends i first cells order n owned
-            start-fit = subst₂ (λ x y. Fit owners table ends i x y order n owned) (sym fe) (sym ce) (Q .fit)
+          -- by the plan's own numbers
+          module _ (part first count : ℕ) (pe : part ≡ i) (fe : first ≡ firstCell m) (ke : count ≡ cellCount m) where
+            pub start-fit : Fit owners table ends part first count order n owned
+            start-fit =
+                subst (λ x. Fit owners table ends x first count order n owned) (sym pe)
+                (subst₂ (λ x y. Fit owners table ends i x y order n owned) (sym fe) (sym ke) (Q .fit))
 
-            pub start-long : long ≡ 46 + n + owned + 2 * rowEnds table ends first order owned + sentEnds owners table ends i first cells 16
-            start-long = Q .long-is ∙ ap₂ (λ x y. 46 + n + owned + 2 * rowEnds table ends x order owned + sentEnds owners table ends i x y 16) (sym fe) (sym ce)
+            pub start-long : long ≡ 46 + n + owned + 2 * rowEnds table ends first order owned + sentEnds owners table ends part first count 16
+            start-long =
+                Q .long-is
+                ∙ ap₂ (λ x y. 46 + n + owned + 2 * rowEnds table ends x order owned + sentEnds owners table ends i x y 16) (sym fe) (sym ke)
+                ∙ ap (λ x. 46 + n + owned + 2 * rowEnds table ends first order owned + sentEnds owners table ends x first count 16) (sym pe)
 
-            pub start-got : (got : List ℕ) → Got owners table ends i (cellCount m) got → Got owners table ends i cells got
-            start-got got G = subst (λ x. Got owners table ends i x got) (sym ce) G
+            pub start-got : (got : List ℕ) → Got owners table ends i (cellCount m) got → Got owners table ends part count got
+            start-got got G = subst₂ (λ x y. Got owners table ends x y got) (sym pe) (sym ke) G
 
-            pub start-sent : (sent : List ℕ) → Sent owners table ends i (cellCount m) 16 sent → Sent owners table ends i cells 16 sent
-            start-sent sent X = subst (λ x. Sent owners table ends i x 16 sent) (sym ce) X
+            pub start-sent : (sent : List ℕ) → Sent owners table ends i (cellCount m) 16 sent → Sent owners table ends part count 16 sent
+            start-sent sent X = subst₂ (λ x y. Sent owners table ends x y 16 sent) (sym pe) (sym ke) X
 
             pub start-cells : Cells f first order n
             start-cells =
@@ -268,16 +274,17 @@ module _ (m : Bytes) (parts : ℕ) (owners : Bytes) (i : ℕ) (st : Bytes) (kind
                 ap₂ (λ x y. four f (4 * (x - y)))
                 (order-at m parts owners st table ends holders R i (I₂ .0) (I₂ .1) first cells fe ce order n owned (Q .order-is) (Q .held-is) (Q .owned-is) (l - 1) (omega arith)) fe
 
-            state-is : bytesOf (startWords owners table ends i first cells order n owned (steps st) kind v) ++ (replicate 34 0 ++ blocks 1 n (startDepth f first order)) ≡ firstState m parts owners i st kind v f
+            state-is : bytesOf (startWords owners table ends part first count order n owned (steps st) kind v) ++ (replicate 34 0 ++ blocks 1 n (startDepth f first order)) ≡ firstState m parts owners i st kind v f
             unfolding firstState
             state-is =
                 ap₂ (λ (ws : List ℕ) (ds : Bytes). bytesOf ws ++ (replicate 34 0 ++ ds))
-                (start-words m parts owners st table ends holders R i (I₂ .0) (I₂ .1) first cells fe ce order n owned (Q .order-is) (Q .held-is) (Q .owned-is) kind v)
+                (ap (λ x. startWords owners table ends x first count order n owned (steps st) kind v) pe
+                ∙ start-words m parts owners st table ends holders R i (I₂ .0) (I₂ .1) first count fe ke order n owned (Q .order-is) (Q .held-is) (Q .owned-is) kind v)
                 (blocks-cong 1 (startDepth f first order) (λ l. depthIn (schemeOf m st kind v) f (globalOf (locals (splitOf m parts owners st) i) l)) n (λ k h. depth-is (1 + k) (omega arith) (omega arith))
                 ∙ ap (λ k. blocks 1 k (λ l. depthIn (schemeOf m st kind v) f (globalOf (locals (splitOf m parts owners st) i) l))) (Q .held-is))
 
             pub start-done : 2 * long + 34 + 4 * n ≤ length b → (y : Bytes)
-                → y ≡ over b 0 (bytesOf (startWords owners table ends i first cells order n owned (length st - 1) kind v) ++ (replicate 34 0 ++ blocks 1 n (startDepth f first order)))
+                → y ≡ over b 0 (bytesOf (startWords owners table ends part first count order n owned (length st - 1) kind v) ++ (replicate 34 0 ++ blocks 1 n (startDepth f first order)))
                 → Answered (Done (2 * long + 34 + 4 * n)) y
             unfolding steps
             start-done h y e =

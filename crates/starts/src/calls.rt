@@ -15,6 +15,7 @@ use split::inner::prepare;
 use split::split_number;
 use start_lists::inner::CLASSES;
 use start_lists::inner::MOST_PARTS;
+use start_lists::inner::Plan;
 use start_lists::inner::count_classes;
 use start_lists::inner::count_sent;
 use start_lists::inner::lists_length;
@@ -28,7 +29,7 @@ ghost use lib.ListN.{length, replicate};
 ghost use Rattle.vocabulary.specs.Bytes.{over};
 ghost use Rattle.vocabulary.specs.Ranges.{blocks};
 ghost use Rattle.layout.specs.Words.{bytesOf};
-ghost use Rattle.mesh.specs.Mesh.{cellCount};
+ghost use Rattle.mesh.specs.Mesh.{firstCell, cellCount};
 ghost use Rattle.mesh.specs.Walks.{steps};
 ghost use Rattle.rules.specs.Rules.{bad11};
 ghost use Rattle.split.specs.Lists.{splitNumber, sizesNumber};
@@ -37,58 +38,59 @@ ghost use Rattle.starts.specs.Start.{sizeAnswer, startAnswer, startState
 ghost use Rattle.start_lists.specs.Starting.{rowEnds, sentEnds, startWords, startDepth, Got, Sent, Fit, Cells};
 ghost use Rattle.starts.specs.Planning.{Planned};
 
-// How many cells a part holds and owns, and how many words its lists have.
-pub struct Plan {
-    pub held: usize,
-    pub owned: usize,
-    pub long: usize,
-}
-
-// Writes a whole state at round 0. The row is work space.
+// Writes a whole state at round 0. The row is work space, and so is the array for the local numbers.
 fn put_state(
     b: &mut [u8],
-    long: usize,
+    plan: Plan,
     steps: usize,
     kind: usize,
     v: &[u8],
     owners: &[u8],
     table: &[u8],
     ends: &[u16],
-    i: usize,
-    first: usize,
-    cells: usize,
     order: &[u16],
-    n: usize,
-    owned: usize,
+    local: &mut [u16],
     f: &[u8],
     got: &[u16],
     sent: &[u16],
     class: &mut [u8],
 )
-    requires { ⌜ Fit (now owners) (now table) (now ends) i first cells (now order) n owned × (long ≡ 46 + n + owned + 2 * rowEnds (now table) (now ends) first (now order) owned + sentEnds (now owners) (now table) (now ends) i first cells 16) × (2 * long + 34 + 4 * n ≤ length (now b)) × (steps < 65536) × (kind < 65536) × Got (now owners) (now table) (now ends) i cells (now got) × Sent (now owners) (now table) (now ends) i cells 16 (now sent) × (length (now class) ≡ 2000) × Cells (now f) first (now order) n ⌝ }
-    ensures { λ _. ⌜ now (b .exit) ≡ over (now (b .entry)) 0 (bytesOf (startWords (now (owners .entry)) (now (table .entry)) (now (ends .entry)) i first cells (now (order .entry)) n owned steps kind (now (v .entry))) ++ (replicate 34 0 ++ blocks 1 n (startDepth (now (f .entry)) first (now (order .entry))))) ⌝ }
+    requires { ⌜
+        Fit (now owners) (now table) (now ends) (plan .part) (plan .first) (plan .cells) (now order) (plan .held) (plan .owned)
+        × (plan .long ≡ 46 + plan .held + plan .owned + 2 * rowEnds (now table) (now ends) (plan .first) (now order) (plan .owned) + sentEnds (now owners)
+        (now table) (now ends) (plan .part) (plan .first) (plan .cells) 16)
+        × (2 * plan .long + 34 + 4 * plan .held ≤ length (now b))
+        × (steps < 65536)
+        × (kind < 65536)
+        × Got (now owners) (now table) (now ends) (plan .part) (plan .cells) (now got)
+        × Sent (now owners) (now table) (now ends) (plan .part) (plan .cells) 16 (now sent)
+        × (length (now class) ≡ 2000)
+        × (length (now local) ≡ 2001)
+        × Cells (now f) (plan .first) (now order) (plan .held)
+        ⌝ }
+    ensures { λ _. ⌜
+        now (b .exit) ≡ over (now (b .entry)) 0 (bytesOf (startWords (now (owners .entry)) (now (table .entry)) (now (ends .entry)) (plan .part) (plan .first)
+        (plan .cells) (now (order .entry)) (plan .held) (plan .owned) steps kind (now (v .entry))) ++ (replicate 34 0 ++ blocks 1 (plan .held) (startDepth
+        (now (f .entry)) (plan .first) (now (order .entry)))))
+        ⌝ }
 {
     put_lists(
         b,
-        long,
+        plan,
         steps,
         kind,
         v,
         owners,
         table,
         ends,
-        i,
-        first,
-        cells,
         order,
-        n,
-        owned,
+        local,
         got,
         sent,
         class,
     );
-    clear(b, 2 * long, 34);
-    put_cells(b, 2 * long + 34, f, first, order, n);
+    clear(b, 2 * plan.long, 34);
+    put_cells(b, 2 * plan.long + 34, f, plan.first, order, plan.held);
 }
 
 // The local order of part i, and what comes of it, with the counts of the imports and exports in cleared arrays. The row is work space.
@@ -106,8 +108,24 @@ fn make_plan(
     got: &mut [u16],
     sent: &mut [u16],
 ) -> Plan
-    requires { ⌜ (splitNumber (now m) parts (now owners) (i ∷ i ∷ []) (now st) ≡ 0) × (sizesNumber (now m) parts (now owners) (now st) ≡ 0) × Prepared (now m) parts (now owners) (now st) (now table) (now ends) (now holders) × (length (now class) ≡ 2000) × (length (now order) ≡ 2000) × (now got ≡ replicate 19 0) × (now sent ≡ replicate 17 0) ⌝ }
-    ensures { λ p. ⌜ Planned (now (m .entry)) parts (now (owners .entry)) i (now (st .entry)) (now (table .entry)) (now (ends .entry)) (now (order .exit)) (p .held) (p .owned) (p .long) × Got (now (owners .entry)) (now (table .entry)) (now (ends .entry)) i (cellCount (now (m .entry))) (now (got .exit)) × Sent (now (owners .entry)) (now (table .entry)) (now (ends .entry)) i (cellCount (now (m .entry))) 16 (now (sent .exit)) ⌝ }
+    requires { ⌜
+        (splitNumber (now m) parts (now owners) (i ∷ i ∷ []) (now st) ≡ 0)
+        × (sizesNumber (now m) parts (now owners) (now st) ≡ 0)
+        × Prepared (now m) parts (now owners) (now st) (now table) (now ends) (now holders)
+        × (length (now class) ≡ 2000)
+        × (length (now order) ≡ 2000)
+        × (now got ≡ replicate 19 0)
+        × (now sent ≡ replicate 17 0)
+        ⌝ }
+    ensures { λ p. ⌜
+        (p .part ≡ i)
+        × (p .first ≡ firstCell (now (m .entry)))
+        × (p .cells ≡ cellCount (now (m .entry)))
+        × Planned (now (m .entry)) parts (now (owners .entry)) i (now (st .entry)) (now (table .entry)) (now (ends .entry)) (now (order .exit)) (p .held)
+        (p .owned) (p .long)
+        × Got (now (owners .entry)) (now (table .entry)) (now (ends .entry)) i (cellCount (now (m .entry))) (now (got .exit))
+        × Sent (now (owners .entry)) (now (table .entry)) (now (ends .entry)) i (cellCount (now (m .entry))) 16 (now (sent .exit))
+        ⌝ }
 {
     let first = first_cell(m);
     let cells = cell_count(m);
@@ -119,6 +137,9 @@ fn make_plan(
     count_sent(owners, table, ends, i, cells, parts, class, sent);
     let long = lists_length(table, ends, first, order, n, owned, sent);
     Plan {
+        part: i,
+        first,
+        cells,
         held: n,
         owned,
         long,
@@ -140,7 +161,15 @@ fn size_from(
     got: &mut [u16],
     sent: &mut [u16],
 ) -> Answer
-    requires { ⌜ (splitNumber (now m) parts (now owners) (i ∷ i ∷ []) (now st) ≡ 0) × (sizesNumber (now m) parts (now owners) (now st) ≡ 0) × Prepared (now m) parts (now owners) (now st) (now table) (now ends) (now holders) × (length (now class) ≡ 2000) × (length (now order) ≡ 2000) × (now got ≡ replicate 19 0) × (now sent ≡ replicate 17 0) ⌝ }
+    requires { ⌜
+        (splitNumber (now m) parts (now owners) (i ∷ i ∷ []) (now st) ≡ 0)
+        × (sizesNumber (now m) parts (now owners) (now st) ≡ 0)
+        × Prepared (now m) parts (now owners) (now st) (now table) (now ends) (now holders)
+        × (length (now class) ≡ 2000)
+        × (length (now order) ≡ 2000)
+        × (now got ≡ replicate 19 0)
+        × (now sent ≡ replicate 17 0)
+        ⌝ }
     ensures { λ r. ⌜ r ≡ sizeAnswer (now (m .entry)) parts (now (owners .entry)) i (now (st .entry)) ⌝ }
 {
     let p = make_plan(
@@ -233,16 +262,28 @@ fn start_from(
     holders: &[u8],
     class: &mut [u8],
     order: &mut [u16],
+    local: &mut [u16],
     got: &mut [u16],
     sent: &mut [u16],
     b: &mut [u8],
 ) -> Answer
-    requires { ⌜ (splitNumber (now m) parts (now owners) (i ∷ i ∷ []) (now st) ≡ 0) × (sizesNumber (now m) parts (now owners) (now st) ≡ 0) × Prepared (now m) parts (now owners) (now st) (now table) (now ends) (now holders) × (length (now class) ≡ 2000) × (length (now order) ≡ 2000) × (bad11 kind (steps (now st)) (now v) ≡ false) × (now got ≡ replicate 19 0) × (now sent ≡ replicate 17 0) ⌝ }
-    ensures { λ r. ⌜ (r ≡ startAnswer (now (m .entry)) parts (now (owners .entry)) i (now (st .entry)) kind (now (v .entry)) (now (f .entry)) (now (b .entry))) × (now (b .exit) ≡ startState (now (m .entry)) parts (now (owners .entry)) i (now (st .entry)) kind (now (v .entry)) (now (f .entry)) (now (b .entry))) ⌝ }
+    requires { ⌜
+        (splitNumber (now m) parts (now owners) (i ∷ i ∷ []) (now st) ≡ 0)
+        × (sizesNumber (now m) parts (now owners) (now st) ≡ 0)
+        × Prepared (now m) parts (now owners) (now st) (now table) (now ends) (now holders)
+        × (length (now class) ≡ 2000)
+        × (length (now order) ≡ 2000)
+        × (bad11 kind (steps (now st)) (now v) ≡ false)
+        × (now got ≡ replicate 19 0)
+        × (now sent ≡ replicate 17 0)
+        × (length (now local) ≡ 2001)
+        ⌝ }
+    ensures { λ r. ⌜
+        (r ≡ startAnswer (now (m .entry)) parts (now (owners .entry)) i (now (st .entry)) kind (now (v .entry)) (now (f .entry)) (now (b .entry)))
+        × (now (b .exit) ≡ startState (now (m .entry)) parts (now (owners .entry)) i (now (st .entry)) kind (now (v .entry)) (now (f .entry)) (now (b .entry)))
+        ⌝ }
 {
-    let first = first_cell(m);
-    let cells = cell_count(m);
-    if bad_field(cells, f) {
+    if bad_field(cell_count(m), f) {
         return Answer::Refused(14);
     }
     let p = make_plan(
@@ -259,28 +300,21 @@ fn start_from(
         got,
         sent,
     );
-    let long = p.long;
-    let n = p.held;
-    let owned = p.owned;
-    let size = 2 * long + 34 + 4 * n;
+    let size = 2 * p.long + 34 + 4 * p.held;
     if b.len() < size {
         return Answer::Refused(16);
     }
     put_state(
         b,
-        long,
+        p,
         st.len() - 1,
         kind,
         v,
         owners,
         table,
         ends,
-        i,
-        first,
-        cells,
         order,
-        n,
-        owned,
+        local,
         f,
         got,
         sent,
@@ -289,7 +323,7 @@ fn start_from(
     Answer::Done(size as u32)
 }
 
-// Start, where the tests up to 11 are passed.
+// Start, where the tests up to 11 are passed. Once the tables are prepared the links are done with, and one of their arrays is for the local numbers.
 fn start_passed(
     m: &[u8],
     parts: u32,
@@ -302,7 +336,10 @@ fn start_passed(
     b: &mut [u8],
 ) -> Answer
     requires { ⌜ (splitNumber (now m) parts (now owners) (i ∷ i ∷ []) (now st) ≡ 0) × (bad11 kind (steps (now st)) (now v) ≡ false) ⌝ }
-    ensures { λ r. ⌜ (r ≡ startAnswer (now (m .entry)) parts (now (owners .entry)) i (now (st .entry)) kind (now (v .entry)) (now (f .entry)) (now (b .entry))) × (now (b .exit) ≡ startState (now (m .entry)) parts (now (owners .entry)) i (now (st .entry)) kind (now (v .entry)) (now (f .entry)) (now (b .entry))) ⌝ }
+    ensures { λ r. ⌜
+        (r ≡ startAnswer (now (m .entry)) parts (now (owners .entry)) i (now (st .entry)) kind (now (v .entry)) (now (f .entry)) (now (b .entry)))
+        × (now (b .exit) ≡ startState (now (m .entry)) parts (now (owners .entry)) i (now (st .entry)) kind (now (v .entry)) (now (f .entry)) (now (b .entry)))
+        ⌝ }
 {
     let mut cell = [0u16; 12001];
     let mut prev = [0u16; 12001];
@@ -344,6 +381,7 @@ fn start_passed(
         &holders,
         &mut class,
         &mut order,
+        &mut last,
         &mut got,
         &mut sent,
         b,
@@ -362,7 +400,10 @@ pub fn start(
     f: &[u8],
     b: &mut [u8],
 ) -> Answer
-    ensures { λ r. ⌜ (r ≡ startAnswer (now (m .entry)) parts (now (owners .entry)) i (now (st .entry)) kind (now (v .entry)) (now (f .entry)) (now (b .entry))) × (now (b .exit) ≡ startState (now (m .entry)) parts (now (owners .entry)) i (now (st .entry)) kind (now (v .entry)) (now (f .entry)) (now (b .entry))) ⌝ }
+    ensures { λ r. ⌜
+        (r ≡ startAnswer (now (m .entry)) parts (now (owners .entry)) i (now (st .entry)) kind (now (v .entry)) (now (f .entry)) (now (b .entry)))
+        × (now (b .exit) ≡ startState (now (m .entry)) parts (now (owners .entry)) i (now (st .entry)) kind (now (v .entry)) (now (f .entry)) (now (b .entry)))
+        ⌝ }
 {
     let number = split_number(m, parts, owners, i, i, st);
     if number != 0 {

@@ -1,7 +1,6 @@
 -- `start_lists::counts::count_sent` meets its contract. The invariant: the exports to the first j parts are counted. Assumes nothing.
-use native.Mathlib.Omega.{arith}
-use Prim.Native.Nat.{_-_, _≤_}
 use mathlib.Core.Path.{_≡_}
+use Prim.Native.Nat.{_-_, _≤_}
 use lib.ListN.{length}
 use Rattle.start_lists.specs.Starting.{Sent}
 use Rattle.start_lists.proofs.CountLaws.{sent-start, sent-turn, sent-end}
@@ -10,7 +9,7 @@ use Rattle.start_lists.proofs.counts.count_sent.Statement.{statement}
 use Rattle.start_lists.proofs.counts.count_sent.Tie as tie
 
 abbrev Inv-loop : tie.InvT-loop
-Inv-loop owners table ends i cells parts class₀ sent₀ j₀ class sent j = (j ≤ parts) × (length class ≡ 2000) × (length sent ≡ length sent₀) × Sent owners table ends i cells j sent
+Inv-loop owners table ends i cells parts class₀ sent₀ j₀ class sent j = (j ≤ parts) × (length class ≡ length class₀) × (length sent ≡ length sent₀) × Sent owners table ends i cells j sent
 
 abbrev μ-loop : tie.MeasureT-loop
 μ-loop owners table ends i cells parts class₀ sent₀ j₀ class sent j = parts - j
@@ -25,20 +24,16 @@ count-sent-spec =
     (λ c. search needs)
     (λ c κs. search needs)
     (λ c. search needs)
-    (λ c κs. search needs)
     (λ c. search needs)
     (λ c κs. search needs)
     (λ c. search needs)
     (λ c. search needs)
     (λ c.
-    let turn = c .before .before .before .before .before .before .before .before .before .before .before in
+    let told = c .before .before .before .before .before .before in
+    let turn = told .before .before .before in
     let pre = turn .before .before .before .before .before .before .pre in
-    let row = c .before .before .before .before .before .before .before .before .classify .ensures in (
-      search needs,
-      row .room,
-      search needs,
-      sent-turn _ _ _ _ _ _ _ _ _ _ (pre .1) (omega (arith, c .before .before .before .before .before .before .before .before .before .before .loop-test .taken, pre .2)) (turn .loop .inv .3) row (c .before .before .before .count-class .ensures .0) (c .before .before .put-number-at .ensures),
-    ))
+    let taken = told .before .before .loop-test .taken in
+    (search needs, search needs, search needs, sent-turn _ _ _ _ _ _ _ _ _ _ taken (pre .3) (turn .loop .inv .3) (told .sent-to .ensures .0) (c .before .before .put-number-at .ensures)))
     (λ c. search needs)
     (λ c. search needs)
     (λ c. search sent-end))

@@ -16,5 +16,8 @@ put-borders-spec =
     (omega (arith, pre .0, t, c .before .before .b .given), omega (arith, pre .1, t), pre .3))
     (λ c. search needs)
     (λ c.
-    let got = c .before .before .before .before .before .before .put-ends .ensures in
-    put-both _ _ _ _ _ _ _ _ got (c .before .before .put-ends2 .ensures) (omega (arith, c .before .before .before .before .before .before .before .before .before .before .before .pre .0, words-count _ _ _ _ _ _ got))))
+    let after-put-ends2 = c .before .before in
+    let after-put-ends = after-put-ends2 .before .before .before .before in
+    let start = after-put-ends .before .before .before .before .before in
+    let got = after-put-ends .put-ends .ensures in
+    put-both _ _ _ _ _ _ _ _ got (after-put-ends2 .put-ends2 .ensures) (omega (arith, start .pre .0, words-count _ _ _ _ _ _ got))))

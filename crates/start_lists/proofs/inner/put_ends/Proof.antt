@@ -34,5 +34,9 @@ put-ends-spec =
     (λ c κs. search needs)
     (λ c. search needs)
     (λ c.
-    let inv = c .before .before .before .before .before .loop .inv in
-    words-last _ _ _ _ _ _ _ 16 _ _ (c .before .before .before .before .before .before .before .before .pre .0) (inv .0) (c .before .before .before .before .loop-test .left) (inv .4) (inv .5) (c .before .before .put-one2 .ensures)))
+    let after-put-one2 = c .before .before in
+    let after-loop-test = after-put-one2 .before .before in
+    let after-loop = after-loop-test .before in
+    let start = after-loop .before .before .before in
+    let inv = after-loop .loop .inv in
+    words-last _ _ _ _ _ _ _ 16 _ _ (start .pre .0) (inv .0) (after-loop-test .loop-test .left) (inv .4) (inv .5) (after-put-one2 .put-one2 .ensures)))

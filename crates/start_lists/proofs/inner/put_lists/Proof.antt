@@ -8,10 +8,14 @@ pub put-lists-spec : {M : Type 1} → statement M
 put-lists-spec =
     tie.close
     (tie.spec
-    (λ c. search needs)
+    (λ c κs. search needs)
+    (λ c κs. search needs)
     (λ c κs. search needs)
     (λ c. search needs)
-    (λ c κs. search needs)
     (λ c. search needs)
     (λ c. search needs)
-    (λ c. search lists-numbered))
+    (λ c.
+    let after-put-pieces = c .before .before .before .before in
+    let after-number-cells = after-put-pieces .before .before .before .before .before .before in
+    let after-clear-numbers = after-number-cells .before .before .before .before in
+    lists-numbered _ _ _ _ _ _ _ _ _ _ _ _ _ _ _ _ _ _ (after-clear-numbers .clear-numbers .ensures) (after-number-cells .number-cells .ensures) (after-put-pieces .put-pieces .ensures)))

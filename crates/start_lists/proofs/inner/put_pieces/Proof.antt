@@ -20,15 +20,20 @@ put-pieces-spec =
     let s = head-count _ _ _ _ _ _ _ _ _ _ (c .before .before .before .put-head .ensures) in (
       omega (arith, pre .1, pre .2, s, c .before .before .b .given),
       omega (arith, s),
-      omega (arith, got-is _ _ _ _ (start .args .first) _ _ (pre .5) (start .args .owned) 16 (omega arith), fit .got),
-      omega (arith, sent-is _ _ _ _ (start .args .first) _ _ (pre .6) 16 (omega arith), fit .long),
+      omega (arith, got-is _ _ _ _ (start .args .plan .first) _ _ (pre .5) (start .args .plan .owned) 16 (omega arith), fit .got),
+      omega (arith, sent-is _ _ _ _ (start .args .plan .first) _ _ (pre .6) 16 (omega arith), fit .long),
     ))
     (λ c κs.
-    let pre = c .before .before .before .before .before .before .before .before .before .before .before .before .before .before .before .before .before .before .before .before .pre in
+    let after-b2 = c .before .before .before in
+    let after-put-borders = after-b2 .before in
+    let after-b = after-put-borders .before .before .before in
+    let after-put-head = after-b .before in
+    let start = after-put-head .before .before .before .before .before .before .before .before .before .before .before .before in
+    let pre = start .pre in
     let fit = pre .0 in
-    let s = head-count _ _ _ _ _ _ _ _ _ _ (c .before .before .before .before .before .before .before .before .put-head .ensures) in
-    let t = borders-count _ _ _ _ _ _ _ (c .before .before .before .before .put-borders .ensures) in (
-      omega (arith, pre .1, pre .2, s, t, c .before .before .before .before .before .before .before .b .given, c .before .before .before .b2 .given),
+    let s = head-count _ _ _ _ _ _ _ _ _ _ (after-put-head .put-head .ensures) in
+    let t = borders-count _ _ _ _ _ _ _ (after-put-borders .put-borders .ensures) in (
+      omega (arith, pre .1, pre .2, s, t, after-b .b .given, after-b2 .b2 .given),
       omega (arith, fit .long, s, t),
       fit .cells-fit,
       fit .cells-few,
@@ -40,5 +45,10 @@ put-pieces-spec =
     (λ c. search needs)
     (λ c. search needs)
     (λ c.
-    let pre = c .before .before .before .before .before .before .before .before .before .before .before .before .before .before .before .before .before .before .before .before .before .before .before .before .before .pre in
-    lists-put _ _ _ _ _ _ _ _ _ _ _ _ _ _ (pre .1) _ _ _ _ _ _ _ _ _ (pre .5) (pre .6) (omega (arith, pre .1, pre .2)) (c .before .before .before .before .before .before .before .before .before .before .before .before .before .put-head .ensures) (c .before .before .before .before .before .before .before .before .before .put-borders .ensures) (c .before .before .before .before .put-entries .ensures)))
+    let after-put-entries = c .before .before .before .before in
+    let after-put-borders = after-put-entries .before .before .before .before .before in
+    let after-put-head = after-put-borders .before .before .before .before in
+    let start = after-put-head .before .before .before .before .before .before .before .before .before .before .before .before in
+    let pre = start .pre in
+    lists-put _ _ _ _ _ _ _ _ _ _ _ _ _ _ (pre .1) _ _ _ _ _ _ _ _ _ (pre .5) (pre .6) (omega (arith, pre .1, pre .2))
+    (after-put-head .put-head .ensures) (after-put-borders .put-borders .ensures) (after-put-entries .put-entries .ensures)))

@@ -11,7 +11,8 @@ use Rattle.start_lists.proofs.inner.put_row_ends.Statement.{statement}
 use Rattle.start_lists.proofs.inner.put_row_ends.Tie as tie
 
 abbrev Inv-loop : tie.InvT-loop
-Inv-loop b₀ s table ends first order owned e₀ t₀ l₀ b e t l = (l ≤ owned) × (t ≡ s + l) × (length b ≡ length b₀) × (e < 65536) × (e ≡ rowEnds table ends first order l) × Put b₀ b s t (listed 0 l (rowEnds table ends first order))
+Inv-loop b₀ s table ends first order owned e₀ t₀ l₀ b e t l = (l ≤ owned) × (t ≡ s + l) × (length b ≡ length b₀) × (e < 65536) × (e ≡ rowEnds table ends first order l) ×
+    Put b₀ b s t (listed 0 l (rowEnds table ends first order))
 
 abbrev μ-loop : tie.MeasureT-loop
 μ-loop b₀ s table ends first order owned e₀ t₀ l₀ b e t l = owned - l

@@ -11,10 +11,11 @@ use Rattle.start_lists.proofs.inner.put_sent.Statement.{statement}
 use Rattle.start_lists.proofs.inner.put_sent.Tie as tie
 
 abbrev Inv-loop : tie.InvT-loop
-Inv-loop b₀ s owners table ends i first cells local sent class₀ u₀ j₀ b class u j = (1 ≤ j) × (j ≤ 17) × (length b ≡ length b₀) × (length class ≡ 2000) × Put b₀ b s u (blocks 1 (j - 1) (sentWords owners table ends i first cells local))
+Inv-loop b₀ s owners table ends plan local sent class₀ u₀ j₀ b class u j = (1 ≤ j) × (j ≤ 17) × (length b ≡ length b₀) × (length class ≡ 2000) ×
+    Put b₀ b s u (blocks 1 (j - 1) (sentWords owners table ends (plan .part) (plan .first) (plan .cells) local))
 
 abbrev μ-loop : tie.MeasureT-loop
-μ-loop b₀ s owners table ends i first cells local sent class₀ u₀ j₀ b class u j = 17 - j
+μ-loop b₀ s owners table ends plan local sent class₀ u₀ j₀ b class u j = 17 - j
 
 pub put-sent-spec : {M : Type 1} → statement M
 put-sent-spec =
@@ -34,13 +35,17 @@ put-sent-spec =
     (λ c. search needs)
     (λ c. search needs)
     (λ c.
-    let inv = c .before .before .before .before .before .before .before .before .before .loop .inv in
-    let told = c .before .before .before .before .put-sent-to .ensures in (
+    let after-put-sent-to = c .before .before .before .before in
+    let after-loop-test = after-put-sent-to .before .before .before .before in
+    let after-loop = after-loop-test .before in
+    let start = after-loop .before .before .before .before .before .before .before .before in
+    let inv = after-loop .loop .inv in
+    let told = after-put-sent-to .put-sent-to .ensures in (
       search needs,
       search needs,
       search needs,
       told .1,
-      many-turn _ 16 _ (all-long _ _ _ _ _ _ _) _ _ _ _ _ _ _ (inv .0) (c .before .before .before .before .before .before .before .before .loop-test .taken) (c .before .before .before .before .before .before .before .before .before .before .before .before .before .before .before .before .before .pre .0) (inv .4) (told .0),
+      many-turn _ 16 _ (all-long _ _ _ _ _ _ _) _ _ _ _ _ _ _ (inv .0) (after-loop-test .loop-test .taken) (start .pre .0) (inv .4) (told .0),
     ))
     (λ c. search needs)
     (λ c. search needs)

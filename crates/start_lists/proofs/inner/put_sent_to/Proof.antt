@@ -16,5 +16,8 @@ put-sent-to-spec =
     (λ c. search needs)
     (λ c. search needs)
     (λ c.
-    let row = c .before .before .before .before .before .before .before .classify .ensures in
-    (sent-put _ _ _ _ _ _ _ _ _ _ _ _ _ (c .before .before .before .before .before .before .before .before .before .before .before .before .before .before .before .before .pre .3) row (c .before .before .put-class-cells .ensures), search needs)))
+    let after-put-class-cells = c .before .before in
+    let after-classify = after-put-class-cells .before .before .before .before .before in
+    let start = after-classify .before .before .before .before .before .before .before .before .before in
+    let row = after-classify .classify .ensures in
+    (sent-put _ _ _ _ _ _ _ _ _ _ _ _ _ (start .pre .3) row (after-put-class-cells .put-class-cells .ensures), search needs)))

@@ -19,5 +19,7 @@ size-from-spec =
     (λ c. search needs)
     (λ c. search needs)
     (λ c.
-    let pre = c .before .before .before .before .before .before .before .before .before .before .before .before .before .before .before .before .before .before .before .before .before .before .before .before .before .pre in
-    size-done _ _ _ _ _ (pre .0) (pre .1) _ _ _ (pre .2) _ _ _ _ (c .before .before .before .before .before .before .before .before .before .before .make-plan .ensures .0)))
+    let after-make-plan = c .before .before .before .before .before .before .before .before .before .before in
+    let start = after-make-plan .before .before .before .before .before .before .before .before .before .before .before .before .before .before .before in
+    let pre = start .pre in
+    size-done _ _ _ _ _ (pre .0) (pre .1) _ _ _ (pre .2) _ _ _ _ (after-make-plan .make-plan .ensures .3)))

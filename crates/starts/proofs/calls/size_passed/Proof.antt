@@ -20,7 +20,10 @@ size-passed-spec =
     (λ c κs.
     let f = passed-facts _ _ _ _ _ _ (c .before .before .before .before .before .before .before .before .before .before .pre) in
     (f .mesh, f .map, f .stencil, refl, refl, refl, refl, refl, refl, refl))
-    (λ c. size-sizes _ _ _ _ _ (c .before .before .before .before .before .before .before .before .before .before .before .before .before .before .before .before .before .before .before .pre) _ (c .before .before .before .before .before .before .before .before .prepare .ensures .0) (c .if1 .taken))
+    (λ c.
+    let after-prepare = c .before .before .before .before .before .before .before .before in
+    let start = after-prepare .before .before .before .before .before .before .before .before .before .before .before in
+    size-sizes _ _ _ _ _ (start .pre) _ (after-prepare .prepare .ensures .0) (c .if1 .taken))
     (λ c. search needs)
     (λ c. search needs)
     (λ c. search needs)
@@ -29,8 +32,11 @@ size-passed-spec =
     (λ c. search needs)
     (λ c. search needs)
     (λ c κs.
-    let pre = c .before .before .before .before .before .before .before .before .before .before .before .before .before .before .before .before .before .before .before .before .before .before .before .before .before .before .pre in
-    let told = c .before .before .before .before .before .before .before .before .before .before .before .before .before .before .before .prepare .ensures in
-    let zero = c .before .before .before .before .before .before .before .if1 .left in
+    let after-if1 = c .before .before .before .before .before .before .before in
+    let after-prepare = after-if1 .before .before .before .before .before .before .before .before in
+    let start = after-prepare .before .before .before .before .before .before .before .before .before .before .before in
+    let pre = start .pre in
+    let told = after-prepare .prepare .ensures in
+    let zero = after-if1 .if1 .left in
     (pre, sym (told .0) ∙ zero, told .1 zero, search needs, search needs, refl, refl))
     (λ c. search needs))

@@ -14,11 +14,11 @@ start-from-spec =
     (tie.spec
     (λ c κs. search needs)
     (λ c κs. search needs)
-    (λ c κs. search needs)
     (λ c.
-    let start = c .before .before .before .before .before .before .before .before .before .before .before .before .before .before .before .before .before in
+    let after-cell-count = c .before .before in
+    let start = after-cell-count .before .before .before .before .before .before .before .before .before .before .before .before .before .before .before in
     let pre = start .pre in
-    let cells = c .before .before .cell-count .ensures .0 in
+    let cells = after-cell-count .cell-count .ensures .0 in
     let field = c .before .bad-field .ensures in
     start-14 _ _ _ _ _ _ _ _ (start .args .b .now) (pre .0) (pre .5) (pre .1) _ cells _ field (c .if1 .taken))
     (λ c κs. search needs)
@@ -31,32 +31,50 @@ start-from-spec =
     (λ c. search needs)
     (λ c. search needs)
     (λ c.
-    let start = c .before .before .before .before .before .before .before .before .before .before .before .before .before .before .before .before .before .before .before .before .before .before .before .before .before .before .before .before .before .before .before in
+    let after-make-plan = c .before .before .before .before .before .before .before .before .before .before .before in
+    let after-if1 = after-make-plan .before .before .before .before .before in
+    let after-bad-field = after-if1 .before in
+    let after-cell-count = after-bad-field .before in
+    let start = after-cell-count .before .before .before .before .before .before .before .before .before .before .before .before .before .before .before in
     let pre = start .pre in
-    let cells = c .before .before .before .before .before .before .before .before .before .before .before .before .before .before .before .before .cell-count .ensures .0 in
-    let field = c .before .before .before .before .before .before .before .before .before .before .before .before .before .before .before .bad-field .ensures in
-    let good = c .before .before .before .before .before .before .before .before .before .before .before .before .before .before .if1 .left in
-    let plan = c .before .before .before .before .before .before .before .before .before .make-plan .ensures .0 in
-    start-16 _ _ _ _ _ _ _ _ (start .args .b .now) (pre .0) (pre .5) (pre .1) _ cells _ field good _ _ _ (pre .2) _ _ _ _ plan (c .if2 .taken))
-    (λ c. omega (arith, stencil-parts _ _ (passed-facts _ _ _ _ _ _ (c .before .before .before .before .before .before .before .before .before .before .before .before .before .before .before .before .before .before .before .before .before .before .before .before .before .before .before .before .before .before .before .before .pre .0) .stencil) .0))
+    let cells = after-cell-count .cell-count .ensures .0 in
+    let field = after-bad-field .bad-field .ensures in
+    let good = after-if1 .if1 .left in
+    let told = after-make-plan .make-plan .ensures in
+    start-16 _ _ _ _ _ _ _ _ (start .args .b .now) (pre .0) (pre .5) (pre .1) _ cells _ field good _ _ _ (pre .2) _ _ _ _ (told .3) (c .if2 .taken))
+    (λ c.
+    let middle = c .before .before .before .before .before .before .before .before .before .before .before .before .before .before .before .before .before in
+    let start = middle .before .before .before .before .before .before .before .before .before .before .before .before .before .before .before .before .before in
+    omega (arith, stencil-parts _ _ (passed-facts _ _ _ _ _ _ (start .pre .0) .stencil) .0))
     (λ c κs.
-    let start = c .before .before .before .before .before .before .before .before .before .before .before .before .before .before .before .before .before .before .before .before .before .before .before .before .before .before .before .before .before .before .before .before .before .before .before .before in
+    let after-if2 = c .before .before .before .before .before .before in
+    let after-class = after-if2 .before .before .before .before .before .before .before .before .before .before in
+    let after-make-plan = after-class .before in
+    let after-if1 = after-make-plan .before .before .before .before .before in
+    let after-bad-field = after-if1 .before in
+    let after-cell-count = after-bad-field .before in
+    let start = after-cell-count .before .before .before .before .before .before .before .before .before .before .before .before .before .before .before in
     let pre = start .pre in
-    let cells = c .before .before .before .before .before .before .before .before .before .before .before .before .before .before .before .before .before .before .before .before .before .cell-count .ensures .0 in
-    let field = c .before .before .before .before .before .before .before .before .before .before .before .before .before .before .before .before .before .before .before .before .bad-field .ensures in
-    let good = c .before .before .before .before .before .before .before .before .before .before .before .before .before .before .before .before .before .before .before .if1 .left in
-    let plan = c .before .before .before .before .before .before .before .before .before .before .before .before .before .before .make-plan .ensures .0 in
-    let first = c .before .before .before .before .before .before .before .before .before .before .before .before .before .before .before .before .before .before .before .before .before .before .first-cell .ensures in (
-      start-fit _ _ _ _ _ _ _ _ (start .args .b .now) (pre .0) (pre .5) (pre .1) _ cells _ field good _ _ _ (pre .2) _ _ _ _ plan _ first,
-      start-long _ _ _ _ _ _ _ _ (start .args .b .now) (pre .0) (pre .5) (pre .1) _ cells _ field good _ _ _ (pre .2) _ _ _ _ plan _ first,
-      c .before .before .before .before .before .if2 .left,
+    let cells = after-cell-count .cell-count .ensures .0 in
+    let field = after-bad-field .bad-field .ensures in
+    let good = after-if1 .if1 .left in
+    let told = after-make-plan .make-plan .ensures in (
+      start-fit _ _ _ _ _ _ _ _ (start .args .b .now) (pre .0) (pre .5) (pre .1) _ cells _ field good _ _ _ (pre .2) _ _ _ _ (told .3) _ _ _ (told .0) (told .1) (told .2),
+      start-long _ _ _ _ _ _ _ _ (start .args .b .now) (pre .0) (pre .5) (pre .1) _ cells _ field good _ _ _ (pre .2) _ _ _ _ (told .3) _ _ _ (told .0) (told .1) (told .2),
+      after-if2 .if2 .left,
       omega (arith, stencil-parts _ _ (passed-facts _ _ _ _ _ _ (pre .0) .stencil) .1),
       omega (arith, rule-known _ _ _ (pre .5)),
-      start-got _ _ _ _ _ _ _ _ (start .args .b .now) (pre .0) (pre .5) (pre .1) _ cells _ field good _ _ _ (pre .2) _ _ _ _ plan _ first _ (c .before .before .before .before .before .before .before .before .before .before .before .before .before .before .make-plan .ensures .1),
-      start-sent _ _ _ _ _ _ _ _ (start .args .b .now) (pre .0) (pre .5) (pre .1) _ cells _ field good _ _ _ (pre .2) _ _ _ _ plan _ first _ (c .before .before .before .before .before .before .before .before .before .before .before .before .before .before .make-plan .ensures .2),
-      search needs,
-      start-cells _ _ _ _ _ _ _ _ (start .args .b .now) (pre .0) (pre .5) (pre .1) _ cells _ field good _ _ _ (pre .2) _ _ _ _ plan _ first,
+      start-got _ _ _ _ _ _ _ _ (start .args .b .now) (pre .0) (pre .5) (pre .1) _ cells _ field good _ _ _ (pre .2) _ _ _ _ (told .3) _ _ _ (told .0) (told .1) (told .2) _ (told .4),
+      start-sent _ _ _ _ _ _ _ _ (start .args .b .now) (pre .0) (pre .5) (pre .1) _ cells _ field good _ _ _ (pre .2) _ _ _ _ (told .3) _ _ _ (told .0) (told .1) (told .2) _ (told .5),
+      omega (arith, pre .3, after-class .class .given),
+      pre .8,
+      start-cells _ _ _ _ _ _ _ _ (start .args .b .now) (pre .0) (pre .5) (pre .1) _ cells _ field good _ _ _ (pre .2) _ _ _ _ (told .3) _ _ _ (told .0) (told .1) (told .2),
     ))
+    (λ c.
+    let middle = c .before .before .before .before .before .before .before .before .before .before .before .before in
+    let after-make-plan = middle .before .before .before .before .before .before .before .before .before .before .before .before in
+    let plan = after-make-plan .make-plan .ensures .3 in
+    omega (arith, plan .long-is, plan .fit .long, plan .fit .order-few))
     (λ c. search needs)
     (λ c. search needs)
     (λ c. search needs)
@@ -64,10 +82,17 @@ start-from-spec =
     (λ c. search needs)
     (λ c. search needs)
     (λ c.
-    let start = c .before .before .before .before .before .before .before .before .before .before .before .before .before .before .before .before .before .before .before .before .before .before .before .before .before .before .before .before .before .before .before .before .before .before .before .before .before .before .before .before .before in
+    let after-put-state = c .before .before .before .before .before .before in
+    let after-if2 = after-put-state .before .before .before .before .before .before .before in
+    let after-make-plan = after-if2 .before .before .before .before .before .before .before .before .before .before .before in
+    let after-if1 = after-make-plan .before .before .before .before .before in
+    let after-bad-field = after-if1 .before in
+    let after-cell-count = after-bad-field .before in
+    let start = after-cell-count .before .before .before .before .before .before .before .before .before .before .before .before .before .before .before in
     let pre = start .pre in
-    let cells = c .before .before .before .before .before .before .before .before .before .before .before .before .before .before .before .before .before .before .before .before .before .before .before .before .before .before .cell-count .ensures .0 in
-    let field = c .before .before .before .before .before .before .before .before .before .before .before .before .before .before .before .before .before .before .before .before .before .before .before .before .before .bad-field .ensures in
-    let good = c .before .before .before .before .before .before .before .before .before .before .before .before .before .before .before .before .before .before .before .before .before .before .before .before .if1 .left in
-    let plan = c .before .before .before .before .before .before .before .before .before .before .before .before .before .before .before .before .before .before .before .make-plan .ensures .0 in
-    start-done _ _ _ _ _ _ _ _ (start .args .b .now) (pre .0) (pre .5) (pre .1) _ cells _ field good _ _ _ (pre .2) _ _ _ _ plan _ (c .before .before .before .before .before .before .before .before .before .before .before .before .before .before .before .before .before .before .before .before .before .before .before .before .before .before .before .first-cell .ensures) (c .before .before .before .before .before .before .before .before .before .before .if2 .left) _ (c .before .before .before .before .put-state .ensures)))
+    let cells = after-cell-count .cell-count .ensures .0 in
+    let field = after-bad-field .bad-field .ensures in
+    let good = after-if1 .if1 .left in
+    let told = after-make-plan .make-plan .ensures in
+    start-done _ _ _ _ _ _ _ _ (start .args .b .now) (pre .0) (pre .5) (pre .1) _ cells _ field good _ _ _ (pre .2) _ _ _ _ (told .3) _ _ _ (told .0) (told .1) (told .2)
+    (after-if2 .if2 .left) _ (after-put-state .put-state .ensures)))

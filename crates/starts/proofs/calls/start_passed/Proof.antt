@@ -18,11 +18,15 @@ start-passed-spec =
     (λ c. search needs)
     (λ c. search needs)
     (λ c κs.
-    let f = passed-facts _ _ _ _ _ _ (c .before .before .before .before .before .before .before .before .before .before .before .before .before .pre .0) in
+    let start = c .before .before .before .before .before .before .before .before .before .before .before .before .before in
+    let f = passed-facts _ _ _ _ _ _ (start .pre .0) in
     (f .mesh, f .map, f .stencil, refl, refl, refl, refl, refl, refl, refl))
     (λ c.
-    let pre = c .before .before .before .before .before .before .before .before .before .before .before .before .before .before .before .before .before .before .before .before .before .before .pre in
-    start-sizes _ _ _ _ _ _ _ _ _ (pre .0) (pre .1) _ (c .before .before .before .before .before .before .before .before .prepare .ensures .0) (c .if1 .taken))
+    let after-prepare = c .before .before .before .before .before .before .before .before in
+    let start = after-prepare .before .before .before .before .before .before .before .before .before .before .before .before .before .before in
+    let pre = start .pre in
+    start-sizes _ _ _ _ _ _ _ _ _ (pre .0) (pre .1) _ (after-prepare .prepare .ensures .0) (c .if1 .taken))
+    (λ c. search needs)
     (λ c. search needs)
     (λ c. search needs)
     (λ c. search needs)
@@ -31,9 +35,12 @@ start-passed-spec =
     (λ c. search needs)
     (λ c. search needs)
     (λ c κs.
-    let pre = c .before .before .before .before .before .before .before .before .before .before .before .before .before .before .before .before .before .before .before .before .before .before .before .before .before .before .before .before .before .before .pre in
-    let told = c .before .before .before .before .before .before .before .before .before .before .before .before .before .before .before .before .prepare .ensures in
-    let zero = c .before .before .before .before .before .before .before .before .if1 .left in
-    (pre .0, sym (told .0) ∙ zero, told .1 zero, search needs, search needs, pre .1, refl, refl))
+    let after-if1 = c .before .before .before .before .before .before .before .before .before in
+    let after-prepare = after-if1 .before .before .before .before .before .before .before .before in
+    let start = after-prepare .before .before .before .before .before .before .before .before .before .before .before .before .before .before in
+    let pre = start .pre in
+    let told = after-prepare .prepare .ensures in
+    let zero = after-if1 .if1 .left in
+    (pre .0, sym (told .0) ∙ zero, told .1 zero, search needs, search needs, pre .1, refl, refl, search needs))
     (λ c. search needs)
     (λ c. search needs))
