@@ -14,7 +14,7 @@ use Rattle.vocabulary.specs.Bytes.{Bytes, byteAt}
 use Rattle.vocabulary.specs.Ranges.{some}
 use Rattle.vocabulary.specs.RangeLaws.{some-in, some-has, some-witness}
 use Rattle.vocabulary.specs.Lists.{isIn, Zeros}
-use Rattle.vocabulary.specs.ListLaws.{and-true, and-intro, not-both, or-true, or-right, or-nothing, same-test, isIn-at, at-isIn, at-all, All-intro}
+use Rattle.vocabulary.specs.ListLaws.{At, and-true, and-intro, not-both, or-true, or-right, or-nothing, same-test, isIn-at, at-isIn, at-all, All-intro}
 use Rattle.mesh.specs.Meet.{Under}
 use Rattle.mesh.specs.Mesh.{top, firstCell, cellCount}
 use Rattle.mesh.specs.Walks.{stepTo}
@@ -61,17 +61,17 @@ module _ (m : Bytes) (a c n : ℕ) (from found₀ found : List ℕ) (one : take 
     own-only : (z : ℕ) → isIn z (take own from₁) ≡ true → z ≡ c
     own-only z e = at-all (λ y. y ≡ c) z (c ∷ []) (refl, tt) (isIn-at z (c ∷ []) (sym (is-own z) ∙ e))
 
-    some-own : 1 ≤ own
+    own-at : At c (take own from₁)
     unfolding isIn
-    some-own = let t = isIn-at c (take own from₁) (is-own c ∙ ap (λ b. b || false) (eq-eqb c c refl)) in omega (arith, t .place-lt, length-take own from₁)
+    own-at = isIn-at c (take own from₁) (is-own c ∙ ap (λ b. b || false) (eq-eqb c c refl))
+
+    some-own : 1 ≤ own
+    some-own = omega (arith, own-at .place-lt, length-take own from₁)
 
     first-own : getD from₂ 0 0 ≡ c
     first-own =
         sym (getD-take own from₂ 0 0 some-own) ∙ ap (λ (l : List ℕ). getD l 0 0) (U .grown .front)
-        ∙ own-only (getD (take own from₁) 0 0) (at-isIn _ (take own from₁) (record { place = 0; place-lt = fits; place-is = refl }))
-      where
-        fits : 0 < length (take own from₁)
-        fits = let t = isIn-at c (take own from₁) (is-own c ∙ (unfold isIn in ap (λ b. b || false) (eq-eqb c c refl))) in omega (arith, t .place-lt)
+        ∙ own-only (getD (take own from₁) 0 0) (at-isIn _ (take own from₁) (record { place = 0; place-lt = omega (arith, own-at .place-lt); place-is = refl }))
 
     went-up : (z : ℕ) → isIn z (take s from₂) ≡ isIn z (take own from₁) || isIn z (nearTo m a c)
     unfolding isIn orAmong stepped nearTo
@@ -125,8 +125,8 @@ module _ (m : Bytes) (a c n : ℕ) (from found₀ found : List ℕ) (one : take 
 module _ (m : Bytes) (a c lo hi lo′ hi′ : ℕ) (xs ys : List ℕ) (R : NearRow m a c xs lo hi) (wide : lo′ + (hi - lo) ≤ hi′)
     (same : (j : ℕ) → j < hi - lo → getD ys (lo′ + j) 0 ≡ getD xs (lo + j) 0) (bare : (t : ℕ) → lo′ + (hi - lo) ≤ t → t < hi′ → getD ys t 0 ≡ 0) where
   -- where a place of it was before
-  data-at : (t : ℕ) → lo′ ≤ t → t < hi′ → (getD ys t 0 ≡ 0 → ⊥) → (j : ℕ) × (j < hi - lo) × (t ≡ lo′ + j)
-  data-at t l h ne = go (ltb t (lo′ + (hi - lo))) refl
+  place-of : (t : ℕ) → lo′ ≤ t → t < hi′ → (getD ys t 0 ≡ 0 → ⊥) → (j : ℕ) × (j < hi - lo) × (t ≡ lo′ + j)
+  place-of t l h ne = go (ltb t (lo′ + (hi - lo))) refl
     where
       go : (b : Bool) → ltb t (lo′ + (hi - lo)) ≡ b → (j : ℕ) × (j < hi - lo) × (t ≡ lo′ + j)
       go true q = let g : t < lo′ + (hi - lo) = ltb-true t (lo′ + (hi - lo)) q in (t - lo′, omega arith, omega arith)
@@ -141,7 +141,7 @@ module _ (m : Bytes) (a c lo hi lo′ hi′ : ℕ) (xs ys : List ℕ) (R : NearR
   row-moved = record {
     rising = omega arith;
     each = λ t l h ne.
-        let d = data-at t l h ne in
+        let d = place-of t l h ne in
         let e : getD ys t 0 ≡ getD xs (lo + d .0) 0 = ap (λ i. getD ys i 0) (d .2) ∙ same (d .0) (d .1) in
         subst (Cell m) (sym e) (R .each (lo + d .0) (omega arith) (omega (arith, d .1)) (λ q. ne (e ∙ q)));
     told = λ z ne. same-test _ _ (there z) (back z) ∙ R .told z ne;
@@ -151,7 +151,7 @@ module _ (m : Bytes) (a c lo hi lo′ hi′ : ℕ) (xs ys : List ℕ) (R : NearR
       there : (z : ℕ) → some lo′ (hi′ - lo′) (λ t. names (getD ys t 0) z) ≡ true → some lo (hi - lo) (λ t. names (getD xs t 0) z) ≡ true
       there z e =
           let w = some-witness lo′ (λ t. names (getD ys t 0) z) (hi′ - lo′) e in
-          let d = data-at (lo′ + w .0) (omega arith) (omega (arith, w .1)) (not-zero (getD ys (lo′ + w .0) 0) z (w .2)) in
+          let d = place-of (lo′ + w .0) (omega arith) (omega (arith, w .1)) (not-zero (getD ys (lo′ + w .0) 0) z (w .2)) in
           some-has lo (λ t. names (getD xs t 0) z) (hi - lo) (d .0) (d .1) (ap (λ y. names y z) (sym (same (d .0) (d .1)) ∙ ap (λ i. getD ys i 0) (sym (d .2))) ∙ w .2)
 
       back : (z : ℕ) → some lo (hi - lo) (λ t. names (getD xs t 0) z) ≡ true → some lo′ (hi′ - lo′) (λ t. names (getD ys t 0) z) ≡ true
@@ -162,10 +162,10 @@ module _ (m : Bytes) (a c lo hi lo′ hi′ : ℕ) (xs ys : List ℕ) (R : NearR
       zero : (t u : ℕ) → lo′ ≤ t → t ≤ u → u < hi′ → getD ys t 0 ≡ 0 → (b : Bool) → ltb u (lo′ + (hi - lo)) ≡ b → getD ys u 0 ≡ 0
       zero t u l g h e true q =
           let r : u < lo′ + (hi - lo) = ltb-true u (lo′ + (hi - lo)) q in
-          let tt′ : lo′ + (t - lo′) ≡ t = omega arith in
-          let uu : lo′ + (u - lo′) ≡ u = omega arith in
-          ap (λ i. getD ys i 0) (sym uu) ∙ same (u - lo′) (omega arith)
-          ∙ R .closed (lo + (t - lo′)) (lo + (u - lo′)) (omega arith) (omega arith) (omega (arith, R .rising)) (sym (same (t - lo′) (omega arith)) ∙ ap (λ i. getD ys i 0) tt′ ∙ e)
+          let te : lo′ + (t - lo′) ≡ t = omega arith in
+          let ue : lo′ + (u - lo′) ≡ u = omega arith in
+          ap (λ i. getD ys i 0) (sym ue) ∙ same (u - lo′) (omega arith)
+          ∙ R .closed (lo + (t - lo′)) (lo + (u - lo′)) (omega arith) (omega arith) (omega (arith, R .rising)) (sym (same (t - lo′) (omega arith)) ∙ ap (λ i. getD ys i 0) te ∙ e)
       zero t u l g h e false q = bare u (ltb-false u (lo′ + (hi - lo)) q) h
 
 pub rows-start : (m : Bytes) (a w : ℕ) (near : List ℕ) → Zeros 2001 near → Filled m a near w 0

@@ -21,7 +21,7 @@ ghost use Rattle.near_cells.specs.NearCells.{NearRow, NearRows, Ready};
 // The room for all rows.
 const ROOM: usize = 2001;
 
-// The most cells in a row: longer ones are walked faster step by step.
+// The most cells in a row: long rows name the same cells over and over, and a walk step by step is then faster.
 const LONGEST: usize = 12;
 
 // The cells two steps from cell c, by way of dimension a: in `from` they stand after c itself and before the place given.
