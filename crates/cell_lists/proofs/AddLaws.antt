@@ -129,10 +129,10 @@ class-few class first cells k = omega (arith, blocks-length 0 (ofClass class fir
 
 -- ---- what was added to an empty list
 
-pub added-fits : (a b : List ℕ) (n : ℕ) (ws : List ℕ) → Added a b 0 n ws → length a ≡ 2000 → length ws ≤ 2000 → n ≤ length b
+pub added-fits : (a b : List ℕ) (n : ℕ) (ws : List ℕ) → Added a b 0 n ws → 2000 ≤ length a → length ws ≤ 2000 → n ≤ length b
 added-fits a b n ws X l h = omega (arith, X .size, X .count)
 
-pub added-take : (a b : List ℕ) (n : ℕ) (ws : List ℕ) → Added a b 0 n ws → length a ≡ 2000 → length ws ≤ 2000 → take n b ≡ ws
+pub added-take : (a b : List ℕ) (n : ℕ) (ws : List ℕ) → Added a b 0 n ws → 2000 ≤ length a → length ws ≤ 2000 → take n b ≡ ws
 added-take a b n ws X l h =
     let e : n ≡ length ws = omega (arith, X .count) in
     ap₂ (λ k (xs : List ℕ). take k xs) e (X .text (omega arith) ∙ over-front a ws) ∙ take-append-seam ws (drop (length ws) a)

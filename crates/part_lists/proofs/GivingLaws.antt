@@ -72,8 +72,8 @@ module _ (list out : List ℕ) (n : ℕ) (fits : n ≤ length list) where
 
 -- ---- what was added to an empty list, given
 
-pub given-answer : (a b : List ℕ) (n : ℕ) (ws : List ℕ) (out : Bytes) (r : Answer) → Added a b 0 n ws → length a ≡ 2000 → length ws ≤ 2000 → r ≡ givenAnswer (take n b) out → r ≡ givenAnswer ws out
+pub given-answer : (a b : List ℕ) (n : ℕ) (ws : List ℕ) (out : Bytes) (r : Answer) → Added a b 0 n ws → 2000 ≤ length a → length ws ≤ 2000 → r ≡ givenAnswer (take n b) out → r ≡ givenAnswer ws out
 given-answer a b n ws out r X l h e = e ∙ ap (λ xs. givenAnswer xs out) (added-take a b n ws X l h)
 
-pub given-out : (a b : List ℕ) (n : ℕ) (ws : List ℕ) (out after : Bytes) → Added a b 0 n ws → length a ≡ 2000 → length ws ≤ 2000 → after ≡ givenOut (take n b) out → after ≡ givenOut ws out
+pub given-out : (a b : List ℕ) (n : ℕ) (ws : List ℕ) (out after : Bytes) → Added a b 0 n ws → 2000 ≤ length a → length ws ≤ 2000 → after ≡ givenOut (take n b) out → after ≡ givenOut ws out
 given-out a b n ws out after X l h e = e ∙ ap (λ xs. givenOut xs out) (added-take a b n ws X l h)

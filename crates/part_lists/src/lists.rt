@@ -136,7 +136,7 @@ fn give(list: &[u16], n: usize, out: &mut [u8]) -> Answer
     Answer::Done(n as u32)
 }
 
-// The list given from the row of classes that tells it.
+// The list given from the row of classes that tells it, made in work space.
 fn list_given(
     wanted: Wanted,
     m: &[u8],
@@ -149,12 +149,19 @@ fn list_given(
     i: usize,
     j: usize,
     k: usize,
+    list: &mut [u16],
     out: &mut [u8],
 ) -> Answer
-    requires { ⌜ Ground (now m) (top (now m) ∷ []) (now cell) (now prev) (now last) × (parts ≤ 16) × (i ≤ 16) × (j ≤ 16) × (length (chosen wanted (now m) parts (now class) (now holders) i j k) ≤ 2000) ⌝ }
+    requires { ⌜
+        Ground (now m) (top (now m) ∷ []) (now cell) (now prev) (now last)
+        × (parts ≤ 16)
+        × (i ≤ 16)
+        × (j ≤ 16)
+        × (length (chosen wanted (now m) parts (now class) (now holders) i j k) ≤ 2000)
+        × (2000 ≤ length (now list))
+        ⌝ }
     ensures { λ r. ⌜ (r ≡ givenAnswer (chosen wanted (now (m .entry)) parts (now (class .entry)) (now (holders .entry)) i j k) (now (out .entry))) × (now (out .exit) ≡ givenOut (chosen wanted (now (m .entry)) parts (now (class .entry)) (now (holders .entry)) i j k) (now (out .entry))) ⌝ }
 {
-    let mut list = [0u16; MOST_CELLS];
     let n = list_words(
         wanted,
         m,
@@ -167,12 +174,13 @@ fn list_given(
         i,
         j,
         k,
-        &mut list,
+        list,
     );
-    give(&list, n, out)
+    give(list, n, out)
 }
 
-// The list, where the tests up to 10 are passed.
+// The list, where the tests up to 10 are passed. Once the row of classes is made the ends of the reaches are not needed, and the list is made in
+// their array.
 fn list_passed(
     wanted: Wanted,
     m: &[u8],
@@ -230,6 +238,7 @@ fn list_passed(
         i as usize,
         j as usize,
         k as usize,
+        &mut ends,
         out,
     )
 }

@@ -81,10 +81,10 @@ module _ (class : Bytes) (first cells k : ℕ) (few : cells ≤ 2000) (before af
   short = omega (arith, class-few class first cells k)
 
   pub list-room : n ≤ length after
-  list-room = added-fits before after n (classCells class first cells k) A l short
+  list-room = added-fits before after n (classCells class first cells k) A (omega arith) short
 
   taken : take n after ≡ classCells class first cells k
-  taken = added-take before after n (classCells class first cells k) A l short
+  taken = added-take before after n (classCells class first cells k) A (omega arith) short
 
   pub list-told : (a b : Bytes) (s t : ℕ) → Printed a b s t (numbers (take n after)) → Printed a b s t (numbers (classCells class first cells k))
   list-told a b s t X = subst (λ (xs : List ℕ). Printed a b s t (numbers xs)) taken X

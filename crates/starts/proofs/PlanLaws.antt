@@ -63,7 +63,7 @@ module _ (m : Bytes) (parts : ℕ) (owners : Bytes) (i : ℕ) (st table : Bytes)
     pub plan-sent : (sent : List ℕ) → Sent owners table ends i cells 16 sent → Sent owners table ends i (cellCount m) 16 sent
     plan-sent sent X = subst (λ x. Sent owners table ends i x 16 sent) ce X
 
-    module _ (class : Bytes) (C : Classed owners table ends i cells class) (a order : List ℕ) (n inner outer : ℕ) (X : Added a order 0 n (classOrder class first cells parts)) (room : length a ≡ 2000)
+    module _ (class : Bytes) (C : Classed owners table ends i cells class) (a order : List ℕ) (n inner outer : ℕ) (X : Added a order 0 n (classOrder class first cells parts)) (room : 2000 ≤ length a)
         (got : List ℕ) (T : Tallied class cells got) (ie : inner ≡ getD got 17 0) (he : outer ≡ getD got 18 0) where
       words-is : classOrder class first cells parts ≡ locals (splitOf m parts owners st) i
       words-is = cells-order m parts owners st table ends holders R i first cells fe ce class C

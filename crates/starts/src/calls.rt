@@ -113,7 +113,7 @@ fn make_plan(
         × (sizesNumber (now m) parts (now owners) (now st) ≡ 0)
         × Prepared (now m) parts (now owners) (now st) (now table) (now ends) (now holders)
         × (length (now class) ≡ 2000)
-        × (length (now order) ≡ 2000)
+        × (2000 ≤ length (now order))
         × (now got ≡ replicate 19 0)
         × (now sent ≡ replicate 17 0)
         ⌝ }
@@ -166,7 +166,7 @@ fn size_from(
         × (sizesNumber (now m) parts (now owners) (now st) ≡ 0)
         × Prepared (now m) parts (now owners) (now st) (now table) (now ends) (now holders)
         × (length (now class) ≡ 2000)
-        × (length (now order) ≡ 2000)
+        × (2000 ≤ length (now order))
         × (now got ≡ replicate 19 0)
         × (now sent ≡ replicate 17 0)
         ⌝ }
@@ -189,7 +189,7 @@ fn size_from(
     Answer::Done((2 * p.long + 34 + 4 * p.held) as u32)
 }
 
-// The size, where the tests up to 10 are passed.
+// The size, where the tests up to 10 are passed. The order stands in an array of the links, which are not needed once the tables are prepared.
 fn size_passed(m: &[u8], parts: u32, owners: &[u8], i: u32, st: &[u8]) -> Answer
     requires { ⌜ splitNumber (now m) parts (now owners) (i ∷ i ∷ []) (now st) ≡ 0 ⌝ }
     ensures { λ r. ⌜ r ≡ sizeAnswer (now (m .entry)) parts (now (owners .entry)) i (now (st .entry)) ⌝ }
@@ -201,7 +201,6 @@ fn size_passed(m: &[u8], parts: u32, owners: &[u8], i: u32, st: &[u8]) -> Answer
     let mut ends = [0u16; 2001];
     let mut holders = [0u8; MOST_CELLS];
     let mut class = [0u8; MOST_CELLS];
-    let mut order = [0u16; 2000];
     let mut got = [0u16; CLASSES];
     let mut sent = [0u16; MOST_PARTS + 1];
     let number = prepare(
@@ -230,7 +229,7 @@ fn size_passed(m: &[u8], parts: u32, owners: &[u8], i: u32, st: &[u8]) -> Answer
         &ends,
         &holders,
         &mut class,
-        &mut order,
+        &mut prev,
         &mut got,
         &mut sent,
     )
@@ -272,7 +271,7 @@ fn start_from(
         × (sizesNumber (now m) parts (now owners) (now st) ≡ 0)
         × Prepared (now m) parts (now owners) (now st) (now table) (now ends) (now holders)
         × (length (now class) ≡ 2000)
-        × (length (now order) ≡ 2000)
+        × (2000 ≤ length (now order))
         × (bad11 kind (steps (now st)) (now v) ≡ false)
         × (now got ≡ replicate 19 0)
         × (now sent ≡ replicate 17 0)
@@ -323,7 +322,8 @@ fn start_from(
     Answer::Done(size as u32)
 }
 
-// Start, where the tests up to 11 are passed. Once the tables are prepared the links are done with, and one of their arrays is for the local numbers.
+// Start, where the tests up to 11 are passed. Once the tables are prepared the links are not needed: the order and the local numbers stand in their
+// arrays.
 fn start_passed(
     m: &[u8],
     parts: u32,
@@ -348,7 +348,6 @@ fn start_passed(
     let mut ends = [0u16; 2001];
     let mut holders = [0u8; MOST_CELLS];
     let mut class = [0u8; MOST_CELLS];
-    let mut order = [0u16; 2000];
     let mut got = [0u16; CLASSES];
     let mut sent = [0u16; MOST_PARTS + 1];
     let number = prepare(
@@ -380,7 +379,7 @@ fn start_passed(
         &ends,
         &holders,
         &mut class,
-        &mut order,
+        &mut prev,
         &mut last,
         &mut got,
         &mut sent,

@@ -1,5 +1,4 @@
 -- `part_lists::lists::list_given` meets its contract. Assumes nothing.
-use mathlib.Core.Path.{refl}
 use native.Mathlib.Omega.{arith}
 use Rattle.cell_lists.proofs.AddLaws.{added-fits}
 use Rattle.part_lists.proofs.GivingLaws.{given-answer, given-out}
@@ -11,9 +10,18 @@ pub list-given-spec : {M : Type 1} → statement M
 list-given-spec =
     tie.close
     (tie.spec
-    (λ c. search needs)
     (λ c κs. search needs)
+    (λ c κs.
+    let pre = c .before .before .before .before .before .before .before .before .before .before .before .before .before .before .pre in
+    let words = c .before .before .before .before .list-words .ensures in
+    (added-fits _ _ _ _ words (pre .5) (pre .4), omega (arith, words .count, pre .4)))
     (λ c. search needs)
-    (λ c κs. (added-fits _ _ _ _ (c .before .before .before .list-words .ensures) refl (c .before .before .before .before .before .before .before .before .before .before .before .before .pre .4), omega (arith, c .before .before .before .list-words .ensures .count, c .before .before .before .before .before .before .before .before .before .before .before .before .pre .4)))
     (λ c. search needs)
-    (λ c. (given-answer _ _ _ _ _ _ (c .before .before .before .before .before .before .list-words .ensures) refl (c .before .before .before .before .before .before .before .before .before .before .before .before .before .before .before .pre .4) (c .before .before .give .ensures .0), given-out _ _ _ _ _ _ (c .before .before .before .before .before .before .list-words .ensures) refl (c .before .before .before .before .before .before .before .before .before .before .before .before .before .before .before .pre .4) (c .before .before .give .ensures .1))))
+    (λ c.
+    let after-give = c .before .before in
+    let after-list-words = after-give .before .before .before .before .before in
+    let start = after-list-words .before .before .before .before .before .before .before .before .before .before in
+    let pre = start .pre in
+    let words = after-list-words .list-words .ensures in
+    let given = after-give .give .ensures in
+    (given-answer _ _ _ _ _ _ words (pre .5) (pre .4) (given .0), given-out _ _ _ _ _ _ words (pre .5) (pre .4) (given .1))))

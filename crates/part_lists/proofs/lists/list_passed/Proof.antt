@@ -19,19 +19,62 @@ list-passed-spec =
     (λ c. search needs)
     (λ c. search needs)
     (λ c. search needs)
-    (λ c κs. let f = passed-facts _ _ _ _ _ _ (c .before .before .before .before .before .before .before .before .before .before .before .pre) in (f .mesh, f .map, f .stencil, refl, refl, refl, refl, refl, refl, refl))
-    (λ c. refused-sizes _ _ _ _ _ _ _ _ _ (c .before .before .before .before .before .before .before .before .before .before .before .before .before .before .before .before .before .before .before .before .pre) _ (c .before .before .before .before .before .before .before .before .prepare .ensures .0) (c .if1 .taken))
+    (λ c κs.
+    let f = passed-facts _ _ _ _ _ _ (c .before .before .before .before .before .before .before .before .before .before .before .pre) in
+    (f .mesh, f .map, f .stencil, refl, refl, refl, refl, refl, refl, refl))
+    (λ c.
+    let after-prepare = c .before .before .before .before .before .before .before .before in
+    let start = after-prepare .before .before .before .before .before .before .before .before .before .before .before .before in
+    let pre = start .pre in
+    refused-sizes _ _ _ _ _ _ _ _ _ pre _ (after-prepare .prepare .ensures .0) (c .if1 .taken))
     (λ c. search needs)
     (λ c. search needs)
     (λ c κs. search needs)
     (λ c κs. search needs)
     (λ c. search needs)
-    (λ c κs. (cells-few _ _ (passed-facts _ _ _ _ _ _ (c .before .before .before .before .before .before .before .before .before .before .before .before .before .before .before .before .before .before .before .before .before .before .before .before .before .pre) .mesh) (c .before .before .cell-count .ensures .0), search needs))
+    (λ c κs.
+    let after-cell-count = c .before .before in
+    let start = after-cell-count .before .before .before .before .before .before .before .before .before .before .before .before .before .before .before .before .before .before .before .before .before .before .before in
+    let few = cells-few _ _ (passed-facts _ _ _ _ _ _ (start .pre) .mesh) (after-cell-count .cell-count .ensures .0) in
+    (few, search needs))
     (λ c. search needs)
     (λ c. search needs)
     (λ c. search needs)
     (λ c. search needs)
     (λ c. search needs)
-    (λ c κs. let f = passed-facts _ _ _ _ _ _ (c .before .before .before .before .before .before .before .before .before .before .before .before .before .before .before .before .before .before .before .before .before .before .before .before .before .before .before .before .before .before .before .before .before .pre) in (alone _ _ _ _ _ (c .before .before .before .before .before .before .before .before .before .before .before .before .before .before .before .before .before .before .before .before .before .prepare .ensures .2), f .few, f .i-in .1, f .j-in .1, chosen-few _ _ _ _ _ _ _ _ (c .before .before .before .before .before .before .before .before .before .before .before .before .before .before .before .before .before .before .before .before .before .before .before .before .before .before .before .before .before .before .before .before .before .args .out .now) (c .before .before .before .before .before .before .before .before .before .before .before .before .before .before .before .before .before .before .before .before .before .before .before .before .before .before .before .before .before .before .before .before .before .pre) (sym (c .before .before .before .before .before .before .before .before .before .before .before .before .before .before .before .before .before .before .before .before .before .prepare .ensures .0) ∙ c .before .before .before .before .before .before .before .before .before .before .before .before .before .if1 .left) _ _ _ (c .before .before .before .before .before .before .before .before .before .before .before .before .before .before .before .before .before .before .before .before .before .prepare .ensures .1 (c .before .before .before .before .before .before .before .before .before .before .before .before .before .if1 .left)) _ (c .before .before .before .before .before .before .before .before .before .before .cell-count .ensures .0) _ _ (c .before .before .before .before .before .before .before .before .before .row-of .ensures) (c .before .before .before .before .before .before .before .classify .ensures)))
     (λ c. search needs)
-    (λ c. given-named _ _ _ _ _ _ _ _ _ (c .before .before .before .before .before .before .before .before .before .before .before .before .before .before .before .before .before .before .before .before .before .before .before .before .before .before .before .before .before .before .before .before .before .before .before .before .pre) (sym (c .before .before .before .before .before .before .before .before .before .before .before .before .before .before .before .before .before .before .before .before .before .before .before .before .prepare .ensures .0) ∙ c .before .before .before .before .before .before .before .before .before .before .before .before .before .before .before .before .if1 .left) _ _ _ (c .before .before .before .before .before .before .before .before .before .before .before .before .before .before .before .before .before .before .before .before .before .before .before .before .prepare .ensures .1 (c .before .before .before .before .before .before .before .before .before .before .before .before .before .before .before .before .if1 .left)) _ (c .before .before .before .before .before .before .before .before .before .before .before .before .before .cell-count .ensures .0) _ _ (c .before .before .before .before .before .before .before .before .before .before .before .before .row-of .ensures) (c .before .before .before .before .before .before .before .before .before .before .classify .ensures) _ _ (c .before .before .list-given .ensures)))
+    (λ c κs.
+    let after-classify = c .before .before .before .before .before .before .before .before in
+    let after-row-of = after-classify .before .before in
+    let after-cell-count = after-row-of .before in
+    let after-if1 = after-cell-count .before .before .before in
+    let after-prepare = after-if1 .before .before .before .before .before .before .before .before in
+    let start = after-prepare .before .before .before .before .before .before .before .before .before .before .before .before in
+    let told = after-prepare .prepare .ensures in
+    let zero = after-if1 .if1 .left in
+    let cells = after-cell-count .cell-count .ensures .0 in
+    let row = after-row-of .row-of .ensures in
+    let class = after-classify .classify .ensures in
+    let f = passed-facts _ _ _ _ _ _ (start .pre) in (
+      alone _ _ _ _ _ (told .2),
+      f .few,
+      f .i-in .1,
+      f .j-in .1,
+      chosen-few _ _ _ _ _ _ _ _ (start .args .out .now) (start .pre) (sym (told .0) ∙ zero) _ _ _ (told .1 zero) _ cells _ _ row class,
+      search needs,
+    ))
+    (λ c. search needs)
+    (λ c.
+    let after-list-given = c .before .before .before in
+    let after-classify = after-list-given .before .before .before .before .before .before .before .before .before in
+    let after-row-of = after-classify .before .before in
+    let after-cell-count = after-row-of .before in
+    let after-if1 = after-cell-count .before .before .before in
+    let after-prepare = after-if1 .before .before .before .before .before .before .before .before in
+    let start = after-prepare .before .before .before .before .before .before .before .before .before .before .before .before in
+    let told = after-prepare .prepare .ensures in
+    let zero = after-if1 .if1 .left in
+    let cells = after-cell-count .cell-count .ensures .0 in
+    let row = after-row-of .row-of .ensures in
+    let class = after-classify .classify .ensures in
+    given-named _ _ _ _ _ _ _ _ _ (start .pre) (sym (told .0) ∙ zero) _ _ _ (told .1 zero) _ cells _ _ row class _ _ (after-list-given .list-given .ensures)))
