@@ -16,7 +16,7 @@ use Rattle.depths.specs.DepthLaws.{fours-length}
 use Rattle.layout.specs.AnswerLaws.{refuses, accepts}
 use Rattle.layout.specs.declared.Answer.{Answer}
 use Rattle.layout.specs.declared.Answer.the-variants.{Done, Refused}
-use Rattle.states.specs.State.{Lists, listsIn, listsOf, dynamic, ownedCount}
+use Rattle.states.specs.State.{Lists, listsIn, listsOf, dynamic, ownedCount, stateLength, depthsPlace}
 use Rattle.parts.specs.Calls.{allTaken, allWritten, newAt, advancedIn, advanceTestsIn, advanceNumber, advanceAnswer, advanceState}
 use Rattle.parts.specs.Opened.{Opened, advanceRest}
 use Rattle.parts.proofs.OpenedLaws.{whole, own-few, long, good-state, cut, lists-is}
@@ -45,15 +45,15 @@ module _ (st b : Bytes) (d : ℕ) (u : Bool) (ue : u ≡ allTaken (listsIn st) d
 
 -- ---- what is stored
 
-pub round-put : (b x y z new : Bytes) (d round owned : ℕ) → d + 34 + 4 * owned ≤ length b → 4 * owned ≤ length new → x ≡ over b d (wordBytes round) → y ≡ over x (d + 2) (replicate 32 0)
-    → z ≡ over y (d + 34) (take (4 * owned) (drop 0 new)) → z ≡ over b d (wordBytes round ++ (replicate 32 0 ++ take (4 * owned) new))
+pub round-put : (b x y z new : Bytes) (d round owned : ℕ) → stateLength d owned ≤ length b → 4 * owned ≤ length new → x ≡ over b d (wordBytes round) → y ≡ over x (d + 2) (replicate 32 0)
+    → z ≡ over y (depthsPlace d) (take (4 * owned) (drop 0 new)) → z ≡ over b d (wordBytes round ++ (replicate 32 0 ++ take (4 * owned) new))
 round-put b x y z new d round owned room there xe ye ze =
     let l : length (wordBytes round) ≡ 2 = length-wordBytes round in
     let m : length (replicate {A = ℕ} 32 0) ≡ 32 = refl in
     let k : length (take (4 * owned) new) ≡ 4 * owned = length-take-le (4 * owned) new there in
     let s : length x ≡ length b = ap length xe ∙ over-length b d (wordBytes round) (omega arith) in
     let p : d + 2 ≡ d + length (wordBytes round) = omega arith in
-    let q : d + 34 ≡ d + 2 + length (replicate {A = ℕ} 32 0) = omega arith in
+    let q : depthsPlace d ≡ d + 2 + length (replicate {A = ℕ} 32 0) = omega arith in
     ze
     ∙ ap₂ (λ (u : Bytes) i. over u i (take (4 * owned) new)) ye q
     ∙ over-more x (d + 2) (replicate 32 0) (omega arith) (take (4 * owned) new)
@@ -104,7 +104,7 @@ module _ (b : Bytes) where
                 ∙ a .1,
           )
 
-    pub owned-room : (owned : ℕ) → owned ≡ wordAt (take (d - 0) (drop 0 b)) 11 → (owned ≡ ownedCount (take d b)) × (owned ≤ 2000) × (d + 34 + 4 * owned ≤ length b)
+    pub owned-room : (owned : ℕ) → owned ≡ wordAt (take (d - 0) (drop 0 b)) 11 → (owned ≡ ownedCount (take d b)) × (owned ≤ 2000) × (stateLength d owned ≤ length b)
     owned-room owned oe =
         let e : owned ≡ ownedCount (take d b) = oe ∙ ap (λ (x : Bytes). wordAt x 11) (cut b d) in (
           e,

@@ -8,6 +8,8 @@ use parts::inner::all_taken;
 use parts::inner::all_written;
 use parts::inner::clear;
 use renewing::inner::renew_by;
+use states::inner::DEPTHS;
+use states::inner::OWNED;
 use states::is_state;
 ghost use mathlib.Core.Path.{_≡_};
 ghost use mathlib.Core.List.{_++_};
@@ -16,7 +18,7 @@ ghost use lib.ListN.{length, take, replicate};
 ghost use Rattle.vocabulary.specs.Bytes.{over};
 ghost use Rattle.vocabulary.specs.Ranges.{blocks};
 ghost use Rattle.layout.specs.Words.{wordBytes};
-ghost use Rattle.states.specs.State.{listsIn, ownedCount};
+ghost use Rattle.states.specs.State.{listsIn, ownedCount, stateLength};
 ghost use Rattle.parts.specs.Opened.{Opened, advanceRest};
 ghost use Rattle.parts.specs.Calls.{newAt, advanceAnswer, advanceState};
 
@@ -39,12 +41,12 @@ fn advance_rest(lists: &[u8], b: &[u8], d: usize) -> u32
 
 // Stores the round, no flag, and the first `owned` depths of `new`.
 fn put_round(b: &mut [u8], d: usize, round: usize, owned: usize, new: &[u8])
-    requires { ⌜ (d < 131072) × (round < 65536) × (owned < 65536) × (d + 34 + 4 * owned ≤ length (now b)) × (4 * owned ≤ length (now new)) ⌝ }
+    requires { ⌜ (d < 131072) × (round < 65536) × (owned < 65536) × (stateLength d owned ≤ length (now b)) × (4 * owned ≤ length (now new)) ⌝ }
     ensures { λ _. ⌜ now (b .exit) ≡ over (now (b .entry)) d (wordBytes round ++ (replicate 32 0 ++ take (4 * owned) (now (new .entry)))) ⌝ }
 {
     put_word(b, d, round);
     clear(b, d + 2, 32);
-    copy(b, d + 34, new, 0, 4 * owned);
+    copy(b, d + DEPTHS, new, 0, 4 * owned);
 }
 
 fn advance_number(b: &[u8], d: usize) -> u32
@@ -70,7 +72,7 @@ fn advance_in(b: &mut [u8], d: usize, new: &mut [u8]) -> Answer
     if number != 0 {
         return Answer::Refused(number);
     }
-    let owned = word_at(&b[0..d], 11);
+    let owned = word_at(&b[0..d], OWNED);
     let round = word_in(b, d) + 1;
     renew_state(b, d, owned, new);
     put_round(b, d, round, owned, new);

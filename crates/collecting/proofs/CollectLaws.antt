@@ -12,7 +12,7 @@ use Rattle.depths.specs.Depths.{four}
 use Rattle.layout.specs.AnswerLaws.{refuses, accepts}
 use Rattle.layout.specs.declared.Answer.{Answer}
 use Rattle.layout.specs.declared.Answer.the-variants.{Done, Refused}
-use Rattle.states.specs.State.{Lists, listsIn, listsOf, dynamic, roundAt, firstOfMesh, cellsOfMesh, globalAt, ownedCount}
+use Rattle.states.specs.State.{Lists, listsIn, listsOf, dynamic, roundAt, firstOfMesh, cellsOfMesh, globalAt, ownedCount, depthPlace}
 use Rattle.parts.specs.Calls.{scatter, collectedIn, collectTestsIn, collectNumber, collectAnswer, collectOut}
 use Rattle.parts.specs.Opened.{Opened}
 use Rattle.parts.proofs.OpenedLaws.{lists-is, whole, own-few, long, good-state, four-cut}
@@ -21,7 +21,7 @@ use Rattle.vocabulary.specs.RangeLaws.{at-last}
 -- ---- the loop
 
 collect-more : (st : Bytes) (d : ℕ) (b : Bytes) (n : ℕ) (f : Bytes)
-    → over (collectedIn (listsIn st) d b n f) (4 * (globalAt st (suc n) - firstOfMesh st)) (four b (d + 30 + 4 * suc n)) ≡ collectedIn (listsIn st) d b (suc n) f
+    → over (collectedIn (listsIn st) d b n f) (4 * (globalAt st (suc n) - firstOfMesh st)) (four b (depthPlace d (suc n))) ≡ collectedIn (listsIn st) d b (suc n) f
 unfolding scatter listsIn
 collect-more st d b n f = refl
 
@@ -40,19 +40,19 @@ module _ (st : Bytes) (d : ℕ) (b : Bytes) (o : Opened st d b) (first owned : �
     pub cell-room : (q : ℕ) → q ≡ g - first → (f₀ : Bytes) (f : Bytes) → 4 * cellsOfMesh st ≤ length f₀ → length f ≡ length f₀ → 4 * q + 4 ≤ length f
     cell-room q qe f₀ f r e = let w = whole st d b o .globals l h (omega (arith, own-few st d b o)) in omega (arith, w .0, w .1)
 
-    pub depth-room : d + 30 + 4 * l + 4 ≤ length b
+    pub depth-room : depthPlace d l + 4 ≤ length b
     depth-room = omega (arith, own-few st d b o, long st d b o)
 
-    pub gather-turn : (q : ℕ) → q ≡ g - first → (f₀ x y : Bytes) → x ≡ collectedIn (listsIn st) d b (l - 1) f₀ → y ≡ over x (4 * q) (take 4 (drop (d + 30 + 4 * l) b))
+    pub gather-turn : (q : ℕ) → q ≡ g - first → (f₀ x y : Bytes) → x ≡ collectedIn (listsIn st) d b (l - 1) f₀ → y ≡ over x (4 * q) (take 4 (drop (depthPlace d l) b))
         → y ≡ collectedIn (listsIn st) d b (l + 1 - 1) f₀
     gather-turn q qe f₀ x y e z =
         let p : suc (l - 1) ≡ l + 1 - 1 = omega arith in
         let s : l ≡ suc (l - 1) = omega arith in
         z
-        ∙ ap (λ i. over x (4 * i) (take 4 (drop (d + 30 + 4 * l) b))) qe
-        ∙ ap₂ (λ (z : Bytes) (w : Bytes). over z (4 * (g - first)) w) e (four-cut b (d + 30 + 4 * l) depth-room)
-        ∙ ap (λ c. over (collectedIn (listsIn st) d b (l - 1) f₀) (4 * (g - c)) (four b (d + 30 + 4 * l))) fe
-        ∙ ap₂ (λ c i. over (collectedIn (listsIn st) d b (l - 1) f₀) (4 * (c - firstOfMesh st)) (four b (d + 30 + 4 * i))) (ge ∙ ap (globalAt st) s) s
+        ∙ ap (λ i. over x (4 * i) (take 4 (drop (depthPlace d l) b))) qe
+        ∙ ap₂ (λ (z : Bytes) (w : Bytes). over z (4 * (g - first)) w) e (four-cut b (depthPlace d l) depth-room)
+        ∙ ap (λ c. over (collectedIn (listsIn st) d b (l - 1) f₀) (4 * (g - c)) (four b (depthPlace d l))) fe
+        ∙ ap₂ (λ c i. over (collectedIn (listsIn st) d b (l - 1) f₀) (4 * (c - firstOfMesh st)) (four b (depthPlace d i))) (ge ∙ ap (globalAt st) s) s
         ∙ collect-more st d b (l - 1) f₀
         ∙ ap (λ n. collectedIn (listsIn st) d b n f₀) p
 

@@ -5,6 +5,10 @@ use layout::Answer;
 use layout::inner::copy;
 use layout::inner::word_in;
 use layout::word_at;
+use states::inner::CELLS;
+use states::inner::DEPTH;
+use states::inner::FIRST;
+use states::inner::OWNED;
 use states::inner::global_of;
 use states::is_state;
 ghost use mathlib.Core.Path.{_≡_};
@@ -21,7 +25,7 @@ fn gather(lists: &[u8], b: &[u8], d: usize, first: usize, owned: usize, f: &mut 
 {
     for l in 1..owned + 1 {
         let c = global_of(lists, Local(l as u16));
-        copy(f, 4 * index_of(c, first), b, d + 30 + 4 * l, 4);
+        copy(f, 4 * index_of(c, first), b, d + DEPTH + 4 * l, 4);
     }
 }
 
@@ -33,11 +37,11 @@ fn collect_from(lists: &[u8], b: &[u8], d: usize, k: u32, f: &mut [u8]) -> Answe
     if word_in(b, d) != k as usize {
         return Answer::Refused(28);
     }
-    if f.len() < 4 * word_at(lists, 10) {
+    if f.len() < 4 * word_at(lists, CELLS) {
         return Answer::Refused(16);
     }
-    let owned = word_at(lists, 11);
-    gather(lists, b, d, word_at(lists, 9), owned, f);
+    let owned = word_at(lists, OWNED);
+    gather(lists, b, d, word_at(lists, FIRST), owned, f);
     Answer::Done(owned as u32)
 }
 

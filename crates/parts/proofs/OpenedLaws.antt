@@ -15,7 +15,7 @@ use Rattle.layout.specs.AnswerLaws.{refuses}
 use Rattle.layout.specs.declared.Answer.the-variants.{Refused}
 use Rattle.depths.specs.Depths.{four}
 use Rattle.depths.specs.DepthLaws.{fours-of}
-use Rattle.states.specs.State.{listsIn, listsOf, heldCount, ownedCount, isState, bad20}
+use Rattle.states.specs.State.{listsIn, listsOf, heldCount, ownedCount, isState, bad20, stateLength}
 use Rattle.states.specs.StateLaws.{Whole, isStateAt, state-at, whole-is}
 use Rattle.parts.specs.Opened.{Opened}
 
@@ -29,7 +29,7 @@ module _ (st : Bytes) (d : ℕ) (b : Bytes) (o : Opened st d b) where
   own-few = whole .ends 0 16 (omega arith) (omega arith)
 
   -- what calls change stands after the lists
-  pub long : d + 34 + 4 * heldCount st ≤ length b
+  pub long : stateLength d (heldCount st) ≤ length b
   long = whole .long
 
   pub lists-is : listsOf b ≡ listsIn st

@@ -24,7 +24,7 @@ use Rattle.layout.specs.WordLaws.{word-same, word-in, word-left, word-back, len
 use Rattle.depths.specs.Depths.{four}
 use Rattle.depths.specs.DepthLaws.{length-four, four-same, four-whole, four-set, four-in, four-before, four-after, four-past, four-drop, fours-length, fours-at, joined-at}
 use Rattle.messages.specs.Messages.{depthStart, depthsOf, encode, fromIn, toIn, roundIn, countIn}
-use Rattle.states.specs.State.{Lists, roundAt, takenPlace, depthPlace}
+use Rattle.states.specs.State.{Lists, roundAt, takenPlace, depthPlace, depthsPlace}
 use Rattle.states.specs.StateLaws.{Frame}
 use Rattle.parts.specs.Calls.{importsFrom, depthAt, scatter, messageTo, takenIn, allTaken, advanceTestsIn, newAt, newDepths, advancedIn, collectedIn, writeNumber, writeState, writeOut, takeNumber, takeState, advanceNumber, advanceState, collectNumber, collectOut}
 use Rattle.parts.specs.CallLaws.{Room, Taken, fours-long}
@@ -49,7 +49,7 @@ module _ (L : Lists) (d : ℕ) (b x : Bytes) (w : Room L d b) (v : Taken L d b x
   take-room = omega (arith, flagged-length, load, w .long, w .fits (fromIn x) (v .from-least) (v .from-most))
 
   -- below the depths only one flag changes
-  pub take-flag : (i : ℕ) → i < d + 34 → i ≢ takenPlace d (fromIn x) → byteAt (takenIn L d b x) i ≡ byteAt b i
+  pub take-flag : (i : ℕ) → i < depthsPlace d → i ≢ takenPlace d (fromIn x) → byteAt (takenIn L d b x) i ≡ byteAt b i
   unfolding takenIn
   take-flag i h n = over-before flagged at (depthsOf x) take-room i (omega arith) ∙ getD-set-other b (takenPlace d (fromIn x)) i 1 0 n
 

@@ -1,5 +1,9 @@
 // Whether all imports are taken and all exports written in this round.
 use layout::byte_at;
+use states::inner::BEFORE_EXPORTS;
+use states::inner::BEFORE_IMPORTS;
+use states::inner::TAKEN;
+use states::inner::WRITTEN;
 use states::inner::between;
 ghost use mathlib.Core.Path.{_≡_};
 ghost use Prim.Native.Nat.{_<_};
@@ -36,7 +40,7 @@ pub fn all_taken(lists: &[u8], b: &[u8], d: usize) -> bool
     requires { ⌜ d < 131072 ⌝ }
     ensures { λ r. ⌜ r ≡ allTaken (listsIn (now (lists .entry))) d (now (b .entry)) ⌝ }
 {
-    all_settled(lists, b, 10, d + 1)
+    all_settled(lists, b, BEFORE_IMPORTS, d + TAKEN)
 }
 
 // Whether a message was written to every part that is exported to.
@@ -44,5 +48,5 @@ pub fn all_written(lists: &[u8], b: &[u8], d: usize) -> bool
     requires { ⌜ d < 131072 ⌝ }
     ensures { λ r. ⌜ r ≡ allWritten (listsIn (now (lists .entry))) d (now (b .entry)) ⌝ }
 {
-    all_settled(lists, b, 27, d + 17)
+    all_settled(lists, b, BEFORE_EXPORTS, d + WRITTEN)
 }

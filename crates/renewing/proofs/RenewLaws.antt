@@ -31,7 +31,7 @@ use Rattle.rules.specs.Update.{entries, oldsAt, Ready}
 use Rattle.rules.specs.Update as update
 use Rattle.rules.specs.UpdateLaws.{weightSum-own}
 use Rattle.rules.proofs.Registers.{depth-held}
-use Rattle.states.specs.State.{LocalNear, listsIn, ruleKind, stepCount, weights, heldCount, ownedCount, reachEnd, reachCount, entryAt, localReach, ownFound}
+use Rattle.states.specs.State.{LocalNear, listsIn, ruleKind, stepCount, weights, heldCount, ownedCount, reachEnd, reachCount, entryAt, localReach, ownFound, depthPlace, stateLength, depthsPlace, entryWord, reachWord}
 use Rattle.parts.specs.Calls.{depthAt, newAt}
 use Rattle.states.specs.StateLaws.{Whole}
 use Rattle.parts.specs.Opened.{Opened}
@@ -45,7 +45,7 @@ word-of b o i e = ap (word b) e
 abbrev oldOf : Bytes → ℕ → LocalNear → Old
 oldOf b d e = record { layer = e .layer; depth = depthAt d b (e .local) }
 
-new-is : (st : Bytes) (d : ℕ) (b : Bytes) (l : ℕ) → newDepth (ruleKind st) (weights st) (four b (d + 30 + 4 * l)) (map (oldOf b d) (localReach st l)) ≡ newAt (listsIn st) d b l
+new-is : (st : Bytes) (d : ℕ) (b : Bytes) (l : ℕ) → newDepth (ruleKind st) (weights st) (four b (depthPlace d l)) (map (oldOf b d) (localReach st l)) ≡ newAt (listsIn st) d b l
 unfolding newAt listsIn
 new-is st d b l = refl
 
@@ -60,10 +60,10 @@ module _ (st : Bytes) (d : ℕ) (b : Bytes) (o : Opened st d b) where
   few-entries : reachCount st ≤ 65535
   few-entries = omega (arith, w .lists-fit, o .place-small)
 
-  deep : (x : ℕ) → 1 ≤ x → x ≤ heldCount st → Valid b (d + 30 + 4 * x)
+  deep : (x : ℕ) → 1 ≤ x → x ≤ heldCount st → Valid b (depthPlace d x)
   deep x h k =
-      let p : d + 34 + 4 * (x - 1) ≡ d + 30 + 4 * x = omega arith in
-      subst (λ y. Valid b y) p (ranged-size b (d + 34) (heldCount st) (x - 1) (w .ranged) (omega arith))
+      let p : depthsPlace d + 4 * (x - 1) ≡ depthPlace d x = omega arith in
+      subst (λ y. Valid b y) p (ranged-size b (depthsPlace d) (heldCount st) (x - 1) (w .ranged) (omega arith))
 
   own-witness : (l : ℕ) → ownFound st l ≡ true → (t : ℕ) × (t < reachEnd st l - reachEnd st (l - 1)) × ((entryAt st (reachEnd st (l - 1) + t)) .layer ≡ 0)
   unfolding localReach
@@ -78,14 +78,14 @@ module _ (st : Bytes) (d : ℕ) (b : Bytes) (o : Opened st d b) where
       )
 
   module _ (held owned l from n : ℕ) (he : held ≡ heldCount st) (oe : owned ≡ ownedCount st) (h : 1 ≤ l) (k : l ≤ owned)
-      (fe : from ≡ wordAt st (45 + held + (l - 1))) (ne : n ≡ wordAt st (45 + held + (l - 1) + 1) - wordAt st (45 + held + (l - 1))) where
+      (fe : from ≡ wordAt st (reachWord held + (l - 1))) (ne : n ≡ wordAt st (reachWord held + (l - 1) + 1) - wordAt st (reachWord held + (l - 1))) where
     from-is : reachEnd st (l - 1) ≡ from
-    from-is = ap (λ x. wordAt st (45 + x + (l - 1))) (sym he) ∙ sym fe
+    from-is = ap (λ x. wordAt st (reachWord x + (l - 1))) (sym he) ∙ sym fe
 
     size-is : reachEnd st l - reachEnd st (l - 1) ≡ n
     size-is =
-        let p : 45 + heldCount st + l ≡ 45 + held + (l - 1) + 1 = omega arith in
-        let q : 45 + heldCount st + (l - 1) ≡ 45 + held + (l - 1) = omega arith in
+        let p : reachWord (heldCount st) + l ≡ reachWord held + (l - 1) + 1 = omega arith in
+        let q : reachWord (heldCount st) + (l - 1) ≡ reachWord held + (l - 1) = omega arith in
         ap₂ (λ x y. wordAt st x - wordAt st y) p q ∙ sym ne
 
     row-fits : from + n ≤ reachCount st
@@ -99,22 +99,22 @@ module _ (st : Bytes) (d : ℕ) (b : Bytes) (o : Opened st d b) where
         )
 
     module _ (t : ℕ) (q : t < n) where
-      entry-local : word st (2 * (46 + held + owned) + 4 * from + 4 * t) ≡ (entryAt st (from + t)) .local
-      entry-local = word-of st _ (46 + heldCount st + ownedCount st + 2 * (from + t)) (omega (arith, he, oe))
+      entry-local : word st (2 * (entryWord held owned) + 4 * from + 4 * t) ≡ (entryAt st (from + t)) .local
+      entry-local = word-of st _ (entryWord (heldCount st) (ownedCount st) + 2 * (from + t)) (omega (arith, he, oe))
 
-      entry-layer : word st (2 * (46 + held + owned) + 4 * from + 4 * t + 2) ≡ (entryAt st (from + t)) .layer
+      entry-layer : word st (2 * (entryWord held owned) + 4 * from + 4 * t + 2) ≡ (entryAt st (from + t)) .layer
       entry-layer = word-of st _ (47 + heldCount st + ownedCount st + 2 * (from + t)) (omega (arith, he, oe))
 
     -- the reach in local numbers, as the update finds it
-    near : oldsAt b (d + 30) (entries st (2 * (46 + held + owned) + 4 * from) n) ≡ map (oldOf b d) (localReach st l)
+    near : oldsAt b (d + 30) (entries st (2 * (entryWord held owned) + 4 * from) n) ≡ map (oldOf b d) (localReach st l)
     unfolding oldsAt entries localReach
     near =
-        let at : ℕ = 2 * (46 + held + owned) + 4 * from in
+        let at : ℕ = 2 * (entryWord held owned) + 4 * from in
         listed-map (update.oldAt b (d + 30)) 0 (update.entryAt st at) n
         ∙ listed-moved 0 from (λ t. update.oldAt b (d + 30) (update.entryAt st at t)) (λ t. oldOf b d (entryAt st t)) n
         (λ t q.
         ap (λ x. update.oldAt b (d + 30) (update.entryAt st at x)) (zero-add t)
-        ∙ ap₂ (λ x y. record { layer = y; depth = four b (d + 30 + 4 * x) }) (entry-local t q) (entry-layer t q))
+        ∙ ap₂ (λ x y. record { layer = y; depth = four b (depthPlace d x) }) (entry-local t q) (entry-layer t q))
         ∙ ap₂ (λ x m. listed x m (λ t. oldOf b d (entryAt st t))) (sym from-is) (sym size-is)
         ∙ sym (listed-map (oldOf b d) (reachEnd st (l - 1)) (entryAt st) (reachEnd st l - reachEnd st (l - 1)))
 
@@ -124,13 +124,13 @@ module _ (st : Bytes) (d : ℕ) (b : Bytes) (o : Opened st d b) where
         let p = own-witness l (w .owns l h (omega arith)) in
         (p .0, omega (arith, p .1, size-is), ap (λ x. (entryAt st (x + p .0)) .layer) (sym from-is) ∙ p .2)
 
-    pub renew-ready : (kind : ℕ) (v : Bytes) → kind ≡ ruleKind st → v ≡ weights st → Ready kind v st (2 * (46 + held + owned) + 4 * from) n b (d + 30) l
+    pub renew-ready : (kind : ℕ) (v : Bytes) → kind ≡ ruleKind st → v ≡ weights st → Ready kind v st (2 * (entryWord held owned) + 4 * from) n b (d + 30) l
     renew-ready kind v ke ve = record {
       reached = record {
         few = omega (arith, row-fits, few-entries);
         listed-there = omega (arith, row-fits, lists-length, w .lists-fit, he, oe);
         there = λ t q. let e = w .entries (from + t) (omega (arith, row-fits)) in omega (arith, entry-local t q, e .1, long st d b o);
-        ranged = λ t q. let e = w .entries (from + t) (omega (arith, row-fits)) in deep (word st (2 * (46 + held + owned) + 4 * from + 4 * t)) (omega (arith, entry-local t q, e .0)) (omega (arith, entry-local t q, e .1));
+        ranged = λ t q. let e = w .entries (from + t) (omega (arith, row-fits)) in deep (word st (2 * (entryWord held owned) + 4 * from + 4 * t)) (omega (arith, entry-local t q, e .0)) (omega (arith, entry-local t q, e .1));
       };
       own-there = omega (arith, own-few st d b o, long st d b o);
       own-ranged = deep l h (omega (arith, own-few st d b o));
@@ -139,24 +139,24 @@ module _ (st : Bytes) (d : ℕ) (b : Bytes) (o : Opened st d b) where
           let e = own-entry in
           record {
             light = λ t q. rule-light (stepCount st) v r _ (omega (arith, entry-layer t q, w .layers (from + t) (omega (arith, row-fits))));
-            heavy = weightSum-own st (2 * (46 + held + owned) + 4 * from) b (d + 30) v n (e .0) (e .1) (entry-layer (e .0) (e .1) ∙ e .2) (rule-first (stepCount st) v r);
+            heavy = weightSum-own st (2 * (entryWord held owned) + 4 * from) b (d + 30) v n (e .0) (e .1) (entry-layer (e .0) (e .1) ∙ e .2) (rule-first (stepCount st) v r);
           };
     }
 
     pub renew-told : (kind : ℕ) (v : Bytes) → kind ≡ ruleKind st → v ≡ weights st → (z : ℤ) → mag z < 2147483648
-        → depthBytes z ≡ newDepth kind v (four b (d + 30 + 4 * l)) (oldsAt b (d + 30) (entries st (2 * (46 + held + owned) + 4 * from) n))
+        → depthBytes z ≡ newDepth kind v (four b (depthPlace d l)) (oldsAt b (d + 30) (entries st (2 * (entryWord held owned) + 4 * from) n))
         → depthBytes (toZ w32 (ofZ w32 z)) ≡ newAt (listsIn st) d b l
     renew-told kind v ke ve z m e =
         ap depthBytes (depth-held z z m refl)
         ∙ e
-        ∙ ap₂ (λ x (y : Bytes). newDepth x y (four b (d + 30 + 4 * l)) (oldsAt b (d + 30) (entries st (2 * (46 + held + owned) + 4 * from) n))) ke ve
-        ∙ ap (newDepth (ruleKind st) (weights st) (four b (d + 30 + 4 * l))) near
+        ∙ ap₂ (λ x (y : Bytes). newDepth x y (four b (depthPlace d l)) (oldsAt b (d + 30) (entries st (2 * (entryWord held owned) + 4 * from) n))) ke ve
+        ∙ ap (newDepth (ruleKind st) (weights st) (four b (depthPlace d l))) near
         ∙ new-is st d b l
 
 -- ---- one cell after the other
 
 pub new-four : (st : Bytes) (d : ℕ) (b : Bytes) (l : ℕ) → length (newAt (listsIn st) d b l) ≡ 4
-new-four st d b l = ap length (sym (new-is st d b l)) ∙ new-length (ruleKind st) (weights st) _ _ (length-four b (d + 30 + 4 * l))
+new-four st d b l = ap length (sym (new-is st d b l)) ∙ new-length (ruleKind st) (weights st) _ _ (length-four b (depthPlace d l))
 
 module _ (st : Bytes) (d : ℕ) (b new : Bytes) (owned : ℕ) where
   pub renew-turn : 4 * owned ≤ length new → (l : ℕ) → 1 ≤ l → l < owned + 1 → (z : ℤ) → mag z < 2147483648 → depthBytes z ≡ newAt (listsIn st) d b l → (x y : Bytes)

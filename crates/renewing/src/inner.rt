@@ -5,6 +5,12 @@ use rules::Kind;
 use rules::Rule;
 use rules::inner::new_depth;
 use rules::rule_of;
+use states::inner::DEPTH;
+use states::inner::ENTRIES;
+use states::inner::HELD;
+use states::inner::KIND;
+use states::inner::REACH_ENDS;
+use states::inner::STEPS;
 use states::inner::between;
 use states::inner::weight_count;
 ghost use mathlib.Core.Path.{_≡_};
@@ -32,9 +38,9 @@ fn renew_one(
     requires { ⌜ Opened (now lists) d (now b) × (kindNumber kind ≡ ruleKind (now lists)) × (now v ≡ weights (now lists)) × (held ≡ heldCount (now lists)) × (owned ≡ ownedCount (now lists)) × (held < 65536) × (owned < 65536) × (1 ≤ l) × (l ≤ owned) ⌝ }
     ensures { λ r. ⌜ depthBytes r ≡ newAt (listsIn (now (lists .entry))) d (now (b .entry)) l ⌝ }
 {
-    let k = 45 + held + (l - 1);
-    let at = 2 * (46 + held + owned) + 4 * word_at(lists, k);
-    new_depth(kind, v, lists, at, between(lists, k), b, d + 30, l)
+    let k = REACH_ENDS + held + (l - 1);
+    let at = 2 * (ENTRIES + held + owned) + 4 * word_at(lists, k);
+    new_depth(kind, v, lists, at, between(lists, k), b, d + DEPTH, l)
 }
 
 // The new depths of the owned cells. The state is only read here, so every one comes from old ones.
@@ -62,10 +68,10 @@ pub fn renew_by(lists: &[u8], b: &[u8], d: usize, owned: usize, new: &mut [u8])
     requires { ⌜ Opened (now lists) d (now b) × (owned ≡ ownedCount (now lists)) × (owned < 65536) × (4 * owned ≤ length (now new)) ⌝ }
     ensures { λ _. ⌜ now (new .exit) ≡ over (now (new .entry)) 0 (blocks 1 owned (newAt (listsIn (now (lists .entry))) d (now (b .entry)))) ⌝ }
 {
-    let held = word_at(lists, 27);
-    match rule_of(word_at(lists, 3) as u32) {
+    let held = word_at(lists, HELD);
+    match rule_of(word_at(lists, KIND) as u32) {
         Rule::Known(k) => {
-            let end = 8 + 2 * weight_count(k, word_at(lists, 2));
+            let end = 8 + 2 * weight_count(k, word_at(lists, STEPS));
             renew(lists, &lists[8..end], b, d, k, held, owned, new)
         }
         // no state has such a rule (20)

@@ -22,7 +22,7 @@ use Rattle.depths.specs.DepthLaws.{length-four, four-set, depth-four, range-int
 use Rattle.rules.specs.Rules.{Old}
 use Rattle.rules.specs.RuleLaws.{Small, new-small, new-length}
 use Rattle.messages.specs.Messages.{headSize, depthStart, depthsOf, fromIn, countIn}
-use Rattle.states.specs.State.{LocalNear, listsIn, listsOf, dynamic, ruleKind, weights, heldCount, ownedCount, localReach, isState, roundAt, takenPlace, writtenPlace, depthPlace}
+use Rattle.states.specs.State.{LocalNear, listsIn, listsOf, dynamic, ruleKind, weights, heldCount, ownedCount, localReach, isState, roundAt, takenPlace, writtenPlace, depthPlace, stateLength, depthsPlace}
 use Rattle.states.specs.StateLaws.{isStateAt, state-at, Whole, whole-is, still-whole, near-whole, Frame, frame-take, frame-dynamic}
 use Rattle.parts.specs.Calls.{depthAt, writtenIn, takenIn, advanceTestsIn, newAt, advancedIn, writeNumber, writeState, takeNumber, takeState, advanceNumber, advanceState}
 use Rattle.parts.specs.CallLaws.{Room, room-of, Taken, taken-facts}
@@ -36,18 +36,18 @@ Fine x = natAbs (depthOf x) ≤ deepest
 -- ---- what is left when the bytes before d stay
 
 -- the depths of the local cells
-pub ranged-local : (b : Bytes) (d n l : ℕ) → every 0 n (rangedAt b (d + 34)) ≡ true → 1 ≤ l → l ≤ n → Fine (depthAt d b l)
+pub ranged-local : (b : Bytes) (d n l : ℕ) → every 0 n (rangedAt b (depthsPlace d)) ≡ true → 1 ≤ l → l ≤ n → Fine (depthAt d b l)
 ranged-local b d n l e h k =
-    let q : d + 34 + 4 * (l - 1) ≡ depthPlace d l = omega arith in
-    rw depth-four (subst (λ o. Valid b o) q (ranged-size b (d + 34) n (l - 1) e (omega arith)))
+    let q : depthsPlace d + 4 * (l - 1) ≡ depthPlace d l = omega arith in
+    rw depth-four (subst (λ o. Valid b o) q (ranged-size b (depthsPlace d) n (l - 1) e (omega arith)))
 
-pub local-ranged : (b : Bytes) (d n : ℕ) → ((l : ℕ) → 1 ≤ l → l ≤ n → Fine (depthAt d b l)) → every 0 n (rangedAt b (d + 34)) ≡ true
+pub local-ranged : (b : Bytes) (d n : ℕ) → ((l : ℕ) → 1 ≤ l → l ≤ n → Fine (depthAt d b l)) → every 0 n (rangedAt b (depthsPlace d)) ≡ true
 unfolding rangedAt
 local-ranged b d n f =
-    every-intro 0 (rangedAt b (d + 34)) n
+    every-intro 0 (rangedAt b (depthsPlace d)) n
     (λ i h.
-    let q : depthPlace d (i + 1) ≡ d + 34 + 4 * (0 + i) = omega arith in
-    range-intro (depthFrom b (d + 34 + 4 * (0 + i))) (subst (λ o. Valid b o) q (rw depth-four at (f (i + 1) (omega arith) (omega arith)))))
+    let q : depthPlace d (i + 1) ≡ depthsPlace d + 4 * (0 + i) = omega arith in
+    range-intro (depthFrom b (depthsPlace d + 4 * (0 + i))) (subst (λ o. Valid b o) q (rw depth-four at (f (i + 1) (omega arith) (omega arith)))))
 
 module _ (b : Bytes) (s : isState b ≡ true) where
   abbrev st : Bytes

@@ -12,27 +12,27 @@ use Rattle.vocabulary.specs.Ranges.{every}
 use Rattle.vocabulary.specs.Tests.{allOf}
 use Rattle.layout.specs.Words.{word, wordAt}
 use Rattle.depths.specs.Depths.{rangedAt}
-use Rattle.states.specs.State.{heldCount, listsLength, listsTests, dynamicTests, flagsFine, isState}
+use Rattle.states.specs.State.{heldCount, listsLength, listsTests, dynamicTests, flagsFine, isState, stateLength, writtenPlace, takenPlace, depthsPlace, exportsWord, reachWord}
 use Rattle.states.specs.StateLaws.{isStateAt, state-at}
 use Rattle.states.specs.Checks.{Counts, Fitting}
 
 -- ---- flags
 
-module _ (b : Bytes) (d j x : ℕ) (xe : x ≡ byteAt b (d + 1 + j)) where
+module _ (b : Bytes) (d j x : ℕ) (xe : x ≡ byteAt b (takenPlace d j)) where
   pub flag-high : 1 < x → false ≡ flagsFine b d j
   flag-high h = simp (sym xe, lt-leb _ _ h)
 
-  pub flag-rest : (y : ℕ) → x ≤ 1 → y ≡ byteAt b (d + 17 + j) → leb y 1 ≡ flagsFine b d j
+  pub flag-rest : (y : ℕ) → x ≤ 1 → y ≡ byteAt b (writtenPlace d j) → leb y 1 ≡ flagsFine b d j
   flag-rest y h e = simp (sym xe, le-leb _ _ h, sym e)
 
 -- ---- what calls change
 
 module _ (b : Bytes) (d n : ℕ) where
-  pub changes-1 : length b < d + 34 + 4 * n → false ≡ allOf (dynamicTests b d n)
+  pub changes-1 : length b < stateLength d n → false ≡ allOf (dynamicTests b d n)
   unfolding dynamicTests
   changes-1 h = simp (lt-leb _ _ h)
 
-  module _ (long : d + 34 + 4 * n ≤ length b) (r : ℕ) (re : r ≡ word b d) where
+  module _ (long : stateLength d n ≤ length b) (r : ℕ) (re : r ≡ word b d) where
     pub changes-2 : 60000 < r → false ≡ allOf (dynamicTests b d n)
     unfolding dynamicTests
     changes-2 h = simp (le-leb _ _ long, sym re, lt-leb _ _ h)
@@ -42,37 +42,37 @@ module _ (b : Bytes) (d n : ℕ) where
       unfolding dynamicTests
       changes-3 z = simp (le-leb _ _ long, sym re, le-leb _ _ early, sym ue, not-true u z)
 
-      pub changes-4 : (w : Bool) → not u ≡ false → w ≡ every 0 n (rangedAt b (d + 34)) → w ≡ allOf (dynamicTests b d n)
+      pub changes-4 : (w : Bool) → not u ≡ false → w ≡ every 0 n (rangedAt b (depthsPlace d)) → w ≡ allOf (dynamicTests b d n)
       unfolding dynamicTests
       changes-4 w z e = simp (le-leb _ _ long, sym re, le-leb _ _ early, sym ue, not-false u z, sym e, and-all)
 
 -- ---- the whole
 
-pub counts : (b : Bytes) (held owned reached : ℕ) → held ≡ wordAt b 27 → owned ≡ wordAt b 11 → reached ≡ wordAt b (45 + held + owned) → held < 65536 → owned < 65536
+pub counts : (b : Bytes) (held owned reached : ℕ) → held ≡ wordAt b 27 → owned ≡ wordAt b 11 → reached ≡ wordAt b (reachWord held + owned) → held < 65536 → owned < 65536
     → reached < 65536 → Counts b held owned reached
 counts b held owned reached h o r hs os rs = record {
   held-is = h;
   owned-is = o;
-  reached-is = r ∙ ap₂ (λ x y. wordAt b (45 + x + y)) h o;
+  reached-is = r ∙ ap₂ (λ x y. wordAt b (reachWord x + y)) h o;
   held-small = hs;
   owned-small = os;
   reached-small = rs;
 }
 
-pub fitting : (b : Bytes) (held owned reached d sent : ℕ) → held ≡ wordAt b 27 → owned ≡ wordAt b 11 → reached ≡ wordAt b (45 + held + owned) → sent ≡ wordAt b 44
-    → held < 65536 → owned < 65536 → reached < 65536 → d ≡ length b → d ≡ 2 * (46 + held + owned + 2 * reached + sent) → Fitting b held owned reached
+pub fitting : (b : Bytes) (held owned reached d sent : ℕ) → held ≡ wordAt b 27 → owned ≡ wordAt b 11 → reached ≡ wordAt b (reachWord held + owned) → sent ≡ wordAt b 44
+    → held < 65536 → owned < 65536 → reached < 65536 → d ≡ length b → d ≡ 2 * (exportsWord held owned reached + sent) → Fitting b held owned reached
 fitting b held owned reached d sent h o r e hs os rs de fit = record { counts = counts b held owned reached h o r hs os rs; room = omega arith }
 
-module _ (st b : Bytes) (d held owned reached sent : ℕ) (he : held ≡ wordAt st 27) (oe : owned ≡ wordAt st 11) (re : reached ≡ wordAt st (45 + held + owned)) (se : sent ≡ wordAt st 44) where
-  long-is : listsLength st ≡ 2 * (46 + held + owned + 2 * reached + sent)
+module _ (st b : Bytes) (d held owned reached sent : ℕ) (he : held ≡ wordAt st 27) (oe : owned ≡ wordAt st 11) (re : reached ≡ wordAt st (reachWord held + owned)) (se : sent ≡ wordAt st 44) where
+  long-is : listsLength st ≡ 2 * (exportsWord held owned reached + sent)
   long-is =
-      let q : wordAt st (45 + wordAt st 27 + wordAt st 11) ≡ reached = sym (re ∙ ap₂ (λ x y. wordAt st (45 + x + y)) he oe) in
+      let q : wordAt st (reachWord (wordAt st 27) + wordAt st 11) ≡ reached = sym (re ∙ ap₂ (λ x y. wordAt st (reachWord x + y)) he oe) in
       omega (arith, q, he, oe, se)
 
-  pub state-1 : (d ≡ 2 * (46 + held + owned + 2 * reached + sent) → ⊥) → false ≡ isStateAt st d b
+  pub state-1 : (d ≡ 2 * (exportsWord held owned reached + sent) → ⊥) → false ≡ isStateAt st d b
   state-1 z = simp (ne-eqb d (listsLength st) (λ e. z (e ∙ long-is)))
 
-  module _ (de : d ≡ 2 * (46 + held + owned + 2 * reached + sent)) (u : Bool) (ue : u ≡ allOf (listsTests st)) where
+  module _ (de : d ≡ 2 * (exportsWord held owned reached + sent)) (u : Bool) (ue : u ≡ allOf (listsTests st)) where
     pub state-2 : not u ≡ true → false ≡ isStateAt st d b
     state-2 z = simp (eq-eqb d (listsLength st) (de ∙ sym long-is), sym ue, not-true u z)
 

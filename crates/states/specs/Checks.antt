@@ -10,7 +10,7 @@ use Rattle.vocabulary.specs.Bytes.{Bytes}
 use Rattle.vocabulary.specs.Ranges.{isUpTo, every}
 use Rattle.layout.specs.Words.{wordAt}
 use Rattle.rules.specs.Rules.{bad11}
-use Rattle.states.specs.State.{partNumber, stepCount, ruleKind, weights, importEnd, ownedCount, heldCount, exportEnd, exportCount, reachEnd, reachCount, entryAt, globalFine, entryFine, ownFound, exportFine, rises}
+use Rattle.states.specs.State.{partNumber, stepCount, ruleKind, weights, importEnd, ownedCount, heldCount, exportEnd, exportCount, reachEnd, reachCount, entryAt, globalFine, entryFine, ownFound, exportFine, rises, exportsWord, entryWord}
 
 -- the lists b in three groups
 abbrev pub headTests : Bytes → List Bool
@@ -60,10 +60,10 @@ pub record Counts (b : Bytes) (held owned reached : ℕ) : Type 0 where
 -- lists as long as their counts say
 pub record Fitting (b : Bytes) (held owned reached : ℕ) : Type 0 where
   pub counts : Counts b held owned reached
-  pub room : length b ≡ 2 * (46 + held + owned + 2 * reached + exportCount b)
+  pub room : length b ≡ 2 * (exportsWord held owned reached + exportCount b)
 
 -- the word at which the entries of the reaches begin, and what they are tested by
 pub record Tested (b : Bytes) (at held n : ℕ) : Type 0 where
-  pub at-is : at ≡ 46 + heldCount b + ownedCount b
+  pub at-is : at ≡ entryWord (heldCount b) (ownedCount b)
   pub held-is : held ≡ heldCount b
   pub n-is : n ≡ stepCount b

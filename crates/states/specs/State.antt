@@ -21,6 +21,31 @@ pub record LocalNear : Type 0 where
   pub local : ℕ
   pub layer : ℕ
 
+-- ---- where the lists stand, by their counts: in words, from 0 on
+
+-- the tables of ends of the imports and of the exports, and the held cells, each for numbers from 0 on
+abbrev pub importWord : ℕ
+importWord = 11
+
+abbrev pub exportWord : ℕ
+exportWord = 28
+
+abbrev pub cellWord : ℕ
+cellWord = 44
+
+-- the table of ends of the reaches, the entries of the reaches (a local number and, one word later, its layer), and those of the exports
+abbrev pub reachWord : ℕ → ℕ
+reachWord held = 45 + held
+
+abbrev pub entryWord : ℕ → ℕ → ℕ
+entryWord held owned = 46 + held + owned
+
+abbrev pub layerWord : ℕ → ℕ → ℕ
+layerWord held owned = 47 + held + owned
+
+abbrev pub exportsWord : ℕ → ℕ → ℕ → ℕ
+exportsWord held owned reached = entryWord held owned + 2 * reached
+
 -- ---- the lists, read from the bytes b of a state, or from its first d bytes
 
 module _ (b : Bytes) where
@@ -49,7 +74,7 @@ module _ (b : Bytes) where
 
   -- words 11 to 27, for j from 0 to 16: how many held cells are owned or imported from the parts up to j
   abbrev pub importEnd : ℕ → ℕ
-  importEnd j = wordAt b (11 + j)
+  importEnd j = wordAt b (importWord + j)
 
   abbrev pub ownedCount : ℕ
   ownedCount = importEnd 0
@@ -59,18 +84,18 @@ module _ (b : Bytes) where
 
   -- words 28 to 44, for j from 0 to 16: how many exports go to the parts up to j
   abbrev pub exportEnd : ℕ → ℕ
-  exportEnd j = wordAt b (28 + j)
+  exportEnd j = wordAt b (exportWord + j)
 
   abbrev pub exportCount : ℕ
   exportCount = exportEnd 16
 
   -- the global number of each held cell, in local order, from word 45 on
   abbrev pub globalAt : ℕ → ℕ
-  globalAt l = wordAt b (44 + l)
+  globalAt l = wordAt b (cellWord + l)
 
   -- for l from 0 to the owned count: how many entries the reaches of the local cells up to l have
   abbrev pub reachEnd : ℕ → ℕ
-  reachEnd l = wordAt b (45 + heldCount + l)
+  reachEnd l = wordAt b (reachWord heldCount + l)
 
   abbrev pub reachCount : ℕ
   reachCount = reachEnd ownedCount
@@ -78,17 +103,17 @@ module _ (b : Bytes) where
   -- the entries of the reaches, two words each, from t = 0 on: a local number and its layer
   abbrev pub entryAt : ℕ → LocalNear
   entryAt t = record {
-    local = wordAt b (46 + heldCount + ownedCount + 2 * t);
-    layer = wordAt b (47 + heldCount + ownedCount + 2 * t);
+    local = wordAt b (entryWord heldCount ownedCount + 2 * t);
+    layer = wordAt b (layerWord heldCount ownedCount + 2 * t);
   }
 
   -- the local number of each exported cell, from t = 0 on
   abbrev pub exportAt : ℕ → ℕ
-  exportAt t = wordAt b (46 + heldCount + ownedCount + 2 * reachCount + t)
+  exportAt t = wordAt b (exportsWord heldCount ownedCount reachCount + t)
 
   -- the length in bytes that the counts give the lists
   abbrev pub listsLength : ℕ
-  listsLength = 2 * (46 + heldCount + ownedCount + 2 * reachCount + exportCount)
+  listsLength = 2 * (exportsWord heldCount ownedCount reachCount + exportCount)
 
   -- the entries of the reach of an owned cell, by its local number
   unfoldable pub localReach : ℕ → List LocalNear
@@ -108,6 +133,10 @@ takenPlace d j = d + 1 + j
 
 abbrev pub writtenPlace : ℕ → ℕ → ℕ
 writtenPlace d j = d + 17 + j
+
+-- the depths of all held cells, and that of local cell l
+abbrev pub depthsPlace : ℕ → ℕ
+depthsPlace d = d + 34
 
 abbrev pub depthPlace : ℕ → ℕ → ℕ
 depthPlace d l = d + 30 + 4 * l
@@ -209,7 +238,7 @@ dynamicTests b d n =
     leb (stateLength d n) (length b)
     ∷ leb (roundAt b d) 60000
     ∷ every 1 16 (flagsFine b d)
-    ∷ every 0 n (rangedAt b (d + 34))
+    ∷ every 0 n (rangedAt b (depthsPlace d))
     ∷ []
 
 -- a part state: the lists are as long as their counts say, and all tests hold

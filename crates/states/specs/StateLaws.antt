@@ -21,7 +21,7 @@ use Rattle.layout.specs.Words.{wordAt}
 use Rattle.layout.specs.WordLaws.{word-same}
 use Rattle.depths.specs.Depths.{rangedAt}
 use Rattle.rules.specs.Rules.{bad11}
-use Rattle.states.specs.State.{stepCount, ruleKind, weights, firstOfMesh, cellsOfMesh, globalAt, exportEnd, exportCount, exportAt, globalFine, entryFine, ownFound, exportFine, reachEnd, reachCount, entryAt, localReach, dynamic, importEnd, ownedCount, heldCount, rises, listsLength, listsTests, dynamicTests, isState, roundAt, takenPlace, writtenPlace, stateLength}
+use Rattle.states.specs.State.{stepCount, ruleKind, weights, firstOfMesh, cellsOfMesh, globalAt, exportEnd, exportCount, exportAt, globalFine, entryFine, ownFound, exportFine, reachEnd, reachCount, entryAt, localReach, dynamic, importEnd, ownedCount, heldCount, rises, listsLength, listsTests, dynamicTests, isState, roundAt, takenPlace, writtenPlace, stateLength, depthsPlace}
 
 -- a table of ends that never falls
 pub rises-grow : (n : ℕ) (end : ℕ → ℕ) → rises n end ≡ true → (i j : ℕ) → i ≤ j → j ≤ n → end i ≤ end j
@@ -58,7 +58,7 @@ pub record Whole (st : Bytes) (d : ℕ) (b : Bytes) : Type 0 where
   pub ends : (i j : ℕ) → i ≤ j → j ≤ 16 → importEnd st i ≤ importEnd st j
   pub early : roundAt b d ≤ 60000
   pub flags : (j : ℕ) → 1 ≤ j → j ≤ 16 → (byteAt b (takenPlace d j) ≤ 1) × (byteAt b (writtenPlace d j) ≤ 1)
-  pub ranged : every 0 (heldCount st) (rangedAt b (d + 34)) ≡ true
+  pub ranged : every 0 (heldCount st) (rangedAt b (depthsPlace d)) ≡ true
   pub reach-ends : (i j : ℕ) → i ≤ j → j ≤ ownedCount st → reachEnd st i ≤ reachEnd st j
   pub entries : (t : ℕ) → t < reachCount st → (1 ≤ (entryAt st t) .local) × ((entryAt st t) .local ≤ heldCount st)
   pub steps-few : stepCount st ≤ 8
@@ -122,7 +122,7 @@ near-whole st d b w l h k =
 -- the lists' side of the test says nothing of what calls change, and what calls change is tested by itself
 pub still-whole : (st : Bytes) (d : ℕ) (b b′ : Bytes) → isStateAt st d b ≡ true → stateLength d (heldCount st) ≤ length b′ → roundAt b′ d ≤ 60000
     → ((j : ℕ) → 1 ≤ j → j ≤ 16 → (byteAt b′ (takenPlace d j) ≤ 1) × (byteAt b′ (writtenPlace d j) ≤ 1))
-    → every 0 (heldCount st) (rangedAt b′ (d + 34)) ≡ true → isStateAt st d b′ ≡ true
+    → every 0 (heldCount st) (rangedAt b′ (depthsPlace d)) ≡ true → isStateAt st d b′ ≡ true
 unfolding dynamicTests
 still-whole st d b b′ e long early flags ranged =
     and-intro (eqb d (listsLength st) && allOf (listsTests st)) (allOf (dynamicTests b′ d (heldCount st)))

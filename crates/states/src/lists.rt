@@ -1,4 +1,16 @@
 // Whether the lists of a state are as its form asks. `lists` are the bytes before what calls change.
+use crate::places::CELLS;
+use crate::places::ENTRIES;
+use crate::places::EXPORT_ENDS;
+use crate::places::EXPORTED;
+use crate::places::FIRST;
+use crate::places::GLOBALS;
+use crate::places::HELD;
+use crate::places::KIND;
+use crate::places::OWNED;
+use crate::places::PART;
+use crate::places::REACH_ENDS;
+use crate::places::STEPS;
 use cell_numbers::Global;
 use cell_numbers::Local;
 use cell_numbers::inner::is_cell;
@@ -17,7 +29,7 @@ ghost use Rattle.vocabulary.specs.Tests.{allOf};
 ghost use Rattle.layout.specs.Words.{wordAt};
 ghost use Rattle.rules.specs.Rules.{weightCount, bad11};
 ghost use Rattle.rules.specs.Kinds.{kindNumber};
-ghost use Rattle.states.specs.State.{exportCount, globalAt, globalFine, entryFine, exportFine, listsTests};
+ghost use Rattle.states.specs.State.{exportCount, globalAt, globalFine, entryFine, exportFine, listsTests, reachWord};
 ghost use Rattle.states.specs.Checks.{Fitting, Tested, riseAt, ownEntry, rowFine, headTests, endTests, entryTests};
 
 // Whether x is a number from 1 to n.
@@ -52,7 +64,7 @@ pub fn between(lists: &[u8], k: usize) -> usize
 pub fn global_of(lists: &[u8], l: Local) -> Global
     ensures { λ c. ⌜ c .0 ≡ globalAt (now (lists .entry)) (l .0) ⌝ }
 {
-    Global(word_at(lists, 44 + l.0 as usize) as u16)
+    Global(word_at(lists, GLOBALS + l.0 as usize) as u16)
 }
 
 // Whether the n + 1 ends from word a on never fall.
@@ -73,11 +85,11 @@ fn ends_rise(lists: &[u8], a: usize, n: usize) -> bool
 
 // Whether the held cells are the mesh's.
 fn globals_fine(lists: &[u8], held: usize) -> bool
-    requires { ⌜ (2 * (45 + held) ≤ length (now lists)) × (held < 65536) ⌝ }
+    requires { ⌜ (2 * (reachWord held) ≤ length (now lists)) × (held < 65536) ⌝ }
     ensures { λ r. ⌜ r ≡ every 1 held (globalFine (now (lists .entry))) ⌝ }
 {
-    let first = word_there(lists, 9);
-    let cells = word_there(lists, 10);
+    let first = word_there(lists, FIRST);
+    let cells = word_there(lists, CELLS);
     for l in 1..1 + held {
         if !is_cell(global_of(lists, Local(l as u16)), first, cells) {
             return false;
@@ -154,11 +166,11 @@ fn rows_fine(lists: &[u8], held: usize, owned: usize, reached: usize) -> bool
     requires { ⌜ Fitting (now lists) held owned reached × (allOf (endTests (now lists)) ≡ true) ⌝ }
     ensures { λ r. ⌜ r ≡ every 1 owned (rowFine (now (lists .entry))) ⌝ }
 {
-    let n = word_there(lists, 2);
-    let at = 46 + held + owned;
+    let n = word_there(lists, STEPS);
+    let at = ENTRIES + held + owned;
     let mut from = 0;
     for l in 1..1 + owned {
-        let to = word_there(lists, 45 + held + l);
+        let to = word_there(lists, REACH_ENDS + held + l);
         if !row_fine(lists, at, held, n, l, from, to) {
             return false;
         }
@@ -172,8 +184,8 @@ fn exports_fine(lists: &[u8], held: usize, owned: usize, reached: usize) -> bool
     requires { ⌜ Fitting (now lists) held owned reached ⌝ }
     ensures { λ r. ⌜ r ≡ every 0 (exportCount (now (lists .entry))) (exportFine (now (lists .entry))) ⌝ }
 {
-    let at = 46 + held + owned + 2 * reached;
-    let sent = word_there(lists, 44);
+    let at = ENTRIES + held + owned + 2 * reached;
+    let sent = word_there(lists, EXPORTED);
     for t in 0..sent {
         if !up_to(owned, word_there(lists, at + t)) {
             return false;
@@ -213,20 +225,20 @@ fn head_fine(lists: &[u8]) -> bool
     requires { ⌜ 18 ≤ length (now lists) ⌝ }
     ensures { λ r. ⌜ r ≡ allOf (headTests (now (lists .entry))) ⌝ }
 {
-    if !up_to(16, word_at(lists, 1)) {
+    if !up_to(16, word_at(lists, PART)) {
         return false;
     }
-    let n = word_at(lists, 2);
+    let n = word_at(lists, STEPS);
     if n % 2 != 0 {
         return false;
     }
     if 8 < n {
         return false;
     }
-    if !rule_fine(lists, word_at(lists, 3), n) {
+    if !rule_fine(lists, word_at(lists, KIND), n) {
         return false;
     }
-    word_at(lists, 27) <= 2000
+    word_at(lists, HELD) <= 2000
 }
 
 // The three tables of ends.
@@ -234,19 +246,19 @@ fn ends_fine(lists: &[u8], held: usize, owned: usize, reached: usize) -> bool
     requires { ⌜ Fitting (now lists) held owned reached ⌝ }
     ensures { λ r. ⌜ r ≡ allOf (endTests (now (lists .entry))) ⌝ }
 {
-    if !ends_rise(lists, 11, 16) {
+    if !ends_rise(lists, OWNED, 16) {
         return false;
     }
-    if word_there(lists, 28) != 0 {
+    if word_there(lists, EXPORT_ENDS) != 0 {
         return false;
     }
-    if !ends_rise(lists, 28, 16) {
+    if !ends_rise(lists, EXPORT_ENDS, 16) {
         return false;
     }
-    if word_there(lists, 45 + held) != 0 {
+    if word_there(lists, REACH_ENDS + held) != 0 {
         return false;
     }
-    ends_rise(lists, 45 + held, owned)
+    ends_rise(lists, REACH_ENDS + held, owned)
 }
 
 // The held cells, the reaches and the exports.

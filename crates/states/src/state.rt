@@ -1,5 +1,13 @@
 // Whether bytes begin with a part's state (20).
 use crate::lists::lists_fine;
+use crate::places::DEPTHS;
+use crate::places::ENTRIES;
+use crate::places::EXPORTED;
+use crate::places::HELD;
+use crate::places::OWNED;
+use crate::places::REACH_ENDS;
+use crate::places::TAKEN;
+use crate::places::WRITTEN;
 use depths::inner::depths_in_range;
 use layout::byte_at;
 use layout::inner::word_in;
@@ -17,10 +25,10 @@ fn flag_fine(b: &[u8], d: usize, j: usize) -> bool
     requires { ⌜ (d < 1000000) × (j < 65536) ⌝ }
     ensures { λ r. ⌜ r ≡ flagsFine (now (b .entry)) d j ⌝ }
 {
-    if 1 < byte_at(b, d + 1 + j) {
+    if 1 < byte_at(b, d + TAKEN + j) {
         return false;
     }
-    byte_at(b, d + 17 + j) <= 1
+    byte_at(b, d + WRITTEN + j) <= 1
 }
 
 fn flags_fine(b: &[u8], d: usize) -> bool
@@ -40,7 +48,7 @@ fn changes_fine(b: &[u8], d: usize, n: usize) -> bool
     requires { ⌜ (d < 1000000) × (n < 65536) ⌝ }
     ensures { λ r. ⌜ r ≡ allOf (dynamicTests (now (b .entry)) d n) ⌝ }
 {
-    if b.len() < d + 34 + 4 * n {
+    if b.len() < d + DEPTHS + 4 * n {
         return false;
     }
     if 60000 < word_in(b, d) {
@@ -49,7 +57,7 @@ fn changes_fine(b: &[u8], d: usize, n: usize) -> bool
     if !flags_fine(b, d) {
         return false;
     }
-    depths_in_range(b, d + 34, n)
+    depths_in_range(b, d + DEPTHS, n)
 }
 
 // The state b, whose lists end at d.
@@ -57,10 +65,10 @@ fn state_fine(lists: &[u8], b: &[u8], d: usize) -> bool
     requires { ⌜ (d ≡ length (now lists)) × (d < 1000000) ⌝ }
     ensures { λ r. ⌜ r ≡ isStateAt (now (lists .entry)) d (now (b .entry)) ⌝ }
 {
-    let owned = word_at(lists, 11);
-    let held = word_at(lists, 27);
-    let reached = word_at(lists, 45 + held + owned);
-    if d != 2 * (46 + held + owned + 2 * reached + word_at(lists, 44)) {
+    let owned = word_at(lists, OWNED);
+    let held = word_at(lists, HELD);
+    let reached = word_at(lists, REACH_ENDS + held + owned);
+    if d != 2 * (ENTRIES + held + owned + 2 * reached + word_at(lists, EXPORTED)) {
         return false;
     }
     if !lists_fine(lists, held, owned, reached) {

@@ -28,7 +28,7 @@ use Rattle.messages.specs.declared.Reading.the-variants.{Message}
 use Rattle.messages.specs.declared.Reading.the-variants as answers
 use Rattle.messages.proofs.Else.{else-bad, else-number}
 use Rattle.messages.proofs.Reading as K
-use Rattle.states.specs.State.{Lists, listsIn, listsOf, dynamic, heldCount, isState}
+use Rattle.states.specs.State.{Lists, listsIn, listsOf, dynamic, heldCount, isState, depthPlace, stateLength, takenPlace}
 use Rattle.parts.specs.Calls.{importsFrom, takeTestsIn, takenIn, takeNumber, takeAnswer, takeState}
 use Rattle.parts.specs.CallLaws.{Room, room-of, Taken, taken-facts}
 use Rattle.parts.specs.Opened.{Opened, wrongSender, takeRest}
@@ -91,7 +91,7 @@ module _ (b : Bytes) (d from to count : ℕ) (w : Bool) (we : w ≡ wrongSender 
       unfolding takeRest
       rest-2 z = simp (sender-is, wf, sym re, ne-eqb _ _ z)
 
-      module _ (rr : round ≡ r) (y : ℕ) (ye : y ≡ byteAt b (d + 1 + from)) where
+      module _ (rr : round ≡ r) (y : ℕ) (ye : y ≡ byteAt b (takenPlace d from)) where
         pub rest-3 : y ≡ 1 → 23 ≡ takeRest (listsIn (take d b)) d b from to round count
         unfolding takeRest
         rest-3 e = simp (sender-is, wf, sym re, eq-eqb _ _ rr, sym ye, eq-eqb _ _ e)
@@ -129,7 +129,7 @@ module _ (b x : Bytes) where
   unfolding takeAnswer takeState
   done = accepts (takeNumber b x) 0 (takenIn (listsOf b) (dynamic b) b x) b
 
-  here : (L : Lists) (d : ℕ) → over (set b (d + 1 + fromIn x) 1) (d + 30 + 4 * (L .before (fromIn x) + 1)) (depthsOf x) ≡ takenIn L d b x
+  here : (L : Lists) (d : ℕ) → over (set b (takenPlace d (fromIn x)) 1) (d + 30 + 4 * (L .before (fromIn x) + 1)) (depthsOf x) ≡ takenIn L d b x
   unfolding takenIn
   here L d = refl
 
@@ -182,7 +182,7 @@ module _ (b x : Bytes) where
               let w : Room (listsIn (take d b)) d b = room-of (take d b) d b (whole (take d b) d b o) in
               omega (arith, w .fits (fromIn x) (facts .from-least) (facts .from-most), before-is, facts .count-is)
 
-          pub store-fits : (d < 131072) × (from ≤ 16) × (before < 65536) × (count < 65536) × (d + 34 + 4 * (before + count) ≤ length b) × (length x ≡ messageSize count)
+          pub store-fits : (d < 131072) × (from ≤ 16) × (before < 65536) × (count < 65536) × (stateLength d (before + count) ≤ length b) × (length x ≡ messageSize count)
           store-fits = (
             o .place-small,
             from-few,
@@ -192,11 +192,11 @@ module _ (b x : Bytes) where
             facts .size ∙ ap (λ k. messageSize k) (sym ce),
           )
 
-          pub told-done : (y : Bytes) → y ≡ over (set b (d + 1 + from) 1) (d + 30 + 4 * (before + 1)) (depthsOf x) → Answered (Done 0) y
+          pub told-done : (y : Bytes) → y ≡ over (set b (takenPlace d from) 1) (depthPlace d (before + 1)) (depthsOf x) → Answered (Done 0) y
           told-done y e = let a = done accepted in (a .0, e ∙ taken-is ∙ a .1)
             where
-              taken-is : over (set b (d + 1 + from) 1) (d + 30 + 4 * (before + 1)) (depthsOf x) ≡ takenIn (listsOf b) (dynamic b) b x
+              taken-is : over (set b (takenPlace d from) 1) (depthPlace d (before + 1)) (depthsOf x) ≡ takenIn (listsOf b) (dynamic b) b x
               taken-is =
-                  ap₂ (λ f k. over (set b (d + 1 + f) 1) (d + 30 + 4 * (k + 1)) (depthsOf x)) fe (sym before-is)
+                  ap₂ (λ f k. over (set b (takenPlace d f) 1) (depthPlace d (k + 1)) (depthsOf x)) fe (sym before-is)
                   ∙ here (listsIn (take d b)) d
                   ∙ ap₂ (λ (L : Lists) p. takenIn L p b x) (sym (lists-is (take d b) d b o)) (o .place-is)

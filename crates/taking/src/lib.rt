@@ -9,6 +9,10 @@ use messages::Reading;
 use messages::read;
 use messages::refusal_of;
 use parts::inner::set_flag;
+use states::inner::BEFORE_IMPORTS;
+use states::inner::DEPTH;
+use states::inner::PART;
+use states::inner::TAKEN;
 use states::inner::between;
 use states::is_state;
 use states::up_to;
@@ -18,7 +22,7 @@ ghost use Prim.Native.Nat.{_+_, _*_, _<_, _≤_};
 ghost use lib.ListN.{length, set, take, drop};
 ghost use Rattle.vocabulary.specs.Bytes.{over};
 ghost use Rattle.messages.specs.Messages.{depthsOf, messageSize, bad15, fromIn, toIn, roundIn, countIn};
-ghost use Rattle.states.specs.State.{listsIn};
+ghost use Rattle.states.specs.State.{listsIn, depthPlace, stateLength, takenPlace};
 ghost use Rattle.parts.specs.Opened.{Opened, wrongSender, takeRest};
 ghost use Rattle.parts.specs.Calls.{takeAnswer, takeState};
 
@@ -26,13 +30,13 @@ ghost use Rattle.parts.specs.Calls.{takeAnswer, takeState};
 fn wrong_sender(lists: &[u8], from: usize, to: usize, count: usize) -> bool
     ensures { λ r. ⌜ r ≡ wrongSender (listsIn (now (lists .entry))) from to count ⌝ }
 {
-    if to != word_at(lists, 1) {
+    if to != word_at(lists, PART) {
         return true;
     }
     if !up_to(16, from) {
         return true;
     }
-    let n = between(lists, 10 + from);
+    let n = between(lists, BEFORE_IMPORTS + from);
     if n < 1 {
         return true;
     }
@@ -50,7 +54,7 @@ fn take_rest(b: &[u8], d: usize, from: usize, to: usize, round: usize, count: us
     if round != word_in(b, d) {
         return 22;
     }
-    if byte_at(b, d + 1 + from) == 1 {
+    if byte_at(b, d + TAKEN + from) == 1 {
         return 23;
     }
     0
@@ -58,11 +62,11 @@ fn take_rest(b: &[u8], d: usize, from: usize, to: usize, round: usize, count: us
 
 // Sets the flag of part `from`, and copies the message's depths to the cells after `before`.
 fn store(b: &mut [u8], d: usize, from: usize, before: usize, x: &[u8], count: usize)
-    requires { ⌜ (d < 131072) × (from ≤ 16) × (before < 65536) × (count < 65536) × (d + 34 + 4 * (before + count) ≤ length (now b)) × (length (now x) ≡ messageSize count) ⌝ }
-    ensures { λ _. ⌜ now (b .exit) ≡ over (set (now (b .entry)) (d + 1 + from) 1) (d + 30 + 4 * (before + 1)) (depthsOf (now (x .entry))) ⌝ }
+    requires { ⌜ (d < 131072) × (from ≤ 16) × (before < 65536) × (count < 65536) × (stateLength d (before + count) ≤ length (now b)) × (length (now x) ≡ messageSize count) ⌝ }
+    ensures { λ _. ⌜ now (b .exit) ≡ over (set (now (b .entry)) (takenPlace d from) 1) (depthPlace d (before + 1)) (depthsOf (now (x .entry))) ⌝ }
 {
-    set_flag(b, d + 1 + from);
-    copy(b, d + 30 + 4 * (before + 1), x, HEAD_SIZE, 4 * count);
+    set_flag(b, d + TAKEN + from);
+    copy(b, d + DEPTH + 4 * (before + 1), x, HEAD_SIZE, 4 * count);
 }
 
 // Take on a state whose lists end at d, of a message with these words.
@@ -82,7 +86,7 @@ fn take_in(
     if number != 0 {
         return Answer::Refused(number);
     }
-    let before = word_at(&b[0..d], 10 + from);
+    let before = word_at(&b[0..d], BEFORE_IMPORTS + from);
     store(b, d, from, before, x, count);
     Answer::Done(0)
 }

@@ -20,14 +20,14 @@ use Rattle.layout.specs.AnswerLaws.{refuses, accepts}
 use Rattle.layout.specs.declared.Answer.{Answer}
 use Rattle.layout.specs.declared.Answer.the-variants.{Done, Refused}
 use Rattle.messages.specs.Messages.{headSize, depthStart, messageSize, encode}
-use Rattle.states.specs.State.{Lists, listsIn, listsOf, dynamic, roundAt, exportEnd, exportCount, exportAt, localExports, heldCount, ownedCount, reachCount, depthPlace}
+use Rattle.states.specs.State.{Lists, listsIn, listsOf, dynamic, roundAt, exportEnd, exportCount, exportAt, localExports, heldCount, ownedCount, reachCount, depthPlace, writtenPlace, exportsWord}
 use Rattle.parts.specs.Calls.{exportsTo, depthAt, messageTo, writeTestsIn, writtenIn, writeNumber, message, writeAnswer, writeState, writeOut}
 use Rattle.parts.specs.CallLaws.{fours-long}
 use Rattle.states.specs.Checks.{Counts}
 use Rattle.parts.specs.Opened.{Opened, sentTo, sentAt}
 use Rattle.parts.proofs.OpenedLaws.{whole, own-few, long, good-state, four-cut, cut, lists-is, part-few}
 
-sent-at : (st : Bytes) (d : ℕ) (b : Bytes) (x : ℕ) → four b (d + 30 + 4 * exportAt st x) ≡ sentAt st d b x
+sent-at : (st : Bytes) (d : ℕ) (b : Bytes) (x : ℕ) → four b (depthPlace d (exportAt st x)) ≡ sentAt st d b x
 unfolding sentAt
 sent-at st d b x = refl
 
@@ -109,26 +109,26 @@ module _ (st : Bytes) (d : ℕ) (b : Bytes) (o : Opened st d b) (held owned reac
   unfolding sentAt
   sent-four x = length-four b (depthPlace d (exportAt st x))
 
-  module _ (t l : ℕ) (h : t < count) (le : l ≡ wordAt st (46 + held + owned + 2 * reached + (from + t))) where
+  module _ (t l : ℕ) (h : t < count) (le : l ≡ wordAt st (exportsWord held owned reached + (from + t))) where
     local-is : exportAt st (from + t) ≡ l
     local-is =
-        let p : 46 + heldCount st + ownedCount st + 2 * reachCount st + (from + t) ≡ 46 + held + owned + 2 * reached + (from + t) = omega (arith, C .held-is, C .owned-is, C .reached-is) in
+        let p : exportsWord (heldCount st) (ownedCount st) (reachCount st) + (from + t) ≡ exportsWord held owned reached + (from + t) = omega (arith, C .held-is, C .owned-is, C .reached-is) in
         ap (wordAt st) p ∙ sym le
 
-    pub put-room : d + 30 + 4 * l + 4 ≤ length b
+    pub put-room : depthPlace d l + 4 ≤ length b
     put-room =
         let w = whole st d b o .exported (from + t) (omega arith) in
         omega (arith, w .1, local-is, own-few st d b o, long st d b o)
 
-    pub put-turn : (out x y : Bytes) → messageSize count ≤ length out → x ≡ over out headSize (blocks from t (sentAt st d b)) → y ≡ over x (depthStart t) (take 4 (drop (d + 30 + 4 * l) b))
+    pub put-turn : (out x y : Bytes) → messageSize count ≤ length out → x ≡ over out headSize (blocks from t (sentAt st d b)) → y ≡ over x (depthStart t) (take 4 (drop (depthPlace d l) b))
         → y ≡ over out headSize (blocks from (t + 1) (sentAt st d b))
     put-turn out x y r e q =
         q
-        ∙ ap₂ (λ (z : Bytes) (w : Bytes). over z (depthStart t) w) e (four-cut b (d + 30 + 4 * l) put-room ∙ sent-is)
+        ∙ ap₂ (λ (z : Bytes) (w : Bytes). over z (depthStart t) w) e (four-cut b (depthPlace d l) put-room ∙ sent-is)
         ∙ fours-store from t (sentAt st d b) (λ k z. sent-four (from + k)) out 8 (omega arith)
       where
-        sent-is : four b (d + 30 + 4 * l) ≡ sentAt st d b (from + t)
-        sent-is = ap (λ k. four b (d + 30 + 4 * k)) (sym local-is) ∙ sent-at st d b (from + t)
+        sent-is : four b (depthPlace d l) ≡ sentAt st d b (from + t)
+        sent-is = ap (λ k. four b (depthPlace d k)) (sym local-is) ∙ sent-at st d b (from + t)
 
 -- the words first, and the depths behind them
 pub message-put : (b out x y : Bytes) (st : Bytes) (d j count from part round : ℕ) → Opened st d b → count ≡ sentTo (listsIn st) j → 1 ≤ count → messageSize count ≤ length out
@@ -154,7 +154,7 @@ module _ (b : Bytes) (j d count : ℕ) where
   pub message-cut : (out y : Bytes) → y ≡ over out 0 (messageTo (listsIn (take (d - 0) (drop 0 b))) d b j) → y ≡ over out 0 (messageTo (listsIn (take d b)) d b j)
   message-cut out y e = e ∙ ap (λ (x : Bytes). over out 0 (messageTo (listsIn x) d b j)) (cut b d)
 
-  pub flag-room : Opened (take d b) d b → count ≡ sentTo (listsIn (take (d - 0) (drop 0 b))) j → 1 ≤ count → (j ≤ 16) × (d + 17 + j < length b)
+  pub flag-room : Opened (take d b) d b → count ≡ sentTo (listsIn (take (d - 0) (drop 0 b))) j → 1 ≤ count → (j ≤ 16) × (writtenPlace d j < length b)
   flag-room o ce some =
       let w = part-there (take d b) j count (sent-cut ce) some in (w .1, omega (arith, w .1, long (take d b) d b o))
 
@@ -220,7 +220,7 @@ module _ (b : Bytes) (j : ℕ) (out : Bytes) where
       pub told-16 : length out < messageSize count → Answered (Refused 16) b out
       told-16 h = refused 16 (number-last true (lt-ltb _ _ h)) (λ z. omega (arith, z))
 
-      pub told-done : messageSize count ≤ length out → (x y : Bytes) → y ≡ over out 0 (messageTo (listsIn (take d b)) d b j) → x ≡ set b (d + 17 + j) 1 → Answered (Done (messageSize count)) x y
+      pub told-done : messageSize count ≤ length out → (x y : Bytes) → y ≡ over out 0 (messageTo (listsIn (take d b)) d b j) → x ≡ set b (writtenPlace d j) 1 → Answered (Done (messageSize count)) x y
       told-done h x y ye xe =
           let a = done (number-last false (le-ltb _ _ h)) in (
             ap Done (sym size-is) ∙ a .0,

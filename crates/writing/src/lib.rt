@@ -6,6 +6,14 @@ use layout::word_at;
 use messages::HEAD_SIZE;
 use messages::inner::write_head;
 use parts::inner::set_flag;
+use states::inner::BEFORE_EXPORTS;
+use states::inner::DEPTH;
+use states::inner::ENTRIES;
+use states::inner::HELD;
+use states::inner::OWNED;
+use states::inner::PART;
+use states::inner::REACH_ENDS;
+use states::inner::WRITTEN;
 use states::inner::between;
 use states::is_state;
 use states::up_to;
@@ -27,7 +35,7 @@ fn sent_to(lists: &[u8], j: usize) -> usize
     if !up_to(16, j) {
         return 0;
     }
-    between(lists, 27 + j)
+    between(lists, BEFORE_EXPORTS + j)
 }
 
 // Copies the depths of `count` export entries, after the first `from` of them, behind the words of a message.
@@ -45,10 +53,10 @@ fn put_depths(
     requires { ⌜ Opened (now lists) d (now b) × Counts (now lists) held owned reached × (from + count ≤ exportCount (now lists)) × (from < 65536) × (count < 65536) × (messageSize count ≤ length (now out)) ⌝ }
     ensures { λ _. ⌜ now (out .exit) ≡ over (now (out .entry)) headSize (blocks from count (sentAt (now (lists .entry)) d (now (b .entry)))) ⌝ }
 {
-    let base = 46 + held + owned + 2 * reached;
+    let base = ENTRIES + held + owned + 2 * reached;
     for t in 0..count {
         let l = word_at(lists, base + (from + t));
-        copy(out, HEAD_SIZE + 4 * t, b, d + 30 + 4 * l, 4);
+        copy(out, HEAD_SIZE + 4 * t, b, d + DEPTH + 4 * l, 4);
     }
 }
 
@@ -57,11 +65,11 @@ fn put_message(lists: &[u8], b: &[u8], d: usize, j: usize, count: usize, out: &m
     requires { ⌜ Opened (now lists) d (now b) × (count ≡ sentTo (listsIn (now lists)) j) × (1 ≤ count) × (count < 65536) × (messageSize count ≤ length (now out)) ⌝ }
     ensures { λ _. ⌜ now (out .exit) ≡ over (now (out .entry)) 0 (messageTo (listsIn (now (lists .entry))) d (now (b .entry)) j) ⌝ }
 {
-    let owned = word_at(lists, 11);
-    let held = word_at(lists, 27);
-    let reached = word_at(lists, 45 + held + owned);
-    let from = word_at(lists, 27 + j);
-    write_head(out, word_at(lists, 1), j, word_in(b, d), count);
+    let owned = word_at(lists, OWNED);
+    let held = word_at(lists, HELD);
+    let reached = word_at(lists, REACH_ENDS + held + owned);
+    let from = word_at(lists, BEFORE_EXPORTS + j);
+    write_head(out, word_at(lists, PART), j, word_in(b, d), count);
     put_depths(lists, b, d, held, owned, reached, from, count, out);
 }
 
@@ -85,7 +93,7 @@ fn write_in(b: &mut [u8], d: usize, j: usize, out: &mut [u8]) -> Answer
         return Answer::Refused(16);
     }
     write_message(b, d, j, count, out);
-    set_flag(b, d + 17 + j);
+    set_flag(b, d + WRITTEN + j);
     Answer::Done((HEAD_SIZE + 4 * count) as u32)
 }
 

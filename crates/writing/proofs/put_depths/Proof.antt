@@ -2,6 +2,7 @@
 use mathlib.Core.Path.{_≡_, refl}
 use Prim.Native.Nat.{_+_, _-_, _*_, _≤_}
 use lib.ListN.{length}
+use Rattle.states.specs.State.{exportsWord}
 use Rattle.messages.specs.Messages.{headSize}
 use Rattle.vocabulary.specs.Bytes.{over}
 use Rattle.vocabulary.specs.Ranges.{blocks}
@@ -13,7 +14,7 @@ use Rattle.writing.proofs.put_depths.Statement.{statement}
 use Rattle.writing.proofs.put_depths.Tie as tie
 
 abbrev Inv-loop : tie.InvT-loop
-Inv-loop lists b d held owned reached from count out₀ base t₀ out t = (base ≡ 46 + held + owned + 2 * reached) × (t ≤ count) × (length out ≡ length out₀) × (out ≡ over out₀ headSize (blocks from t (sentAt lists d b)))
+Inv-loop lists b d held owned reached from count out₀ base t₀ out t = (base ≡ exportsWord held owned reached) × (t ≤ count) × (length out ≡ length out₀) × (out ≡ over out₀ headSize (blocks from t (sentAt lists d b)))
 
 abbrev μ-loop : tie.MeasureT-loop
 μ-loop lists b d held owned reached from count out₀ base t₀ out t = count - t
