@@ -20,7 +20,8 @@ use Rattle.split.proofs.PassedLaws.{twice, passed-facts}
 use Rattle.split.specs.SplitLaws.{split-numbered, sizes-numbered}
 use Rattle.mesh.specs.Mesh.{cellCount}
 use Rattle.split.specs.Classes.{Classed, Prepared}
-use Rattle.part_lists.specs.Giving.{meant, Names, rowOf, chosen, givenNumber, givenAnswer, givenOut, namedWords, namedTests, namedAnswer, namedOut}
+use Rattle.word_lists.specs.Putting.{givenNumber, givenAnswer, givenOut}
+use Rattle.part_lists.specs.Giving.{meant, Names, rowOf, chosen, namedWords, namedTests, namedAnswer, namedOut}
 use Rattle.part_lists.specs.declared.lists.Wanted.{Wanted}
 use Rattle.part_lists.specs.declared.lists.Wanted.the-variants.{Interior, Halo, Locals, Imports, Exports, Private, Exposed, Shared, Copied}
 use Rattle.part_lists.proofs.ChosenLaws.{chosen-is, list-few}

@@ -67,16 +67,6 @@ chosen Exposed m parts class holders i j k = rangeOf m class holders k 2
 chosen Shared m parts class holders i j k = rangeOf m class holders k 3
 chosen Copied m parts class holders i j k = rangeOf m class holders k 4
 
--- words given where there is room: 16, the last test, or their count; and the output
-unfoldable pub givenNumber : List ℕ → Bytes → ℕ
-givenNumber ws out = firstOf (refuse 16 (ltb (length out) (2 * length ws)) ∷ [])
-
-unfoldable pub givenAnswer : List ℕ → Bytes → Answer
-givenAnswer ws out = answer (givenNumber ws out) (length ws)
-
-unfoldable pub givenOut : List ℕ → Bytes → Bytes
-givenOut ws out = ifAccepted (givenNumber ws out) (over out 0 (bytesOf ws)) out
-
 -- the call, where it names the parts i and j
 module _ (w : Wanted) (m : Bytes) (parts : ℕ) (owners : Bytes) (i j k : ℕ) (st : Bytes) where
   unfoldable pub namedWords : List ℕ

@@ -2,8 +2,6 @@
 use cell_lists::inner::add_class;
 use cell_lists::inner::add_order;
 use layout::Answer;
-use layout::inner::put_word;
-use layout::number_at;
 use mesh::inner::cell_count;
 use mesh::inner::first_cell;
 use ranges::inner::COPIED;
@@ -18,6 +16,7 @@ use split::inner::MOST_CELLS;
 use split::inner::classify;
 use split::inner::prepare;
 use split::split_number;
+use word_lists::inner::give;
 ghost use mathlib.Core.Path.{_≡_};
 ghost use mathlib.Core.List.{[], _∷_};
 ghost use Prim.Native.Nat.{_*_, _≤_, _<_};
@@ -29,7 +28,8 @@ ghost use Rattle.walks.specs.Walking.{Ground};
 ghost use Rattle.split.specs.Lists.{splitNumber, listAnswer, listOut};
 ghost use Rattle.split.specs.Classes.{Added};
 ghost use Rattle.ranges.specs.Lowers.{rangeOf};
-ghost use Rattle.part_lists.specs.Giving.{meant, Names, rowOf, chosen, givenAnswer, givenOut, namedAnswer, namedOut};
+ghost use Rattle.word_lists.specs.Putting.{givenAnswer, givenOut};
+ghost use Rattle.part_lists.specs.Giving.{meant, Names, rowOf, chosen, namedAnswer, namedOut};
 
 // The lists that can be asked for. An import or export list names the other part, and a range its dimension; both stand beside it.
 pub enum Wanted {
@@ -112,28 +112,6 @@ fn list_words(
         Wanted::Shared => range_words(m, cell, prev, last, class, holders, k, SHARED, list),
         Wanted::Copied => range_words(m, cell, prev, last, class, holders, k, COPIED, list),
     }
-}
-
-// Writes the first n numbers of a list as words.
-fn put_words(list: &[u16], n: usize, out: &mut [u8])
-    requires { ⌜ (n ≤ length (now list)) × (2 * n ≤ length (now out)) × (n ≤ 65536) ⌝ }
-    ensures { λ _. ⌜ now (out .exit) ≡ over (now (out .entry)) 0 (bytesOf (take n (now (list .entry)))) ⌝ }
-{
-    for k in 0..n {
-        put_word(out, 2 * k, number_at(list, k) as usize);
-    }
-}
-
-// Gives the first n numbers of a list as words, where there is room for them.
-fn give(list: &[u16], n: usize, out: &mut [u8]) -> Answer
-    requires { ⌜ (n ≤ length (now list)) × (n ≤ 65536) ⌝ }
-    ensures { λ r. ⌜ (r ≡ givenAnswer (take n (now (list .entry))) (now (out .entry))) × (now (out .exit) ≡ givenOut (take n (now (list .entry))) (now (out .entry))) ⌝ }
-{
-    if out.len() < 2 * n {
-        return Answer::Refused(16);
-    }
-    put_words(list, n, out);
-    Answer::Done(n as u32)
 }
 
 // The list given from the row of classes that tells it, made in work space.

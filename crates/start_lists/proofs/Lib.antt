@@ -1,4 +1,4 @@
-pub mod PutLaws
+pub mod HeadLaws
 pub mod CountLaws
 pub mod StartCounts
 pub mod StartLists

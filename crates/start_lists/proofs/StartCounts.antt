@@ -17,8 +17,9 @@ use Rattle.layout.specs.Words.{wordAt}
 use Rattle.split.specs.Split.{globalOf}
 use Rattle.split.specs.Classes.{ofClass, classCells, partCells, Classed}
 use Rattle.cell_lists.proofs.ClassLists.{row-cells}
-use Rattle.start_lists.proofs.PutLaws.{put-as, put-none, put-both}
-use Rattle.start_lists.specs.Starting.{Put, localIn, countAt, Sent, placeAt, rowSize, entryWords, rowEnds, rowWords, Row, Rows, sentEnds, sentWords}
+use Rattle.word_lists.proofs.PutLaws.{put-as, put-none, put-both}
+use Rattle.word_lists.specs.Putting.{Put}
+use Rattle.start_lists.specs.Starting.{localIn, countAt, Sent, placeAt, rowSize, entryWords, rowEnds, rowWords, Row, Rows, sentEnds, sentWords}
 
 module _ (table : Bytes) (ends : List ℕ) (first : ℕ) (order : List ℕ) (l q from to : ℕ) (qe : q ≡ getD order (l - 1) 0 - first) (fe : from ≡ getD ends q 0) (te : to ≡ getD ends (q + 1) 0) where
   size-is : rowSize table ends first order l ≡ to - from

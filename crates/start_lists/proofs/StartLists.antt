@@ -13,10 +13,11 @@ use Rattle.layout.specs.Words.{wordAt}
 use Rattle.split.specs.Numbering.{numbering}
 use Rattle.depths.specs.Depths.{four}
 use Rattle.depths.specs.DepthLaws.{length-four, fours-store}
-use Rattle.start_lists.specs.Starting.{Put, startWords, gotEnds, sentEnds, sentWords, rowEnds, rowWords, numberedWords, startDepth, Cells}
+use Rattle.word_lists.specs.Putting.{Put}
+use Rattle.start_lists.specs.Starting.{startWords, gotEnds, sentEnds, sentWords, rowEnds, rowWords, numberedWords, startDepth, Cells}
 use Rattle.start_lists.specs.Starting.{gotFrom, sentFrom, countAt, endsBy, Got, Sent}
 use Rattle.parts.proofs.OpenedLaws.{four-cut}
-use Rattle.start_lists.proofs.PutLaws.{put-as, put-both, put-length}
+use Rattle.word_lists.proofs.PutLaws.{put-as, put-both, put-length}
 use Rattle.start_lists.proofs.StartCounts.{rows-long, all-long}
 
 -- the words before the tables

@@ -4,9 +4,9 @@ use mathlib.Core.Path.{_≡_}
 use mathlib.Core.List.{List, [], _∷_, _++_, map}
 use Prim.Native.Nat.{ℕ, _+_, _-_, _*_, _≤_, _<_}
 use lib.ListN.{length, getD, take, replicate}
-use Rattle.vocabulary.specs.Bytes.{Bytes, byteAt, over}
+use Rattle.vocabulary.specs.Bytes.{Bytes, byteAt}
 use Rattle.vocabulary.specs.Ranges.{listed, blocks, total}
-use Rattle.layout.specs.Words.{wordAt, bytesOf}
+use Rattle.layout.specs.Words.{wordAt}
 use Rattle.depths.specs.Depths.{four}
 use Rattle.split.specs.Numbering.{numbering}
 use Rattle.split.specs.Classes.{partCells, classCount}
@@ -74,11 +74,6 @@ numberedWords owners table ends i first cells order n local owned steps kind v =
 abbrev pub startWords : Bytes → Bytes → List ℕ → ℕ → ℕ → ℕ → List ℕ → ℕ → ℕ → ℕ → ℕ → Bytes → List ℕ
 startWords owners table ends i first cells order n owned steps kind v =
     numberedWords owners table ends i first cells order n (numbersOf order n) owned steps kind v
-
--- the words ws stand in b from word s on, which makes t of them, and nothing else has changed
-pub record Put (before after : Bytes) (s t : ℕ) (ws : List ℕ) : Type 0 where
-  pub count : t ≡ s + length ws
-  pub text : after ≡ over before (2 * s) (bytesOf ws)
 
 -- ---- arrays of counts
 

@@ -17,6 +17,9 @@ use split::inner::classify;
 use split::inner::number_cells;
 use split::inner::to_global;
 use split::inner::to_local;
+use word_lists::inner::put_list;
+use word_lists::inner::put_one;
+use word_lists::inner::put_words;
 ghost use mathlib.Core.Path.{_≡_};
 ghost use mathlib.Core.List.{[], _∷_, _++_, map};
 ghost use Prim.Native.Nat.{_+_, _-_, _*_, _<_, _≤_};
@@ -25,7 +28,8 @@ ghost use Rattle.vocabulary.specs.Bytes.{over};
 ghost use Rattle.vocabulary.specs.Ranges.{listed, blocks, total};
 ghost use Rattle.layout.specs.Words.{wordAt};
 ghost use Rattle.split.specs.Classes.{ofClass, classCells, partCells};
-ghost use Rattle.start_lists.specs.Starting.{Put, localIn, rowSize, countAt, endsBy, Got, Sent, entryWords, rowEnds, rowWords, sentEnds, sentWords};
+ghost use Rattle.word_lists.specs.Putting.{Put};
+ghost use Rattle.start_lists.specs.Starting.{localIn, rowSize, countAt, endsBy, Got, Sent, entryWords, rowEnds, rowWords, sentEnds, sentWords};
 ghost use Rattle.start_lists.specs.Starting.{Row, Rows, Fit, numberedWords, startWords, startDepth, Cells};
 
 // What the lists of a part are made by: the part, the mesh's cells, how many of them it holds and owns, and how many words the lists have.
@@ -38,45 +42,12 @@ pub struct Plan {
     pub long: usize,
 }
 
-// Writes w as word s, and gives how many words there are then.
-fn put_one(b: &mut [u8], s: usize, w: usize) -> usize
-    requires { ⌜ (2 * (s + 1) ≤ length (now b)) × (s < 1000000) × (w < 65536) ⌝ }
-    ensures { λ t. ⌜ Put (now (b .entry)) (now (b .exit)) s t (w ∷ []) ⌝ }
-{
-    put_word(b, 2 * s, w);
-    s + 1
-}
-
 // Writes a local number.
 fn put_local(b: &mut [u8], s: usize, l: Local) -> usize
     requires { ⌜ (2 * (s + 1) ≤ length (now b)) × (s < 1000000) ⌝ }
     ensures { λ t. ⌜ Put (now (b .entry)) (now (b .exit)) s t (l .0 ∷ []) ⌝ }
 {
     put_one(b, s, l.0 as usize)
-}
-
-// Writes the first n numbers of a list.
-fn put_list(b: &mut [u8], s: usize, list: &[u16], n: usize) -> usize
-    requires { ⌜ (2 * (s + n) ≤ length (now b)) × (s < 65536) × (n ≤ length (now list)) × (n < 65536) ⌝ }
-    ensures { λ t. ⌜ Put (now (b .entry)) (now (b .exit)) s t (take n (now (list .entry))) ⌝ }
-{
-    let mut t = s;
-    for k in 0..n {
-        t = put_one(b, t, number_at(list, k) as usize);
-    }
-    t
-}
-
-// Writes the first n words of v; those that are not there are 0.
-fn put_weights(b: &mut [u8], s: usize, v: &[u8], n: usize) -> usize
-    requires { ⌜ (2 * (s + n) ≤ length (now b)) × (s < 65536) × (n < 65536) ⌝ }
-    ensures { λ t. ⌜ Put (now (b .entry)) (now (b .exit)) s t (listed 0 n (wordAt (now (v .entry)))) ⌝ }
-{
-    let mut t = s;
-    for k in 0..n {
-        t = put_one(b, t, word_at(v, k));
-    }
-    t
 }
 
 // The index of local cell l among the mesh's cells.
@@ -328,7 +299,7 @@ fn put_head(b: &mut [u8], plan: Plan, steps: usize, kind: usize, v: &[u8]) -> us
     put_one(b, 1, plan.part);
     put_one(b, 2, steps);
     put_one(b, 3, kind);
-    put_weights(b, 4, v, 5);
+    put_words(b, 4, v, 5);
     put_one(b, 9, plan.first);
     put_one(b, 10, plan.cells)
 }

@@ -31,9 +31,10 @@ use Rattle.split.proofs.PassedLaws.{Passed, twice, passed-facts}
 use Rattle.cell_lists.proofs.ClassLists.{interior-is, halo-is, order-is as cells-order, locals-few}
 use Rattle.cell_lists.proofs.AddLaws.{added-fits, added-take, class-count}
 use Rattle.starts.specs.Start.{ownedIn, reachEnds, listsLong, stateSize, sizeNumber, sizeAnswer, firstState, lastTests, startTests, startNumber, startAnswer, startState}
-use Rattle.start_lists.specs.Starting.{Put, rowEnds, sentEnds, startWords, startDepth, Fit, Cells, countAt, Tallied, Got, Sent, Mapped}
+use Rattle.word_lists.specs.Putting.{Put}
+use Rattle.start_lists.specs.Starting.{rowEnds, sentEnds, startWords, startDepth, Fit, Cells, countAt, Tallied, Got, Sent, Mapped}
 use Rattle.starts.specs.Planning.{Planned}
-use Rattle.start_lists.proofs.PutLaws.{put-length}
+use Rattle.word_lists.proofs.PutLaws.{put-length}
 use Rattle.start_lists.proofs.CountLaws.{got-told}
 use Rattle.start_lists.proofs.StartLists.{sent-total}
 use Rattle.starts.proofs.StartFit.{fit-from, cells-from}

@@ -1,6 +1,6 @@
 -- `start_lists::inner::put_borders` meets its contract. Assumes nothing.
 use native.Mathlib.Omega.{arith}
-use Rattle.start_lists.proofs.PutLaws.{put-both, words-count}
+use Rattle.word_lists.proofs.PutLaws.{put-both, words-count}
 use borrow.Author.Needs.{needs}
 use Rattle.start_lists.proofs.inner.put_borders.Statement.{statement}
 use Rattle.start_lists.proofs.inner.put_borders.Tie as tie

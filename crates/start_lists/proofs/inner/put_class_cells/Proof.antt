@@ -5,7 +5,8 @@ use mathlib.Core.List.{map}
 use lib.ListN.{length}
 use Rattle.vocabulary.specs.Ranges.{blocks}
 use Rattle.split.specs.Classes.{ofClass}
-use Rattle.start_lists.specs.Starting.{Put, localIn}
+use Rattle.word_lists.specs.Putting.{Put}
+use Rattle.start_lists.specs.Starting.{localIn}
 use Rattle.start_lists.proofs.StartCounts.{class-start, class-room, class-turn, class-end}
 use borrow.Author.Needs.{needs}
 use Rattle.start_lists.proofs.inner.put_class_cells.Statement.{statement}

@@ -1,6 +1,6 @@
 -- `start_lists::inner::put_entries` meets its contract. Assumes nothing.
 use native.Mathlib.Omega.{arith}
-use Rattle.start_lists.proofs.PutLaws.{list-count, words-count, many-count, put-four}
+use Rattle.word_lists.proofs.PutLaws.{list-count, words-count, many-count, put-four}
 use Rattle.start_lists.proofs.StartCounts.{rows-long, all-long}
 use borrow.Author.Needs.{needs}
 use Rattle.start_lists.proofs.inner.put_entries.Statement.{statement}

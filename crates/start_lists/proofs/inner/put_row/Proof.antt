@@ -1,10 +1,11 @@
 -- `start_lists::inner::put_row` meets its contract. The invariant: the entries before t are written. Assumes nothing.
-use Rattle.start_lists.proofs.PutLaws.{blocks-begin}
+use Rattle.word_lists.proofs.PutLaws.{blocks-begin}
 use mathlib.Core.Path.{_≡_}
 use Prim.Native.Nat.{_+_, _-_, _*_, _≤_, _<_}
 use lib.ListN.{length}
 use Rattle.vocabulary.specs.Ranges.{blocks}
-use Rattle.start_lists.specs.Starting.{Put, entryWords}
+use Rattle.word_lists.specs.Putting.{Put}
+use Rattle.start_lists.specs.Starting.{entryWords}
 use Rattle.start_lists.proofs.StartCounts.{row-cell, row-near, row-room, row-turn, row-count, row-end}
 use borrow.Author.Needs.{needs}
 use Rattle.start_lists.proofs.inner.put_row.Statement.{statement}

@@ -4,8 +4,9 @@ use mathlib.Core.Path.{_≡_, refl}
 use Prim.Native.Nat.{_+_, _-_, _≤_}
 use lib.ListN.{length}
 use Rattle.vocabulary.specs.Ranges.{blocks}
-use Rattle.start_lists.specs.Starting.{Put, rowWords}
-use Rattle.start_lists.proofs.PutLaws.{many-start, many-end, many-room, many-turn}
+use Rattle.word_lists.specs.Putting.{Put}
+use Rattle.start_lists.specs.Starting.{rowWords}
+use Rattle.word_lists.proofs.PutLaws.{many-start, many-end, many-room, many-turn}
 use Rattle.start_lists.proofs.StartCounts.{row-length, rows-long, rows-each}
 use borrow.Author.Needs.{needs}
 use Rattle.start_lists.proofs.inner.put_rows.Statement.{statement}

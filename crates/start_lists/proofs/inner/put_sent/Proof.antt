@@ -3,8 +3,9 @@ use mathlib.Core.Path.{_≡_}
 use Prim.Native.Nat.{_-_, _≤_}
 use lib.ListN.{length}
 use Rattle.vocabulary.specs.Ranges.{blocks}
-use Rattle.start_lists.specs.Starting.{Put, sentWords}
-use Rattle.start_lists.proofs.PutLaws.{many-start, many-end, many-room, many-turn}
+use Rattle.word_lists.specs.Putting.{Put}
+use Rattle.start_lists.specs.Starting.{sentWords}
+use Rattle.word_lists.proofs.PutLaws.{many-start, many-end, many-room, many-turn}
 use Rattle.start_lists.proofs.StartCounts.{sent-long, all-long, sent-here}
 use borrow.Author.Needs.{needs}
 use Rattle.start_lists.proofs.inner.put_sent.Statement.{statement}

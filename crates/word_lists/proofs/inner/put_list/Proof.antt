@@ -1,12 +1,12 @@
--- `start_lists::inner::put_list` meets its contract. The invariant: the first k numbers are written. Assumes nothing.
+-- `word_lists::inner::put_list` meets its contract. The invariant: the first k numbers are written. Assumes nothing.
 use mathlib.Core.Path.{_≡_}
 use Prim.Native.Nat.{_+_, _-_, _≤_}
 use lib.ListN.{length, take}
-use Rattle.start_lists.specs.Starting.{Put}
-use Rattle.start_lists.proofs.PutLaws.{list-start, list-turn, list-end}
+use Rattle.word_lists.specs.Putting.{Put}
+use Rattle.word_lists.proofs.PutLaws.{list-start, list-turn, list-end}
 use borrow.Author.Needs.{needs}
-use Rattle.start_lists.proofs.inner.put_list.Statement.{statement}
-use Rattle.start_lists.proofs.inner.put_list.Tie as tie
+use Rattle.word_lists.proofs.inner.put_list.Statement.{statement}
+use Rattle.word_lists.proofs.inner.put_list.Tie as tie
 
 abbrev Inv-loop : tie.InvT-loop
 Inv-loop b₀ s list n t₀ k₀ b t k = (k ≤ n) × (t ≡ s + k) × (length b ≡ length b₀) × Put b₀ b s t (take k list)

@@ -1,8 +1,8 @@
--- `part_lists::lists::give` meets its contract. Assumes nothing.
-use Rattle.part_lists.proofs.GivingLaws.{give-refused, give-stays, give-done, give-written}
+-- `word_lists::inner::give` meets its contract. Assumes nothing.
+use Rattle.word_lists.proofs.GivenLaws.{give-refused, give-stays, give-done, give-written}
 use borrow.Author.Needs.{needs}
-use Rattle.part_lists.proofs.lists.give.Statement.{statement}
-use Rattle.part_lists.proofs.lists.give.Tie as tie
+use Rattle.word_lists.proofs.inner.give.Statement.{statement}
+use Rattle.word_lists.proofs.inner.give.Tie as tie
 
 pub give-spec : {M : Type 1} → statement M
 give-spec =
