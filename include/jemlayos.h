@@ -29,9 +29,9 @@ extern "C" {
  * Stack in bytes that calls need at most, as measured (.ci/stack.c does it anew at every test) and rounded up. Calls use
  * no heap. A thread with less stack than this ends with a fault: nothing in a call tests how much there is.
  */
-#define JEM_STACK 145408      /* any call: the lists, jem_state_size, jem_start and jem_round come near it */
-#define JEM_STACK_ROUND 145408 /* jem_round */
-#define JEM_STACK_CHECK 40960 /* jem_check_mesh */
+#define JEM_STACK 147456      /* any call: the lists, jem_state_size and jem_start come near it */
+#define JEM_STACK_ROUND 110592 /* jem_round */
+#define JEM_STACK_CHECK 20480 /* jem_check_mesh */
 #define JEM_STACK_STATE 10240 /* jem_write, jem_take, jem_advance, jem_collect */
 
 /* Refusals. A call tries them in rising number, but for JEM_OUTPUT, which comes last of all. */
