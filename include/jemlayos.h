@@ -1,6 +1,6 @@
 /*
  * The mesh-smoothing engine: reading a mesh, splitting it into parts, the undivided round, and the parts with their
- * messages. Link with libboard.a. docs/LAYOUTS.md has every byte layout.
+ * messages. Link with libjemlayos.a. docs/LAYOUTS.md has every byte layout.
  *
  * A slice is a pointer, which is not null even where there are no bytes, and its length in bytes. Words have two bytes
  * and depths four, high byte first. Numbers (P, a part, a rule's kind, a receiver, a round) may be anything: a wrong one
@@ -29,10 +29,10 @@ extern "C" {
  * Stack in bytes that calls need at most, as measured (.ci/stack.c does it anew at every test) and rounded up. Calls use
  * no heap. A thread with less stack than this ends with a fault: nothing in a call tests how much there is.
  */
-#define JEM_STACK 147456      /* any call: the lists, jem_state_size and jem_start come near it */
-#define JEM_STACK_ROUND 110592 /* jem_round */
-#define JEM_STACK_CHECK 20480 /* jem_check_mesh */
-#define JEM_STACK_STATE 10240 /* jem_write, jem_take, jem_advance, jem_collect */
+#define JEM_STACK 137216       /* any call: the lists, jem_state_size and jem_start come near it */
+#define JEM_STACK_ROUND 131072 /* jem_round */
+#define JEM_STACK_CHECK 40960  /* jem_check_mesh */
+#define JEM_STACK_STATE 10240  /* jem_write, jem_take, jem_advance, jem_collect */
 
 /* Refusals. A call tries them in rising number, but for JEM_OUTPUT, which comes last of all. */
 enum jem_refusal_number {

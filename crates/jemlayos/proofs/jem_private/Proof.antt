@@ -1,0 +1,14 @@
+-- `jemlayos::jem_private` meets its contract. Assumes nothing.
+use Rattle.packed.proofs.PackedLaws.{packed-as}
+use borrow.Author.Needs.{needs}
+use Rattle.jemlayos.proofs.jem_private.Statement.{statement}
+use Rattle.jemlayos.proofs.jem_private.Tie as tie
+
+pub jem-private-spec : {M : Type 1} → statement M
+jem-private-spec =
+    tie.close
+    (tie.spec
+    (λ c κs. search needs)
+    (λ c κs. search needs)
+    (λ c. search needs)
+    (λ c. (search packed-as, search needs)))
