@@ -1,19 +1,17 @@
 -- Lists to which numbers are added, and the numbers of a class. Assumes nothing.
 use mathlib.Core.Path.{_≡_, refl, sym, ap, ap₂, _∙_, subst}
-use mathlib.Core.Bool.{Bool, true, false, not, cond, _&&_}
+use mathlib.Core.Bool.{Bool, true, false, cond}
 use mathlib.Core.List.{List, [], _∷_, _++_}
-use Prim.Native.Nat.{ℕ, _+_, _-_, _*_, _≤_, _<_}
+use Prim.Native.Nat.{ℕ, _+_, _-_, _≤_}
 use native.Mathlib.Nat.{zero-add}
 use native.Mathlib.Omega.{arith}
 use lib.Dec.{eqb}
-use lib.ListN.{length, getD, set, length-append, length-set, take, drop}
-use mathlib.Core.Logic.{_⊎_, ⊎-elim}
-use borrow.Author.Tests.{eq-eqb, ne-eqb, not-true, not-false}
+use lib.ListN.{length, set, length-append, length-set, take, drop}
+use borrow.Author.Tests.{eq-eqb, ne-eqb}
 use Rattle.vocabulary.specs.Bytes.{Bytes, byteAt, over}
 use Rattle.vocabulary.specs.ByteLaws.{over-none, over-more, over-one, over-front}
-use Rattle.vocabulary.specs.Ranges.{every, blocks, some}
-use Rattle.vocabulary.specs.RangeLaws.{every-none, every-more, every-fails, blocks-turn, blocks-start, some-has, some-more, at-last, blocks-length, total-bound, total-start, total-turn, total-cong}
-use Rattle.layout.specs.Words.{wordAt}
+use Rattle.vocabulary.specs.Ranges.{blocks}
+use Rattle.vocabulary.specs.RangeLaws.{blocks-turn, blocks-start, at-last, blocks-length, total-bound, total-start, total-turn, total-cong}
 use Rattle.split.specs.Classes.{ofClass, classCells, placeCount, classCount, classOrder, Added}
 use lib.Seq.{take-append-seam}
 
@@ -73,7 +71,8 @@ module _ (class : Bytes) (first cells : ℕ) where
       subst (Added a c s u) (ap (λ x. blocks 1 j (classCells class first cells) ++ classCells class first cells x) q ∙ sym (blocks-turn 1 (classCells class first cells) j))
       (add-both a b c s t u (blocks 1 j (classCells class first cells)) (classCells class first cells (j + 1)) X Y)
 
-  pub imported-end : (a b : List ℕ) (s t j parts : ℕ) → j ≤ parts → parts ≤ j → Added a b s t (blocks 1 j (classCells class first cells)) → Added a b s t (blocks 1 parts (classCells class first cells))
+  pub imported-end : (a b : List ℕ) (s t j parts : ℕ) → j ≤ parts → parts ≤ j → Added a b s t (blocks 1 j (classCells class first cells)) → Added a b s t
+      (blocks 1 parts (classCells class first cells))
   imported-end a b s t j parts h k X = at-last (λ n. Added a b s t (blocks 1 n (classCells class first cells))) j parts h k X
 
   pub order-added : (a b c d : List ℕ) (s t u parts : ℕ) → Added a b 0 s (classCells class first cells 17) → Added b c s t (classCells class first cells 18)

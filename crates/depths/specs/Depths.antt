@@ -39,14 +39,15 @@ numberBytes v = v / 16777216 ∷ v / 65536 % 256 ∷ v / 256 % 256 ∷ v % 256 �
 unfoldable pub depthBytes : ℤ → Bytes
 depthBytes z = numberBytes (unsigned z)
 
--- "from −1,200,000 to 1,200,000"
+-- the greatest depth, up or down, in centimetres
 abbrev pub deepest : ℕ
 deepest = 1200000
 
+-- "from −1,200,000 to 1,200,000"
 unfoldable pub inRange : ℤ → Bool
 inRange z = leb (natAbs z) deepest
 
--- the four bytes from o on are a value that a field may hold; and the same as a fact
+-- the four bytes from o on have a depth in range; and the same as a fact
 abbrev pub validDepth : Bytes → ℕ → Bool
 validDepth b o = inRange (depthFrom b o)
 

@@ -1,5 +1,5 @@
 -- Laws of words in bytes: words written and read back, both ways, and words after a replacement. Assumes nothing.
-use mathlib.Core.Path.{_≡_, refl, sym, ap, ap₂, _∙_, subst}
+use mathlib.Core.Path.{_≡_, refl, sym, ap, ap₂, _∙_}
 use mathlib.Core.Bool.{Bool, true, false}
 use mathlib.Core.List.{List, [], _∷_, _++_}
 use Prim.Native.Nat.{ℕ, zero, suc, _+_, _*_, _/_, _%_, _<_, _≤_}
@@ -14,7 +14,7 @@ use Rattle.vocabulary.specs.Lists.{All}
 use Rattle.vocabulary.specs.Ranges.{listed, blocks}
 use Rattle.vocabulary.specs.ListLaws.{All-getD}
 use Rattle.vocabulary.specs.RangeLaws.{listed-length, listed-at, listed-back}
-use Rattle.vocabulary.specs.ByteLaws.{byte-past, over-in, over-before, over-after, over-more}
+use Rattle.vocabulary.specs.ByteLaws.{byte-past, over-in, over-before, over-after}
 use Rattle.layout.specs.Words.{word, wordAt, words, wordBytes, bytesOf}
 
 -- ---- one word
@@ -133,14 +133,6 @@ word-any ws k = go (ltb k (length ws)) refl
     go false e =
         let h : length ws ≤ k = ltb-false _ _ e in
         wordAt-none (bytesOf ws) k (omega (arith, length-bytesOf ws)) ∙ sym (List·getD-eq-default ws 0 h)
-
--- one more word stored after a list of them
-pub bytesOf-store : (b : Bytes) (at : ℕ) (ws : List ℕ) (v : ℕ) → at + 2 * length ws ≤ length b
-    → over (over b at (bytesOf ws)) (at + 2 * length ws) (wordBytes v) ≡ over b at (bytesOf (ws ++ (v ∷ [])))
-unfolding bytesOf wordBytes
-bytesOf-store b at ws v h =
-    let l : length (bytesOf ws) ≡ 2 * length ws = length-bytesOf ws in
-    rw (bytesOf-append ws (v ∷ [])) (subst (λ n. over (over b at (bytesOf ws)) (at + n) (wordBytes v) ≡ over b at (bytesOf ws ++ wordBytes v)) l (over-more b at (bytesOf ws) (omega arith) (wordBytes v)))
 
 -- with more bytes after them
 pub wordAt-first : (ws : List ℕ) (r : Bytes) (i : ℕ) → i < length ws → wordAt (bytesOf ws ++ r) i ≡ getD ws i 0

@@ -13,7 +13,8 @@ use Rattle.vocabulary.specs.RangeLaws.{some-at, some-witness, blocks-each, bloc
 use Rattle.vocabulary.specs.Lists.{isIn, repeats, someOf, All}
 use Rattle.vocabulary.specs.ListLaws.{or-false, and-true, All-map, All-split, All-both, All-getD, someOf-false, isIn-at, once-few, repeats-parts}
 use Rattle.vocabulary.specs.TestLaws.{holdsOf, passed-by}
-use Rattle.mesh.specs.Mesh.{top, counted, below, elements, recordCount, firstCell, cellCount, dimension, headOf, elementIn, follow, records, chain, allRecords, headed, wrongIn, wrongAt, leaves, unclosed, bare, bad1, bad2, bad3, bad4, bad5, bad6, bad7, meshLength, meshTests, meshNumber}
+use Rattle.mesh.specs.Mesh.{top, counted, below, elements, recordCount, firstCell, cellCount, dimension, headOf, elementIn, follow, records, chain, allRecords, headed}
+use Rattle.mesh.specs.Mesh.{wrongIn, wrongAt, leaves, unclosed, bare, bad1, bad2, bad3, bad4, bad5, bad6, bad7, meshLength, meshTests, meshNumber}
 use Rattle.mesh.specs.Meet.{Sizes}
 use Rattle.mesh.specs.Accepted.{Element, Cell, Accepted}
 use Rattle.mesh.proofs.MeetLaws.{outside}

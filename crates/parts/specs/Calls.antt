@@ -29,7 +29,7 @@ exportsTo L j = isUpTo 16 j && ltb 0 (length (L .exports j))
 abbrev pub depthAt : ℕ → Bytes → ℕ → Bytes
 depthAt d b l = four b (depthPlace d l)
 
--- f with n pieces of w bytes put into it, one after another: the l-th, from 1 on, at the bytes of place l
+-- f with the pieces 1 to n put into it, in this order: piece l at byte w × place l
 unfoldable pub scatter : ℕ → (ℕ → ℕ) → (ℕ → Bytes) → ℕ → Bytes → Bytes
 scatter w place piece zero f = f
 scatter w place piece (suc n) f = over (scatter w place piece n f) (w * place (suc n)) (piece (suc n))

@@ -26,7 +26,8 @@ use Rattle.depths.specs.DepthLaws.{length-four, four-same, four-whole, four-set
 use Rattle.messages.specs.Messages.{depthStart, depthsOf, encode, fromIn, toIn, roundIn, countIn}
 use Rattle.states.specs.State.{Lists, roundAt, takenPlace, depthPlace, depthsPlace}
 use Rattle.states.specs.StateLaws.{Frame}
-use Rattle.parts.specs.Calls.{importsFrom, depthAt, scatter, messageTo, takenIn, allTaken, advanceTestsIn, newAt, newDepths, advancedIn, collectedIn, writeNumber, writeState, writeOut, takeNumber, takeState, advanceNumber, advanceState, collectNumber, collectOut}
+use Rattle.parts.specs.Calls.{importsFrom, depthAt, scatter, messageTo, takenIn, allTaken, advanceTestsIn, newAt, newDepths, advancedIn}
+use Rattle.parts.specs.Calls.{collectedIn, writeNumber, writeState, writeOut, takeNumber, takeState, advanceNumber, advanceState, collectNumber, collectOut}
 use Rattle.parts.specs.CallLaws.{Room, Taken, fours-long}
 
 -- ---- take

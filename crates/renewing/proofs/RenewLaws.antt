@@ -31,7 +31,8 @@ use Rattle.rules.specs.Update.{entries, oldsAt, Ready}
 use Rattle.rules.specs.Update as update
 use Rattle.rules.specs.UpdateLaws.{weightSum-own}
 use Rattle.rules.proofs.Registers.{depth-held}
-use Rattle.states.specs.State.{LocalNear, listsIn, ruleKind, stepCount, weights, heldCount, ownedCount, reachEnd, reachCount, entryAt, localReach, ownFound, depthPlace, stateLength, depthsPlace, entryWord, reachWord}
+use Rattle.states.specs.State.{LocalNear, listsIn, ruleKind, stepCount, weights, heldCount, ownedCount, reachEnd}
+use Rattle.states.specs.State.{reachCount, entryAt, localReach, ownFound, depthPlace, depthsPlace, entryWord, reachWord}
 use Rattle.parts.specs.Calls.{depthAt, newAt}
 use Rattle.states.specs.StateLaws.{Whole}
 use Rattle.parts.specs.Opened.{Opened}
@@ -130,7 +131,8 @@ module _ (st : Bytes) (d : ℕ) (b : Bytes) (o : Opened st d b) where
         few = omega (arith, row-fits, few-entries);
         listed-there = omega (arith, row-fits, lists-length, w .lists-fit, he, oe);
         there = λ t q. let e = w .entries (from + t) (omega (arith, row-fits)) in omega (arith, entry-local t q, e .1, long st d b o);
-        ranged = λ t q. let e = w .entries (from + t) (omega (arith, row-fits)) in deep (word st (2 * (entryWord held owned) + 4 * from + 4 * t)) (omega (arith, entry-local t q, e .0)) (omega (arith, entry-local t q, e .1));
+        ranged = λ t q. let e = w .entries (from + t) (omega (arith, row-fits)) in deep (word st (2 * (entryWord held owned) + 4 * from + 4 * t))
+            (omega (arith, entry-local t q, e .0)) (omega (arith, entry-local t q, e .1));
       };
       own-there = omega (arith, own-few st d b o, long st d b o);
       own-ranged = deep l h (omega (arith, own-few st d b o));

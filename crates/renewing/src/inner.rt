@@ -11,6 +11,7 @@ use states::inner::HELD;
 use states::inner::KIND;
 use states::inner::REACH_ENDS;
 use states::inner::STEPS;
+use states::inner::WEIGHTS;
 use states::inner::between;
 use states::inner::weight_count;
 ghost use mathlib.Core.Path.{_≡_};
@@ -71,8 +72,8 @@ pub fn renew_by(lists: &[u8], b: &[u8], d: usize, owned: usize, new: &mut [u8])
     let held = word_at(lists, HELD);
     match rule_of(word_at(lists, KIND) as u32) {
         Rule::Known(k) => {
-            let end = 8 + 2 * weight_count(k, word_at(lists, STEPS));
-            renew(lists, &lists[8..end], b, d, k, held, owned, new)
+            let end = WEIGHTS + 2 * weight_count(k, word_at(lists, STEPS));
+            renew(lists, &lists[WEIGHTS..end], b, d, k, held, owned, new)
         }
         // no state has such a rule (20)
         Rule::Unknown => {}

@@ -51,7 +51,7 @@ weightSum v (o ∷ os) = weight v o + weightSum v os
 unfoldable pub quotient : ℤ → ℕ → ℤ
 quotient sum weights = quotZ sum (pos weights)
 
--- "Mean is the sum of v(layer/2) × old depth over the reach, divided by the sum of those weights"
+-- "The new depth is the sum of v(layer/2) × old depth over the reach, divided by the sum of those weights, fraction dropped toward zero."
 abbrev pub mean : Bytes → List Old → ℤ
 mean v os = quotient (depthSum v os) (weightSum v os)
 

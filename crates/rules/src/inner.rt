@@ -100,7 +100,8 @@ pub fn new_depth(
     own: usize,
 ) -> i32
     requires { ⌜ Ready (kindNumber kind) (now v) (now b) at n (now f) base own ⌝ }
-    ensures { λ r. ⌜ (depthBytes r ≡ newDepth (kindNumber kind) (now (v .entry)) (four (now (f .entry)) (base + 4 * own)) (oldsAt (now (f .entry)) base (entries (now (b .entry)) at n))) × (natAbs r ≤ deepest) ⌝ }
+    ensures { λ r. ⌜ (depthBytes r ≡ newDepth (kindNumber kind) (now (v .entry)) (four (now (f .entry)) (base + 4 * own))
+        (oldsAt (now (f .entry)) base (entries (now (b .entry)) at n))) × (natAbs r ≤ deepest) ⌝ }
 {
     match kind {
         Kind::Hold => depth_of(f, base, own),

@@ -32,7 +32,8 @@ use Rattle.starts.specs.Start.{ownedIn, reachOf, importEnds, exportEnds, reachE
 use Rattle.runs.specs.FormLaws.{front-length, part-back, steps-back, kind-back, first-back, cells-back, weights-back, import-back, export-back, owned-back, global-back, held-back, ends-back, count-back, entry-back, reach-back, export-word, exports-length}
 use Rattle.runs.specs.Run.{Inputs, mapIn, splitIn, startNumberIn, startStateIn, StatesKept}
 use Rattle.runs.specs.RunLaws.{Part}
-use Rattle.runs.specs.StartLaws.{Ready, started-facts, frontIn, reach-inside, owner-inside, order-full, deep, deep-length, stateOf, state-dynamic, state-front, state-zero, state-round, state-depth, start-is}
+use Rattle.runs.specs.StartLaws.{Ready, started-facts, frontIn, reach-inside, owner-inside, order-full, deep}
+use Rattle.runs.specs.StartLaws.{deep-length, stateOf, state-dynamic, state-front, state-zero, state-round, state-depth, start-is}
 use Rattle.runs.specs.KeptLaws.{Fine, local-ranged, write-kept, take-kept, advance-kept}
 
 -- an accepted mesh has few cells

@@ -22,7 +22,8 @@ use Rattle.depths.specs.DepthLaws.{length-four, four-set, depth-four, range-int
 use Rattle.rules.specs.Rules.{Old}
 use Rattle.rules.specs.RuleLaws.{Small, new-small, new-length}
 use Rattle.messages.specs.Messages.{headSize, depthStart, depthsOf, fromIn, countIn}
-use Rattle.states.specs.State.{LocalNear, listsIn, listsOf, dynamic, ruleKind, weights, heldCount, ownedCount, localReach, isState, roundAt, takenPlace, writtenPlace, depthPlace, stateLength, depthsPlace}
+use Rattle.states.specs.State.{LocalNear, listsIn, listsOf, dynamic, ruleKind, weights, heldCount, ownedCount}
+use Rattle.states.specs.State.{localReach, isState, roundAt, takenPlace, writtenPlace, depthPlace, depthsPlace}
 use Rattle.states.specs.StateLaws.{isStateAt, state-at, Whole, whole-is, still-whole, near-whole, Frame, frame-take, frame-dynamic}
 use Rattle.parts.specs.Calls.{depthAt, writtenIn, takenIn, advanceTestsIn, newAt, advancedIn, writeNumber, writeState, takeNumber, takeState, advanceNumber, advanceState}
 use Rattle.parts.specs.CallLaws.{Room, room-of, Taken, taken-facts}

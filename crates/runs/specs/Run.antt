@@ -107,7 +107,7 @@ pub record Inputs : Type 0 where
 abbrev pub schemeIn : Inputs → Scheme
 schemeIn I = schemeOf (I .mesh) (I .stencil) (I .kind) (I .weights)
 
--- its part map, the owner of the cell of index k, from 0, and the split into parts
+-- of these inputs: the part map, the owner of the cell of index k, from 0, and the split into parts
 abbrev pub mapIn : Inputs → Bytes
 mapIn I = I .owners
 

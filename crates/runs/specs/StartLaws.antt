@@ -29,7 +29,8 @@ use Rattle.rules.specs.Rules.{newDepth, bad11}
 use Rattle.round.specs.Rounds.{schemeOf, depthIn, undivided, bad14}
 use Rattle.split.specs.Split.{Split, splitOf, owned, imports, exports, locals, localOf, globalOf}
 use Rattle.split.specs.Lists.{sizeTests}
-use Rattle.split.specs.SplitLaws.{split-parted, split-fine, sizes-parted, map-facts, split-reach, split-owner, Cell, order-length, own-is, own-has, own-local, local-back, own-first, import-own, import-at, local-cases, reach-held, import-total, ownCells, own-count}
+use Rattle.split.specs.SplitLaws.{split-parted, split-fine, sizes-parted, map-facts, split-reach, split-owner, Cell, order-length, own-is, own-has}
+use Rattle.split.specs.SplitLaws.{own-local, local-back, own-first, import-own, import-at, local-cases, reach-held, import-total, ownCells, own-count}
 use Rattle.states.specs.State.{LocalNear, Lists, listsIn, dynamic, roundAt, takenPlace, depthPlace}
 use Rattle.starts.specs.Start.{ownedIn, importEnds, listsWords, stateSize, firstState, lastTests, startTests, startNumber, startState}
 use Rattle.runs.specs.FormLaws.{front, words-length, front-length, part-back, kind-back, first-back, cells-back, owned-back, held-back, global-back, import-back, reach-back, exports-back, weights-back}

@@ -107,7 +107,12 @@ pub pass-turn : (owners table : Bytes) (i a t : ℕ) (b c : Bool) (before class 
 unfolding hasEntry entryIs some every
 pass-turn owners table i a t b c before class after l P ce M = record {
   told = ce ∙ ap₂ (λ x y. x && entryOwned owners table i y) (P .told) (sym here) ∙ sym (ap (λ n. every a n (entryOwned owners table i)) next);
-  marked = record { size = M .size ∙ P .marked .size; each = λ x h. M .each x (omega (arith, P .marked .size)) ∙ ap (λ y. cond (entryIs table t x && not (ownsAt owners i x)) (ownerAt owners x) y) (P .marked .each x h) ∙ twice (entryIs table t x) (hasEntry table a (t - a) x) (ownsAt owners i x) (ownerAt owners x) (byteAt before x) ∙ ap (λ y. cond (y && not (ownsAt owners i x)) (ownerAt owners x) (byteAt before x)) (more x) };
+  marked = record {
+    size = M .size ∙ P .marked .size;
+    each = λ x h. M .each x (omega (arith, P .marked .size)) ∙ ap
+        (λ y. cond (entryIs table t x && not (ownsAt owners i x)) (ownerAt owners x) y) (P .marked .each x h) ∙ twice (entryIs table t x) (hasEntry table a (t - a) x)
+        (ownsAt owners i x) (ownerAt owners x) (byteAt before x) ∙ ap (λ y. cond (y && not (ownsAt owners i x)) (ownerAt owners x) (byteAt before x)) (more x);
+  };
 }
   where
     here : a + (t - a) ≡ t
@@ -186,7 +191,9 @@ module _ (owners table : Bytes) (ends : List ℕ) (i q o : ℕ) (small : q < 200
           not-same z = not-both true refl z
       go x false e =
           ap (λ b. cond b (cond (ltb x q) (cond (insideAt owners table ends i x) 17 18) 0) (cond (reachedAt owners table ends i q x) (ownerAt owners x) 0)) e
-          ∙ ap (λ b. cond b (ownerAt owners x) 0) (sym (reached-next x ∙ ap (λ b. reachedAt owners table ends i q x || (b && reachHas table ends q x)) other ∙ or-nothing (reachedAt owners table ends i q x)))
+          ∙ ap (λ b. cond b (ownerAt owners x) 0)
+          (sym (reached-next x ∙ ap (λ b. reachedAt owners table ends i q x || (b && reachHas table ends q x)) other ∙ or-nothing
+          (reachedAt owners table ends i q x)))
           ∙ sym (ap (λ b. cond b (cond (ltb x (q + 1)) (cond (insideAt owners table ends i x) 17 18) 0) (cond (reachedAt owners table ends i (q + 1) x) (ownerAt owners x) 0)) e)
 
   pub class-own : (inside : Bool) (marked after : Bytes) (k : ℕ) → o ≡ i → inside ≡ insideAt owners table ends i q → Marked owners i before marked (reachHas table ends q) → k ≡ cond inside 17 18
@@ -204,11 +211,14 @@ module _ (owners table : Bytes) (ends : List ℕ) (i q o : ℕ) (small : q < 200
       rest : (x : ℕ) → (x ≡ q → ⊥) → (b : Bool) → ownsAt owners i x ≡ b
           → cond (reachHas table ends q x && not (ownsAt owners i x)) (ownerAt owners x) (classAt owners table ends i q x) ≡ classAt owners table ends i (q + 1) x
       rest x ne true w =
-          ap (λ y. cond y (ownerAt owners x) (cond (ownsAt owners i x) (cond (ltb x q) (cond (insideAt owners table ends i x) 17 18) 0) (cond (reachedAt owners table ends i q x) (ownerAt owners x) 0))) (and-right (reachHas table ends q x) (not (ownsAt owners i x)) (ap not w))
+          ap (λ y. cond y (ownerAt owners x)
+          (cond (ownsAt owners i x) (cond (ltb x q) (cond (insideAt owners table ends i x) 17 18) 0)
+          (cond (reachedAt owners table ends i q x) (ownerAt owners x) 0))) (and-right (reachHas table ends q x) (not (ownsAt owners i x)) (ap not w))
           ∙ ap₂ (λ y l. cond y (cond l (cond (insideAt owners table ends i x) 17 18) 0) (cond (reachedAt owners table ends i q x) (ownerAt owners x) 0)) w (sym (before-next x ne))
           ∙ sym (ap (λ b. cond b (cond (ltb x (q + 1)) (cond (insideAt owners table ends i x) 17 18) 0) (cond (reachedAt owners table ends i (q + 1) x) (ownerAt owners x) 0)) w)
       rest x ne false w =
-          ap (λ y. cond (reachHas table ends q x && not y) (ownerAt owners x) (cond y (cond (ltb x q) (cond (insideAt owners table ends i x) 17 18) 0) (cond (reachedAt owners table ends i q x) (ownerAt owners x) 0))) w
+          ap (λ y. cond (reachHas table ends q x && not y) (ownerAt owners x)
+          (cond y (cond (ltb x q) (cond (insideAt owners table ends i x) 17 18) 0) (cond (reachedAt owners table ends i q x) (ownerAt owners x) 0))) w
           ∙ twice (reachHas table ends q x) (reachedAt owners table ends i q x) (ownerAt owners x)
           ∙ ap (λ b. cond b (ownerAt owners x) 0) (sym (reached-next x ∙ ap (λ b. reachedAt owners table ends i q x || (b && reachHas table ends q x)) mine))
           ∙ sym (ap (λ b. cond b (cond (ltb x (q + 1)) (cond (insideAt owners table ends i x) 17 18) 0) (cond (reachedAt owners table ends i (q + 1) x) (ownerAt owners x) 0)) w)
@@ -226,7 +236,10 @@ module _ (owners table : Bytes) (ends : List ℕ) (i q o : ℕ) (small : q < 200
           ∙ getD-set-same marked q k 0 (omega (arith, M .size, C .room))
           ∙ ke
           ∙ ap (λ b. cond b 17 18) ie
-          ∙ sym (ap (classAt owners table ends i (q + 1)) z ∙ (unfold classAt in ap₂ (λ a b. cond a (cond b (cond (insideAt owners table ends i q) 17 18) 0) (cond (reachedAt owners table ends i (q + 1) q) (ownerAt owners q) 0)) mine (lt-ltb q (q + 1) (omega arith))))
+          ∙ sym (ap (classAt owners table ends i (q + 1)) z ∙
+          (unfold classAt in ap₂
+          (λ a b. cond a (cond b (cond (insideAt owners table ends i q) 17 18) 0) (cond (reachedAt owners table ends i (q + 1) q) (ownerAt owners q) 0)) mine
+          (lt-ltb q (q + 1) (omega arith))))
       go x h false w =
           let ne : x ≡ q → ⊥ = eqb-false x q w in
           getD-set-other marked q x k 0 ne

@@ -121,8 +121,12 @@ module _ (m : Bytes) (parts : ℕ) (owners st : Bytes) where
       let own : List ℕ = picked (firstCell m) (cellCount m) (λ x. eqb (ownerAt owners (x - firstCell m)) i) in
       ap (λ b. cond b 1 0)
       (same-test (someOf (picked (firstCell m) (cellCount m) (λ x. eqb (ownerAt owners (x - firstCell m)) i)) (λ c. walkedTo m st c (firstCell m + (0 + q)))) (holds S i (firstCell m + (0 + q)))
-      (λ e. let w = someOf-witness (λ c. walkedTo m st c (firstCell m + (0 + q))) (picked (firstCell m) (cellCount m) (λ x. eqb (ownerAt owners (x - firstCell m)) i)) 0 e in someOf-has (λ c. reaches S c (firstCell m + (0 + q))) (picked (firstCell m) (cellCount m) (λ x. eqb (ownerAt owners (x - firstCell m)) i)) 0 (w .0) (w .1) (sym (walked-is _ (0 + q) l) ∙ w .2))
-      (λ e. let w = someOf-witness (λ c. reaches S c (firstCell m + (0 + q))) (picked (firstCell m) (cellCount m) (λ x. eqb (ownerAt owners (x - firstCell m)) i)) 0 e in someOf-has (λ c. walkedTo m st c (firstCell m + (0 + q))) (picked (firstCell m) (cellCount m) (λ x. eqb (ownerAt owners (x - firstCell m)) i)) 0 (w .0) (w .1) (walked-is _ (0 + q) l ∙ w .2))))
+      (λ e. let w = someOf-witness (λ c. walkedTo m st c (firstCell m + (0 + q)))
+      (picked (firstCell m) (cellCount m) (λ x. eqb (ownerAt owners (x - firstCell m)) i)) 0 e in someOf-has (λ c. reaches S c (firstCell m + (0 + q)))
+      (picked (firstCell m) (cellCount m) (λ x. eqb (ownerAt owners (x - firstCell m)) i)) 0 (w .0) (w .1) (sym (walked-is _ (0 + q) l) ∙ w .2))
+      (λ e. let w = someOf-witness (λ c. reaches S c (firstCell m + (0 + q))) (picked (firstCell m) (cellCount m) (λ x. eqb (ownerAt owners (x - firstCell m)) i)) 0
+      e in someOf-has (λ c. walkedTo m st c (firstCell m + (0 + q))) (picked (firstCell m) (cellCount m) (λ x. eqb (ownerAt owners (x - firstCell m)) i)) 0
+      (w .0) (w .1) (walked-is _ (0 + q) l ∙ w .2))))
       ∙ sym (held-count i)
 
   pub walked-told : (s : ℕ) → s ≡ total 1 parts (reachCount m st owners) → ltb 4096 s ≡ bad12 S

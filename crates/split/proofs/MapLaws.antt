@@ -46,7 +46,9 @@ all-right : (parts : ℕ) (owners : Bytes) → every 0 (length owners) (ownerRig
 unfolding ownerRight
 all-right parts owners =
     same-test _ _
-    (λ e. everyOf-intro (isUpTo parts) owners (All-intro (λ x. isUpTo parts x ≡ true) owners 0 (λ l h. ap (λ k. isUpTo parts (ownerAt owners k)) (sym (zero-add l)) ∙ every-at 0 (λ k. isUpTo parts (ownerAt owners k)) (length owners) l e h)))
+    (λ e. everyOf-intro (isUpTo parts) owners
+    (All-intro (λ x. isUpTo parts x ≡ true) owners 0
+    (λ l h. ap (λ k. isUpTo parts (ownerAt owners k)) (sym (zero-add l)) ∙ every-at 0 (λ k. isUpTo parts (ownerAt owners k)) (length owners) l e h)))
     (λ e. every-intro 0 (λ k. isUpTo parts (ownerAt owners k)) (length owners) (λ l h. ap (λ k. isUpTo parts (ownerAt owners k)) (zero-add l) ∙ everyOf-at (isUpTo parts) owners 0 l e h))
 
 module _ (m : Bytes) (parts : ℕ) (owners : Bytes) (a : Bool) (p : a ≡ isUpTo 16 parts) where
@@ -89,11 +91,13 @@ module _ (m : Bytes) (parts : ℕ) (owners : Bytes) where
       go : (b : Bool) → some 0 (cellCount m) (ownsAt owners i) ≡ b → eqb (length (picked (firstCell m) (cellCount m) (λ c. eqb (ownerAt owners (c - firstCell m)) i))) 0 ≡ not b
       go true e =
           let w = some-witness 0 (ownsAt owners i) (cellCount m) e in
-          let a = picked-at (firstCell m) (λ c. eqb (ownerAt owners (c - firstCell m)) i) (cellCount m) (w .0) (w .1) (ap (λ x. eqb (ownerAt owners x) i) (place (w .0) ∙ sym (zero-add (w .0))) ∙ w .2) in
+          let a = picked-at (firstCell m) (λ c. eqb (ownerAt owners (c - firstCell m)) i) (cellCount m) (w .0) (w .1)
+          (ap (λ x. eqb (ownerAt owners x) i) (place (w .0) ∙ sym (zero-add (w .0))) ∙ w .2) in
           ne-eqb (length (picked (firstCell m) (cellCount m) (λ c. eqb (ownerAt owners (c - firstCell m)) i))) 0 (λ z. let n : ⊥ = omega (arith, a .place-lt) in n)
       go false e =
           ap (λ xs. eqb (length xs) 0)
-          (picked-none (firstCell m) (λ c. eqb (ownerAt owners (c - firstCell m)) i) (cellCount m) (λ k h. ap (λ x. eqb (ownerAt owners x) i) (place k ∙ sym (zero-add k)) ∙ some-at 0 (ownsAt owners i) (cellCount m) k e h))
+          (picked-none (firstCell m) (λ c. eqb (ownerAt owners (c - firstCell m)) i) (cellCount m)
+          (λ k h. ap (λ x. eqb (ownerAt owners x) i) (place k ∙ sym (zero-add k)) ∙ some-at 0 (ownsAt owners i) (cellCount m) k e h))
 
   module _ (n : ℕ) (ce : n ≡ cellCount m) (k : ℕ) (b : Bool) (e : b ≡ some 0 n (ownsAt owners (k + 1))) where
     told : ownsNone m parts owners (1 + k) ≡ not b

@@ -31,10 +31,11 @@ bad9 S = some 1 (S .parts) (λ i. eqb (length (owned S i)) 0)
 unfoldable pub bad12 : Split → Bool
 bad12 S = ltb 4096 (total 1 (S .parts) (λ i. length (held S i)))
 
--- what a call that is given a mesh, a part map, the numbers of some parts and a stencil tries first, and what it tries after 11
+-- what a call that is given a part map, the numbers of some parts and a stencil tries after the mesh
 abbrev pub mapTests : Bytes → ℕ → Bytes → List ℕ → Bytes → List Test
 mapTests m parts owners named st = refuse 8 (bad8 m parts owners named) ∷ refuse 9 (bad9 (splitOf m parts owners st)) ∷ refuse 10 (bad10 (top m) st) ∷ []
 
+-- what a call that is given a mesh as well tries first, and what it tries after 11
 unfoldable pub splitTests : Bytes → ℕ → Bytes → List ℕ → Bytes → List Test
 splitTests m parts owners named st = meshTests m ++ mapTests m parts owners named st
 

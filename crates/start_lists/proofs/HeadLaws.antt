@@ -21,8 +21,10 @@ pub head-put : (b₀ b₁ b₂ b₃ b₄ b₅ b₆ b₇ : Bytes) (t₁ t₂ t₃
 head-put b₀ b₁ b₂ b₃ b₄ b₅ b₆ b₇ t₁ t₂ t₃ t₄ t₅ t₆ t₇ long i steps kind first cells v room P₁ P₂ P₃ P₄ P₅ P₆ P₇ =
     let Q₁ : Put b₀ b₁ 0 1 (long ∷ []) = put-at b₀ b₁ 0 t₁ 1 (long ∷ []) P₁ (omega (arith, P₁ .count)) in
     let Q₂ : Put b₀ b₂ 0 2 (long ∷ i ∷ []) = put-at b₀ b₂ 0 t₂ 2 (long ∷ i ∷ []) (put-both b₀ b₁ b₂ 0 1 t₂ (long ∷ []) (i ∷ []) Q₁ P₂ (omega arith)) (omega (arith, P₂ .count)) in
-    let Q₃ : Put b₀ b₃ 0 3 (long ∷ i ∷ steps ∷ []) = put-at b₀ b₃ 0 t₃ 3 (long ∷ i ∷ steps ∷ []) (put-both b₀ b₂ b₃ 0 2 t₃ (long ∷ i ∷ []) (steps ∷ []) Q₂ P₃ (omega arith)) (omega (arith, P₃ .count)) in
-    let Q₄ : Put b₀ b₄ 0 4 (long ∷ i ∷ steps ∷ kind ∷ []) = put-at b₀ b₄ 0 t₄ 4 (long ∷ i ∷ steps ∷ kind ∷ []) (put-both b₀ b₃ b₄ 0 3 t₄ (long ∷ i ∷ steps ∷ []) (kind ∷ []) Q₃ P₄ (omega arith)) (omega (arith, P₄ .count)) in
+    let Q₃ : Put b₀ b₃ 0 3 (long ∷ i ∷ steps ∷ []) = put-at b₀ b₃ 0 t₃ 3 (long ∷ i ∷ steps ∷ [])
+    (put-both b₀ b₂ b₃ 0 2 t₃ (long ∷ i ∷ []) (steps ∷ []) Q₂ P₃ (omega arith)) (omega (arith, P₃ .count)) in
+    let Q₄ : Put b₀ b₄ 0 4 (long ∷ i ∷ steps ∷ kind ∷ []) = put-at b₀ b₄ 0 t₄ 4 (long ∷ i ∷ steps ∷ kind ∷ [])
+    (put-both b₀ b₃ b₄ 0 3 t₄ (long ∷ i ∷ steps ∷ []) (kind ∷ []) Q₃ P₄ (omega arith)) (omega (arith, P₄ .count)) in
     let Q₅ : Put b₄ b₅ 4 9 (listed 0 5 (wordAt v)) = put-at b₄ b₅ 4 t₅ 9 (listed 0 5 (wordAt v)) P₅ (omega (arith, P₅ .count, listed-length 0 (wordAt v) 5)) in
     let Q₆ : Put b₅ b₆ 9 10 (first ∷ []) = put-at b₅ b₆ 9 t₆ 10 (first ∷ []) P₆ (omega (arith, P₆ .count)) in
     put-four b₀ b₄ b₅ b₆ b₇ 0 4 9 10 t₇ (long ∷ i ∷ steps ∷ kind ∷ []) (listed 0 5 (wordAt v)) (first ∷ []) (cells ∷ []) (omega (arith, P₇ .count)) Q₄ Q₅ Q₆ P₇

@@ -9,7 +9,6 @@ use cell_numbers::inner::cell_at;
 use cell_numbers::inner::index_of;
 use layout::byte_at;
 use layout::inner::copy;
-use layout::inner::put_word;
 use layout::number_at;
 use layout::word_at;
 use split::inner::MOST_CELLS;

@@ -275,7 +275,8 @@ module _ (m : Bytes) (parts : ℕ) (owners : Bytes) (i : ℕ) (st : Bytes) (kind
                 ap₂ (λ x y. four f (4 * (x - y)))
                 (order-at m parts owners st table ends holders R i (I₂ .0) (I₂ .1) first cells fe ce order n owned (Q .order-is) (Q .held-is) (Q .owned-is) (l - 1) (omega arith)) fe
 
-            state-is : bytesOf (startWords owners table ends part first count order n owned (steps st) kind v) ++ (replicate 34 0 ++ blocks 1 n (startDepth f first order)) ≡ firstState m parts owners i st kind v f
+            state-is : bytesOf (startWords owners table ends part first count order n owned (steps st) kind v) ++
+                (replicate 34 0 ++ blocks 1 n (startDepth f first order)) ≡ firstState m parts owners i st kind v f
             unfolding firstState
             state-is =
                 ap₂ (λ (ws : List ℕ) (ds : Bytes). bytesOf ws ++ (replicate 34 0 ++ ds))

@@ -18,7 +18,7 @@ use Rattle.rules.specs.Rules.{bad11}
 use Rattle.round.specs.Rounds.{schemeOf, depthIn, bad14}
 use Rattle.split.specs.Split.{Split, splitOf, owned, imports, exports, locals, localOf, globalOf}
 use Rattle.split.specs.Lists.{splitTests, sizeTests}
-use Rattle.states.specs.State.{stateLength}
+use Rattle.states.specs.State.{stateLength, exportsWord}
 
 -- ---- the lists of a part as the words of its state
 
@@ -52,7 +52,7 @@ module _ (S : Split) (i : ℕ) (order : List ℕ) where
 
   -- the length of the lists in words
   unfoldable pub listsLong : ℕ
-  listsLong = 46 + length order + ownedIn S i + 2 * reachEnds (ownedIn S i) + exportEnds 16
+  listsLong = exportsWord (length order) (ownedIn S i) (reachEnds (ownedIn S i)) + exportEnds 16
 
   -- the words, for a stencil of n steps and a rule
   unfoldable pub listsWords : ℕ → ℕ → Bytes → List ℕ

@@ -21,6 +21,7 @@ use start_lists::inner::count_sent;
 use start_lists::inner::lists_length;
 use start_lists::inner::put_cells;
 use start_lists::inner::put_lists;
+use states::inner::DEPTHS;
 ghost use mathlib.Core.Path.{_≡_};
 ghost use mathlib.Core.Bool.{false};
 ghost use mathlib.Core.List.{[], _∷_, _++_};
@@ -89,8 +90,8 @@ fn put_state(
         sent,
         class,
     );
-    clear(b, 2 * plan.long, 34);
-    put_cells(b, 2 * plan.long + 34, f, plan.first, order, plan.held);
+    clear(b, 2 * plan.long, DEPTHS);
+    put_cells(b, 2 * plan.long + DEPTHS, f, plan.first, order, plan.held);
 }
 
 // The local order of part i, and what comes of it, with the counts of the imports and exports in cleared arrays. The row is work space.
@@ -186,7 +187,7 @@ fn size_from(
         got,
         sent,
     );
-    Answer::Done((2 * p.long + 34 + 4 * p.held) as u32)
+    Answer::Done((2 * p.long + DEPTHS + 4 * p.held) as u32)
 }
 
 // The size, where the tests up to 10 are passed. The order stands in an array of the links, which are not needed once the tables are prepared.
@@ -299,7 +300,7 @@ fn start_from(
         got,
         sent,
     );
-    let size = 2 * p.long + 34 + 4 * p.held;
+    let size = 2 * p.long + DEPTHS + 4 * p.held;
     if b.len() < size {
         return Answer::Refused(16);
     }

@@ -15,7 +15,7 @@ use Rattle.vocabulary.specs.RangeLaws.{every-stop, every-turn, someOf-listed}
 use Rattle.vocabulary.specs.ScanLaws.{some-stop-from, some-end-from, every-stop-from, every-turn-from, every-end-from}
 use Rattle.vocabulary.specs.Tests.{allOf}
 use Rattle.vocabulary.specs.TestLaws.{allOf-true}
-use Rattle.layout.specs.Words.{word, wordAt}
+use Rattle.layout.specs.Words.{wordAt}
 use Rattle.rules.specs.Rules.{weightCount, bad11}
 use Rattle.rules.specs.Kinds.{kindNumber, ruleOf}
 use Rattle.rules.specs.declared.Kind.{Kind}
@@ -24,7 +24,8 @@ use Rattle.rules.specs.declared.Rule.{Rule}
 use Rattle.rules.specs.declared.Rule.the-variants.{Known, Unknown}
 use Rattle.rules.proofs.KindLaws.{known-number}
 use Rattle.rules.proofs.Refusals.{unknown-rule}
-use Rattle.states.specs.State.{LocalNear, partNumber, stepCount, ruleKind, weights, ownedCount, heldCount, reachEnd, reachCount, rises, entryAt, exportAt, localReach, globalAt, globalFine, entryFine, ownFound, exportFine, listsTests, exportsWord, entryWord, reachWord}
+use Rattle.states.specs.State.{LocalNear, partNumber, stepCount, ruleKind, weights, ownedCount, heldCount, reachEnd, reachCount, rises, entryAt}
+use Rattle.states.specs.State.{exportAt, localReach, globalAt, globalFine, entryFine, ownFound, exportFine, listsTests, exportsWord, entryWord, reachWord}
 use Rattle.states.specs.StateLaws.{rises-grow}
 use Rattle.states.specs.Checks.{Counts, Fitting, Tested, riseAt, ownEntry, rowFine, headTests, endTests, entryTests}
 
@@ -43,12 +44,6 @@ module _ (n x : ℕ) where
   pub up-rest : 1 ≤ x → leb x n ≡ isUpTo n x
   unfolding isUpTo
   up-rest h = simp (le-leb _ _ h)
-
--- ---- one place
-
-pub word-told : (b : Bytes) (i r : ℕ) → r ≡ word b (2 * i) → r ≡ wordAt b i
-unfolding wordAt
-word-told b i r e = e
 
 -- ---- a table of ends
 

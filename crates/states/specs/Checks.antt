@@ -10,7 +10,8 @@ use Rattle.vocabulary.specs.Bytes.{Bytes}
 use Rattle.vocabulary.specs.Ranges.{isUpTo, every}
 use Rattle.layout.specs.Words.{wordAt}
 use Rattle.rules.specs.Rules.{bad11}
-use Rattle.states.specs.State.{partNumber, stepCount, ruleKind, weights, importEnd, ownedCount, heldCount, exportEnd, exportCount, reachEnd, reachCount, entryAt, globalFine, entryFine, ownFound, exportFine, rises, exportsWord, entryWord}
+use Rattle.states.specs.State.{partNumber, stepCount, ruleKind, weights, importEnd, ownedCount, heldCount, exportEnd, exportCount}
+use Rattle.states.specs.State.{reachEnd, reachCount, entryAt, globalFine, entryFine, ownFound, exportFine, rises, exportsWord, entryWord}
 
 -- the lists b in three groups
 abbrev pub headTests : Bytes → List Bool

@@ -23,7 +23,7 @@ pub record LocalNear : Type 0 where
 
 -- ---- where the lists stand, by their counts: in words, from 0 on
 
--- the tables of ends of the imports and of the exports, and the held cells, each for numbers from 0 on
+-- the tables of ends of the imports and of the exports, for parts from 0 on; and the held cells, for local numbers from 1 on
 abbrev pub importWord : ℕ
 importWord = 11
 
@@ -143,7 +143,7 @@ depthPlace d l = d + 30 + 4 * l
 
 -- the length in bytes of a state that holds n cells
 abbrev pub stateLength : ℕ → ℕ → ℕ
-stateLength d n = d + 34 + 4 * n
+stateLength d n = depthsPlace d + 4 * n
 
 -- ---- the lists as a call follows them
 

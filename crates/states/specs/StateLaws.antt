@@ -21,7 +21,8 @@ use Rattle.layout.specs.Words.{wordAt}
 use Rattle.layout.specs.WordLaws.{word-same}
 use Rattle.depths.specs.Depths.{rangedAt}
 use Rattle.rules.specs.Rules.{bad11}
-use Rattle.states.specs.State.{stepCount, ruleKind, weights, firstOfMesh, cellsOfMesh, globalAt, exportEnd, exportCount, exportAt, globalFine, entryFine, ownFound, exportFine, reachEnd, reachCount, entryAt, localReach, dynamic, importEnd, ownedCount, heldCount, rises, listsLength, listsTests, dynamicTests, isState, roundAt, takenPlace, writtenPlace, stateLength, depthsPlace}
+use Rattle.states.specs.State.{stepCount, ruleKind, weights, firstOfMesh, cellsOfMesh, globalAt, exportEnd, exportCount, exportAt, globalFine, entryFine, ownFound, exportFine, reachEnd, reachCount}
+use Rattle.states.specs.State.{entryAt, localReach, dynamic, importEnd, ownedCount, heldCount, rises, listsLength, listsTests, dynamicTests, isState, roundAt, takenPlace, writtenPlace, stateLength, depthsPlace}
 
 -- a table of ends that never falls
 pub rises-grow : (n : ℕ) (end : ℕ → ℕ) → rises n end ≡ true → (i j : ℕ) → i ≤ j → j ≤ n → end i ≤ end j

@@ -16,4 +16,5 @@ pub use crate::places::PART;
 pub use crate::places::REACH_ENDS;
 pub use crate::places::STEPS;
 pub use crate::places::TAKEN;
+pub use crate::places::WEIGHTS;
 pub use crate::places::WRITTEN;

@@ -11,6 +11,7 @@ use crate::places::OWNED;
 use crate::places::PART;
 use crate::places::REACH_ENDS;
 use crate::places::STEPS;
+use crate::places::WEIGHTS;
 use cell_numbers::Global;
 use cell_numbers::Local;
 use cell_numbers::inner::is_cell;
@@ -213,8 +214,8 @@ fn rule_fine(lists: &[u8], kind: usize, n: usize) -> bool
 {
     match rule_of(kind as u32) {
         Rule::Known(k) => {
-            let end = 8 + 2 * weight_count(k, n);
-            !wrong_weights(k, n, &lists[8..end])
+            let end = WEIGHTS + 2 * weight_count(k, n);
+            !wrong_weights(k, n, &lists[WEIGHTS..end])
         }
         Rule::Unknown => false,
     }

@@ -11,6 +11,9 @@ pub const FIRST: usize = 9;
 
 pub const CELLS: usize = 10;
 
+// The byte at which the rule's weights begin.
+pub const WEIGHTS: usize = 8;
+
 // The ends of the imports, for parts 0 to 16: the first is the count of owned cells, the last that of held ones.
 pub const OWNED: usize = 11;
 

@@ -19,7 +19,7 @@ use states::up_to;
 ghost use mathlib.Core.Path.{_≡_};
 ghost use mathlib.Core.Bool.{false};
 ghost use Prim.Native.Nat.{_+_, _*_, _<_, _≤_};
-ghost use lib.ListN.{length, set, take, drop};
+ghost use lib.ListN.{length, set, take};
 ghost use Rattle.vocabulary.specs.Bytes.{over};
 ghost use Rattle.messages.specs.Messages.{depthsOf, messageSize, bad15, fromIn, toIn, roundIn, countIn};
 ghost use Rattle.states.specs.State.{listsIn, depthPlace, stateLength, takenPlace};

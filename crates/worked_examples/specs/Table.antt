@@ -21,8 +21,10 @@ use Rattle.rules.specs.Rules.{weightCount, tooHeavy, bad11, weight, depthSum, w
 use Rattle.rules.specs.Update.{entries, oldsAt}
 use Rattle.messages.specs.Messages.{encode, bad15, reading}
 use Rattle.split.specs.Lists.{imports-from, interior-cells, Wanted, bad8, bad9, bad12, splitTests, sizeTests, others, listOf, listWords, listTests, listNumber, listAnswer, listOut}
-use Rattle.split.specs.Split.{splitOf, owns, owned, reaches, holds, held, imports, exports, inside, interior, halo, locals, localOf, globalOf, cellsAt, holdsLower, touches, another, isCopied, isShared, isExposed, isPrivate, range}
-use Rattle.parts.specs.Calls.{importsFrom, exportsTo, messageTo, writeTestsIn, writtenIn, takeTestsIn, takenIn, allTaken, allWritten, advanceTestsIn, newAt, advancedIn, collectTestsIn, scatter, writeNumber, message, writeAnswer, writeState, writeOut, takeNumber, takeAnswer, takeState, advanceNumber, advanceAnswer, advanceState, collectNumber, collectAnswer, collectOut}
+use Rattle.split.specs.Split.{splitOf, owns, owned, reaches, holds, held, imports, exports, inside, interior, halo}
+use Rattle.split.specs.Split.{locals, localOf, globalOf, cellsAt, holdsLower, touches, another, isCopied, isShared, isExposed, isPrivate, range}
+use Rattle.parts.specs.Calls.{importsFrom, exportsTo, messageTo, writeTestsIn, writtenIn, takeTestsIn, takenIn, allTaken, allWritten, advanceTestsIn, newAt, advancedIn, collectTestsIn, scatter}
+use Rattle.parts.specs.Calls.{writeNumber, message, writeAnswer, writeState, writeOut, takeNumber, takeAnswer, takeState, advanceNumber, advanceAnswer, advanceState, collectNumber, collectAnswer, collectOut}
 use Rattle.states.specs.State.{weights, localReach, localExports, listsIn, listsOf, rises, listsTests, dynamicTests, isState, bad20}
 use Rattle.starts.specs.Start.{importEnds, exportEnds, reachEnds, reachWords, exportWords, listsLong, listsWords, stateSize, sizeNumber, sizeAnswer, firstState, startTests, startNumber, startAnswer, startState}
 use Rattle.runs.specs.Run.{ownerIn, Gathered, schemeIn, collectsOf, Run, Inputs, World, Collected, collect, advance, take-in, write, Call, put, more, step, run, Fair, Honest, startNumberIn, startStateIn, begin, StateBound}

@@ -50,7 +50,8 @@ fn put_depths(
     count: usize,
     out: &mut [u8],
 )
-    requires { ⌜ Opened (now lists) d (now b) × Counts (now lists) held owned reached × (from + count ≤ exportCount (now lists)) × (from < 65536) × (count < 65536) × (messageSize count ≤ length (now out)) ⌝ }
+    requires { ⌜ Opened (now lists) d (now b) × Counts (now lists) held owned reached × (from + count ≤ exportCount (now lists)) × (from < 65536) × (count < 65536)
+        × (messageSize count ≤ length (now out)) ⌝ }
     ensures { λ _. ⌜ now (out .exit) ≡ over (now (out .entry)) headSize (blocks from count (sentAt (now (lists .entry)) d (now (b .entry)))) ⌝ }
 {
     let base = ENTRIES + held + owned + 2 * reached;

@@ -14,7 +14,8 @@ use Rattle.writing.proofs.put_depths.Statement.{statement}
 use Rattle.writing.proofs.put_depths.Tie as tie
 
 abbrev Inv-loop : tie.InvT-loop
-Inv-loop lists b d held owned reached from count out₀ base t₀ out t = (base ≡ exportsWord held owned reached) × (t ≤ count) × (length out ≡ length out₀) × (out ≡ over out₀ headSize (blocks from t (sentAt lists d b)))
+Inv-loop lists b d held owned reached from count out₀ base t₀ out t = (base ≡ exportsWord held owned reached) × (t ≤ count) × (length out ≡ length out₀) ×
+    (out ≡ over out₀ headSize (blocks from t (sentAt lists d b)))
 
 abbrev μ-loop : tie.MeasureT-loop
 μ-loop lists b d held owned reached from count out₀ base t₀ out t = count - t

@@ -15,4 +15,7 @@ mark-entry-spec =
     (λ c. entry-own _ _ _ _ _ _ (c .before .before .word-at .ensures .0) (c .before .owner-of .ensures) (c .before .before .before .before .before .before .args .inside) _ (c .if1 .taken))
     (λ c κs. search needs)
     (λ c. search needs)
-    (λ c. entry-other _ _ _ _ _ _ (c .before .before .before .before .before .before .word-at .ensures .0) (c .before .before .before .before .before .owner-of .ensures) (c .before .before .before .before .before .before .before .before .before .before .args .inside) _ _ (c .before .before .before .before .if1 .left) (c .before .before .put-class .ensures)))
+    (λ c. entry-other _ _ _ _ _ _ (c .before .before .before .before .before .before .word-at .ensures .0)
+    (c .before .before .before .before .before .owner-of .ensures)
+    (c .before .before .before .before .before .before .before .before .before .before .args .inside) _ _ (c .before .before .before .before .if1 .left)
+    (c .before .before .put-class .ensures)))

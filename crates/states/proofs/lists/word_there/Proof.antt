@@ -1,5 +1,5 @@
 -- `states::lists::word_there` meets its contract. Assumes nothing.
-use Rattle.states.proofs.ListChecks.{word-told}
+use Rattle.layout.proofs.Laws.{word-here}
 use borrow.Author.Needs.{needs}
 use Rattle.states.proofs.lists.word_there.Statement.{statement}
 use Rattle.states.proofs.lists.word_there.Tie as tie
@@ -10,4 +10,4 @@ word-there-spec =
     (tie.spec
     (λ c. search needs)
     (λ c κs. search needs)
-    (λ c. (search word-told, search needs)))
+    (λ c. (search word-here, search needs)))
