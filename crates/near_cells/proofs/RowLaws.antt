@@ -7,8 +7,8 @@ use Prim.Native.Nat.{ℕ, zero, suc, _+_, _-_, _*_, _/_, _≤_, _<_}
 use native.Mathlib.Nat.{le-trans, mul-le-mul-left, mul-le-mul-right, mul-div-le, le-div-iff-mul-le}
 use native.Mathlib.Omega.{arith}
 use lib.Dec.{eqb, ltb}
-use lib.ListN.{length, getD, set, take, drop, length-set, length-take, List·getD-eq-default}
-use lib.Seq.{getD-set-same, getD-set-other, getD-take, getD-drop}
+use lib.ListN.{length, getD, set, take, drop, length-set, length-take}
+use lib.Seq.{getD-take, getD-drop}
 use borrow.Author.Tests.{eqb-true, eqb-false, eq-eqb, ne-eqb, ltb-true, ltb-false, not-false}
 use Rattle.vocabulary.specs.Bytes.{Bytes, byteAt}
 use Rattle.vocabulary.specs.Ranges.{some}
@@ -229,22 +229,6 @@ module _ (m : Bytes) (A : Accepted m) (first cells q : ℕ) (fe : first ≡ firs
 
   pub place-high : q < 2000
   place-high = omega (arith, A .cells-in, A .sizes .n-high)
-
--- ---- all numbers set to 0
-
-pub clear-turn : (list : List ℕ) (j : ℕ) → j < length list → ((i : ℕ) → i < j → getD list i 0 ≡ 0) → (i : ℕ) → i < j + 1 → getD (set list j 0) i 0 ≡ 0
-clear-turn list j h K i l = go (eqb i j) refl
-  where
-    go : (b : Bool) → eqb i j ≡ b → getD (set list j 0) i 0 ≡ 0
-    go true q = ap (λ k. getD (set list j 0) k 0) (eqb-true i j q) ∙ getD-set-same list j 0 0 h
-    go false q = let n : i ≡ j → ⊥ = eqb-false i j q in getD-set-other list j i 0 0 n ∙ K i (omega arith)
-
-pub clear-end : (list : List ℕ) (j : ℕ) → length list ≡ 2001 → 2001 ≤ j → ((i : ℕ) → i < j → getD list i 0 ≡ 0) → Zeros 2001 list
-clear-end list j r h K = record { size = r; each = λ i. go i (ltb i j) refl }
-  where
-    go : (i : ℕ) (b : Bool) → ltb i j ≡ b → getD list i 0 ≡ 0
-    go i true q = K i (ltb-true i j q)
-    go i false q = List·getD-eq-default list 0 (omega (arith, ltb-false i j q))
 
 -- ---- the width
 

@@ -3,6 +3,7 @@ use layout::byte_at;
 use layout::put_number_at;
 use visits::inner::visit;
 use walks::inner::MeshSizes;
+use walks::inner::clear;
 use walks::inner::copy_part;
 use walks::inner::lesser;
 use walks::inner::walk_down;
@@ -104,16 +105,6 @@ fn list_rows(
         copy_part(from, 1, len, near, q * w);
     }
     true
-}
-
-// Sets all numbers of a list to 0.
-fn clear(list: &mut [u16])
-    requires { ⌜ length (now list) ≡ 2001 ⌝ }
-    ensures { λ _. ⌜ Zeros 2001 (now (list .exit)) ⌝ }
-{
-    for j in 0..list.len() {
-        list[j] = 0;
-    }
 }
 
 // Lists the cells two steps from each cell, if the stencil goes through one dimension, which `single` tells, and the rows are short. Gives their

@@ -7,23 +7,23 @@ use native.Mathlib.Nat.{zero-add}
 use native.Mathlib.Numerals.{add-one}
 use native.Mathlib.Omega.{arith}
 use lib.Dec.{eqb, ltb}
-use lib.ListN.{length, getD, set, take, length-set, length-take, replicate, length-replicate}
+use lib.ListN.{length, getD, set, take, length-set, length-take}
 use lib.Seq.{take-suc-set}
 use borrow.Author.Tests.{eq-eqb, ne-eqb}
 use Rattle.vocabulary.specs.Bytes.{Bytes, byteAt}
 use Rattle.vocabulary.specs.Ranges.{some, picked, total}
 use Rattle.vocabulary.specs.RangeLaws.{some-cong, picked-all, picked-yes, picked-no, picked-some, some-swap, at-last, total-start, total-turn, total-cong}
-use Rattle.vocabulary.specs.Lists.{isIn, someOf, All}
+use Rattle.vocabulary.specs.Lists.{isIn, someOf, All, Zeros}
 use Rattle.vocabulary.specs.ListLaws.{same-test, All-intro, someOf-has, someOf-witness, someOf-cong, isIn-some}
 use Rattle.mesh.specs.Mesh.{firstCell, cellCount}
 use Rattle.mesh.specs.Walks.{stepTo, stepsTo, walked}
-use Rattle.mesh.specs.Accepted.{Cell}
-use Rattle.walks.specs.Walking.{Ground, layerMark, walkedFrom, Cells, Walk}
+use Rattle.mesh.specs.Accepted.{Accepted, Cell}
+use Rattle.walks.specs.Walking.{Ground, Sized, Arrays, layerMark, walkedFrom, Cells, Walk}
+use Rattle.walks.specs.declared.steps.MeshSizes.{MeshSizes}
 use Rattle.walks.proofs.WalkLaws.{marked-by, cell-layer, walk-fresh}
 use Rattle.walks.proofs.StepLaws.{step-from, step-to}
-use Rattle.reach_rows.specs.Rows.{walkedTo, rowCells, Rowed, Site, Space, layerOne, layerCount, reachCount, Counted}
+use Rattle.reach_rows.specs.Rows.{walkedTo, rowCells, Rowed, Space, layerOne, layerCount, reachCount, Counted}
 use Rattle.walks.proofs.GroundLaws.{steps-is}
-use Rattle.mesh.proofs.MeetLaws.{under-none}
 
 -- ---- the cells of a row
 
@@ -96,28 +96,40 @@ module _ (m st : Bytes) (cs : List ℕ) where
 
 -- ---- a row's reach
 
-module _ (m st : Bytes) (cell prev last : List ℕ) (e r first cells n : ℕ) (S : Site m st cell prev last e r first cells n) where
-  pub site-first : first < 65536
-  site-first = omega (arith, S .first-is, S .ground .mesh .cells-in, S .ground .mesh .sizes .n-high)
+module _ (m : Bytes) (sizes : MeshSizes) (A : Accepted m) (S : Sized m sizes) where
+  pub first-small : sizes .first < 65536
+  first-small = omega (arith, S .first-is, A .cells-in, A .sizes .n-high)
 
-  pub site-cells : cells ≤ 2000
-  site-cells = omega (arith, S .cells-is, S .ground .mesh .cells-in, S .ground .mesh .sizes .n-high)
+  pub cells-small : sizes .cells ≤ 2000
+  cells-small = omega (arith, S .cells-is, A .cells-in, A .sizes .n-high)
 
-  pub site-last : first + cells ≤ 2001
-  site-last = omega (arith, S .first-is, S .cells-is, S .ground .mesh .cells-in, S .ground .mesh .sizes .n-high)
+  pub last-small : sizes .first + sizes .cells ≤ 2001
+  last-small = omega (arith, S .first-is, S .cells-is, A .cells-in, A .sizes .n-high)
 
-  pub space-after : (single : Bool) (cs : List ℕ) (v k met : ℕ) (marks from found layers : List ℕ) → Walk m st single cs n v marks from found layers k met → Space (v + (n + 1)) marks from found
-  space-after single cs v k met marks from found layers W = record { fresh = walk-fresh m st cs single n v k met marks from found layers W; from-long = W .room; found-long = W .gathered .room }
+  pub row-starts : (rows : Bytes) (i s : ℕ) (from : List ℕ) → Rowed (sizes .first) rows i (sizes .cells) s from → Cells m from s
+  row-starts rows i s from R = record {
+    each =
+        rw (R .cells) (unfold rowCells in picked-all (sizes .first) (λ x. eqb (byteAt rows (x - sizes .first)) i) (Cell m) (sizes .cells)
+        (λ j h e. record { low = omega (arith, S .first-is); high = omega (arith, S .first-is, S .cells-is) }));
+    count = omega (arith, length-take s from, R .room, R .few, cells-small);
+  }
 
-  module _ (rows : Bytes) where
-    pub row-starts : (i s : ℕ) (from : List ℕ) → Rowed first rows i cells s from → Cells m from s
-    row-starts i s from R = record {
-      each = rw (R .cells) (unfold rowCells in picked-all first (λ x. eqb (byteAt rows (x - first)) i) (Cell m) cells (λ j h e. record { low = omega (arith, S .first-is); high = omega (arith, S .first-is, S .cells-is) }));
-      count = omega (arith, length-take s from, R .room, R .few, site-cells);
-    }
+pub space-after : (m st : Bytes) (single : Bool) (cs : List ℕ) (n v k met : ℕ) (marks from found layers : List ℕ) → Walk m st single cs n v marks from found layers k met
+    → Space (v + (n + 1)) marks from found layers
+space-after m st single cs n v k met marks from found layers W = record {
+  fresh = walk-fresh m st cs single n v k met marks from found layers W;
+  from-long = W .room;
+  found-long = W .gathered .room;
+  layers-long = W .size;
+}
 
-pub space-start : Space 1 (replicate 2001 0) (replicate 2001 0) (replicate 2001 0)
-space-start = record { fresh = under-none; from-long = length-replicate {A = ℕ} 2001 0; found-long = length-replicate {A = ℕ} 2001 0 }
+pub space-start : (marks₀ marks from found layers : List ℕ) → Arrays marks₀ from found layers → Zeros 2001 marks → Space 1 marks from found layers
+space-start marks₀ marks from found layers R Z = record {
+  fresh = record { size = Z .size; each = λ i. omega (arith, Z .each i) };
+  from-long = R .from-room;
+  found-long = R .found-room;
+  layers-long = R .layers-room;
+}
 
 -- ---- counts
 
@@ -142,14 +154,14 @@ module _ (layers : List ℕ) (first : ℕ) where
   pub count-end : (q cells s : ℕ) → q ≤ cells → cells ≤ q → s ≡ layerCount layers first q → s ≡ layerCount layers first cells
   count-end q cells s g h e = at-last (λ k. s ≡ layerCount layers first k) q cells g h e
 
-module _ (m st : Bytes) (cell prev last : List ℕ) (e r first cells n : ℕ) (S : Site m st cell prev last e r first cells n) (rows : Bytes) where
-  pub reach-counted : (single : Bool) (i v k s met t : ℕ) (marks from from′ found layers : List ℕ) → Rowed first rows i cells s from
-      → Walk m st single (take s from) n v marks from′ found layers k met → t ≡ layerCount layers first cells → t ≡ reachCount m st rows i
+module _ (m st : Bytes) (cell prev last : List ℕ) (sizes : MeshSizes) (n : ℕ) (G : Ground m st cell prev last) (S : Sized m sizes) (ne : n + 1 ≡ length st) (rows : Bytes) where
+  pub reach-counted : (single : Bool) (i v k s met t : ℕ) (marks from from′ found layers : List ℕ) → Rowed (sizes .first) rows i (sizes .cells) s from
+      → Walk m st single (take s from) n v marks from′ found layers k met → t ≡ layerCount layers (sizes .first) (sizes .cells) → t ≡ reachCount m st rows i
   unfolding layerCount reachCount layerOne
   reach-counted single i v k s met t marks from from′ found layers R W te =
       te
-      ∙ ap (λ c. total 0 c (λ q. cond (eqb (getD layers (first + q) 0) 0) 0 1)) (S .cells-is)
-      ∙ total-cong 0 (λ q. cond (eqb (getD layers (first + q) 0) 0) 0 1)
+      ∙ ap (λ c. total 0 c (λ q. cond (eqb (getD layers (sizes .first + q) 0) 0) 0 1)) (S .cells-is)
+      ∙ total-cong 0 (λ q. cond (eqb (getD layers (sizes .first + q) 0) 0) 0 1)
       (λ q. cond (someOf (rowCells (firstCell m) rows i (cellCount m)) (λ c. walkedTo m st c (firstCell m + q))) 1 0) (cellCount m) (λ q h. each (0 + q) (omega arith))
     where
       row : take s from ≡ rowCells (firstCell m) rows i (cellCount m)
@@ -160,26 +172,27 @@ module _ (m st : Bytes) (cell prev last : List ℕ) (e r first cells n : ℕ) (S
       swap false = refl
 
       each : (q : ℕ) → q < cellCount m
-          → _≡_ {A = ℕ} (cond (eqb (getD layers (first + q) 0) 0) 0 1) (cond (someOf (rowCells (firstCell m) rows i (cellCount m)) (λ c. walkedTo m st c (firstCell m + q))) 1 0)
+          → _≡_ {A = ℕ} (cond (eqb (getD layers (sizes .first + q) 0) 0) 0 1)
+          (cond (someOf (rowCells (firstCell m) rows i (cellCount m)) (λ c. walkedTo m st c (firstCell m + q))) 1 0)
       each q h =
-          swap (eqb (getD layers (first + q) 0) 0)
+          swap (eqb (getD layers (sizes .first + q) 0) 0)
           ∙ ap (λ b. cond b 1 0)
           (ap (λ x. not (eqb (getD layers (x + q) 0) 0)) (S .first-is) ∙ ap (λ x. not (eqb x 0)) (W .layered (firstCell m + q))
-          ∙ reach-some m st (take s from) cell prev last n (firstCell m + q) (S .ground) (row-starts m st cell prev last e r first cells n S rows i s from R .each) (record { low = omega arith; high = omega arith }) (S .n-is)
+          ∙ reach-some m st (take s from) cell prev last n (firstCell m + q) G (row-starts m sizes (G .mesh) S rows i s from R .each) (record { low = omega arith; high = omega arith }) ne
           ∙ ap (λ cs. someOf cs (λ c. walkedTo m st c (firstCell m + q))) row)
 
-  pub counted-turn : (i v : ℕ) (marks from found marks′ from′ found′ : List ℕ) (s k : ℕ) → Counted m st rows i v marks from found s
-      → k ≡ reachCount m st rows (i + 1) → k ≤ 2000 → Space (v + (n + 1)) marks′ from′ found′ → Counted m st rows (i + 1) (v + (n + 1)) marks′ from′ found′ (s + k)
-  counted-turn i v marks from found marks′ from′ found′ s k C ke kl sp = record {
-    turns = omega (arith, C .turns, S .n-few);
-    space = sp;
-    told = let z : i + 1 ≡ 1 + i = omega arith in ap₂ _+_ (C .told) (ke ∙ ap (reachCount m st rows) z) ∙ sym (total-turn 1 (reachCount m st rows) i);
-    few = omega (arith, C .few);
-  }
+pub counted-turn : (m st rows : Bytes) (n i v : ℕ) (marks from found layers marks′ from′ found′ layers′ : List ℕ) (s k : ℕ) → n ≤ 8 → Counted m st rows i v marks from found layers s
+    → k ≡ reachCount m st rows (i + 1) → k ≤ 2000 → Space (v + (n + 1)) marks′ from′ found′ layers′ → Counted m st rows (i + 1) (v + (n + 1)) marks′ from′ found′ layers′ (s + k)
+counted-turn m st rows n i v marks from found layers marks′ from′ found′ layers′ s k few C ke kl sp = record {
+  turns = omega (arith, C .turns);
+  space = sp;
+  told = let z : i + 1 ≡ 1 + i = omega arith in ap₂ _+_ (C .told) (ke ∙ ap (reachCount m st rows) z) ∙ sym (total-turn 1 (reachCount m st rows) i);
+  few = omega (arith, C .few);
+}
 
-pub counted-start : (m st rows : Bytes) (marks from found : List ℕ) → Space 1 marks from found → Counted m st rows 0 1 marks from found 0
-counted-start m st rows marks from found s = record { turns = omega arith; space = s; told = sym (total-start 1 (reachCount m st rows)); few = omega arith }
+pub counted-start : (m st rows : Bytes) (marks from found layers : List ℕ) → Space 1 marks from found layers → Counted m st rows 0 1 marks from found layers 0
+counted-start m st rows marks from found layers s = record { turns = omega arith; space = s; told = sym (total-start 1 (reachCount m st rows)); few = omega arith }
 
-pub counted-end : (m st rows : Bytes) (i v count : ℕ) (marks from found : List ℕ) (s : ℕ) → i ≤ count → count ≤ i → Counted m st rows i v marks from found s
+pub counted-end : (m st rows : Bytes) (i v count : ℕ) (marks from found layers : List ℕ) (s : ℕ) → i ≤ count → count ≤ i → Counted m st rows i v marks from found layers s
     → s ≡ total 1 count (reachCount m st rows)
-counted-end m st rows i v count marks from found s g h C = at-last (λ k. s ≡ total 1 k (reachCount m st rows)) i count g h (C .told)
+counted-end m st rows i v count marks from found layers s g h C = at-last (λ k. s ≡ total 1 k (reachCount m st rows)) i count g h (C .told)

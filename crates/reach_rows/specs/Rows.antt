@@ -9,9 +9,8 @@ use Rattle.mesh.specs.Meet.{Under}
 use Rattle.vocabulary.specs.Bytes.{Bytes, byteAt}
 use Rattle.vocabulary.specs.Ranges.{picked, total}
 use Rattle.vocabulary.specs.Lists.{someOf}
-use Rattle.mesh.specs.Mesh.{elements, recordCount, firstCell, cellCount}
+use Rattle.mesh.specs.Mesh.{firstCell, cellCount}
 use Rattle.mesh.specs.Walks.{stepsTo}
-use Rattle.walks.specs.Walking.{Ground}
 
 -- cell x is walked to from cell c
 unfoldable pub walkedTo : Bytes → Bytes → ℕ → ℕ → Bool
@@ -27,21 +26,12 @@ pub record Rowed (first : ℕ) (rows : Bytes) (i n k : ℕ) (list : List ℕ) : 
   pub few : k ≤ n
   pub cells : take k list ≡ rowCells first rows i n
 
--- what the walks from all cells stand on
-pub record Site (m st : Bytes) (cell prev last : List ℕ) (e r first cells n : ℕ) : Type 0 where
-  pub ground : Ground m st cell prev last
-  pub e-is : e ≡ elements m
-  pub r-is : r ≡ recordCount m
-  pub first-is : first ≡ firstCell m
-  pub cells-is : cells ≡ cellCount m
-  pub n-is : n + 1 ≡ length st
-  pub n-few : n ≤ 8
-
 -- the work space of a walk
-pub record Space (v : ℕ) (marks from found : List ℕ) : Type 0 where
+pub record Space (v : ℕ) (marks from found layers : List ℕ) : Type 0 where
   pub fresh : Under v marks
   pub from-long : length from ≡ 2001
   pub found-long : length found ≡ 2001
+  pub layers-long : length layers ≡ 2001
 
 -- one where place q has a layer; how many of the first n places have one
 unfoldable pub layerOne : List ℕ → ℕ → ℕ → ℕ
@@ -55,8 +45,8 @@ unfoldable pub reachCount : Bytes → Bytes → Bytes → ℕ → ℕ
 reachCount m st rows i = total 0 (cellCount m) (λ q. cond (someOf (rowCells (firstCell m) rows i (cellCount m)) (λ c. walkedTo m st c (firstCell m + q))) 1 0)
 
 -- the first n rows are counted
-pub record Counted (m st rows : Bytes) (n v : ℕ) (marks from found : List ℕ) (s : ℕ) : Type 0 where
+pub record Counted (m st rows : Bytes) (n v : ℕ) (marks from found layers : List ℕ) (s : ℕ) : Type 0 where
   pub turns : v ≤ 1 + 9 * n
-  pub space : Space v marks from found
+  pub space : Space v marks from found layers
   pub told : s ≡ total 1 n (reachCount m st rows)
   pub few : s ≤ 2000 * n

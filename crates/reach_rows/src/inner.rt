@@ -3,17 +3,15 @@ use layout::byte_at;
 use layout::put_number_at;
 use visits::inner::entry;
 use walks::inner::MeshSizes;
+use walks::inner::clear;
 use walks::inner::through_one;
 use walks::inner::walk;
 ghost use mathlib.Core.Path.{_≡_};
 ghost use Prim.Native.Nat.{_+_, _<_, _≤_};
 ghost use lib.ListN.{length};
 ghost use Rattle.vocabulary.specs.Ranges.{total};
-ghost use Rattle.walks.specs.Walking.{throughOne};
-ghost use Rattle.reach_rows.specs.Rows.{Rowed, Site, Space, layerOne, layerCount, reachCount};
-
-// The room for a number of each element; none is numbered 0.
-const NUMBERS: usize = 2001;
+ghost use Rattle.walks.specs.Walking.{Ground, Sized, Arrays, throughOne};
+ghost use Rattle.reach_rows.specs.Rows.{Rowed, Space, layerOne, layerCount, reachCount};
 
 // Adds the cell at place q to the k cells in a list, if it is of row i.
 fn add_cell(rows: &[u8], i: usize, first: usize, q: usize, list: &mut [u16], k: usize) -> usize
@@ -75,14 +73,15 @@ fn count_reach(
     marks: &mut [u16],
     from: &mut [u16],
     found: &mut [u16],
+    layers: &mut [u16],
 ) -> usize
-    requires { ⌜ Site (now m) (now st) (now cell) (now prev) (now last) (sizes .elements) (sizes .records) (sizes .first) (sizes .cells) n × (single ≡ throughOne (now st))
-        × (v ≤ 60000) × Space v (now marks) (now from) (now found) ⌝ }
+    requires { ⌜ Ground (now m) (now st) (now cell) (now prev) (now last) × Sized (now m) sizes × (n + 1 ≡ length (now st)) × (n ≤ 8) × (single ≡ throughOne (now st))
+        × (v ≤ 60000) × Space v (now marks) (now from) (now found) (now layers) ⌝ }
     ensures { λ k. ⌜ (k ≡ reachCount (now (m .entry)) (now (st .entry)) (now (rows .entry)) i) × (k ≤ 2000)
-        × Space (v + (n + 1)) (now (marks .exit)) (now (from .exit)) (now (found .exit)) ⌝ }
+        × Space (v + (n + 1)) (now (marks .exit)) (now (from .exit)) (now (found .exit)) (now (layers .exit)) ⌝ }
 {
     let s = row_cells(rows, i, sizes.first, sizes.cells, from);
-    let mut layers = [0u16; NUMBERS];
+    clear(layers);
     walk(
         m,
         sizes,
@@ -97,40 +96,33 @@ fn count_reach(
         marks,
         from,
         found,
-        &mut layers,
+        layers,
     );
-    count_row(&layers, sizes.first, sizes.cells)
+    count_row(layers, sizes.first, sizes.cells)
 }
 
 // How many cells the cells of each row from 1 on reach, together over as many rows as `count`. The byte of `rows` at a cell's place tells its
-// row, and the chains are turned round already.
+// row, and the chains are turned round already. The arrays from `marks` to `layers` are work space.
 pub fn count_all(
     m: &[u8],
-    e: usize,
-    r: usize,
+    sizes: MeshSizes,
     st: &[u8],
-    n: usize,
     cell: &[u16],
     prev: &[u16],
     last: &[u16],
-    first: usize,
-    cells: usize,
     rows: &[u8],
     count: usize,
+    marks: &mut [u16],
+    from: &mut [u16],
+    found: &mut [u16],
+    layers: &mut [u16],
 ) -> usize
-    requires { ⌜ Site (now m) (now st) (now cell) (now prev) (now last) e r first cells n × (count ≤ 16) ⌝ }
+    requires { ⌜ Ground (now m) (now st) (now cell) (now prev) (now last) × Sized (now m) sizes × (count ≤ 16) × Arrays (now marks) (now from) (now found) (now layers) ⌝ }
     ensures { λ s. ⌜ s ≡ total 1 count (reachCount (now (m .entry)) (now (st .entry)) (now (rows .entry))) ⌝ }
 {
+    let n = st.len() - 1;
     let single = through_one(st);
-    let sizes = MeshSizes {
-        elements: e,
-        records: r,
-        first,
-        cells,
-    };
-    let mut marks = [0u16; NUMBERS];
-    let mut from = [0u16; NUMBERS];
-    let mut found = [0u16; NUMBERS];
+    clear(marks);
     let mut v = 1;
     let mut s = 0;
     for i in 0..count {
@@ -146,9 +138,10 @@ pub fn count_all(
             rows,
             i + 1,
             v,
-            &mut marks,
-            &mut from,
-            &mut found,
+            marks,
+            from,
+            found,
+            layers,
         );
         v += n + 1;
     }

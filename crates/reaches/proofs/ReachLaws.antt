@@ -17,7 +17,7 @@ use Rattle.vocabulary.specs.ListLaws.{map-append}
 use Rattle.mesh.specs.Meet.{Under}
 use Rattle.mesh.specs.Mesh.{firstCell, cellCount}
 use Rattle.mesh.specs.Walks.{Near, steps, stepsTo, layer, reach, stepTo, walked}
-use Rattle.walks.specs.Walking.{Ground, firstMark, layerMark, walkedFrom, Walk, Within}
+use Rattle.walks.specs.Walking.{Ground, Arrays, firstMark, layerMark, walkedFrom, Walk, Within}
 use Rattle.near_cells.specs.NearCells.{Layered, Ready}
 use Rattle.near_cells.proofs.RowLaws.{under-more}
 use Rattle.walks.proofs.WalkLaws.{cell-layer}
@@ -231,6 +231,14 @@ module _ (m st : Bytes) (first x : ℕ) (fe : first ≡ firstCell m) (l : first 
 
       all : s ≡ capped (entryCount m st (cellCount m))
       all = here ∙ capped-high (entryCount m st (x + 1 - first)) many ∙ sym (capped-high (entryCount m st (cellCount m)) (omega (arith, grows, many)))
+
+pub arrays-after : (m st : Bytes) (w v : ℕ) (marks from found near : List ℕ) → Ready m st w v marks from found near → Arrays marks from found near
+arrays-after m st w v marks from found near R = record {
+  marks-room = R .marks-low .size;
+  from-room = R .from-room;
+  found-room = R .found-room;
+  layers-room = R .near-room;
+}
 
 pub table-end : (m st : Bytes) (first cells x t : ℕ) (a b : Bytes) (ends : List ℕ) → cells ≡ cellCount m → x ≤ first + cells → first + cells ≤ x → first ≤ x
     → Emitted a b 0 t (tableWords m st (x - first)) → Ends m st ends (x - first) → Tabled m st a b ends t

@@ -2,14 +2,11 @@
 use layout::inner::put_word;
 use layout::put_number_at;
 use links::inner::invert;
-use mesh::inner::cell_count;
-use mesh::inner::elements_of;
-use mesh::inner::first_cell;
-use mesh::inner::record_count;
 use near_cells::inner::near_rows;
 use near_cells::inner::walk_near;
 use visits::inner::entry;
 use walks::inner::MeshSizes;
+use walks::inner::sizes_of;
 use walks::inner::through_one;
 use walks::inner::walk;
 ghost use mathlib.Core.Path.{_≡_};
@@ -18,12 +15,14 @@ ghost use mathlib.Core.List.{[], _∷_};
 ghost use Prim.Native.Nat.{ℕ, _+_, _-_, _*_, _<_, _≤_};
 ghost use lib.ListN.{length, set};
 ghost use Rattle.vocabulary.specs.Bytes.{over};
+ghost use Rattle.vocabulary.specs.Lists.{Zeros};
 ghost use Rattle.vocabulary.specs.Ranges.{blocks};
 ghost use Rattle.layout.specs.Words.{bytesOf};
 ghost use Rattle.reaches.specs.Tables.{row, Cleared, Emitted, cellWords, Tabled};
-ghost use Rattle.walks.specs.Walking.{Ground, Sized, throughOne};
+ghost use Rattle.walks.specs.Walking.{Ground, Sized, Arrays, throughOne};
 ghost use Rattle.near_cells.specs.NearCells.{Ready};
-ghost use Rattle.mesh.specs.Mesh.{top, elements, recordCount, firstCell, cellCount};
+ghost use Rattle.mesh.specs.Meet.{Under};
+ghost use Rattle.mesh.specs.Mesh.{top};
 ghost use Rattle.mesh.specs.Walks.{bad10};
 ghost use Rattle.mesh.specs.Accepted.{Accepted, Cell};
 
@@ -138,36 +137,28 @@ fn reach_of(
     emit(near, sizes.first, b.low, b.high, table, t)
 }
 
-// The reaches of all cells, from the chains turned round.
+// The reaches of all cells, from the chains turned round. The arrays from `marks` to `near` are work space.
 pub fn reach_all(
     m: &[u8],
-    e: usize,
-    r: usize,
+    sizes: MeshSizes,
     st: &[u8],
-    n: usize,
     cell: &[u16],
     prev: &[u16],
     last: &[u16],
-    first: usize,
-    cells: usize,
+    marks: &mut [u16],
+    from: &mut [u16],
+    found: &mut [u16],
+    near: &mut [u16],
     table: &mut [u8],
     ends: &mut [u16],
 ) -> usize
-    requires { ⌜ Ground (now m) (now st) (now cell) (now prev) (now last) × (e ≡ elements (now m)) × (r ≡ recordCount (now m)) × (first ≡ firstCell (now m))
-        × (cells ≡ cellCount (now m)) × (n + 1 ≡ length (now st)) × (n ≤ 8) × (length (now table) ≡ 32000) × (length (now ends) ≡ 2001) ⌝ }
-    ensures { λ s. ⌜ Tabled (now (m .entry)) (now (st .entry)) (now (table .entry)) (now (table .exit)) (now (ends .exit)) s ⌝ }
+    requires { ⌜ Ground (now m) (now st) (now cell) (now prev) (now last) × Sized (now m) sizes × Under 1 (now marks) × (length (now from) ≡ 2001) × (length (now found) ≡ 2001)
+        × Zeros 2001 (now near) × (length (now table) ≡ 32000) × (length (now ends) ≡ 2001) ⌝ }
+    ensures { λ s. ⌜ Tabled (now (m .entry)) (now (st .entry)) (now (table .entry)) (now (table .exit)) (now (ends .exit)) s
+        × Arrays (now (marks .exit)) (now (from .exit)) (now (found .exit)) (now (near .exit)) ⌝ }
 {
+    let n = st.len() - 1;
     let single = through_one(st);
-    let sizes = MeshSizes {
-        elements: e,
-        records: r,
-        first,
-        cells,
-    };
-    let mut marks = [0u16; NUMBERS];
-    let mut from = [0u16; NUMBERS];
-    let mut found = [0u16; NUMBERS];
-    let mut near = [0u16; NUMBERS];
     let w = near_rows(
         m,
         sizes,
@@ -176,15 +167,15 @@ pub fn reach_all(
         cell,
         prev,
         last,
-        &mut marks,
-        &mut from,
-        &mut found,
-        &mut near,
+        marks,
+        from,
+        found,
+        near,
     );
     let mut t = 0;
     let mut v = AFTER_ROWS;
     put_number_at(ends, 0, 0);
-    for x in first..first + cells {
+    for x in sizes.first..sizes.first + sizes.cells {
         t = reach_of(
             m,
             sizes,
@@ -197,10 +188,10 @@ pub fn reach_all(
             w,
             x,
             v,
-            &mut marks,
-            &mut from,
-            &mut found,
-            &mut near,
+            marks,
+            from,
+            found,
+            near,
             table,
             t,
         );
@@ -208,7 +199,7 @@ pub fn reach_all(
             return t;
         }
         v += n + 1;
-        put_number_at(ends, x + 1 - first, t as u16);
+        put_number_at(ends, x + 1 - sizes.first, t as u16);
     }
     t
 }
@@ -219,26 +210,35 @@ pub fn reach_table(m: &[u8], st: &[u8], table: &mut [u8], ends: &mut [u16]) -> u
     requires { ⌜ Accepted (now m) × (bad10 (top (now m)) (now st) ≡ false) × (length (now table) ≡ 32000) × (length (now ends) ≡ 2001) ⌝ }
     ensures { λ s. ⌜ Tabled (now (m .entry)) (now (st .entry)) (now (table .entry)) (now (table .exit)) (now (ends .exit)) s ⌝ }
 {
-    let e = elements_of(m);
-    let r = record_count(m);
-    let first = first_cell(m);
-    let cells = cell_count(m);
-    let n = st.len() - 1;
+    let sizes = sizes_of(m);
     let mut cell = [0u16; ENTRIES];
     let mut prev = [0u16; ENTRIES];
     let mut last = [0u16; NUMBERS];
-    invert(m, e, r, first, cells, &mut cell, &mut prev, &mut last);
+    invert(
+        m,
+        sizes.elements,
+        sizes.records,
+        sizes.first,
+        sizes.cells,
+        &mut cell,
+        &mut prev,
+        &mut last,
+    );
+    let mut marks = [0u16; NUMBERS];
+    let mut from = [0u16; NUMBERS];
+    let mut found = [0u16; NUMBERS];
+    let mut near = [0u16; NUMBERS];
     reach_all(
         m,
-        e,
-        r,
+        sizes,
         st,
-        n,
         &cell,
         &prev,
         &last,
-        first,
-        cells,
+        &mut marks,
+        &mut from,
+        &mut found,
+        &mut near,
         table,
         ends,
     )

@@ -13,15 +13,15 @@ use Rattle.vocabulary.specs.RangeLaws.{every-at, every-intro}
 use Rattle.vocabulary.specs.Lists.{everyOf}
 use Rattle.vocabulary.specs.ListLaws.{same-test, everyOf-at, everyOf-intro, All-intro}
 use Rattle.layout.specs.Words.{wordAt, bytesOf}
-use Rattle.mesh.specs.Mesh.{top, elements, recordCount, firstCell, cellCount}
-use Rattle.mesh.specs.WalkLaws.{stencil-parts}
+use Rattle.mesh.specs.Mesh.{top, firstCell, cellCount}
 use Rattle.links.specs.Links.{links, linkCells}
-use Rattle.walks.specs.Walking.{Ground}
+use Rattle.walks.specs.Walking.{Ground, Sized}
+use Rattle.walks.specs.declared.steps.MeshSizes.{MeshSizes}
 use Rattle.walks.proofs.GroundLaws.{grounded}
 use Rattle.mesh.specs.Walks.{Near, reach, bad10, bad13}
 use Rattle.mesh.specs.Accepted.{Accepted}
 use Rattle.reaches.specs.Tables.{tableWords, entryCount, Ends, Tabled}
-use Rattle.reach_rows.specs.Rows.{reachCount, Site}
+use Rattle.reach_rows.specs.Rows.{reachCount}
 use Rattle.reaches.proofs.EntryLaws.{count-more, entry-is}
 use Rattle.reaches.proofs.SizeLaws.{table-refused}
 use Rattle.split.specs.Split.{splitOf, ownerAt, owns, inside}
@@ -51,22 +51,12 @@ module _ (m st before table : Bytes) (e : table ≡ over before 0 (bytesOf (tabl
 
 -- ---- the chains turned round
 
-pub linked : (m : Bytes) (first cells : ℕ) (st : Bytes) (s : ℕ) (cell₀ prev₀ last₀ cell prev last : List ℕ) → Accepted m → first ≡ firstCell m → cells ≡ cellCount m → bad10 (top m) st ≡ false
-    → cell₀ ≡ replicate 12001 0 → prev₀ ≡ replicate 12001 0 → last₀ ≡ replicate 2001 0 → links s cell prev last ≡ linkCells m first cells (links 0 cell₀ prev₀ last₀) → Ground m st cell prev last
-linked m first cells st s cell₀ prev₀ last₀ cell prev last A fe ce bad c p l e = grounded m A first cells fe ce st bad s cell prev last (e ∙ λ x. linkCells m first cells (links 0 (c x) (p x) (l x)))
-
--- the numbers that the walks go by
-pub sited : (m st : Bytes) (cell prev last : List ℕ) (e r first cells : ℕ) → Ground m st cell prev last → e ≡ elements m → r ≡ recordCount m → first ≡ firstCell m → cells ≡ cellCount m
-    → Site m st cell prev last e r first cells (length st - 1)
-sited m st cell prev last e r first cells G ee re fe ce = record {
-  ground = G;
-  e-is = ee;
-  r-is = re;
-  first-is = fe;
-  cells-is = ce;
-  n-is = let p = stencil-parts (top m) st (G .stencil) in omega (arith, p .0);
-  n-few = let p = stencil-parts (top m) st (G .stencil) in omega (arith, p .1);
-}
+pub linked : (m : Bytes) (sizes : MeshSizes) (st : Bytes) (s : ℕ) (cell₀ prev₀ last₀ cell prev last : List ℕ) → Accepted m → Sized m sizes → bad10 (top m) st ≡ false
+    → cell₀ ≡ replicate 12001 0 → prev₀ ≡ replicate 12001 0 → last₀ ≡ replicate 2001 0
+    → links s cell prev last ≡ linkCells m (sizes .first) (sizes .cells) (links 0 cell₀ prev₀ last₀) → Ground m st cell prev last
+linked m sizes st s cell₀ prev₀ last₀ cell prev last A S bad c p l e =
+    grounded m A (sizes .first) (sizes .cells) (S .first-is) (S .cells-is) st bad s cell prev last
+    (e ∙ λ x. linkCells m (sizes .first) (sizes .cells) (links 0 (c x) (p x) (l x)))
 
 -- ---- the tests 12 and 13, and the tables, where the reaches are found first
 

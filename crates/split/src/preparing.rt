@@ -2,120 +2,78 @@
 // and 13.
 use crate::holders::count_holders;
 use links::inner::invert;
-use mesh::inner::cell_count;
-use mesh::inner::elements_of;
-use mesh::inner::first_cell;
-use mesh::inner::record_count;
 use reach_rows::inner::count_all;
 use reaches::inner::reach_all;
+use walks::inner::MeshSizes;
+use walks::inner::sizes_of;
 ghost use mathlib.Core.Path.{_≡_};
 ghost use mathlib.Core.Bool.{true, false};
 ghost use mathlib.Core.List.{[]};
 ghost use Prim.Native.Nat.{_≤_};
 ghost use lib.ListN.{length, replicate};
-ghost use Rattle.vocabulary.specs.Ranges.{total};
 ghost use Rattle.mesh.specs.Mesh.{top};
 ghost use Rattle.mesh.specs.Walks.{bad10, bad13};
 ghost use Rattle.mesh.specs.Accepted.{Accepted};
-ghost use Rattle.walks.specs.Walking.{Ground};
-ghost use Rattle.reaches.specs.Tables.{Tabled};
-ghost use Rattle.reach_rows.specs.Rows.{reachCount};
+ghost use Rattle.walks.specs.Walking.{Ground, Sized, Arrays};
 ghost use Rattle.split.specs.Lists.{bad8, sizesNumber};
 ghost use Rattle.split.specs.Classes.{Prepared};
 
+// The room for a number of each element; none is numbered 0.
+const NUMBERS: usize = 2001;
+
 // Turns the chains of all cells round, in cleared space.
-fn link(m: &[u8], st: &[u8], cell: &mut [u16], prev: &mut [u16], last: &mut [u16])
-    requires { ⌜ Accepted (now m) × (bad10 (top (now m)) (now st) ≡ false) × (now cell ≡ replicate 12001 0) × (now prev ≡ replicate 12001 0) × (now last ≡ replicate 2001 0) ⌝ }
+fn link(m: &[u8], sizes: MeshSizes, st: &[u8], cell: &mut [u16], prev: &mut [u16], last: &mut [u16])
+    requires { ⌜ Accepted (now m) × Sized (now m) sizes × (bad10 (top (now m)) (now st) ≡ false) × (now cell ≡ replicate 12001 0) × (now prev ≡ replicate 12001 0)
+        × (now last ≡ replicate 2001 0) ⌝ }
     ensures { λ _. ⌜ Ground (now (m .entry)) (now (st .entry)) (now (cell .exit)) (now (prev .exit)) (now (last .exit)) ⌝ }
 {
     invert(
         m,
-        elements_of(m),
-        record_count(m),
-        first_cell(m),
-        cell_count(m),
+        sizes.elements,
+        sizes.records,
+        sizes.first,
+        sizes.cells,
         cell,
         prev,
         last,
     );
 }
 
-// The table of the reaches: how many entries it has, 8,001 for all above 8,000.
-fn fill_table(
-    m: &[u8],
-    st: &[u8],
-    cell: &[u16],
-    prev: &[u16],
-    last: &[u16],
-    table: &mut [u8],
-    ends: &mut [u16],
-) -> usize
-    requires { ⌜ Ground (now m) (now st) (now cell) (now prev) (now last) × (length (now table) ≡ 32000) × (length (now ends) ≡ 2001) ⌝ }
-    ensures { λ s. ⌜ Tabled (now (m .entry)) (now (st .entry)) (now (table .entry)) (now (table .exit)) (now (ends .exit)) s ⌝ }
-{
-    reach_all(
-        m,
-        elements_of(m),
-        record_count(m),
-        st,
-        st.len() - 1,
-        cell,
-        prev,
-        last,
-        first_cell(m),
-        cell_count(m),
-        table,
-        ends,
-    )
-}
-
-// How many cells the parts hold together, by walks from whole parts.
-fn walk_parts(
-    m: &[u8],
-    parts: usize,
-    owners: &[u8],
-    st: &[u8],
-    cell: &[u16],
-    prev: &[u16],
-    last: &[u16],
-) -> usize
-    requires { ⌜ Ground (now m) (now st) (now cell) (now prev) (now last) × (parts ≤ 16) ⌝ }
-    ensures { λ s. ⌜ s ≡ total 1 parts (reachCount (now (m .entry)) (now (st .entry)) (now (owners .entry))) ⌝ }
-{
-    count_all(
-        m,
-        elements_of(m),
-        record_count(m),
-        st,
-        st.len() - 1,
-        cell,
-        prev,
-        last,
-        first_cell(m),
-        cell_count(m),
-        owners,
-        parts,
-    )
-}
-
-// Which of the tests 12 and 13 refuses first, where the reaches have too many entries for the table.
+// Which of the tests 12 and 13 refuses first, where the reaches have too many entries for the table: how many cells the parts hold together is told
+// by walks from whole parts, in lent space.
 fn overflow_number(
     m: &[u8],
+    sizes: MeshSizes,
     parts: u32,
     owners: &[u8],
     st: &[u8],
     cell: &[u16],
     prev: &[u16],
     last: &[u16],
+    marks: &mut [u16],
+    from: &mut [u16],
+    found: &mut [u16],
+    layers: &mut [u16],
 ) -> u32
-    requires { ⌜ Ground (now m) (now st) (now cell) (now prev) (now last) × (bad8 (now m) parts (now owners) [] ≡ false) × (bad13 (now m) (now st) ≡ true) ⌝ }
+    requires { ⌜ Ground (now m) (now st) (now cell) (now prev) (now last) × Sized (now m) sizes × (bad8 (now m) parts (now owners) [] ≡ false) × (bad13 (now m) (now st) ≡ true)
+        × Arrays (now marks) (now from) (now found) (now layers) ⌝ }
     ensures { λ r. ⌜ (r ≡ sizesNumber (now (m .entry)) parts (now (owners .entry)) (now (st .entry))) × (1 ≤ r) ⌝ }
 {
-    if 4096 < walk_parts(m, parts as usize, owners, st, cell, prev, last) {
-        12
-    } else {
-        13
-    }
+    let held = count_all(
+        m,
+        sizes,
+        st,
+        cell,
+        prev,
+        last,
+        owners,
+        parts as usize,
+        marks,
+        from,
+        found,
+        layers,
+    );
+    if 4096 < held { 12 } else { 13 }
 }
 
 // Prepares the tables for an accepted mesh, map and stencil, in lent space, of which the links are cleared: the number of the first of the tests
@@ -136,16 +94,48 @@ pub fn prepare(
     requires { ⌜ Accepted (now m) × (bad8 (now m) parts (now owners) [] ≡ false) × (bad10 (top (now m)) (now st) ≡ false) × (now cell ≡ replicate 12001 0) × (now prev ≡ replicate 12001 0) × (now last ≡ replicate 2001 0) × (length (now table) ≡ 32000) × (length (now ends) ≡ 2001) × (length (now holders) ≡ 2000) × (length (now class) ≡ 2000) ⌝ }
     ensures { λ r. ⌜ (r ≡ sizesNumber (now (m .entry)) parts (now (owners .entry)) (now (st .entry))) × (r ≡ 0 → Prepared (now (m .entry)) parts (now (owners .entry)) (now (st .entry)) (now (table .exit)) (now (ends .exit)) (now (holders .exit))) × Ground (now (m .entry)) (now (st .entry)) (now (cell .exit)) (now (prev .exit)) (now (last .exit)) ⌝ }
 {
-    link(m, st, cell, prev, last);
-    if 8000 < fill_table(m, st, cell, prev, last, table, ends) {
-        return overflow_number(m, parts, owners, st, cell, prev, last);
+    let sizes = sizes_of(m);
+    link(m, sizes, st, cell, prev, last);
+    let mut marks = [0u16; NUMBERS];
+    let mut from = [0u16; NUMBERS];
+    let mut found = [0u16; NUMBERS];
+    let mut near = [0u16; NUMBERS];
+    let entries = reach_all(
+        m,
+        sizes,
+        st,
+        cell,
+        prev,
+        last,
+        &mut marks,
+        &mut from,
+        &mut found,
+        &mut near,
+        table,
+        ends,
+    );
+    if 8000 < entries {
+        return overflow_number(
+            m,
+            sizes,
+            parts,
+            owners,
+            st,
+            cell,
+            prev,
+            last,
+            &mut marks,
+            &mut from,
+            &mut found,
+            &mut near,
+        );
     }
     if 4096
         < count_holders(
             owners,
             table,
             ends,
-            cell_count(m),
+            sizes.cells,
             parts as usize,
             class,
             holders,

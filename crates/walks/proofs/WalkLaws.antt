@@ -7,9 +7,9 @@ use native.Mathlib.Nat.{zero-add, add-zero}
 use native.Mathlib.Numerals.{add-one}
 use native.Mathlib.Omega.{arith}
 use lib.Dec.{eqb, ltb}
-use lib.ListN.{length, getD, set, take, drop, length-take, length-drop, length-append, List·getD-append}
-use lib.Seq.{take-suc, take-suc-set, take-set-le, drop-set-lt, drop-set-add, take-add, getD-drop, getD-append-add}
-use borrow.Author.Tests.{eqb-true, eqb-false, eq-eqb, ne-eqb, lt-ltb, not-true}
+use lib.ListN.{length, getD, set, take, drop, length-take, length-drop, length-append, List·getD-append, List·getD-eq-default}
+use lib.Seq.{take-suc, take-suc-set, take-set-le, drop-set-lt, drop-set-add, take-add, getD-set-same, getD-set-other, getD-drop, getD-append-add}
+use borrow.Author.Tests.{eqb-true, eqb-false, eq-eqb, ne-eqb, lt-ltb, ltb-true, ltb-false, not-true}
 use Rattle.mesh.specs.Meet.{Under}
 use Rattle.vocabulary.specs.Bytes.{Bytes, byteAt}
 use Rattle.vocabulary.specs.Ranges.{picked, some}
@@ -47,6 +47,22 @@ copy-rest dst₀ dst to j n x h e = drop-set-lt (to + n) dst (to + j) x (omega a
 
 pub copy-end : (src dst : List ℕ) (at to j n : ℕ) → j ≤ n → n ≤ j → take j (drop to dst) ≡ take j (drop at src) → take n (drop to dst) ≡ take n (drop at src)
 copy-end src dst at to j n g h e = at-last (λ i. take i (drop to dst) ≡ take i (drop at src)) j n g h e
+
+-- ---- all numbers set to 0
+
+pub clear-turn : (list : List ℕ) (j : ℕ) → j < length list → ((i : ℕ) → i < j → getD list i 0 ≡ 0) → (i : ℕ) → i < j + 1 → getD (set list j 0) i 0 ≡ 0
+clear-turn list j h K i l = go (eqb i j) refl
+  where
+    go : (b : Bool) → eqb i j ≡ b → getD (set list j 0) i 0 ≡ 0
+    go true q = ap (λ k. getD (set list j 0) k 0) (eqb-true i j q) ∙ getD-set-same list j 0 0 h
+    go false q = let n : i ≡ j → ⊥ = eqb-false i j q in getD-set-other list j i 0 0 n ∙ K i (omega arith)
+
+pub clear-end : (list : List ℕ) (j : ℕ) → length list ≡ 2001 → 2001 ≤ j → ((i : ℕ) → i < j → getD list i 0 ≡ 0) → Zeros 2001 list
+clear-end list j r h K = record { size = r; each = λ i. go i (ltb i j) refl }
+  where
+    go : (i : ℕ) (b : Bool) → ltb i j ≡ b → getD list i 0 ≡ 0
+    go i true q = K i (ltb-true i j q)
+    go i false q = List·getD-eq-default list 0 (omega (arith, ltb-false i j q))
 
 -- ---- the stencil
 

@@ -32,6 +32,13 @@ pub record Sized (m : Bytes) (s : MeshSizes) : Type 0 where
   pub first-is : s .first ≡ firstCell m
   pub cells-is : s .cells ≡ cellCount m
 
+-- the arrays that walks are made in have room for a number of each element
+pub record Arrays (marks from found layers : List ℕ) : Type 0 where
+  pub marks-room : length marks ≡ 2001
+  pub from-room : length from ≡ 2001
+  pub found-room : length found ≡ 2001
+  pub layers-room : length layers ≡ 2001
+
 -- the first n numbers of `from` are all cells, or all lower elements
 pub record Cells (m : Bytes) (from : List ℕ) (n : ℕ) : Type 0 where
   pub each : All (Cell m) (take n from)

@@ -3,6 +3,10 @@ use layout::byte_at;
 use layout::number_at;
 use layout::put_number_at;
 use mesh::inner::below_of;
+use mesh::inner::cell_count;
+use mesh::inner::elements_of;
+use mesh::inner::first_cell;
+use mesh::inner::record_count;
 use visits::inner::entry;
 use visits::inner::step_down;
 use visits::inner::step_up;
@@ -27,6 +31,18 @@ pub struct MeshSizes {
     pub records: usize,
     pub first: usize,
     pub cells: usize,
+}
+
+// Counts them.
+pub fn sizes_of(m: &[u8]) -> MeshSizes
+    ensures { λ s. ⌜ Sized (now (m .entry)) s ⌝ }
+{
+    MeshSizes {
+        elements: elements_of(m),
+        records: record_count(m),
+        first: first_cell(m),
+        cells: cell_count(m),
+    }
 }
 
 // Down from the first n cells of `from` to the elements of dimension a.
@@ -139,6 +155,16 @@ pub fn copy_part(src: &[u16], at: usize, n: usize, dst: &mut [u16], to: usize)
 {
     for j in 0..n {
         dst[to + j] = src[at + j];
+    }
+}
+
+// Sets all numbers of a list to 0.
+pub fn clear(list: &mut [u16])
+    requires { ⌜ length (now list) ≡ 2001 ⌝ }
+    ensures { λ _. ⌜ Zeros 2001 (now (list .exit)) ⌝ }
+{
+    for j in 0..list.len() {
+        list[j] = 0;
     }
 }
 

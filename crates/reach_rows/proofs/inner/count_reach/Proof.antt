@@ -1,7 +1,7 @@
 -- `reach_rows::inner::count_reach` meets its contract. Assumes nothing.
+use mathlib.Core.Path.{sym, _∙_}
 use native.Mathlib.Omega.{arith}
-use Rattle.vocabulary.specs.ListLaws.{zeros}
-use Rattle.reach_rows.proofs.RowLaws.{reach-counted, row-starts, site-first, site-cells, site-last, space-after}
+use Rattle.reach_rows.proofs.RowLaws.{reach-counted, row-starts, first-small, cells-small, last-small, space-after}
 use borrow.Author.Needs.{needs}
 use Rattle.reach_rows.proofs.inner.count_reach.Statement.{statement}
 use Rattle.reach_rows.proofs.inner.count_reach.Tie as tie
@@ -11,37 +11,57 @@ count-reach-spec =
     tie.close
     (tie.spec
     (λ c κs.
-    let start = c .before .before .before .before .before .before .before .before .before .before in
-    (site-last _ _ _ _ _ _ _ _ _ _ (start .pre .0), start .pre .3 .from-long))
-    (λ c. search needs)
+    let start = c .before .before .before .before .before .before .before .before .before .before .before in
+    (last-small _ _ (start .pre .0 .mesh) (start .pre .1), start .pre .6 .from-long))
     (λ c κs.
-    let at-row-cells = c .before .before .before .before .before .before in
-    let start = at-row-cells .before .before .before .before .before .before .before .before .before .before .before in (
-      start .pre .0 .ground,
-      record { elements-is = start .pre .0 .e-is; records-is = start .pre .0 .r-is; first-is = start .pre .0 .first-is; cells-is = start .pre .0 .cells-is },
+    let start = c .before .before .before .before .before .before .before .before .before .before .before .before .before .before .before in
+    start .pre .6 .layers-long)
+    (λ c κs.
+    let at-clear = c .before .before .before .before .before .before in
+    let at-row-cells = at-clear .before .before .before .before in
+    let start = at-row-cells .before .before .before .before .before .before .before .before .before .before .before .before in (
+      start .pre .0,
       start .pre .1,
-      row-starts _ _ _ _ _ _ _ _ _ _ (start .pre .0) _ _ _ _ (at-row-cells .row-cells .ensures),
-      omega (arith, start .pre .0 .n-is),
-      start .pre .0 .n-few,
-      start .pre .2,
-      start .pre .3 .fresh,
+      start .pre .4,
+      row-starts _ _ (start .pre .0 .mesh) (start .pre .1) _ _ _ _ (at-row-cells .row-cells .ensures),
+      omega (arith, start .pre .2),
+      start .pre .3,
+      start .pre .5,
+      start .pre .6 .fresh,
       at-row-cells .row-cells .ensures .room,
-      start .pre .3 .found-long,
-      zeros 2001,
+      start .pre .6 .found-long,
+      at-clear .clear .ensures,
     ))
-    (λ c. search needs)
     (λ c κs.
-    let midway = c .before .before .before .before .before .before .before .before .before .before .before .before .before in
-    let start = midway .before .before .before .before .before .before .before .before .before .before .before .before .before in
-    (site-first _ _ _ _ _ _ _ _ _ _ (start .pre .0), omega (arith, site-cells _ _ _ _ _ _ _ _ _ _ (start .pre .0))))
-    (λ c. search needs)
-    (λ c. search needs)
-    (λ c. search needs)
+    let midway = c .before .before .before .before .before .before .before .before .before .before .before .before .before .before .before .before in
+    let start = midway .before .before .before .before .before .before .before .before .before .before .before .before .before .before .before .before in
+    (first-small _ _ (start .pre .0 .mesh) (start .pre .1), omega (arith, cells-small _ _ (start .pre .0 .mesh) (start .pre .1))))
     (λ c.
-    let at-walk = c .before .before .before .before .before .before .before .before .before in
-    let at-row-cells = at-walk .before .before .before .before .before .before .before in
-    let start = at-row-cells .before .before .before .before .before .before .before .before .before .before .before in (
-      reach-counted _ _ _ _ _ _ _ _ _ _ (start .pre .0) _ _ _ _ _ _ _ _ _ _ _ _ _ (at-row-cells .row-cells .ensures) (at-walk .walk .ensures .0) (c .count-row .ensures .0),
-      omega (arith, c .count-row .ensures .1, site-cells _ _ _ _ _ _ _ _ _ _ (start .pre .0)),
-      space-after _ _ _ _ _ _ _ _ _ _ (start .pre .0) _ _ _ _ _ _ _ _ _ (at-walk .walk .ensures .0),
+    let at-walk = c .before .before .before .before .before .before .before .before .before .before in
+    let midway = at-walk .before .before .before .before .before .before .before .before .before .before .before .before .before .before .before .before in
+    let start = midway .before .before .before .before .before .before .before in
+    at-walk .walk .ensures .0 .gathered .size ∙ sym (start .pre .6 .fresh .size))
+    (λ c.
+    let at-walk = c .before .before .before .before .before .before .before .before .before .before in
+    let midway = at-walk .before .before .before .before .before .before .before .before .before .before .before .before .before .before .before .before in
+    let start = midway .before .before .before .before .before .before .before in
+    at-walk .walk .ensures .0 .room ∙ sym (start .pre .6 .from-long))
+    (λ c.
+    let at-walk = c .before .before .before .before .before .before .before .before .before .before in
+    let midway = at-walk .before .before .before .before .before .before .before .before .before .before .before .before .before .before .before .before in
+    let start = midway .before .before .before .before .before .before .before in
+    at-walk .walk .ensures .0 .gathered .room ∙ sym (start .pre .6 .found-long))
+    (λ c.
+    let at-walk = c .before .before .before .before .before .before .before .before .before .before in
+    let midway = at-walk .before .before .before .before .before .before .before .before .before .before .before .before .before .before .before .before in
+    let start = midway .before .before .before .before .before .before .before in
+    at-walk .walk .ensures .0 .size ∙ sym (start .pre .6 .layers-long))
+    (λ c.
+    let at-walk = c .before .before .before .before .before .before .before .before .before .before in
+    let at-row-cells = at-walk .before .before .before .before .before .before .before .before .before .before .before in
+    let start = at-row-cells .before .before .before .before .before .before .before .before .before .before .before .before in (
+      reach-counted _ _ _ _ _ _ _ (start .pre .0) (start .pre .1) (start .pre .2) _ _ _ _ _ _ _ _ _ _ _ _ _ (at-row-cells .row-cells .ensures)
+          (at-walk .walk .ensures .0) (c .count-row .ensures .0),
+      omega (arith, c .count-row .ensures .1, cells-small _ _ (start .pre .0 .mesh) (start .pre .1)),
+      space-after _ _ _ _ _ _ _ _ _ _ _ _ (at-walk .walk .ensures .0),
     )))

@@ -1,7 +1,8 @@
 -- `reaches::table::reach_table` meets its contract. Assumes nothing.
-use native.Mathlib.Omega.{arith}
+use mathlib.Core.Path.{refl}
+use Rattle.vocabulary.specs.ListLaws.{zeros}
+use Rattle.mesh.proofs.MeetLaws.{under-none}
 use Rattle.walks.proofs.GroundLaws.{grounded}
-use Rattle.mesh.specs.WalkLaws.{stencil-parts}
 use borrow.Author.Needs.{needs}
 use Rattle.reaches.proofs.table.reach_table.Statement.{statement}
 use Rattle.reaches.proofs.table.reach_table.Tie as tie
@@ -11,18 +12,40 @@ reach-table-spec =
     tie.close
     (tie.spec
     (λ c κs. search needs)
-    (λ c κs. search needs)
-    (λ c κs. search needs)
-    (λ c κs. search needs)
-    (λ c. omega (arith, stencil-parts _ _ (c .before .before .before .before .before .before .before .before .pre .1) .0))
     (λ c. search needs)
     (λ c. search needs)
     (λ c. search needs)
-    (λ c κs. search needs)
+    (λ c κs.
+    let at-sizes-of = c .before .before .before in
+    let start = at-sizes-of .before .before .before .before .before in (
+      start .pre .0,
+      at-sizes-of .sizes-of .ensures .elements-is,
+      at-sizes-of .sizes-of .ensures .records-is,
+      at-sizes-of .sizes-of .ensures .first-is,
+      at-sizes-of .sizes-of .ensures .cells-is,
+    ))
     (λ c. search needs)
     (λ c. search needs)
     (λ c. search needs)
-    (λ c κs. (grounded _ (c .before .before .before .before .before .before .before .before .before .before .before .before .before .before .before .before .before .before .before .before .pre .0) _ _ (c .before .before .before .before .before .before .before .before .before .before .before .before .before .first-cell .ensures) (c .before .before .before .before .before .before .before .before .before .before .before .before .cell-count .ensures .0) _ (c .before .before .before .before .before .before .before .before .before .before .before .before .before .before .before .before .before .before .before .before .pre .1) _ _ _ _ (c .before .before .before .before .before .before .before .before .invert .ensures), c .before .before .before .before .before .before .before .before .before .before .before .before .before .before .before .elements-of .ensures .0, c .before .before .before .before .before .before .before .before .before .before .before .before .before .before .record-count .ensures .0, c .before .before .before .before .before .before .before .before .before .before .before .before .before .first-cell .ensures, c .before .before .before .before .before .before .before .before .before .before .before .before .cell-count .ensures .0, omega (arith, stencil-parts _ _ (c .before .before .before .before .before .before .before .before .before .before .before .before .before .before .before .before .before .before .before .before .pre .1) .0), omega (arith, stencil-parts _ _ (c .before .before .before .before .before .before .before .before .before .before .before .before .before .before .before .before .before .before .before .before .pre .1) .1), (c .before .before .before .before .before .before .before .before .before .before .before .before .before .before .before .before .before .before .before .before .pre .2), (c .before .before .before .before .before .before .before .before .before .before .before .before .before .before .before .before .before .before .before .before .pre .3)))
     (λ c. search needs)
     (λ c. search needs)
-    (λ c. search needs))
+    (λ c. search needs)
+    (λ c. search needs)
+    (λ c κs.
+    let at-invert = c .before .before .before .before .before .before .before .before .before .before .before .before in
+    let at-sizes-of = at-invert .before .before .before .before in
+    let start = at-sizes-of .before .before .before .before .before in (
+      grounded _ (start .pre .0) _ _ (at-sizes-of .sizes-of .ensures .first-is) (at-sizes-of .sizes-of .ensures .cells-is) _ (start .pre .1) _ _ _ _ (at-invert .invert .ensures),
+      at-sizes-of .sizes-of .ensures,
+      under-none,
+      refl,
+      refl,
+      zeros 2001,
+      start .pre .2,
+      start .pre .3,
+    ))
+    (λ c. search needs)
+    (λ c. search needs)
+    (λ c.
+    let at-reach-all = c .before .before .before .before .before .before .before .before in
+    at-reach-all .reach-all .ensures .0))

@@ -8,12 +8,13 @@ pub link-spec : {M : Type 1} → statement M
 link-spec =
     tie.close
     (tie.spec
-    (λ c κs. search needs)
-    (λ c κs. search needs)
-    (λ c κs. search needs)
-    (λ c κs. search needs)
-    (λ c κs. search needs)
+    (λ c κs.
+    let start = c .before .before .before .before .before .before .before .before in
+    (start .pre .0, start .pre .1 .elements-is, start .pre .1 .records-is, start .pre .1 .first-is, start .pre .1 .cells-is))
     (λ c. search needs)
     (λ c. search needs)
     (λ c. search needs)
-    (λ c. linked _ _ _ _ _ _ _ _ _ _ _ (c .before .before .before .before .before .before .before .before .before .before .before .before .before .before .before .before .before .before .before .pre .0) (c .before .before .before .before .before .before .before .before .before .before .before .first-cell .ensures) (c .before .before .before .before .before .before .before .before .before .before .cell-count .ensures .0) (c .before .before .before .before .before .before .before .before .before .before .before .before .before .before .before .before .before .before .before .pre .1) (c .before .before .before .before .before .before .before .before .before .before .before .before .before .before .before .before .before .before .before .pre .2) (c .before .before .before .before .before .before .before .before .before .before .before .before .before .before .before .before .before .before .before .pre .3) (c .before .before .before .before .before .before .before .before .before .before .before .before .before .before .before .before .before .before .before .pre .4) (c .before .before .before .before .before .before .invert .ensures)))
+    (λ c.
+    let at-invert = c .before .before .before .before .before .before in
+    let start = at-invert .before .before .before .before .before .before .before .before .before in
+    linked _ _ _ _ _ _ _ _ _ _ (start .pre .0) (start .pre .1) (start .pre .2) (start .pre .3) (start .pre .4) (start .pre .5) (at-invert .invert .ensures)))

@@ -11,6 +11,21 @@ pub overflow-number-spec : {M : Type 1} → statement M
 overflow-number-spec =
     tie.close
     (tie.spec
-    (λ c κs. (c .before .before .before .before .before .before .pre .0, map-facts _ _ _ [] (c .before .before .before .before .before .before .pre .1) .few))
-    (λ c. (overflow-twelve _ _ _ _ _ (c .before .walk-parts .ensures) (c .if1 .taken), omega arith))
-    (λ c. (overflow-thirteen _ _ _ _ _ (c .before .walk-parts .ensures) (c .if1 .left) (c .before .before .before .before .before .before .before .before .pre .2), omega arith)))
+    (λ c κs.
+    let start = c .before .before .before .before .before .before .before .before .before .before .before .before .before .before in
+    (start .pre .0, start .pre .1, map-facts _ _ _ [] (start .pre .2) .few, start .pre .4))
+    (λ c. search needs)
+    (λ c. search needs)
+    (λ c. search needs)
+    (λ c. search needs)
+    (λ c.
+    let at-count-all = c .before .before .before .before .before .before .before .before .before in
+    (overflow-twelve _ _ _ _ _ (at-count-all .count-all .ensures) (c .if1 .taken), omega arith))
+    (λ c. search needs)
+    (λ c. search needs)
+    (λ c. search needs)
+    (λ c. search needs)
+    (λ c.
+    let at-count-all = c .before .before .before .before .before .before .before .before .before in
+    let start = at-count-all .before .before .before .before .before .before .before .before .before .before .before .before .before .before .before in
+    (overflow-thirteen _ _ _ _ _ (at-count-all .count-all .ensures) (c .if1 .left) (start .pre .3), omega arith)))

@@ -1,12 +1,12 @@
--- `near_cells::rows::clear` meets its contract. The invariant: the numbers before place j are 0. Assumes nothing.
+-- `walks::steps::clear` meets its contract. The invariant: the numbers before place j are 0. Assumes nothing.
 use mathlib.Core.Path.{_≡_, refl}
 use Prim.Native.Nat.{ℕ, _-_, _≤_, _<_}
 use native.Mathlib.Omega.{arith}
 use lib.ListN.{length, getD}
-use Rattle.near_cells.proofs.RowLaws.{clear-turn, clear-end}
+use Rattle.walks.proofs.WalkLaws.{clear-turn, clear-end}
 use borrow.Author.Needs.{needs}
-use Rattle.near_cells.proofs.rows.clear.Statement.{statement}
-use Rattle.near_cells.proofs.rows.clear.Tie as tie
+use Rattle.walks.proofs.steps.clear.Statement.{statement}
+use Rattle.walks.proofs.steps.clear.Tie as tie
 
 abbrev Inv-loop : tie.InvT-loop
 Inv-loop list₀ j₀ j-end list j = (j ≤ j-end) × (j-end ≡ length list₀) × (length list ≡ length list₀) × ((i : ℕ) → i < j → getD list i 0 ≡ 0)
