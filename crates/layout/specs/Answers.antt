@@ -1,4 +1,4 @@
--- What a call answers. "A refusal gives its number and zero for every count." Assumes nothing.
+-- What a call answers. "A refusal gives its number and zero for every count". Assumes nothing.
 use mathlib.Core.Bool.{cond}
 use Prim.Native.Nat.{ℕ}
 use lib.Dec.{eqb}

@@ -62,7 +62,7 @@ elementIn m i = wordAt m (4 + elements m + 2 * i)
 unfoldable pub nextOf : Bytes → ℕ → ℕ
 nextOf m i = wordAt m (5 + elements m + 2 * i)
 
--- at most n records, from record i on, each the next of the one before. "Zero ends a chain."
+-- at most n records, from record i on, each the next of the one before: "zero ends a chain"
 unfoldable pub follow : Bytes → ℕ → ℕ → List ℕ
 follow m zero i = []
 follow m (suc n) i = elim (eqb i 0) [ true ↦ [] | false ↦ i ∷ follow m n (nextOf m i) ]

@@ -18,7 +18,7 @@ use Rattle.states.specs.State.{isState}
 use Rattle.parts.specs.Calls.{writeNumber, sentMessage, message, writeState, writeOut, takeNumber, takeState, advanceNumber, advanceState, collectNumber, collectOut}
 use Rattle.starts.specs.Start.{startNumber, startState, sizeNumber, stateSize}
 
--- "Each call is on one part, and gets that part's state." The first number is the part; a write is lent an output, a take is handed any bytes,
+-- "Each call is on one part, and gets that part's state". The first number is the part; a write is lent an output, a take is handed any bytes,
 -- a collect names a round and is lent a field.
 pub data Call : Type 0 where
   write : ℕ → ℕ → Bytes → Call
@@ -180,7 +180,7 @@ pub record StatesKept : Type 0 where
   pub taken : (b x : Bytes) → isState b ≡ true → isState (takeState b x) ≡ true
   pub advanced : (b : Bytes) → isState b ≡ true → isState (advanceState b) ≡ true
 
--- "A state needs at most 200 + 40 × (held cells + reach sizes of owned cells + export entries) bytes."
+-- "A state needs at most 200 + 40 × (held cells + reach sizes of owned cells + export entries) bytes"
 unfoldable pub StateBound : Type 0
 StateBound =
     (m owners st : Bytes) (parts i : ℕ) → sizeNumber m parts owners i st ≡ 0

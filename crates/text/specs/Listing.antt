@@ -1,6 +1,6 @@
 -- What the list program prints, for any input. Assumes nothing.
 --
--- "The list program reads from standard input the mesh, a byte P, the owners, a byte stencil length, the stencil."
+-- "The list program reads from standard input the mesh, a byte P, the owners, a byte stencil length, the stencil"
 use mathlib.Core.Bool.{cond}
 use mathlib.Core.List.{List, [], _∷_, _++_, map}
 use Prim.Native.Nat.{ℕ, zero, suc, _+_, _/_, _%_}
