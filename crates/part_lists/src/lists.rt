@@ -15,7 +15,7 @@ use split::inner::INTERIOR;
 use split::inner::MOST_CELLS;
 use split::inner::classify;
 use split::inner::prepare;
-use split::split_number;
+use split::inner::split_number;
 use word_lists::inner::give;
 ghost use mathlib.Core.Path.{_≡_};
 ghost use mathlib.Core.List.{[], _∷_};
@@ -23,11 +23,11 @@ ghost use Prim.Native.Nat.{_≤_};
 ghost use lib.ListN.{length};
 ghost use Rattle.mesh.specs.Mesh.{top};
 ghost use Rattle.walks.specs.Walking.{Ground};
-ghost use Rattle.split.specs.Lists.{splitNumber, listAnswer, listOut};
+ghost use Rattle.split.specs.Lists.{listAnswer, listOut};
 ghost use Rattle.split.specs.Classes.{Added};
 ghost use Rattle.ranges.specs.Lowers.{rangeOf};
 ghost use Rattle.word_lists.specs.Putting.{givenAnswer, givenOut};
-ghost use Rattle.part_lists.specs.Giving.{meant, Names, rowOf, chosen, namedAnswer, namedOut};
+ghost use Rattle.part_lists.specs.Giving.{meant, Names, rowOf, chosen};
 
 // The lists that can be asked for. An import or export list names the other part, and a range its dimension; both stand beside it.
 pub enum Wanted {
@@ -155,9 +155,9 @@ fn list_given(
     give(list, n, out)
 }
 
-// The list, where the tests up to 10 are passed. Once the row of classes is made the ends of the reaches are not needed, and the list is made in
-// their array.
-fn list_passed(
+// The call: it names the parts i and j and the dimension k, as far as the list wanted asks for them. The mesh is tested in arrays that hold the links
+// and the ends of the reaches afterwards. Once the row of classes is made those ends are not needed, and the list is made in their array.
+pub fn list(
     wanted: Wanted,
     m: &[u8],
     parts: u32,
@@ -168,14 +168,18 @@ fn list_passed(
     st: &[u8],
     out: &mut [u8],
 ) -> Answer
-    requires { ⌜ splitNumber (now m) parts (now owners) (i ∷ j ∷ []) (now st) ≡ 0 ⌝ }
-    ensures { λ r. ⌜ (r ≡ namedAnswer wanted (now (m .entry)) parts (now (owners .entry)) i j k (now (st .entry)) (now (out .entry))) × (now (out .exit) ≡ namedOut wanted (now (m .entry)) parts (now (owners .entry)) i j k (now (st .entry)) (now (out .entry))) ⌝ }
+    requires { ⌜ Names wanted i j ⌝ }
+    ensures { λ r. ⌜ (r ≡ listAnswer (now (m .entry)) parts (now (owners .entry)) i (now (st .entry)) (meant wanted j k) (now (out .entry))) × (now (out .exit) ≡ listOut (now (m .entry)) parts (now (owners .entry)) i (now (st .entry)) (meant wanted j k) (now (out .entry))) ⌝ }
 {
     let mut cell = [0u16; 12001];
+    let mut ends = [0u16; 2001];
+    let number = split_number(m, parts, owners, i, j, st, &mut cell, &mut ends);
+    if number != 0 {
+        return Answer::Refused(number);
+    }
     let mut prev = [0u16; 12001];
     let mut last = [0u16; 2001];
     let mut table = [0u8; 32000];
-    let mut ends = [0u16; 2001];
     let mut holders = [0u8; MOST_CELLS];
     let mut class = [0u8; MOST_CELLS];
     let number = prepare(
@@ -217,26 +221,4 @@ fn list_passed(
         &mut ends,
         out,
     )
-}
-
-// The call: it names the parts i and j and the dimension k, as far as the list wanted asks for them.
-pub fn list(
-    wanted: Wanted,
-    m: &[u8],
-    parts: u32,
-    owners: &[u8],
-    i: u32,
-    j: u32,
-    k: u32,
-    st: &[u8],
-    out: &mut [u8],
-) -> Answer
-    requires { ⌜ Names wanted i j ⌝ }
-    ensures { λ r. ⌜ (r ≡ listAnswer (now (m .entry)) parts (now (owners .entry)) i (now (st .entry)) (meant wanted j k) (now (out .entry))) × (now (out .exit) ≡ listOut (now (m .entry)) parts (now (owners .entry)) i (now (st .entry)) (meant wanted j k) (now (out .entry))) ⌝ }
-{
-    let number = split_number(m, parts, owners, i, j, st);
-    if number != 0 {
-        return Answer::Refused(number);
-    }
-    list_passed(wanted, m, parts, owners, i, j, k, st, out)
 }
