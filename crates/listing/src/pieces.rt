@@ -13,46 +13,9 @@ ghost use mathlib.Core.Path.{_≡_};
 ghost use Prim.Native.Nat.{_≤_};
 ghost use lib.ListN.{length, take, drop};
 ghost use Rattle.mesh.specs.Mesh.{meshLength};
-ghost use Rattle.split.specs.Split.{splitOf};
-ghost use Rattle.walks.specs.Walking.{Ground};
-ghost use Rattle.split.specs.Classes.{Prepared};
-ghost use Rattle.text.specs.Listing.{splitText, listText};
+ghost use Rattle.text.specs.Listing.{listText};
 ghost use Rattle.text.specs.Printing.{Printed};
 ghost use Rattle.listing.specs.Pieces.{Listed, piecesText, stencilText, lastText, ownersText, mapText};
-
-// The number of parts, and the parts.
-fn put_split(
-    m: &[u8],
-    parts: usize,
-    owners: &[u8],
-    st: &[u8],
-    cell: &[u16],
-    prev: &[u16],
-    last: &[u16],
-    table: &[u8],
-    ends: &[u16],
-    holders: &[u8],
-    out: &mut [u8],
-) -> usize
-    requires { ⌜ Prepared (now m) parts (now owners) (now st) (now table) (now ends) (now holders) × Ground (now m) (now st) (now cell) (now prev) (now last) × (parts ≤ 16) ⌝ }
-    ensures { λ t. ⌜ Printed (now (out .entry)) (now (out .exit)) 0 t (splitText (now (m .entry)) (splitOf (now (m .entry)) parts (now (owners .entry)) (now (st .entry)))) ⌝ }
-{
-    let t = put_line(b"parts", parts, out, 0);
-    put_parts(
-        m,
-        parts,
-        owners,
-        st,
-        cell,
-        prev,
-        last,
-        table,
-        ends,
-        holders,
-        out,
-        t,
-    )
-}
 
 // The tests up to 10 are asked for the parts 1 and 1, which any map has. The mesh is tested in arrays that hold the links and the ends of the reaches
 // afterwards.
@@ -86,7 +49,8 @@ fn list_pieces(m: &[u8], parts: u32, owners: &[u8], st: &[u8], out: &mut [u8]) -
     if number != 0 {
         return put_line(b"refused", number as usize, out, 0);
     }
-    put_split(
+    let t = put_line(b"parts", parts as usize, out, 0);
+    put_parts(
         m,
         parts as usize,
         owners,
@@ -98,6 +62,7 @@ fn list_pieces(m: &[u8], parts: u32, owners: &[u8], st: &[u8], out: &mut [u8]) -
         &ends,
         &holders,
         out,
+        t,
     )
 }
 

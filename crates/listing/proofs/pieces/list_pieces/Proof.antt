@@ -5,7 +5,7 @@ use native.Mathlib.Omega.{arith}
 use lib.ListN.{length-replicate}
 use Rattle.vocabulary.specs.ListLaws.{zeros}
 use Rattle.split.proofs.PassedLaws.{passed-facts}
-use Rattle.listing.proofs.PieceLaws.{refused-split, refused-sizes, passed-all}
+use Rattle.listing.proofs.PieceLaws.{refused-split, refused-sizes, passed-all, split-told}
 use borrow.Author.Needs.{needs}
 use Rattle.listing.proofs.pieces.list_pieces.Statement.{statement}
 use Rattle.listing.proofs.pieces.list_pieces.Tie as tie
@@ -21,7 +21,8 @@ list-pieces-spec =
     (λ c. search needs)
     (λ c κs. search needs)
     (λ c. search needs)
-    (λ c. let at-put-line = c .before .before in
+    (λ c.
+    let at-put-line = c .before .before in
     let at-if1 = at-put-line .before .before .before in
     let at-split-number = at-if1 .before .before .before in
     refused-split _ _ _ _ _ _ _ _ (at-split-number .split-number .ensures) (at-if1 .if1 .taken) (at-put-line .put-line .ensures))
@@ -32,7 +33,8 @@ list-pieces-spec =
     (λ c. search needs)
     (λ c. search needs)
     (λ c. search needs)
-    (λ c κs. let at-if1 = c .before .before .before .before .before .before .before in
+    (λ c κs.
+    let at-if1 = c .before .before .before .before .before .before .before in
     let at-split-number = at-if1 .before .before .before in
     let f = passed-facts _ _ _ _ _ _ (sym (at-split-number .split-number .ensures) ∙ at-if1 .if1 .left) in
     (f .mesh, f .map, f .stencil, search needs, refl, refl, refl, search needs, refl, refl))
@@ -40,27 +42,34 @@ list-pieces-spec =
     (λ c. search needs)
     (λ c κs. search needs)
     (λ c. search needs)
-    (λ c. let at-put-line2 = c .before .before in
+    (λ c.
+    let at-put-line2 = c .before .before in
     let at-if2 = at-put-line2 .before .before .before in
     let at-prepare = at-if2 .before .before .before .before .before .before .before .before in
     let at-if1 = at-prepare .before .before .before .before .before .before .before .before in
     let at-split-number = at-if1 .before .before .before in
     refused-sizes _ _ _ _ _ _ _ (sym (at-split-number .split-number .ensures) ∙ at-if1 .if1 .left) _ (at-prepare .prepare .ensures .0) (at-if2 .if2 .taken) (at-put-line2 .put-line2 .ensures))
     (λ c. search needs)
+    (λ c κs. search needs)
     (λ c. search needs)
     (λ c. search needs)
     (λ c. search needs)
     (λ c. search needs)
     (λ c. search needs)
-    (λ c κs. let at-if2 = c .before .before .before .before .before .before .before in
+    (λ c. search needs)
+    (λ c κs.
+    let at-if2 = c .before .before .before .before .before .before .before .before .before .before .before .before in
     let at-prepare = at-if2 .before .before .before .before .before .before .before .before in
     let at-if1 = at-prepare .before .before .before .before .before .before .before .before in
     let at-split-number = at-if1 .before .before .before in
     (at-prepare .prepare .ensures .1 (at-if2 .if2 .left), at-prepare .prepare .ensures .2, passed-facts _ _ _ _ _ _ (sym (at-split-number .split-number .ensures) ∙ at-if1 .if1 .left) .few))
     (λ c. search needs)
-    (λ c. let at-put-split = c .before .before in
-    let at-if2 = at-put-split .before .before .before .before .before .before .before .before in
+    (λ c.
+    let at-put-parts = c .before .before in
+    let at-put-line3 = at-put-parts .before .before .before .before .before .before .before .before .before .before in
+    let at-if2 = at-put-line3 .before .before .before in
     let at-prepare = at-if2 .before .before .before .before .before .before .before .before in
     let at-if1 = at-prepare .before .before .before .before .before .before .before .before in
     let at-split-number = at-if1 .before .before .before in
-    passed-all _ _ _ _ _ _ _ (sym (at-split-number .split-number .ensures) ∙ at-if1 .if1 .left) _ (at-prepare .prepare .ensures .0) (at-if2 .if2 .left) (at-put-split .put-split .ensures)))
+    passed-all _ _ _ _ _ _ _ (sym (at-split-number .split-number .ensures) ∙ at-if1 .if1 .left) _ (at-prepare .prepare .ensures .0) (at-if2 .if2 .left)
+    (split-told _ _ _ _ _ _ _ _ _ (at-put-line3 .put-line3 .ensures) (at-put-parts .put-parts .ensures))))
