@@ -29,8 +29,8 @@ extern "C" {
  * Stack in bytes that calls need at most, as measured (.ci/stack.c does it anew at every test) and rounded up. Calls use
  * no heap. A thread with less stack than this ends with a fault: nothing in a call tests how much there is.
  */
-#define JEM_STACK 137216       /* any call: the lists, jem_state_size and jem_start come near it */
-#define JEM_STACK_ROUND 131072 /* jem_round */
+#define JEM_STACK 118784       /* any call: the lists, jem_state_size and jem_start come near it */
+#define JEM_STACK_ROUND 118784 /* jem_round, which goes deepest */
 #define JEM_STACK_CHECK 40960  /* jem_check_mesh */
 #define JEM_STACK_STATE 10240  /* jem_write, jem_take, jem_advance, jem_collect */
 

@@ -37,7 +37,9 @@ trail-same cell prev cell′ prev′ t low same zero n′ s a b c =
 trail-same cell prev cell′ prev′ t low same (suc n) zero s a b c =
     let z : s ≡ 0 = omega arith in
     rw z (trail-end cell′ prev′ 0 ∙ sym (trail-end cell prev (suc n)))
-trail-same cell prev cell′ prev′ t low same (suc n) (suc n′) s a b c = go (eqb s 0) refl (λ l. trail-same cell prev cell′ prev′ t low same n n′ (getD prev s 0) (omega (arith, low s l c)) (omega (arith, low s l c)) (omega (arith, low s l c)))
+trail-same cell prev cell′ prev′ t low same (suc n) (suc n′) s a b c =
+    go (eqb s 0) refl
+    (λ l. trail-same cell prev cell′ prev′ t low same n n′ (getD prev s 0) (omega (arith, low s l c)) (omega (arith, low s l c)) (omega (arith, low s l c)))
   where
     go : (x : Bool) → eqb s 0 ≡ x → (1 ≤ s → trail cell′ prev′ n′ (getD prev s 0) ≡ trail cell prev n (getD prev s 0)) → trail cell′ prev′ (suc n′) s ≡ trail cell prev (suc n) s
     go true e ih = let z : s ≡ 0 = eqb-true s 0 e in rw z (trail-end cell′ prev′ (suc n′) ∙ sym (trail-end cell prev (suc n)))
@@ -158,39 +160,43 @@ linked-all c (links t cell prev last) W (g ∷ gs) K room a once =
     join x out true e false f = refl
     join x out false e q f = refl
 
-abbrev pub empty : Links
-empty = links 0 (replicate 12001 0) (replicate 12001 0) (replicate 2001 0)
+-- no entries: whatever stands in the tables is not read
+abbrev pub empty : List ℕ → List ℕ → Links
+empty cell prev = links 0 cell prev (replicate 2001 0)
 
-linked-none : LinkedAs empty (λ x. [])
-unfolding trail
-linked-none = record {
-  cells-long = length-replicate {A = ℕ} 12001 0;
-  prev-long = length-replicate {A = ℕ} 12001 0;
-  last-long = length-replicate {A = ℕ} 2001 0;
-  falls = λ s l h. let z : ⊥ = omega arith in absurd z;
-  within = λ x. omega (arith, zeros-at 2001 x);
-  told = λ x h. refl;
-}
+module _ (cell prev : List ℕ) where
+  pub count-cells : (m : Bytes) (first n : ℕ) → entries (linkCells m first n (empty cell prev)) ≡ length (blocks first n (chain m))
+  unfolding linkCells blocks
+  count-cells m first zero = refl
+  count-cells m first (suc n) =
+      linkAll-count (first + n) (linkCells m first n (empty cell prev)) (chain m (first + n))
+      ∙ ap (λ x. x + length (chain m (first + n))) (count-cells m first n)
+      ∙ sym (length-append (blocks first n (chain m)) (chain m (first + n)))
 
-pub count-cells : (m : Bytes) (first n : ℕ) → entries (linkCells m first n empty) ≡ length (blocks first n (chain m))
-unfolding linkCells blocks
-count-cells m first zero = refl
-count-cells m first (suc n) =
-    linkAll-count (first + n) (linkCells m first n empty) (chain m (first + n))
-    ∙ ap (λ x. x + length (chain m (first + n))) (count-cells m first n)
-    ∙ sym (length-append (blocks first n (chain m)) (chain m (first + n)))
+  module _ (cl : length cell ≡ 12001) (pl : length prev ≡ 12001) where
+    linked-none : LinkedAs (empty cell prev) (λ x. [])
+    unfolding trail
+    linked-none = record {
+      cells-long = cl;
+      prev-long = pl;
+      last-long = length-replicate {A = ℕ} 2001 0;
+      falls = λ s l h. let z : ⊥ = omega arith in absurd z;
+      within = λ x. omega (arith, zeros-at 2001 x);
+      told = λ x h. refl;
+    }
 
-pub linked-cells : (m : Bytes) (first n : ℕ) → length (blocks first n (chain m)) ≤ 12000
-    → ((j : ℕ) → j < n → All (λ g. g ≤ 2000) (chain m (first + j)) × (repeats (chain m (first + j)) ≡ false)) → LinkedAs (linkCells m first n empty) (cellsWith m first n)
-unfolding linkCells cellsWith pickedDown
-linked-cells m first zero room a = linked-none
-linked-cells m first (suc n) room a =
-    linked-all (first + n) (linkCells m first n empty) (cellsWith m first n) (chain m (first + n))
-    (linked-cells m first n (omega (arith, split)) (λ j h. a j (omega arith)))
-    (omega (arith, count-cells m first n, split)) (a n (omega arith) .0) (a n (omega arith) .1)
-  where
-    split : length (blocks first (suc n) (chain m)) ≡ length (blocks first n (chain m)) + length (chain m (first + n))
-    split = unfold blocks in length-append (blocks first n (chain m)) (chain m (first + n))
+    pub linked-cells : (m : Bytes) (first n : ℕ) → length (blocks first n (chain m)) ≤ 12000
+        → ((j : ℕ) → j < n → All (λ g. g ≤ 2000) (chain m (first + j)) × (repeats (chain m (first + j)) ≡ false))
+        → LinkedAs (linkCells m first n (empty cell prev)) (cellsWith m first n)
+    unfolding linkCells cellsWith pickedDown
+    linked-cells m first zero room a = linked-none
+    linked-cells m first (suc n) room a =
+        linked-all (first + n) (linkCells m first n (empty cell prev)) (cellsWith m first n) (chain m (first + n))
+        (linked-cells m first n (omega (arith, split)) (λ j h. a j (omega arith)))
+        (omega (arith, count-cells m first n, split)) (a n (omega arith) .0) (a n (omega arith) .1)
+      where
+        split : length (blocks first (suc n) (chain m)) ≡ length (blocks first n (chain m)) + length (chain m (first + n))
+        split = unfold blocks in length-append (blocks first n (chain m)) (chain m (first + n))
 
 -- and so the trail of x has y exactly if y is one of the cells and x stands in its chain
 pub cells-with : (m : Bytes) (first n x y : ℕ) → isIn y (cellsWith m first n x) ≡ some first n (λ c. isIn x (chain m c) && eqb y c)

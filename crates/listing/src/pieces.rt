@@ -6,66 +6,31 @@ use mesh::inner::record_count;
 use part_text::inner::put_parts;
 use split::inner::MOST_CELLS;
 use split::inner::prepare;
-use split::split_number;
+use split::inner::split_number;
 use text::inner::put_line;
 use text::inner::put_text;
 ghost use mathlib.Core.Path.{_≡_};
-ghost use mathlib.Core.List.{[], _∷_};
 ghost use Prim.Native.Nat.{_≤_};
 ghost use lib.ListN.{length, take, drop};
 ghost use Rattle.mesh.specs.Mesh.{meshLength};
-ghost use Rattle.split.specs.Split.{splitOf};
-ghost use Rattle.split.specs.Lists.{splitNumber};
-ghost use Rattle.walks.specs.Walking.{Ground};
-ghost use Rattle.split.specs.Classes.{Prepared};
-ghost use Rattle.text.specs.Listing.{splitText, listText};
+ghost use Rattle.text.specs.Listing.{listText};
 ghost use Rattle.text.specs.Printing.{Printed};
 ghost use Rattle.listing.specs.Pieces.{Listed, piecesText, stencilText, lastText, ownersText, mapText};
 
-// The number of parts, and the parts.
-fn put_split(
-    m: &[u8],
-    parts: usize,
-    owners: &[u8],
-    st: &[u8],
-    cell: &[u16],
-    prev: &[u16],
-    last: &[u16],
-    table: &[u8],
-    ends: &[u16],
-    holders: &[u8],
-    out: &mut [u8],
-) -> usize
-    requires { ⌜ Prepared (now m) parts (now owners) (now st) (now table) (now ends) (now holders) × Ground (now m) (now st) (now cell) (now prev) (now last) × (parts ≤ 16) ⌝ }
-    ensures { λ t. ⌜ Printed (now (out .entry)) (now (out .exit)) 0 t (splitText (now (m .entry)) (splitOf (now (m .entry)) parts (now (owners .entry)) (now (st .entry)))) ⌝ }
-{
-    let t = put_line(b"parts", parts, out, 0);
-    put_parts(
-        m,
-        parts,
-        owners,
-        st,
-        cell,
-        prev,
-        last,
-        table,
-        ends,
-        holders,
-        out,
-        t,
-    )
-}
-
-// The text, where the tests up to 10 are passed. They are asked for the parts 1 and 1, which any map has.
-fn list_passed(m: &[u8], parts: u32, owners: &[u8], st: &[u8], out: &mut [u8]) -> usize
-    requires { ⌜ splitNumber (now m) parts (now owners) (1 ∷ 1 ∷ []) (now st) ≡ 0 ⌝ }
+// The tests up to 10 are asked for the parts 1 and 1, which any map has. The mesh is tested in arrays that hold the links and the ends of the reaches
+// afterwards.
+fn list_pieces(m: &[u8], parts: u32, owners: &[u8], st: &[u8], out: &mut [u8]) -> usize
     ensures { λ t. ⌜ Printed (now (out .entry)) (now (out .exit)) 0 t (piecesText (now (m .entry)) parts (now (owners .entry)) (now (st .entry))) ⌝ }
 {
     let mut cell = [0u16; 12001];
+    let mut ends = [0u16; 2001];
+    let number = split_number(m, parts, owners, 1, 1, st, &mut cell, &mut ends);
+    if number != 0 {
+        return put_line(b"refused", number as usize, out, 0);
+    }
     let mut prev = [0u16; 12001];
     let mut last = [0u16; 2001];
     let mut table = [0u8; 32000];
-    let mut ends = [0u16; 2001];
     let mut holders = [0u8; MOST_CELLS];
     let mut class = [0u8; MOST_CELLS];
     let number = prepare(
@@ -84,7 +49,8 @@ fn list_passed(m: &[u8], parts: u32, owners: &[u8], st: &[u8], out: &mut [u8]) -
     if number != 0 {
         return put_line(b"refused", number as usize, out, 0);
     }
-    put_split(
+    let t = put_line(b"parts", parts as usize, out, 0);
+    put_parts(
         m,
         parts as usize,
         owners,
@@ -96,17 +62,8 @@ fn list_passed(m: &[u8], parts: u32, owners: &[u8], st: &[u8], out: &mut [u8]) -
         &ends,
         &holders,
         out,
+        t,
     )
-}
-
-fn list_pieces(m: &[u8], parts: u32, owners: &[u8], st: &[u8], out: &mut [u8]) -> usize
-    ensures { λ t. ⌜ Printed (now (out .entry)) (now (out .exit)) 0 t (piecesText (now (m .entry)) parts (now (owners .entry)) (now (st .entry))) ⌝ }
-{
-    let number = split_number(m, parts, owners, 1, 1, st);
-    if number != 0 {
-        return put_line(b"refused", number as usize, out, 0);
-    }
-    list_passed(m, parts, owners, st, out)
 }
 
 // With a stencil that should have n bytes.

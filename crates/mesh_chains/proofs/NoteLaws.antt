@@ -131,7 +131,7 @@ module _ (m : Bytes) (k : ℕ) (items ends : List ℕ) (W : Wrote m k items ends
 
   pub wrote-more : Wrote m (k + 1) items′ (set ends (1 + k) t)
   wrote-more = record {
-    items-long = ap length ie ∙ length-sets items (length (chains m k)) (chain m (1 + k)) ∙ W .items-long;
+    items-long = omega (arith, ap length ie, length-sets items (length (chains m k)) (chain m (1 + k)), W .items-long);
     ends-long = length-set ends (1 + k) t ∙ W .ends-long;
     room = omega (arith, more-length);
     items-are = more-items;
@@ -155,7 +155,7 @@ pub record Noting (m : Bytes) (r k : ℕ) (seen : List ℕ) (t : ℕ) (items end
   pub place-is : t ≡ length (chains m k)
   pub wrote : Wrote m k items ends
 
-pub noting-start : (m : Bytes) (r : ℕ) (items ends : List ℕ) → length items ≡ 12000 → Zeros 2001 ends → Noting m r (1 - 1) unmarked 0 items ends
+pub noting-start : (m : Bytes) (r : ℕ) (items ends : List ℕ) → 12000 ≤ length items → Zeros 2001 ends → Noting m r (1 - 1) unmarked 0 items ends
 unfolding blocks meet chains
 noting-start m r items ends h z = record {
   met-is = refl;

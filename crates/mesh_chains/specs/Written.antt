@@ -34,7 +34,7 @@ chains m k = blocks 1 k (chain m)
 
 -- these chains stand in items, and ends has the place after each of them; that of element 0, which is none, is 0
 pub record Wrote (m : Bytes) (k : ℕ) (items ends : List ℕ) : Type 0 where
-  pub items-long : length items ≡ 12000
+  pub items-long : 12000 ≤ length items
   pub ends-long : length ends ≡ 2001
   pub room : length (chains m k) ≤ 12000
   pub items-are : take (length (chains m k)) items ≡ chains m k

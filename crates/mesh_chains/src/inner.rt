@@ -90,7 +90,7 @@ fn write_chain(
 
 // Whether some chain meets a record above r, or one that it or another chain met before. Where none does, all chains are written down.
 fn write_all(m: &[u8], d: usize, n: usize, r: usize, items: &mut [u16], ends: &mut [u16]) -> bool
-    requires { ⌜ Sizes (now m) d n r × (length (now items) ≡ 12000) × Zeros 2001 (now ends) ⌝ }
+    requires { ⌜ Sizes (now m) d n r × (12000 ≤ length (now items)) × Zeros 2001 (now ends) ⌝ }
     ensures { λ b. ⌜ (b ≡ someOf (allRecords (now (m .entry))) (ltb r) || repeats (allRecords (now (m .entry))))
         × (b ≡ false → Wrote (now (m .entry)) n (now (items .exit)) (now (ends .exit))) ⌝ }
 {
@@ -109,7 +109,7 @@ fn write_all(m: &[u8], d: usize, n: usize, r: usize, items: &mut [u16], ends: &m
 }
 
 pub fn bad4(m: &[u8], d: usize, n: usize, r: usize, items: &mut [u16], ends: &mut [u16]) -> bool
-    requires { ⌜ Sizes (now m) d n r × (length (now items) ≡ 12000) × Zeros 2001 (now ends) ⌝ }
+    requires { ⌜ Sizes (now m) d n r × (12000 ≤ length (now items)) × Zeros 2001 (now ends) ⌝ }
     ensures { λ b. ⌜ (b ≡ bad4 (now (m .entry))) × (b ≡ false → Written (now (m .entry)) (now (items .exit)) (now (ends .exit))) ⌝ }
 {
     let points = count_of(m, 0);

@@ -1,16 +1,13 @@
 // Whether bytes are a mesh: the tests 1 to 7.
 mod chains;
 mod head;
+pub mod inner;
 
-use chains::chain_number;
-use head::bad1;
-use head::bad2;
-use head::bad3;
+use inner::mesh_number_in;
 use layout::Answer;
 use mesh::inner::cell_count;
-use mesh::inner::elements_of;
-use mesh::inner::record_count;
-use mesh::inner::top_of;
+use mesh_chains::inner::MOST_RECORDS;
+use mesh_chains::inner::NUMBERS;
 ghost use mathlib.Core.Path.{_≡_};
 ghost use Rattle.mesh.specs.Mesh.{meshNumber, checkAnswer};
 
@@ -18,19 +15,9 @@ ghost use Rattle.mesh.specs.Mesh.{meshNumber, checkAnswer};
 pub fn mesh_number(m: &[u8]) -> u32
     ensures { λ r. ⌜ r ≡ meshNumber (now (m .entry)) ⌝ }
 {
-    if bad1(m) {
-        return 1;
-    }
-    if bad2(m) {
-        return 2;
-    }
-    if bad3(m) {
-        return 3;
-    }
-    let d = top_of(m);
-    let n = elements_of(m);
-    let r = record_count(m);
-    chain_number(m, d, n, r)
+    let mut items = [0u16; MOST_RECORDS];
+    let mut ends = [0u16; NUMBERS];
+    mesh_number_in(m, &mut items, &mut ends)
 }
 
 // Whether the bytes are a mesh: the count of its cells, or its refusal.

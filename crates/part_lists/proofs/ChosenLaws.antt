@@ -9,7 +9,7 @@ use Rattle.mesh.specs.Mesh.{firstCell, cellCount}
 use Rattle.split.specs.Split.{Split, splitOf, imports, exports, interior, halo, holdsLower, touches, another, isCopied, isShared, isExposed, isPrivate}
 use Rattle.split.specs.Lists.{listOf}
 use Rattle.split.specs.Classes.{Classed, Prepared}
-use Rattle.part_lists.specs.Giving.{meant, rowOf, chosen}
+use Rattle.part_lists.specs.Giving.{meant, rowOf, cellWords, chosen}
 use Rattle.part_lists.specs.declared.lists.Wanted.{Wanted}
 use Rattle.part_lists.specs.declared.lists.Wanted.the-variants.{Interior, Halo, Locals, Imports, Exports, Private, Exposed, Shared, Copied}
 use Rattle.cell_lists.proofs.ClassLists.{interior-is, halo-is, imports-are, order-is, picked-few, locals-few}
@@ -27,14 +27,17 @@ module _ (m : Bytes) (parts : ℕ) (owners st table : Bytes) (ends : List ℕ) (
   counted : (cells : ℕ) → cells ≡ cellCount m → (i : ℕ) (class : Bytes) → Classed owners table ends i cells class → Classed owners table ends i (cellCount m) class
   counted cells ce i class C = subst (λ n. Classed owners table ends i n class) ce C
 
-  pub chosen-is : (w : Wanted) (i j k : ℕ) → 1 ≤ i → i ≤ parts → 1 ≤ j → j ≤ parts → parts ≤ 16 → (cells : ℕ) → cells ≡ cellCount m → (class : Bytes) → Classed owners table ends (rowOf w i j) cells class
+  pub chosen-is : (w : Wanted) (i j k : ℕ) → 1 ≤ i → i ≤ parts → 1 ≤ j → j ≤ parts → parts ≤ 16 → (cells : ℕ) → cells ≡ cellCount m → (class : Bytes) → Classed owners table ends
+      (rowOf w i j) cells class
       → chosen w m parts class holders i j k ≡ listOf m S i (meant w j k)
-  unfolding chosen listOf exports isPrivate isExposed isShared isCopied
+  unfolding chosen cellWords listOf exports isPrivate isExposed isShared isCopied
   chosen-is Interior i j k il ih jl jh few cells ce class C = interior-is m parts owners st table ends holders R i (firstCell m) (cellCount m) refl refl class (counted cells ce i class C)
   chosen-is Halo i j k il ih jl jh few cells ce class C = halo-is m parts owners st table ends holders R i (firstCell m) (cellCount m) refl refl class (counted cells ce i class C)
   chosen-is Locals i j k il ih jl jh few cells ce class C = order-is m parts owners st table ends holders R i (firstCell m) (cellCount m) refl refl class (counted cells ce i class C)
-  chosen-is Imports i j k il ih jl jh few cells ce class C = imports-are m parts owners st table ends holders R i (firstCell m) (cellCount m) refl refl class (counted cells ce i class C) j jl (omega arith)
-  chosen-is Exports i j k il ih jl jh few cells ce class C = imports-are m parts owners st table ends holders R j (firstCell m) (cellCount m) refl refl class (counted cells ce j class C) i il (omega arith)
+  chosen-is Imports i j k il ih jl jh few cells ce class C = imports-are m parts owners st table ends holders R i (firstCell m) (cellCount m) refl refl class
+      (counted cells ce i class C) j jl (omega arith)
+  chosen-is Exports i j k il ih jl jh few cells ce class C = imports-are m parts owners st table ends holders R j (firstCell m) (cellCount m) refl refl class
+      (counted cells ce j class C) i il (omega arith)
   chosen-is Private i j k il ih jl jh few cells ce class C = range-is m parts owners st table ends holders R i il ih cells ce class C k 1 _ (λ e. sorts i e .0)
   chosen-is Exposed i j k il ih jl jh few cells ce class C = range-is m parts owners st table ends holders R i il ih cells ce class C k 2 _ (λ e. sorts i e .1)
   chosen-is Shared i j k il ih jl jh few cells ce class C = range-is m parts owners st table ends holders R i il ih cells ce class C k 3 _ (λ e. sorts i e .2)

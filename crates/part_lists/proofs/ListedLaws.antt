@@ -1,25 +1,45 @@
 -- Which list each kind wanted is. Assumes nothing.
-use mathlib.Core.Path.{_≡_, sym}
-use mathlib.Core.List.{List}
+use mathlib.Core.Path.{_≡_, refl, sym, ap, _∙_, subst}
+use mathlib.Core.Bool.{cond}
+use mathlib.Core.List.{List, []}
 use Prim.Native.Nat.{ℕ}
+use lib.Dec.{eqb}
+use borrow.Author.Tests.{eq-eqb, ne-eqb}
 use Rattle.vocabulary.specs.Bytes.{Bytes}
 use Rattle.mesh.specs.Mesh.{firstCell, cellCount}
-use Rattle.split.specs.Classes.{Added}
-use Rattle.split.specs.Classes.{classCells, classOrder}
-use Rattle.part_lists.specs.Giving.{chosen}
+use Rattle.split.specs.Classes.{classCells, classOrder, Added}
+use Rattle.cell_lists.proofs.AddLaws.{add-none}
+use Rattle.ranges.specs.Lowers.{rangeOf, rowRange, Lowered}
+use Rattle.ranges.proofs.LowerLaws.{range-told}
+use Rattle.part_lists.specs.Giving.{sortOf, cellWords, chosen}
 use Rattle.part_lists.specs.declared.lists.Wanted.{Wanted}
 
 -- what was added for the list u is that of w, where w is u
-module _ (w u : Wanted) (m : Bytes) (parts : ℕ) (class holders : Bytes) (i j k : ℕ) (a b : List ℕ) (n : ℕ) (e : w ≡ u) where
-  pub chose : Added a b 0 n (chosen u m parts class holders i j k) → Added a b 0 n (chosen w m parts class holders i j k)
-  chose X = rw e X
+module _ (w u : Wanted) (m : Bytes) (parts : ℕ) (class : Bytes) (i j : ℕ) (a : List ℕ) (e : w ≡ u) where
+  pub chose-none : cellWords u m parts class i j ≡ [] → Added a a 0 0 (cellWords w m parts class i j)
+  chose-none q = rw (e, q) (add-none a 0)
 
   -- the code has read the first cell and the count of cells
-  module _ (first cells : ℕ) (fe : first ≡ firstCell m) (ce : cells ≡ cellCount m) where
+  module _ (b : List ℕ) (n first cells : ℕ) (fe : first ≡ firstCell m) (ce : cells ≡ cellCount m) where
     pub chose-cells : (s : ℕ) → Added a b 0 n (classCells class first cells s)
-        → chosen u m parts class holders i j k ≡ classCells class (firstCell m) (cellCount m) s → Added a b 0 n (chosen w m parts class holders i j k)
-    chose-cells s X q = chose (rw (q, sym fe, sym ce) X)
+        → cellWords u m parts class i j ≡ classCells class (firstCell m) (cellCount m) s → Added a b 0 n (cellWords w m parts class i j)
+    chose-cells s X q = rw (e, q, sym fe, sym ce) X
 
     pub chose-order : Added a b 0 n (classOrder class first cells parts)
-        → chosen u m parts class holders i j k ≡ classOrder class (firstCell m) (cellCount m) parts → Added a b 0 n (chosen w m parts class holders i j k)
-    chose-order X q = chose (rw (q, sym fe, sym ce) X)
+        → cellWords u m parts class i j ≡ classOrder class (firstCell m) (cellCount m) parts → Added a b 0 n (cellWords w m parts class i j)
+    chose-order X q = rw (e, q, sym fe, sym ce) X
+
+-- what was added is the list that is chosen, of cells or a range
+module _ (w : Wanted) (m : Bytes) (parts : ℕ) (class holders : Bytes) (i j k : ℕ) (a b : List ℕ) (n s : ℕ) (e : s ≡ sortOf w) where
+  pub added-cells : s ≡ 0 → Added a b 0 n (cellWords w m parts class i j) → Added a b 0 n (chosen w m parts class holders i j k)
+  unfolding chosen
+  added-cells z =
+      subst (Added a b 0 n) (sym (ap (λ x. cond x (cellWords w m parts class i j) (rangeOf m class holders k (sortOf w))) (eq-eqb (sortOf w) 0 (sym e ∙ z))))
+
+  pub added-range : (s ≡ 0 → ⊥) → (lower : Bytes) → Lowered m class holders k lower → Added a b 0 n (rowRange m k lower s) → Added a b 0 n (chosen w m parts class holders i j k)
+  unfolding chosen
+  added-range z lower L X =
+      subst (Added a b 0 n)
+      (ap (rangeOf m class holders k) e
+      ∙ sym (ap (λ x. cond x (cellWords w m parts class i j) (rangeOf m class holders k (sortOf w))) (ne-eqb (sortOf w) 0 (λ q. z (e ∙ q)))))
+      (range-told m class holders k s lower a b n L X)

@@ -1,9 +1,10 @@
 -- How the code chooses a list and gives it. No public contract rests on this page; the laws in proofs/ tie it to the definitions. Assumes
 -- nothing.
 use mathlib.Core.Path.{_≡_}
+use mathlib.Core.Bool.{cond}
 use mathlib.Core.List.{List, [], _∷_, _++_}
 use Prim.Native.Nat.{ℕ, _*_}
-use lib.Dec.{ltb}
+use lib.Dec.{eqb, ltb}
 use lib.ListN.{length}
 use Rattle.vocabulary.specs.Bytes.{Bytes, over}
 use Rattle.vocabulary.specs.Tests.{Test, refuse, firstOf}
@@ -55,17 +56,33 @@ rowOf Exposed i j = i
 rowOf Shared i j = i
 rowOf Copied i j = i
 
+-- the class of the lower elements in it, and 0 where it is a list of cells
+abbrev pub sortOf : Wanted → ℕ
+sortOf Interior = 0
+sortOf Halo = 0
+sortOf Locals = 0
+sortOf Imports = 0
+sortOf Exports = 0
+sortOf Private = 1
+sortOf Exposed = 2
+sortOf Shared = 3
+sortOf Copied = 4
+
+-- its words from that row, where it is a list of cells
+unfoldable pub cellWords : Wanted → Bytes → ℕ → Bytes → ℕ → ℕ → List ℕ
+cellWords Interior m parts class i j = classCells class (firstCell m) (cellCount m) 17
+cellWords Halo m parts class i j = classCells class (firstCell m) (cellCount m) 18
+cellWords Locals m parts class i j = classOrder class (firstCell m) (cellCount m) parts
+cellWords Imports m parts class i j = classCells class (firstCell m) (cellCount m) j
+cellWords Exports m parts class i j = classCells class (firstCell m) (cellCount m) i
+cellWords Private m parts class i j = []
+cellWords Exposed m parts class i j = []
+cellWords Shared m parts class i j = []
+cellWords Copied m parts class i j = []
+
 -- its words, from that row and the parts that hold each cell
 unfoldable pub chosen : Wanted → Bytes → ℕ → Bytes → Bytes → ℕ → ℕ → ℕ → List ℕ
-chosen Interior m parts class holders i j k = classCells class (firstCell m) (cellCount m) 17
-chosen Halo m parts class holders i j k = classCells class (firstCell m) (cellCount m) 18
-chosen Locals m parts class holders i j k = classOrder class (firstCell m) (cellCount m) parts
-chosen Imports m parts class holders i j k = classCells class (firstCell m) (cellCount m) j
-chosen Exports m parts class holders i j k = classCells class (firstCell m) (cellCount m) i
-chosen Private m parts class holders i j k = rangeOf m class holders k 1
-chosen Exposed m parts class holders i j k = rangeOf m class holders k 2
-chosen Shared m parts class holders i j k = rangeOf m class holders k 3
-chosen Copied m parts class holders i j k = rangeOf m class holders k 4
+chosen w m parts class holders i j k = cond (eqb (sortOf w) 0) (cellWords w m parts class i j) (rangeOf m class holders k (sortOf w))
 
 -- the call, where it names the parts i and j
 module _ (w : Wanted) (m : Bytes) (parts : ℕ) (owners : Bytes) (i j k : ℕ) (st : Bytes) where

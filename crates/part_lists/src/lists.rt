@@ -15,19 +15,14 @@ use split::inner::INTERIOR;
 use split::inner::MOST_CELLS;
 use split::inner::classify;
 use split::inner::prepare;
-use split::split_number;
+use split::inner::split_number;
 use word_lists::inner::give;
 ghost use mathlib.Core.Path.{_≡_};
-ghost use mathlib.Core.List.{[], _∷_};
 ghost use Prim.Native.Nat.{_≤_};
-ghost use lib.ListN.{length};
-ghost use Rattle.mesh.specs.Mesh.{top};
-ghost use Rattle.walks.specs.Walking.{Ground};
-ghost use Rattle.split.specs.Lists.{splitNumber, listAnswer, listOut};
+ghost use Rattle.mesh.specs.Accepted.{Accepted};
+ghost use Rattle.split.specs.Lists.{listAnswer, listOut};
 ghost use Rattle.split.specs.Classes.{Added};
-ghost use Rattle.ranges.specs.Lowers.{rangeOf};
-ghost use Rattle.word_lists.specs.Putting.{givenAnswer, givenOut};
-ghost use Rattle.part_lists.specs.Giving.{meant, Names, rowOf, chosen, namedAnswer, namedOut};
+ghost use Rattle.part_lists.specs.Giving.{meant, Names, rowOf, sortOf, cellWords};
 
 // The lists that can be asked for. An import or export list names the other part, and a range its dimension; both stand beside it.
 pub enum Wanted {
@@ -59,43 +54,35 @@ fn row_of(wanted: Wanted, i: usize, j: usize) -> usize
     }
 }
 
-// The words of a range, and their count.
-fn range_words(
-    m: &[u8],
-    cell: &[u16],
-    prev: &[u16],
-    last: &[u16],
-    class: &[u8],
-    holders: &[u8],
-    k: usize,
-    sort: u8,
-    list: &mut [u16],
-) -> usize
-    requires { ⌜ Ground (now m) (top (now m) ∷ []) (now cell) (now prev) (now last) ⌝ }
-    ensures { λ n. ⌜ Added (now (list .entry)) (now (list .exit)) 0 n (rangeOf (now (m .entry)) (now (class .entry)) (now (holders .entry)) k sort) ⌝ }
+// The class of the lower elements in a range, and 0 for a list of cells.
+fn sort_of(wanted: Wanted) -> u8
+    ensures { λ r. ⌜ r ≡ sortOf wanted ⌝ }
 {
-    let mut lower = [0u8; MOST_CELLS];
-    classify_lowers(m, cell, prev, last, class, holders, k, &mut lower);
-    add_range(m, k, &lower, sort, list)
+    match wanted {
+        Wanted::Interior => 0,
+        Wanted::Halo => 0,
+        Wanted::Locals => 0,
+        Wanted::Imports => 0,
+        Wanted::Exports => 0,
+        Wanted::Private => PRIVATE,
+        Wanted::Exposed => EXPOSED,
+        Wanted::Shared => SHARED,
+        Wanted::Copied => COPIED,
+    }
 }
 
-// The words of the list, and their count, from the row of classes that tells it.
-fn list_words(
+// The words of a list of cells, and their count, from the row of classes that tells it; none for a range.
+fn cell_words(
     wanted: Wanted,
     m: &[u8],
     parts: usize,
-    cell: &[u16],
-    prev: &[u16],
-    last: &[u16],
     class: &[u8],
-    holders: &[u8],
     i: usize,
     j: usize,
-    k: usize,
     list: &mut [u16],
 ) -> usize
-    requires { ⌜ Ground (now m) (top (now m) ∷ []) (now cell) (now prev) (now last) × (parts ≤ 16) × (i ≤ 16) × (j ≤ 16) ⌝ }
-    ensures { λ n. ⌜ Added (now (list .entry)) (now (list .exit)) 0 n (chosen wanted (now (m .entry)) parts (now (class .entry)) (now (holders .entry)) i j k) ⌝ }
+    requires { ⌜ Accepted (now m) × (parts ≤ 16) × (i ≤ 16) × (j ≤ 16) ⌝ }
+    ensures { λ n. ⌜ Added (now (list .entry)) (now (list .exit)) 0 n (cellWords wanted (now (m .entry)) parts (now (class .entry)) i j) ⌝ }
 {
     let first = first_cell(m);
     let cells = cell_count(m);
@@ -105,59 +92,16 @@ fn list_words(
         Wanted::Locals => add_order(class, first, cells, parts, list),
         Wanted::Imports => add_class(class, first, cells, j as u8, list, 0),
         Wanted::Exports => add_class(class, first, cells, i as u8, list, 0),
-        Wanted::Private => range_words(m, cell, prev, last, class, holders, k, PRIVATE, list),
-        Wanted::Exposed => range_words(m, cell, prev, last, class, holders, k, EXPOSED, list),
-        Wanted::Shared => range_words(m, cell, prev, last, class, holders, k, SHARED, list),
-        Wanted::Copied => range_words(m, cell, prev, last, class, holders, k, COPIED, list),
+        Wanted::Private => 0,
+        Wanted::Exposed => 0,
+        Wanted::Shared => 0,
+        Wanted::Copied => 0,
     }
 }
 
-// The list given from the row of classes that tells it, made in work space.
-fn list_given(
-    wanted: Wanted,
-    m: &[u8],
-    parts: usize,
-    cell: &[u16],
-    prev: &[u16],
-    last: &[u16],
-    class: &[u8],
-    holders: &[u8],
-    i: usize,
-    j: usize,
-    k: usize,
-    list: &mut [u16],
-    out: &mut [u8],
-) -> Answer
-    requires { ⌜
-        Ground (now m) (top (now m) ∷ []) (now cell) (now prev) (now last)
-        × (parts ≤ 16)
-        × (i ≤ 16)
-        × (j ≤ 16)
-        × (length (chosen wanted (now m) parts (now class) (now holders) i j k) ≤ 2000)
-        × (2000 ≤ length (now list))
-        ⌝ }
-    ensures { λ r. ⌜ (r ≡ givenAnswer (chosen wanted (now (m .entry)) parts (now (class .entry)) (now (holders .entry)) i j k) (now (out .entry))) × (now (out .exit) ≡ givenOut (chosen wanted (now (m .entry)) parts (now (class .entry)) (now (holders .entry)) i j k) (now (out .entry))) ⌝ }
-{
-    let n = list_words(
-        wanted,
-        m,
-        parts,
-        cell,
-        prev,
-        last,
-        class,
-        holders,
-        i,
-        j,
-        k,
-        list,
-    );
-    give(list, n, out)
-}
-
-// The list, where the tests up to 10 are passed. Once the row of classes is made the ends of the reaches are not needed, and the list is made in
-// their array.
-fn list_passed(
+// The call: it names the parts i and j and the dimension k, as far as the list wanted asks for them. The mesh is tested in arrays that hold the links
+// and the ends of the reaches afterwards. Once the row of classes is made those ends are not needed, and the list is made in their array.
+pub fn list(
     wanted: Wanted,
     m: &[u8],
     parts: u32,
@@ -168,14 +112,18 @@ fn list_passed(
     st: &[u8],
     out: &mut [u8],
 ) -> Answer
-    requires { ⌜ splitNumber (now m) parts (now owners) (i ∷ j ∷ []) (now st) ≡ 0 ⌝ }
-    ensures { λ r. ⌜ (r ≡ namedAnswer wanted (now (m .entry)) parts (now (owners .entry)) i j k (now (st .entry)) (now (out .entry))) × (now (out .exit) ≡ namedOut wanted (now (m .entry)) parts (now (owners .entry)) i j k (now (st .entry)) (now (out .entry))) ⌝ }
+    requires { ⌜ Names wanted i j ⌝ }
+    ensures { λ r. ⌜ (r ≡ listAnswer (now (m .entry)) parts (now (owners .entry)) i (now (st .entry)) (meant wanted j k) (now (out .entry))) × (now (out .exit) ≡ listOut (now (m .entry)) parts (now (owners .entry)) i (now (st .entry)) (meant wanted j k) (now (out .entry))) ⌝ }
 {
     let mut cell = [0u16; 12001];
+    let mut ends = [0u16; 2001];
+    let number = split_number(m, parts, owners, i, j, st, &mut cell, &mut ends);
+    if number != 0 {
+        return Answer::Refused(number);
+    }
     let mut prev = [0u16; 12001];
     let mut last = [0u16; 2001];
     let mut table = [0u8; 32000];
-    let mut ends = [0u16; 2001];
     let mut holders = [0u8; MOST_CELLS];
     let mut class = [0u8; MOST_CELLS];
     let number = prepare(
@@ -202,41 +150,30 @@ fn list_passed(
         row_of(wanted, i as usize, j as usize),
         &mut class,
     );
-    list_given(
-        wanted,
+    let sort = sort_of(wanted);
+    if sort == 0 {
+        let n = cell_words(
+            wanted,
+            m,
+            parts as usize,
+            &class,
+            i as usize,
+            j as usize,
+            &mut ends,
+        );
+        return give(&ends, n, out);
+    }
+    let mut lower = [0u8; MOST_CELLS];
+    classify_lowers(
         m,
-        parts as usize,
         &cell,
         &prev,
         &last,
         &class,
         &holders,
-        i as usize,
-        j as usize,
         k as usize,
-        &mut ends,
-        out,
-    )
-}
-
-// The call: it names the parts i and j and the dimension k, as far as the list wanted asks for them.
-pub fn list(
-    wanted: Wanted,
-    m: &[u8],
-    parts: u32,
-    owners: &[u8],
-    i: u32,
-    j: u32,
-    k: u32,
-    st: &[u8],
-    out: &mut [u8],
-) -> Answer
-    requires { ⌜ Names wanted i j ⌝ }
-    ensures { λ r. ⌜ (r ≡ listAnswer (now (m .entry)) parts (now (owners .entry)) i (now (st .entry)) (meant wanted j k) (now (out .entry))) × (now (out .exit) ≡ listOut (now (m .entry)) parts (now (owners .entry)) i (now (st .entry)) (meant wanted j k) (now (out .entry))) ⌝ }
-{
-    let number = split_number(m, parts, owners, i, j, st);
-    if number != 0 {
-        return Answer::Refused(number);
-    }
-    list_passed(wanted, m, parts, owners, i, j, k, st, out)
+        &mut lower,
+    );
+    let n = add_range(m, k as usize, &lower, sort, &mut ends);
+    give(&ends, n, out)
 }

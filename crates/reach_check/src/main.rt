@@ -55,9 +55,10 @@ fn print_rows(first: usize, cells: usize, table: &[u8], ends: &[u16])
 fn print_reaches(m: &[u8], st: &[u8])
     requires { ⌜ Accepted (now m) × (bad10 (top (now m)) (now st) ≡ false) ⌝ }
 {
+    let mut cell = [0u16; 12001];
     let mut table = [0u8; 32000];
     let mut ends = [0u16; 2001];
-    let t = reach_table(m, st, &mut table, &mut ends);
+    let t = reach_table(m, st, &mut cell, &mut table, &mut ends);
     if 8000 < t {
         refuse(13);
     } else {

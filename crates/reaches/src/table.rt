@@ -205,13 +205,19 @@ pub fn reach_all(
 }
 
 // The reaches of all cells under an accepted stencil: how many entries they have, 8,001 for all above 8,000. For each cell in rising order the
-// table has the cells of its reach, rising, as their places from 0 and their layers, and `ends` how many entries there are up to each cell.
-pub fn reach_table(m: &[u8], st: &[u8], table: &mut [u8], ends: &mut [u16]) -> usize
-    requires { ⌜ Accepted (now m) × (bad10 (top (now m)) (now st) ≡ false) × (length (now table) ≡ 32000) × (length (now ends) ≡ 2001) ⌝ }
+// table has the cells of its reach, rising, as their places from 0 and their layers, and `ends` how many entries there are up to each cell. The
+// array `cell` is work space.
+pub fn reach_table(
+    m: &[u8],
+    st: &[u8],
+    cell: &mut [u16],
+    table: &mut [u8],
+    ends: &mut [u16],
+) -> usize
+    requires { ⌜ Accepted (now m) × (bad10 (top (now m)) (now st) ≡ false) × (length (now cell) ≡ 12001) × (length (now table) ≡ 32000) × (length (now ends) ≡ 2001) ⌝ }
     ensures { λ s. ⌜ Tabled (now (m .entry)) (now (st .entry)) (now (table .entry)) (now (table .exit)) (now (ends .exit)) s ⌝ }
 {
     let sizes = sizes_of(m);
-    let mut cell = [0u16; ENTRIES];
     let mut prev = [0u16; ENTRIES];
     let mut last = [0u16; NUMBERS];
     invert(
@@ -220,7 +226,7 @@ pub fn reach_table(m: &[u8], st: &[u8], table: &mut [u8], ends: &mut [u16]) -> u
         sizes.records,
         sizes.first,
         sizes.cells,
-        &mut cell,
+        cell,
         &mut prev,
         &mut last,
     );
@@ -232,7 +238,7 @@ pub fn reach_table(m: &[u8], st: &[u8], table: &mut [u8], ends: &mut [u16]) -> u
         m,
         sizes,
         st,
-        &cell,
+        cell,
         &prev,
         &last,
         &mut marks,

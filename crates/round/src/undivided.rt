@@ -5,7 +5,7 @@ use layout::Answer;
 use layout::number_at;
 use mesh::inner::cell_count;
 use mesh::inner::top_of;
-use mesh_tests::mesh_number;
+use mesh_tests::inner::mesh_number_in;
 use reaches::inner::reach_table;
 use rules::Kind;
 use rules::Rule;
@@ -48,21 +48,24 @@ fn renew(kind: Kind, v: &[u8], table: &[u8], ends: &[u16], cells: usize, f: &[u8
     }
 }
 
-// The round on an accepted mesh, stencil and rule, with room for the table of the reaches.
-fn round_by(
+// The round on an accepted mesh, stencil and rule. The arrays `cell` and `ends` are work space.
+fn round_on(
     m: &[u8],
     st: &[u8],
     kind: Kind,
     v: &[u8],
     f: &[u8],
     out: &mut [u8],
-    table: &mut [u8],
+    cell: &mut [u16],
     ends: &mut [u16],
 ) -> Answer
-    requires { ⌜ (meshNumber (now m) ≡ 0) × (bad10 (top (now m)) (now st) ≡ false) × (bad11 (kindNumber kind) (steps (now st)) (now v) ≡ false) × (length (now table) ≡ 32000) × (length (now ends) ≡ 2001) ⌝ }
+    requires { ⌜ (meshNumber (now m) ≡ 0) × (bad10 (top (now m)) (now st) ≡ false) × (bad11 (kindNumber kind) (steps (now st)) (now v) ≡ false)
+        × (length (now cell) ≡ 12001) × (length (now ends) ≡ 2001) ⌝ }
     ensures { λ r. ⌜ (r ≡ roundAnswer (now (m .entry)) (now (st .entry)) (kindNumber kind) (now (v .entry)) (now (f .entry)) (now (out .entry))) × (now (out .exit) ≡ roundOut (now (m .entry)) (now (st .entry)) (kindNumber kind) (now (v .entry)) (now (f .entry)) (now (out .entry))) ⌝ }
 {
-    let t = reach_table(m, st, table, ends);
+    // the table is written even where the reaches are too many, so it stands in an array of our own
+    let mut table = [0u8; 32000];
+    let t = reach_table(m, st, cell, &mut table, ends);
     if 8000 < t {
         return Answer::Refused(13);
     }
@@ -73,26 +76,18 @@ fn round_by(
     if out.len() < 4 * cells {
         return Answer::Refused(16);
     }
-    renew(kind, v, table, ends, cells, f, out);
+    renew(kind, v, &table, ends, cells, f, out);
     Answer::Done(cells as u32)
 }
 
-// The round on an accepted mesh, stencil and rule.
-fn round_on(m: &[u8], st: &[u8], kind: Kind, v: &[u8], f: &[u8], out: &mut [u8]) -> Answer
-    requires { ⌜ (meshNumber (now m) ≡ 0) × (bad10 (top (now m)) (now st) ≡ false) × (bad11 (kindNumber kind) (steps (now st)) (now v) ≡ false) ⌝ }
-    ensures { λ r. ⌜ (r ≡ roundAnswer (now (m .entry)) (now (st .entry)) (kindNumber kind) (now (v .entry)) (now (f .entry)) (now (out .entry))) × (now (out .exit) ≡ roundOut (now (m .entry)) (now (st .entry)) (kindNumber kind) (now (v .entry)) (now (f .entry)) (now (out .entry))) ⌝ }
-{
-    // the table is written even where the reaches are too many, so it stands in arrays of our own
-    let mut table = [0u8; 32000];
-    let mut ends = [0u16; 2001];
-    round_by(m, st, kind, v, f, out, &mut table, &mut ends)
-}
-
-// One undivided round: mesh, stencil, rule kind and weights, field. The new field stands at the front of `out`.
+// One undivided round: mesh, stencil, rule kind and weights, field. The new field stands at the front of `out`. The mesh is tested in arrays that the
+// reaches are found in afterwards.
 pub fn undivided_round(m: &[u8], st: &[u8], kind: u32, v: &[u8], f: &[u8], out: &mut [u8]) -> Answer
     ensures { λ r. ⌜ (r ≡ roundAnswer (now (m .entry)) (now (st .entry)) kind (now (v .entry)) (now (f .entry)) (now (out .entry))) × (now (out .exit) ≡ roundOut (now (m .entry)) (now (st .entry)) kind (now (v .entry)) (now (f .entry)) (now (out .entry))) ⌝ }
 {
-    let number = mesh_number(m);
+    let mut cell = [0u16; 12001];
+    let mut ends = [0u16; 2001];
+    let number = mesh_number_in(m, &mut cell, &mut ends);
     if number != 0 {
         return Answer::Refused(number);
     }
@@ -104,7 +99,7 @@ pub fn undivided_round(m: &[u8], st: &[u8], kind: u32, v: &[u8], f: &[u8], out: 
             if wrong_weights(k, st.len() - 1, v) {
                 return Answer::Refused(11);
             }
-            round_on(m, st, k, v, f, out)
+            round_on(m, st, k, v, f, out, &mut cell, &mut ends)
         }
         Rule::Unknown => Answer::Refused(11),
     }

@@ -52,11 +52,11 @@ module _ (m st before table : Bytes) (e : table ≡ over before 0 (bytesOf (tabl
 -- ---- the chains turned round
 
 pub linked : (m : Bytes) (sizes : MeshSizes) (st : Bytes) (s : ℕ) (cell₀ prev₀ last₀ cell prev last : List ℕ) → Accepted m → Sized m sizes → bad10 (top m) st ≡ false
-    → cell₀ ≡ replicate 12001 0 → prev₀ ≡ replicate 12001 0 → last₀ ≡ replicate 2001 0
+    → length cell₀ ≡ 12001 → length prev₀ ≡ 12001 → last₀ ≡ replicate 2001 0
     → links s cell prev last ≡ linkCells m (sizes .first) (sizes .cells) (links 0 cell₀ prev₀ last₀) → Ground m st cell prev last
 linked m sizes st s cell₀ prev₀ last₀ cell prev last A S bad c p l e =
-    grounded m A (sizes .first) (sizes .cells) (S .first-is) (S .cells-is) st bad s cell prev last
-    (e ∙ λ x. linkCells m (sizes .first) (sizes .cells) (links 0 (c x) (p x) (l x)))
+    grounded m A (sizes .first) (sizes .cells) (S .first-is) (S .cells-is) st bad cell₀ prev₀ c p s cell prev last
+    (e ∙ λ x. linkCells m (sizes .first) (sizes .cells) (links 0 cell₀ prev₀ (l x)))
 
 -- ---- the tests 12 and 13, and the tables, where the reaches are found first
 

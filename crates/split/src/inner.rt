@@ -1,8 +1,9 @@
-// The tables that all lists are read off, and the numbers of cells, for an accepted mesh, map and stencil.
+// The tests up to 10 in lent space; the tables that all lists are read off, and the numbers of cells, for an accepted mesh, map and stencil.
 pub use crate::classes::HALO;
 pub use crate::classes::INTERIOR;
 pub use crate::classes::MOST_CELLS;
 pub use crate::classes::classify;
+pub use crate::maps::split_number;
 pub use crate::preparing::prepare;
 pub use crate::units::number_cells;
 pub use crate::units::to_global;

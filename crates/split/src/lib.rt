@@ -10,4 +10,3 @@ mod units;
 pub use maps::bad_map;
 pub use maps::bad_shares;
 pub use maps::is_part;
-pub use maps::split_number;

@@ -2,11 +2,13 @@
 use crate::owners::owner_of;
 use mesh::inner::cell_count;
 use mesh::inner::top_of;
-use mesh_tests::mesh_number;
+use mesh_tests::inner::mesh_number_in;
 use stencils::bad_stencil;
 ghost use mathlib.Core.Path.{_≡_};
 ghost use mathlib.Core.List.{[], _∷_};
+ghost use Prim.Native.Nat.{_≤_};
 ghost use lib.ListN.{length};
+ghost use Rattle.vocabulary.specs.Lists.{Zeros};
 ghost use Rattle.vocabulary.specs.Ranges.{isUpTo, every, some};
 ghost use Rattle.split.specs.Split.{splitOf};
 ghost use Rattle.split.specs.Lists.{bad8, bad9, splitNumber};
@@ -68,11 +70,22 @@ pub fn bad_shares(m: &[u8], parts: u32, owners: &[u8]) -> bool
     false
 }
 
-// The number of the first test up to 10 that refuses a call which names the parts i and j, and 0 where none does.
-pub fn split_number(m: &[u8], parts: u32, owners: &[u8], i: u32, j: u32, st: &[u8]) -> u32
+// The number of the first test up to 10 that refuses a call which names the parts i and j, and 0 where none does. The mesh is tested in lent space; what
+// the lent arrays hold afterwards does not matter.
+pub fn split_number(
+    m: &[u8],
+    parts: u32,
+    owners: &[u8],
+    i: u32,
+    j: u32,
+    st: &[u8],
+    items: &mut [u16],
+    ends: &mut [u16],
+) -> u32
+    requires { ⌜ (12000 ≤ length (now items)) × Zeros 2001 (now ends) ⌝ }
     ensures { λ r. ⌜ r ≡ splitNumber (now (m .entry)) parts (now (owners .entry)) (i ∷ j ∷ []) (now (st .entry)) ⌝ }
 {
-    let number = mesh_number(m);
+    let number = mesh_number_in(m, items, ends);
     if number != 0 {
         return number;
     }

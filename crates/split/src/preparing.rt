@@ -21,10 +21,10 @@ ghost use Rattle.split.specs.Classes.{Prepared};
 // The room for a number of each element; none is numbered 0.
 const NUMBERS: usize = 2001;
 
-// Turns the chains of all cells round, in cleared space.
+// Turns the chains of all cells round. Only `last` has to be cleared.
 fn link(m: &[u8], sizes: MeshSizes, st: &[u8], cell: &mut [u16], prev: &mut [u16], last: &mut [u16])
-    requires { ⌜ Accepted (now m) × Sized (now m) sizes × (bad10 (top (now m)) (now st) ≡ false) × (now cell ≡ replicate 12001 0) × (now prev ≡ replicate 12001 0)
-        × (now last ≡ replicate 2001 0) ⌝ }
+    requires { ⌜ Accepted (now m) × Sized (now m) sizes × (bad10 (top (now m)) (now st) ≡ false) × (length (now cell) ≡ 12001)
+        × (length (now prev) ≡ 12001) × (now last ≡ replicate 2001 0) ⌝ }
     ensures { λ _. ⌜ Ground (now (m .entry)) (now (st .entry)) (now (cell .exit)) (now (prev .exit)) (now (last .exit)) ⌝ }
 {
     invert(
@@ -76,8 +76,8 @@ fn overflow_number(
     if 4096 < held { 12 } else { 13 }
 }
 
-// Prepares the tables for an accepted mesh, map and stencil, in lent space, of which the links are cleared: the number of the first of the tests
-// 12 and 13 that refuses, and 0 where none does. The row is work space.
+// Prepares the tables for an accepted mesh, map and stencil, in lent space, of which `last` is cleared: the number of the first of the tests 12 and 13
+// that refuses, and 0 where none does. The row is work space.
 pub fn prepare(
     m: &[u8],
     parts: u32,
@@ -91,7 +91,9 @@ pub fn prepare(
     holders: &mut [u8],
     class: &mut [u8],
 ) -> u32
-    requires { ⌜ Accepted (now m) × (bad8 (now m) parts (now owners) [] ≡ false) × (bad10 (top (now m)) (now st) ≡ false) × (now cell ≡ replicate 12001 0) × (now prev ≡ replicate 12001 0) × (now last ≡ replicate 2001 0) × (length (now table) ≡ 32000) × (length (now ends) ≡ 2001) × (length (now holders) ≡ 2000) × (length (now class) ≡ 2000) ⌝ }
+    requires { ⌜ Accepted (now m) × (bad8 (now m) parts (now owners) [] ≡ false) × (bad10 (top (now m)) (now st) ≡ false) × (length (now cell) ≡ 12001)
+        × (length (now prev) ≡ 12001) × (now last ≡ replicate 2001 0) × (length (now table) ≡ 32000) × (length (now ends) ≡ 2001)
+        × (length (now holders) ≡ 2000) × (length (now class) ≡ 2000) ⌝ }
     ensures { λ r. ⌜ (r ≡ sizesNumber (now (m .entry)) parts (now (owners .entry)) (now (st .entry))) × (r ≡ 0 → Prepared (now (m .entry)) parts (now (owners .entry)) (now (st .entry)) (now (table .exit)) (now (ends .exit)) (now (holders .exit))) × Ground (now (m .entry)) (now (st .entry)) (now (cell .exit)) (now (prev .exit)) (now (last .exit)) ⌝ }
 {
     let sizes = sizes_of(m);

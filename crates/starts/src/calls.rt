@@ -12,7 +12,7 @@ use split::inner::INTERIOR;
 use split::inner::MOST_CELLS;
 use split::inner::classify;
 use split::inner::prepare;
-use split::split_number;
+use split::inner::split_number;
 use start_lists::inner::CLASSES;
 use start_lists::inner::MOST_PARTS;
 use start_lists::inner::Plan;
@@ -190,16 +190,20 @@ fn size_from(
     Answer::Done((2 * p.long + DEPTHS + 4 * p.held) as u32)
 }
 
-// The size, where the tests up to 10 are passed. The order stands in an array of the links, which are not needed once the tables are prepared.
-fn size_passed(m: &[u8], parts: u32, owners: &[u8], i: u32, st: &[u8]) -> Answer
-    requires { ⌜ splitNumber (now m) parts (now owners) (i ∷ i ∷ []) (now st) ≡ 0 ⌝ }
+// How many bytes the state of part i needs. The mesh is tested in arrays that hold the links and the ends of the reaches afterwards. The order stands
+// in an array of the links, which are not needed once the tables are prepared.
+pub fn state_size(m: &[u8], parts: u32, owners: &[u8], i: u32, st: &[u8]) -> Answer
     ensures { λ r. ⌜ r ≡ sizeAnswer (now (m .entry)) parts (now (owners .entry)) i (now (st .entry)) ⌝ }
 {
     let mut cell = [0u16; 12001];
+    let mut ends = [0u16; 2001];
+    let number = split_number(m, parts, owners, i, i, st, &mut cell, &mut ends);
+    if number != 0 {
+        return Answer::Refused(number);
+    }
     let mut prev = [0u16; 12001];
     let mut last = [0u16; 2001];
     let mut table = [0u8; 32000];
-    let mut ends = [0u16; 2001];
     let mut holders = [0u8; MOST_CELLS];
     let mut class = [0u8; MOST_CELLS];
     let mut got = [0u16; CLASSES];
@@ -234,17 +238,6 @@ fn size_passed(m: &[u8], parts: u32, owners: &[u8], i: u32, st: &[u8]) -> Answer
         &mut got,
         &mut sent,
     )
-}
-
-// How many bytes the state of part i needs.
-pub fn state_size(m: &[u8], parts: u32, owners: &[u8], i: u32, st: &[u8]) -> Answer
-    ensures { λ r. ⌜ r ≡ sizeAnswer (now (m .entry)) parts (now (owners .entry)) i (now (st .entry)) ⌝ }
-{
-    let number = split_number(m, parts, owners, i, i, st);
-    if number != 0 {
-        return Answer::Refused(number);
-    }
-    size_passed(m, parts, owners, i, st)
 }
 
 // Start, from prepared tables.
@@ -323,9 +316,10 @@ fn start_from(
     Answer::Done(size as u32)
 }
 
-// Start, where the tests up to 11 are passed. Once the tables are prepared the links are not needed: the order and the local numbers stand in their
-// arrays.
-fn start_passed(
+// Makes the state of part i at round 0 at the front of b: mesh, number of parts and owners, the part, stencil, rule kind and weights, field. The mesh is
+// tested in arrays that hold the links and the ends of the reaches afterwards. Once the tables are prepared the links are not needed: the order and
+// the local numbers stand in their arrays.
+pub fn start(
     m: &[u8],
     parts: u32,
     owners: &[u8],
@@ -336,17 +330,23 @@ fn start_passed(
     f: &[u8],
     b: &mut [u8],
 ) -> Answer
-    requires { ⌜ (splitNumber (now m) parts (now owners) (i ∷ i ∷ []) (now st) ≡ 0) × (bad11 kind (steps (now st)) (now v) ≡ false) ⌝ }
     ensures { λ r. ⌜
         (r ≡ startAnswer (now (m .entry)) parts (now (owners .entry)) i (now (st .entry)) kind (now (v .entry)) (now (f .entry)) (now (b .entry)))
         × (now (b .exit) ≡ startState (now (m .entry)) parts (now (owners .entry)) i (now (st .entry)) kind (now (v .entry)) (now (f .entry)) (now (b .entry)))
         ⌝ }
 {
     let mut cell = [0u16; 12001];
+    let mut ends = [0u16; 2001];
+    let number = split_number(m, parts, owners, i, i, st, &mut cell, &mut ends);
+    if number != 0 {
+        return Answer::Refused(number);
+    }
+    if bad_rule(kind, st.len() - 1, v) {
+        return Answer::Refused(11);
+    }
     let mut prev = [0u16; 12001];
     let mut last = [0u16; 2001];
     let mut table = [0u8; 32000];
-    let mut ends = [0u16; 2001];
     let mut holders = [0u8; MOST_CELLS];
     let mut class = [0u8; MOST_CELLS];
     let mut got = [0u16; CLASSES];
@@ -386,31 +386,4 @@ fn start_passed(
         &mut sent,
         b,
     )
-}
-
-// Makes the state of part i at round 0 at the front of b: mesh, number of parts and owners, the part, stencil, rule kind and weights, field.
-pub fn start(
-    m: &[u8],
-    parts: u32,
-    owners: &[u8],
-    i: u32,
-    st: &[u8],
-    kind: u32,
-    v: &[u8],
-    f: &[u8],
-    b: &mut [u8],
-) -> Answer
-    ensures { λ r. ⌜
-        (r ≡ startAnswer (now (m .entry)) parts (now (owners .entry)) i (now (st .entry)) kind (now (v .entry)) (now (f .entry)) (now (b .entry)))
-        × (now (b .exit) ≡ startState (now (m .entry)) parts (now (owners .entry)) i (now (st .entry)) kind (now (v .entry)) (now (f .entry)) (now (b .entry)))
-        ⌝ }
-{
-    let number = split_number(m, parts, owners, i, i, st);
-    if number != 0 {
-        return Answer::Refused(number);
-    }
-    if bad_rule(kind, st.len() - 1, v) {
-        return Answer::Refused(11);
-    }
-    start_passed(m, parts, owners, i, st, kind, v, f, b)
 }

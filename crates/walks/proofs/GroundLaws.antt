@@ -57,14 +57,15 @@ module _ (m : Bytes) (A : Accepted m) (first cells : ℕ) (fe : first ≡ firstC
       All-map (chain m (first + j)) (λ g w. omega (arith, w .1, below-grows m (dimension m (first + j)) 4 (omega (arith, dimension-le m (first + j), A .sizes .d-high)), A .sizes .n-high))
       (A .chain-lower (first + j) (element j h))
 
-  -- the entries of all cells' chains
-  turned : LinkedAs (linkCells m first cells empty) (cellsWith m first cells)
-  turned = linked-cells m first cells room (λ j h. (small j h, A .chain-once (first + j) (element j h)))
+  module _ (st : Bytes) (bad : bad10 (top m) st ≡ false) (cell₀ prev₀ : List ℕ) (cl : length cell₀ ≡ 12001) (pl : length prev₀ ≡ 12001) (s : ℕ) (cell prev last : List ℕ)
+      (e : links s cell prev last ≡ linkCells m first cells (empty cell₀ prev₀)) where
+    -- the entries of all cells' chains
+    turned : LinkedAs (linkCells m first cells (empty cell₀ prev₀)) (cellsWith m first cells)
+    turned = linked-cells cell₀ prev₀ cl pl m first cells room (λ j h. (small j h, A .chain-once (first + j) (element j h)))
 
-  few : entries (linkCells m first cells empty) ≤ 12000
-  few = omega (arith, count-cells m first cells, room)
+    few : entries (linkCells m first cells (empty cell₀ prev₀)) ≤ 12000
+    few = omega (arith, count-cells cell₀ prev₀ m first cells, room)
 
-  module _ (st : Bytes) (bad : bad10 (top m) st ≡ false) (s : ℕ) (cell prev last : List ℕ) (e : links s cell prev last ≡ linkCells m first cells empty) where
     K : Linked s cell prev last (cellsWith m first cells)
     K = subst (λ L. LinkedAs L (cellsWith m first cells)) (sym e) turned
 

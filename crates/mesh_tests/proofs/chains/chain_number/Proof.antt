@@ -1,8 +1,5 @@
 -- `mesh_tests::chains::chain_number` meets its contract. Assumes nothing.
 use mathlib.Core.Path.{sym, _∙_}
-use Prim.Native.Nat.{ℕ}
-use lib.ListN.{length-replicate}
-use Rattle.vocabulary.specs.ListLaws.{zeros}
 use Rattle.vocabulary.specs.TestLaws.{told-here, told-later}
 use Rattle.mesh.specs.Mesh.{meshTests}
 use borrow.Author.Needs.{needs}
@@ -14,32 +11,35 @@ unfolding meshTests
 chain-number-spec =
     tie.close
     (tie.spec
+    (λ c κs. search needs)
     (λ c. search needs)
     (λ c. search needs)
-    (λ c κs. (c .before .before .before .pre, length-replicate {A = ℕ} 12000 0, zeros 2001))
     (λ c. search told-here)
+    (λ c κs. let at-if1 = c .before .before in
+    let at-bad4 = at-if1 .before .before .before .before .before in
+    let start = at-bad4 .before .before .before .before .before .before in
+    (at-bad4 .bad4 .ensures .1 (at-if1 .if1 .left), start .pre .0 .d-is))
     (λ c. search needs)
     (λ c. search needs)
-    (λ c κs.
-    let one = c .before .before in
-    let four = one .before .before .before in
-    (four .bad4 .ensures .1 (one .if1 .left), four .before .before .before .before .pre .d-is))
     (λ c. search (told-here, told-later))
+    (λ c κs. let at-if2 = c .before .before in
+    let at-bad5 = at-if2 .before in
+    let at-if1 = at-bad5 .before .before .before in
+    let at-bad4 = at-if1 .before .before .before .before .before in
+    let start = at-bad4 .before .before .before .before .before .before in
+    (at-bad4 .bad4 .ensures .1 (at-if1 .if1 .left), start .pre .0 .n-is, sym (at-bad5 .bad5 .ensures) ∙ at-if2 .if2 .left))
     (λ c. search needs)
     (λ c. search needs)
-    (λ c κs.
-    let five = c .before .before .before in
-    let one = five .before .before .before in
-    let four = one .before .before .before in
-    (four .bad4 .ensures .1 (one .if1 .left), four .before .before .before .before .pre .n-is, sym (five .bad5 .ensures) ∙ c .before .before .if2 .left))
     (λ c. search (told-here, told-later))
+    (λ c κs. let at-if2 = c .before .before .before .before .before .before in
+    let at-bad5 = at-if2 .before in
+    let at-if1 = at-bad5 .before .before .before in
+    let at-bad4 = at-if1 .before .before .before .before .before in
+    let start = at-bad4 .before .before .before .before .before .before in
+    (at-bad4 .bad4 .ensures .1 (at-if1 .if1 .left), start .pre .0 .d-is, start .pre .0 .n-is, sym (at-bad5 .bad5 .ensures) ∙ at-if2 .if2 .left))
     (λ c. search needs)
     (λ c. search needs)
-    (λ c κs.
-    let two = c .before .before .before .before .before .before in
-    let one = two .before .before .before .before in
-    let four = one .before .before .before in
-    let start = four .before .before .before .before in
-    (four .bad4 .ensures .1 (one .if1 .left), start .pre .d-is, start .pre .n-is, sym (two .before .bad5 .ensures) ∙ two .if2 .left))
     (λ c. search (told-here, told-later) depth 9 fits 4000)
+    (λ c. search needs)
+    (λ c. search needs)
     (λ c. search told-later depth 9 fits 4000))

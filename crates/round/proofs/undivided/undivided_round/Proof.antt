@@ -1,5 +1,9 @@
 -- `round::undivided_round` meets its contract. Assumes nothing.
+use mathlib.Core.Path.{sym, _∙_}
+use Prim.Native.Nat.{ℕ}
 use native.Mathlib.Omega.{arith}
+use lib.ListN.{length-replicate}
+use Rattle.vocabulary.specs.ListLaws.{zeros}
 use Rattle.stencils.proofs.StencilLaws.{accepted-stencil, stencil-some}
 use Rattle.round.proofs.UndividedLaws.{rule-good, told-mesh, told-10, told-unknown, told-11, told-kind}
 use borrow.Author.Needs.{needs}
@@ -10,52 +14,61 @@ pub undivided-round-spec : {M : Type 1} → statement M
 undivided-round-spec =
     tie.close
     (tie.spec
+    (λ c. search needs)
+    (λ c. search needs)
+    (λ c κs. (omega (arith, length-replicate {A = ℕ} 12001 0), zeros 2001))
+    (λ c. let at-mesh-number-in = c .before .before .before in
+    told-mesh _ _ _ _ _ _ _ (at-mesh-number-in .mesh-number-in .ensures) (c .if1 .taken))
     (λ c κs. search needs)
-    (λ c. told-mesh _ _ _ _ _ _ _ (c .before .mesh-number .ensures) (c .if1 .taken))
     (λ c κs. search needs)
-    (λ c κs. search needs)
-    (λ c. told-10 _ _ _ _ _ _ (omega (
-      arith,
-      c .before .before .before .before .mesh-number .ensures,
-      c .before .before .before .if1 .left,
-    )) _ _ (c .before .before .top-of .ensures .0) (c .before .bad-stencil .ensures) (c .if2 .taken))
+    (λ c. let at-bad-stencil = c .before in
+    let at-top-of = at-bad-stencil .before in
+    let at-if1 = at-top-of .before in
+    let at-mesh-number-in = at-if1 .before .before .before in
+    told-10 _ _ _ _ _ _ (sym (at-mesh-number-in .mesh-number-in .ensures) ∙ at-if1 .if1 .left) _ _ (at-top-of .top-of .ensures .0) (at-bad-stencil .bad-stencil .ensures) (c .if2 .taken))
     (λ c κs. search needs)
     (λ c. search needs)
-    (λ c. let passed = c .before .before .before .before in stencil-some _ _ (passed .before .bad-stencil .ensures) (passed .if2 .left))
+    (λ c. let at-if2 = c .before .before .before .before in
+    let at-bad-stencil = at-if2 .before in
+    stencil-some _ _ (at-bad-stencil .bad-stencil .ensures) (at-if2 .if2 .left))
     (λ c κs. search needs)
-    (λ c.
-    let known = c .before .before in
-    let rule = known .before .before .before in
-    let passed = rule .before in
-    told-11 _ _ _ _ _ _ (omega (
-      arith,
-      passed .before .before .before .before .mesh-number .ensures,
-      passed .before .before .before .if1 .left,
-    )) (accepted-stencil _ _ (passed .before .before .top-of .ensures .0) (passed .before .bad-stencil .ensures)
-    (passed .if2 .left)) _ _ (rule .rule-of .ensures) (known .before .k .given .1) _ (c .before .wrong-weights .ensures) (c .if3 .taken))
-    (λ c κs.
-    let passed = c .before .before .before .before .before .before .before in (
-      (omega (
-        arith,
-        passed .before .before .before .before .mesh-number .ensures,
-        passed .before .before .before .if1 .left,
-      )),
-      (accepted-stencil _ _ (passed .before .before .top-of .ensures .0) (passed .before .bad-stencil .ensures)
-          (passed .if2 .left)),
-      rule-good _ _ _ _ (c .before .before .wrong-weights .ensures) (c .before .if3 .left),
+    (λ c. let at-wrong-weights = c .before in
+    let at-k = at-wrong-weights .before .before in
+    let at-rule-of = at-k .before .before in
+    let at-if2 = at-rule-of .before in
+    let at-bad-stencil = at-if2 .before in
+    let at-top-of = at-bad-stencil .before in
+    let at-if1 = at-top-of .before in
+    let at-mesh-number-in = at-if1 .before .before .before in
+    told-11 _ _ _ _ _ _ (sym (at-mesh-number-in .mesh-number-in .ensures) ∙ at-if1 .if1 .left)
+    (accepted-stencil _ _ (at-top-of .top-of .ensures .0) (at-bad-stencil .bad-stencil .ensures) (at-if2 .if2 .left)) _ _ (at-rule-of .rule-of .ensures) (at-k .k .given .1) _
+    (at-wrong-weights .wrong-weights .ensures) (c .if3 .taken))
+    (λ c. search needs)
+    (λ c. search needs)
+    (λ c κs. let at-if3 = c .before .before .before in
+    let at-wrong-weights = at-if3 .before in
+    let at-if2 = at-wrong-weights .before .before .before .before .before in
+    let at-bad-stencil = at-if2 .before in
+    let at-top-of = at-bad-stencil .before in
+    let at-if1 = at-top-of .before in
+    let at-mesh-number-in = at-if1 .before .before .before in (
+      sym (at-mesh-number-in .mesh-number-in .ensures) ∙ at-if1 .if1 .left,
+      accepted-stencil _ _ (at-top-of .top-of .ensures .0) (at-bad-stencil .bad-stencil .ensures) (at-if2 .if2 .left),
+      rule-good _ _ _ _ (at-wrong-weights .wrong-weights .ensures) (at-if3 .if3 .left),
+      search needs,
+      search needs,
     ))
     (λ c. search needs)
     (λ c. search needs)
-    (λ c.
-    let went = c .before .before in
-    let known = went .before .before .before .before in
-    told-kind _ _ _ _ _ _ _ _ (known .before .before .before .rule-of .ensures) (known .before .k .given .1) _ _ (went .round-on .ensures))
-    (λ c.
-    let rule = c .before .before in
-    let passed = rule .before in
-    told-unknown _ _ _ _ _ _ (omega (
-      arith,
-      passed .before .before .before .before .mesh-number .ensures,
-      passed .before .before .before .if1 .left,
-    )) (accepted-stencil _ _ (passed .before .before .top-of .ensures .0) (passed .before .bad-stencil .ensures)
-    (passed .if2 .left)) _ (rule .rule-of .ensures) (c .enum-told .given .1)))
+    (λ c. let at-round-on = c .before .before .before .before in
+    let at-k = at-round-on .before .before .before .before .before .before .before in
+    let at-rule-of = at-k .before .before in
+    told-kind _ _ _ _ _ _ _ _ (at-rule-of .rule-of .ensures) (at-k .k .given .1) _ _ (at-round-on .round-on .ensures))
+    (λ c. let at-rule-of = c .before .before in
+    let at-if2 = at-rule-of .before in
+    let at-bad-stencil = at-if2 .before in
+    let at-top-of = at-bad-stencil .before in
+    let at-if1 = at-top-of .before in
+    let at-mesh-number-in = at-if1 .before .before .before in
+    told-unknown _ _ _ _ _ _ (sym (at-mesh-number-in .mesh-number-in .ensures) ∙ at-if1 .if1 .left)
+    (accepted-stencil _ _ (at-top-of .top-of .ensures .0) (at-bad-stencil .bad-stencil .ensures) (at-if2 .if2 .left)) _ (at-rule-of .rule-of .ensures) (c .enum-told .given .1)))

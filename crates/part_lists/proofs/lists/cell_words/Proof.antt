@@ -1,14 +1,14 @@
--- `part_lists::lists::list_words` meets its contract. Assumes nothing.
-use Rattle.part_lists.specs.Giving.{chosen}
-use Rattle.part_lists.proofs.ListedLaws.{chose, chose-cells, chose-order}
+-- `part_lists::lists::cell_words` meets its contract. Assumes nothing.
+use Rattle.part_lists.specs.Giving.{cellWords}
+use Rattle.part_lists.proofs.ListedLaws.{chose-none, chose-cells, chose-order}
 use Rattle.mesh.proofs.AcceptedLaws.{cells-few, cells-fit}
 use borrow.Author.Needs.{needs}
-use Rattle.part_lists.proofs.lists.list_words.Statement.{statement}
-use Rattle.part_lists.proofs.lists.list_words.Tie as tie
+use Rattle.part_lists.proofs.lists.cell_words.Statement.{statement}
+use Rattle.part_lists.proofs.lists.cell_words.Tie as tie
 
-pub list-words-spec : {M : Type 1} → statement M
-unfolding chosen
-list-words-spec =
+pub cell-words-spec : {M : Type 1} → statement M
+unfolding cellWords
+cell-words-spec =
     tie.close
     (tie.spec
     (λ c κs. search needs)
@@ -26,13 +26,9 @@ list-words-spec =
     (λ c. search needs)
     (λ c κs. (search cells-fit, search needs))
     (λ c. search needs)
-    (λ c κs. search needs)
     (λ c. search needs)
-    (λ c κs. search needs)
     (λ c. search needs)
-    (λ c κs. search needs)
     (λ c. search needs)
-    (λ c κs. search needs)
     (λ c. search needs)
     (λ c. search chose-cells)
     (λ c. search needs)
@@ -43,11 +39,7 @@ list-words-spec =
     (λ c. search chose-cells)
     (λ c. search needs)
     (λ c. search chose-cells)
-    (λ c. search needs)
-    (λ c. search chose)
-    (λ c. search needs)
-    (λ c. search chose)
-    (λ c. search needs)
-    (λ c. search chose)
-    (λ c. search needs)
-    (λ c. search chose))
+    (λ c. search chose-none)
+    (λ c. search chose-none)
+    (λ c. search chose-none)
+    (λ c. search chose-none))

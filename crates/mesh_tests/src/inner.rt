@@ -1,0 +1,33 @@
+// The tests 1 to 7 in lent space, for calls that have arrays of that size anyway.
+use crate::chains::chain_number;
+use crate::head::bad1;
+use crate::head::bad2;
+use crate::head::bad3;
+use mesh::inner::elements_of;
+use mesh::inner::record_count;
+use mesh::inner::top_of;
+ghost use mathlib.Core.Path.{_≡_};
+ghost use Prim.Native.Nat.{_≤_};
+ghost use lib.ListN.{length};
+ghost use Rattle.vocabulary.specs.Lists.{Zeros};
+ghost use Rattle.mesh.specs.Mesh.{meshNumber};
+
+// The number of the first test that refuses the mesh, and 0 where none does. What the lent arrays hold afterwards does not matter.
+pub fn mesh_number_in(m: &[u8], items: &mut [u16], ends: &mut [u16]) -> u32
+    requires { ⌜ (12000 ≤ length (now items)) × Zeros 2001 (now ends) ⌝ }
+    ensures { λ r. ⌜ r ≡ meshNumber (now (m .entry)) ⌝ }
+{
+    if bad1(m) {
+        return 1;
+    }
+    if bad2(m) {
+        return 2;
+    }
+    if bad3(m) {
+        return 3;
+    }
+    let d = top_of(m);
+    let n = elements_of(m);
+    let r = record_count(m);
+    chain_number(m, d, n, r, items, ends)
+}
