@@ -13,6 +13,7 @@ use Rattle.layout.specs.Words.{wordAt}
 use Rattle.split.specs.Numbering.{numbering}
 use Rattle.depths.specs.Depths.{four}
 use Rattle.depths.specs.DepthLaws.{length-four, fours-store}
+use Rattle.states.specs.State.{importWord, reachWord, exportsWord}
 use Rattle.word_lists.specs.Putting.{Put}
 use Rattle.start_lists.specs.Starting.{startWords, gotEnds, sentEnds, sentWords, rowEnds, rowWords, numberedWords, startDepth, Cells}
 use Rattle.start_lists.specs.Starting.{gotFrom, sentFrom, countAt, endsBy, Got, Sent}
@@ -21,7 +22,7 @@ use Rattle.word_lists.proofs.PutLaws.{put-as, put-both, put-length}
 use Rattle.start_lists.proofs.StartCounts.{rows-long, all-long}
 
 -- the words before the tables
-pub head-count : (long i steps kind first cells : ℕ) (v a b : Bytes) (t : ℕ) → Put a b 0 t ((long ∷ i ∷ steps ∷ kind ∷ []) ++ (listed 0 5 (wordAt v) ++ (first ∷ cells ∷ []))) → t ≡ 11
+pub head-count : (long i steps kind first cells : ℕ) (v a b : Bytes) (t : ℕ) → Put a b 0 t ((long ∷ i ∷ steps ∷ kind ∷ []) ++ (listed 0 5 (wordAt v) ++ (first ∷ cells ∷ []))) → t ≡ importWord
 head-count long i steps kind first cells v a b t P = omega (arith, P .count, length-append (listed 0 5 (wordAt v)) (first ∷ cells ∷ []), listed-length 0 (wordAt v) 5)
 
 -- ---- the tables of ends by the arrays of counts
@@ -52,7 +53,7 @@ borders-count a b s t owned got sent P =
 -- ---- all pieces
 
 module _ (owners table : Bytes) (ends : List ℕ) (i first cells : ℕ) (order : List ℕ) where
-  module _ (n : ℕ) (local : List ℕ) (owned long steps kind : ℕ) (v : Bytes) (le : long ≡ 46 + n + owned + 2 * rowEnds table ends first order owned + sentEnds owners table ends i first cells 16) where
+  module _ (n : ℕ) (local : List ℕ) (owned long steps kind : ℕ) (v : Bytes) (le : long ≡ exportsWord n owned (rowEnds table ends first order owned) + sentEnds owners table ends i first cells 16) where
     -- what comes after the two tables
     abbrev later : List ℕ
     later =
@@ -99,12 +100,12 @@ module _ (owners table : Bytes) (ends : List ℕ) (i first cells : ℕ) (order :
           all-long owners table ends i first cells local,
         )
 
-    pub lists-put : (got sent : List ℕ) (a b c d : Bytes) (t u w : ℕ) → Got owners table ends i cells got → Sent owners table ends i cells 16 sent → 90 ≤ length a
+    pub lists-put : (got sent : List ℕ) (a b c d : Bytes) (t u w : ℕ) → Got owners table ends i cells got → Sent owners table ends i cells 16 sent → 2 * reachWord 0 ≤ length a
         → Put a b 0 t ((long ∷ i ∷ steps ∷ kind ∷ []) ++ (listed 0 5 (wordAt v) ++ (first ∷ cells ∷ [])))
         → Put b c t u (listed 0 17 (endsBy got owned) ++ listed 0 17 (endsBy sent 0)) → Put c d u w later
         → Put a d 0 w (numberedWords owners table ends i first cells order n local owned steps kind v)
     lists-put got sent a b c d t u w G X room P Q R =
-        let te : t ≡ 11 = head-count long i steps kind first cells v a b t P in
+        let te : t ≡ importWord = head-count long i steps kind first cells v a b t P in
         let lb : length b ≡ length a = put-length a b 0 t _ P (omega arith) in
         put-as a d 0 w _ _ words-are
         (put-both a b d 0 t w _ _ P

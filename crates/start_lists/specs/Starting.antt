@@ -10,6 +10,7 @@ use Rattle.layout.specs.Words.{wordAt}
 use Rattle.depths.specs.Depths.{four}
 use Rattle.split.specs.Numbering.{numbering}
 use Rattle.split.specs.Classes.{partCells, classCount}
+use Rattle.states.specs.State.{exportsWord}
 
 -- the local number of a cell, in the array that has them
 unfoldable pub localIn : List ℕ → ℕ → ℕ
@@ -61,7 +62,7 @@ module _ (table : Bytes) (ends : List ℕ) (first : ℕ) (order : List ℕ) wher
 -- numbers, and by that of the order
 unfoldable pub numberedWords : Bytes → Bytes → List ℕ → ℕ → ℕ → ℕ → List ℕ → ℕ → List ℕ → ℕ → ℕ → ℕ → Bytes → List ℕ
 numberedWords owners table ends i first cells order n local owned steps kind v =
-    ((46 + n + owned + 2 * rowEnds table ends first order owned + sentEnds owners table ends i first cells 16) ∷ i ∷ steps ∷ kind ∷ [])
+    ((exportsWord n owned (rowEnds table ends first order owned) + sentEnds owners table ends i first cells 16) ∷ i ∷ steps ∷ kind ∷ [])
     ++ (listed 0 5 (wordAt v)
     ++ ((first ∷ cells ∷ [])
     ++ (listed 0 17 (gotEnds owners table ends i first cells owned)
@@ -126,7 +127,7 @@ pub record Fit (owners table : Bytes) (ends : List ℕ) (i first cells : ℕ) (o
   pub owned-few : owned ≤ n
   pub got : gotEnds owners table ends i first cells owned 16 < 65536
   pub near : Rows table ends first order owned
-  pub long : 46 + n + owned + 2 * rowEnds table ends first order owned + sentEnds owners table ends i first cells 16 < 65536
+  pub long : exportsWord n owned (rowEnds table ends first order owned) + sentEnds owners table ends i first cells 16 < 65536
 
 -- the depth of local cell l in a field
 unfoldable pub startDepth : Bytes → ℕ → List ℕ → ℕ → Bytes

@@ -28,6 +28,7 @@ use Rattle.split.proofs.UnitLaws.{numbered}
 use Rattle.split.specs.Lists.{bad12}
 use Rattle.split.specs.Classes.{partCells, Prepared}
 use Rattle.cell_lists.proofs.ClassLists.{part-imports, locals-few}
+use Rattle.states.specs.State.{exportsWord}
 use Rattle.starts.specs.Start.{ownedIn, reachOf, importEnds, exportEnds, reachEnds, reachWords, exportWords, listsLong, listsWords}
 use Rattle.start_lists.specs.Starting.{localIn, numbersOf, gotEnds, sentEnds, sentWords, placeAt, rowSize, rowEnds, entryWords, rowWords, numberedWords, startWords}
 
@@ -291,13 +292,13 @@ module _ (m : Bytes) (parts : ℕ) (owners st table : Bytes) (ends : List ℕ) (
 
       -- ---- all words
 
-      head-is : 46 + n + own + 2 * rowEnds table ends first order own + sentEnds owners table ends i first cells 16 ≡ listsLong S i L
+      head-is : exportsWord n own (rowEnds table ends first order own) + sentEnds owners table ends i first cells 16 ≡ listsLong S i L
       unfolding listsLong
       head-is = omega (arith, row-ends own (omega arith), ap (reachEnds S i L) we, sent-ends 16 (omega arith))
 
       -- the count of all words
       pub long-few : bad12 S ≡ false → bad13 m st ≡ false
-          → 46 + n + own + 2 * rowEnds table ends first order own + sentEnds owners table ends i first cells 16 ≤ 24142
+          → exportsWord n own (rowEnds table ends first order own) + sentEnds owners table ends i first cells 16 ≤ 24142
       long-few e f = omega (arith, order-few, own-few, ends-few f own (omega arith), sent-few e 16 (omega arith))
 
       pub start-words : (kind : ℕ) (v : Bytes) → startWords owners table ends i first cells order n own (steps st) kind v ≡ listsWords S i L (steps st) kind v

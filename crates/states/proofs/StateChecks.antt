@@ -57,7 +57,7 @@ counts b z h o r s hs os rs ss = record {
   owned-is = o;
   reached-is = r ∙ ap₂ (λ x y. wordAt b (reachWord x + y)) h o;
   sent-is = s;
-  small = record { held-small = hs; owned-small = os; reached-small = rs; sent-small = ss };
+  small = record { held-small = hs; owned-small = os; reached-small = rs; sent-small = omega arith };
 }
 
 module _ (st : Bytes) (z : Sizes) (C : Counts st z) (k : ℕ) (ke : k ≡ wordCount z) (d : ℕ) where

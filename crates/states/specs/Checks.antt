@@ -64,12 +64,12 @@ exportStart z = exportsWord (z .held) (z .owned) (z .reached)
 abbrev pub wordCount : Sizes → ℕ
 wordCount z = exportStart z + z .sent
 
--- every count is a word
+-- every count is a word; start adds up the exports before it knows that of them
 pub record Small (z : Sizes) : Type 0 where
   pub held-small : z .held < 65536
   pub owned-small : z .owned < 65536
   pub reached-small : z .reached < 65536
-  pub sent-small : z .sent < 65536
+  pub sent-small : z .sent < 2000000
 
 -- they are those that stand in the lists
 pub record Counts (b : Bytes) (z : Sizes) : Type 0 where

@@ -3,19 +3,24 @@ use layout::word_at;
 ghost use mathlib.Core.Path.{_≡_};
 ghost use Rattle.states.specs.Checks.{Small, Counts, reachStart, entryStart, exportStart, wordCount};
 
-// In the lists, words: the part's number, the steps of the stencil, the rule's kind, the mesh's first cell and its count of cells.
+// In the lists, words: how many they are, the part's number, the steps of the stencil, the rule's kind and its weights, the mesh's first cell and its
+// count of cells.
+pub const LENGTH: usize = 0;
+
 pub const PART: usize = 1;
 
 pub const STEPS: usize = 2;
 
 pub const KIND: usize = 3;
 
+pub const WEIGHT_WORDS: usize = 4;
+
 pub const FIRST: usize = 9;
 
 pub const CELLS: usize = 10;
 
 // The byte at which the rule's weights begin.
-pub const WEIGHTS: usize = 8;
+pub const WEIGHTS: usize = 2 * WEIGHT_WORDS;
 
 // The ends of the imports, for parts 0 to 16: the first is the count of owned cells, the last that of held ones.
 pub const OWNED: usize = 11;
