@@ -32,7 +32,7 @@ use Rattle.rules.specs.Update as update
 use Rattle.rules.specs.UpdateLaws.{weightSum-own}
 use Rattle.rules.proofs.Registers.{depth-held}
 use Rattle.states.specs.State.{LocalNear, listsIn, ruleKind, stepCount, weights, heldCount, ownedCount, reachEnd}
-use Rattle.states.specs.State.{reachCount, entryAt, localReach, ownFound, depthPlace, depthsPlace, entryWord, layerWord, reachWord}
+use Rattle.states.specs.State.{reachCount, entryAt, localReach, ownFound, depthPlace, depthsPlace, entryWord, reachWord}
 use Rattle.states.specs.Checks.{reachStart, entryStart, Counts}
 use Rattle.states.specs.declared.places.Sizes.{Sizes}
 use Rattle.parts.specs.Calls.{depthAt, newAt}
@@ -77,7 +77,8 @@ module _ (st : Bytes) (d : ℕ) (b : Bytes) (o : Opened st d b) where
       let g = listed-at (reachEnd st (l - 1)) (entryAt st) (reachEnd st l - reachEnd st (l - 1)) (p .0) (record { local = 0; layer = 0 }) q in (
         p .0,
         q,
-        ap (λ (x : LocalNear). x .layer) (sym g) ∙ eqb-true _ _ (and-true (eqb (getD (localReach st l) (p .0) (record { local = 0; layer = 0 }) .local) l) (eqb (getD (localReach st l) (p .0) (record { local = 0; layer = 0 }) .layer) 0) (p .2) .1),
+        ap (λ (x : LocalNear). x .layer) (sym g) ∙ eqb-true _ _ (and-true (eqb (getD (localReach st l) (p .0) (record { local = 0; layer = 0 }) .local) l)
+            (eqb (getD (localReach st l) (p .0) (record { local = 0; layer = 0 }) .layer) 0) (p .2) .1),
       )
 
   module _ (z : Sizes) (C : Counts st z) (ends at l from n : ℕ) (ee : ends ≡ reachStart z) (ae : at ≡ entryStart z) (h : 1 ≤ l) (k : l ≤ z .owned)
@@ -109,7 +110,7 @@ module _ (st : Bytes) (d : ℕ) (b : Bytes) (o : Opened st d b) where
       entry-local = word-of st _ (entryWord (heldCount st) (ownedCount st) + 2 * (from + t)) (omega (arith, ae, C .held-is, C .owned-is))
 
       entry-layer : word st (2 * at + 4 * from + 4 * t + 2) ≡ (entryAt st (from + t)) .layer
-      entry-layer = word-of st _ (layerWord (heldCount st) (ownedCount st) + 2 * (from + t)) (omega (arith, ae, C .held-is, C .owned-is))
+      entry-layer = word-of st _ (entryWord (heldCount st) (ownedCount st) + 2 * (from + t) + 1) (omega (arith, ae, C .held-is, C .owned-is))
 
     -- the reach in local numbers, as the update finds it
     near : oldsAt b (d + 30) (entries st (2 * at + 4 * from) n) ≡ map (oldOf b d) (localReach st l)

@@ -1,6 +1,6 @@
 -- The lists of a part's state, put together from their pieces, and the depths behind them. Assumes nothing.
 use mathlib.Core.Path.{_≡_, sym, ap, ap₂, _∙_}
-use mathlib.Core.List.{List, [], _∷_, _++_, append-assoc}
+use mathlib.Core.List.{List, [], _∷_, _++_}
 use Prim.Native.Nat.{ℕ, _+_, _-_, _*_, _≤_, _<_}
 use native.Mathlib.Nat.{zero-add}
 use native.Mathlib.Omega.{arith}
@@ -19,6 +19,7 @@ use Rattle.start_lists.specs.Starting.{startWords, gotEnds, sentEnds, se
 use Rattle.start_lists.specs.Starting.{gotFrom, sentFrom, countAt, endsBy, Got, Sent}
 use Rattle.parts.proofs.OpenedLaws.{four-cut}
 use Rattle.word_lists.proofs.PutLaws.{put-as, put-both, put-length}
+use Rattle.word_lists.proofs.RegionLaws.{joined-length, joined-append, regions-two, regions-three, regions-four}
 use Rattle.start_lists.proofs.StartCounts.{rows-long, all-long}
 
 -- the words before the tables
@@ -67,30 +68,22 @@ module _ (owners table : Bytes) (ends : List ℕ) (i first cells : ℕ) (order :
         ≡ numberedWords owners table ends i first cells order n local owned steps kind v
     unfolding numberedWords
     words-are =
-        ap₂ (λ x (xs : List ℕ). x ∷ i ∷ steps ∷ kind ∷ xs) le
-        (tail-is (listed 0 5 (wordAt v)) (first ∷ cells ∷ []) (listed 0 17 (gotEnds owners table ends i first cells owned)) (listed 0 17 (sentEnds owners table ends i first cells)) later)
-      where
-        tail-is : (ws fs gs ss rs : List ℕ) → (ws ++ fs) ++ ((gs ++ ss) ++ rs) ≡ ws ++ (fs ++ (gs ++ (ss ++ rs)))
-        tail-is ws fs gs ss rs = append-assoc ws fs ((gs ++ ss) ++ rs) ∙ ap (λ x. ws ++ (fs ++ x)) (append-assoc gs ss rs)
+        let G = listed 0 17 (gotEnds owners table ends i first cells owned) in
+        let E = listed 0 17 (sentEnds owners table ends i first cells) in
+        let R = listed 0 (owned + 1) (rowEnds table ends first order) in
+        let N = blocks 1 owned (rowWords table ends first order local) in
+        let X = blocks 1 16 (sentWords owners table ends i first cells local) in
+        ap₂ _++_ (ap (λ x. (x ∷ i ∷ steps ∷ kind ∷ []) ++ (listed 0 5 (wordAt v) ++ (first ∷ cells ∷ []))) le ∙ regions-three _ (listed 0 5 (wordAt v)) (first ∷ cells ∷ []))
+        (ap₂ _++_ (regions-two G E) (regions-four (take n order) R N X) ∙ sym (joined-append (G ∷ E ∷ []) (take n order ∷ R ∷ N ∷ X ∷ [])))
+        ∙ sym (joined-append (_ ∷ listed 0 5 (wordAt v) ∷ (first ∷ cells ∷ []) ∷ []) (G ∷ E ∷ take n order ∷ R ∷ N ∷ X ∷ []))
 
     pub words-long : n ≤ length order → length (numberedWords owners table ends i first cells order n local owned steps kind v) ≡ long
     unfolding numberedWords
     words-long h =
-        let H = blocks 1 owned (rowWords table ends first order local) in
-        let I = blocks 1 16 (sentWords owners table ends i first cells local) in
-        let G = listed 0 (owned + 1) (rowEnds table ends first order) in
-        let E = listed 0 17 (sentEnds owners table ends i first cells) in
-        let D = listed 0 17 (gotEnds owners table ends i first cells owned) in
-        let W = listed 0 5 (wordAt v) in
-        omega (
+        joined-length _
+        ∙ omega (
           arith,
           le,
-          length-append W ((first ∷ cells ∷ []) ++ (D ++ (E ++ (take n order ++ (G ++ (H ++ I)))))),
-          length-append D (E ++ (take n order ++ (G ++ (H ++ I)))),
-          length-append E (take n order ++ (G ++ (H ++ I))),
-          length-append (take n order) (G ++ (H ++ I)),
-          length-append G (H ++ I),
-          length-append H I,
           listed-length 0 (wordAt v) 5,
           listed-length 0 (gotEnds owners table ends i first cells owned) 17,
           listed-length 0 (sentEnds owners table ends i first cells) 17,

@@ -11,7 +11,7 @@ use Rattle.vocabulary.specs.ByteLaws.{over-more}
 use Rattle.vocabulary.specs.Ranges.{blocks, total}
 use Rattle.vocabulary.specs.RangeLaws.{blocks-cong}
 use Rattle.vocabulary.specs.Tests.{Test, refuse, firstOf}
-use Rattle.layout.specs.Words.{bytesOf}
+use Rattle.layout.specs.Words.{wordBytes, bytesOf}
 use Rattle.layout.specs.WordLaws.{length-bytesOf}
 use Rattle.depths.specs.Depths.{four}
 use Rattle.layout.specs.Answers.{answer}
@@ -111,7 +111,8 @@ module _ (m : Bytes) (parts : ℕ) (owners : Bytes) (i : ℕ) (st table : Bytes)
 
 -- ---- the bytes
 
-pub state-put : (b x y z : Bytes) (t long n : ℕ) (ws : List ℕ) (f : Bytes) (first : ℕ) (order : List ℕ) → stateLength (2 * long) n ≤ length b → length ws ≡ long → Put b x 0 t ws → y ≡ over x (2 * long) (replicate 34 0)
+pub state-put : (b x y z : Bytes) (t long n : ℕ) (ws : List ℕ) (f : Bytes) (first : ℕ) (order : List ℕ) → stateLength (2 * long) n ≤ length b → length ws ≡ long
+    → Put b x 0 t ws → y ≡ over x (2 * long) (replicate 34 0)
     → z ≡ over y (depthsPlace (2 * long)) (blocks 1 n (startDepth f first order)) → z ≡ over b 0 (bytesOf ws ++ (replicate 34 0 ++ blocks 1 n (startDepth f first order)))
 state-put b x y z t long n ws f first order room le P ye ze =
     let l : length (bytesOf ws) ≡ 2 * length ws = length-bytesOf ws in
@@ -278,12 +279,13 @@ module _ (m : Bytes) (parts : ℕ) (owners : Bytes) (i : ℕ) (st : Bytes) (kind
 
             state-is : bytesOf (startWords owners table ends part first count order n owned (steps st) kind v) ++
                 (replicate 34 0 ++ blocks 1 n (startDepth f first order)) ≡ firstState m parts owners i st kind v f
-            unfolding firstState
+            unfolding firstState wordBytes
             state-is =
                 ap₂ (λ (ws : List ℕ) (ds : Bytes). bytesOf ws ++ (replicate 34 0 ++ ds))
                 (ap (λ x. startWords owners table ends x first count order n owned (steps st) kind v) pe
                 ∙ start-words m parts owners st table ends holders R i (I₂ .0) (I₂ .1) first count fe ke order n owned (Q .order-is) (Q .held-is) (Q .owned-is) kind v)
-                (blocks-cong 1 (startDepth f first order) (λ l. depthIn (schemeOf m st kind v) f (globalOf (locals (splitOf m parts owners st) i) l)) n (λ k h. depth-is (1 + k) (omega arith) (omega arith))
+                (blocks-cong 1 (startDepth f first order) (λ l. depthIn (schemeOf m st kind v) f (globalOf (locals (splitOf m parts owners st) i) l)) n
+                (λ k h. depth-is (1 + k) (omega arith) (omega arith))
                 ∙ ap (λ k. blocks 1 k (λ l. depthIn (schemeOf m st kind v) f (globalOf (locals (splitOf m parts owners st) i) l))) (Q .held-is))
 
             pub start-done : stateLength (2 * long) n ≤ length b → (y : Bytes)

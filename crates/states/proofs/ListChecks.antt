@@ -73,7 +73,7 @@ module _ (b : Bytes) (at held n : ℕ) (T : Tested b at held n) (t l : ℕ) (le 
 
   module _ (layer : ℕ) (ye : layer ≡ wordAt b (at + 2 * t + 1)) where
     entry-layer : (entryAt b t) .layer ≡ layer
-    entry-layer = let p : 47 + heldCount b + ownedCount b + 2 * t ≡ at + 2 * t + 1 = omega (arith, T .at-is) in ap (wordAt b) p ∙ sym ye
+    entry-layer = let p : entryWord (heldCount b) (ownedCount b) + 2 * t + 1 ≡ at + 2 * t + 1 = omega (arith, T .at-is) in ap (wordAt b) p ∙ sym ye
 
     module _ (u : Bool) (ue : u ≡ isUpTo held l) where
       entry-held : isUpTo (heldCount b) ((entryAt b t) .local) ≡ u

@@ -85,7 +85,8 @@ pub state-short : (b : Bytes) (x : ℕ) → x ≡ wordAt b 0 → length b < 2 * 
 unfolding isState dynamicTests
 state-short b x e h =
     let k : length b < stateLength (2 * wordAt b 0) (heldCount (take (2 * wordAt b 0) b)) = omega (arith, e) in
-    sym (and-right (eqb (2 * wordAt b 0) (listsLength (take (2 * wordAt b 0) b)) && allOf (listsTests (take (2 * wordAt b 0) b))) (allOf (dynamicTests b (2 * wordAt b 0) (heldCount (take (2 * wordAt b 0) b)))) (simp (lt-leb _ _ k)))
+    sym (and-right (eqb (2 * wordAt b 0) (listsLength (take (2 * wordAt b 0) b)) && allOf (listsTests (take (2 * wordAt b 0) b)))
+    (allOf (dynamicTests b (2 * wordAt b 0) (heldCount (take (2 * wordAt b 0) b)))) (simp (lt-leb _ _ k)))
 
 pub state-told : (b : Bytes) (x : ℕ) (r : Bool) → x ≡ wordAt b 0 → r ≡ isStateAt (take (2 * x - 0) (drop 0 b)) (2 * x) b → r ≡ isState b
 state-told b x r e q =

@@ -166,7 +166,8 @@ unfolding messageTo encode
 message-length L d b j =
     let ds = map (depthAt d b) (L .exports j) in
     length-append (bytesOf (L .part ∷ j ∷ roundAt b d ∷ length (map (depthAt d b) (L .exports j)) ∷ [])) (joined (map (depthAt d b) (L .exports j)))
-    ∙ ap₂ _+_ (length-bytesOf (L .part ∷ j ∷ roundAt b d ∷ length (map (depthAt d b) (L .exports j)) ∷ [])) (joined-length _ (fours-long d b (L .exports j)) ∙ ap (λ n. 4 * n) (length-map (L .exports j) (depthAt d b)))
+    ∙ ap₂ _+_ (length-bytesOf (L .part ∷ j ∷ roundAt b d ∷ length (map (depthAt d b) (L .exports j)) ∷ [])) (joined-length _ (fours-long d b (L .exports j))
+    ∙ ap (λ n. 4 * n) (length-map (L .exports j) (depthAt d b)))
 
 module _ (b : Bytes) (j : ℕ) (out : Bytes) where
   abbrev pub Answered : Answer → Bytes → Bytes → Type 0

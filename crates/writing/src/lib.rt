@@ -78,7 +78,11 @@ fn write_message(b: &[u8], d: usize, j: usize, count: usize, out: &mut [u8])
 // Write on a state whose lists end at d.
 fn write_in(b: &mut [u8], d: usize, j: usize, out: &mut [u8]) -> Answer
     requires { ⌜ Opened (take d (now b)) d (now b) ⌝ }
-    ensures { λ r. ⌜ (r ≡ writeAnswer (now (b .entry)) j (now (out .entry))) × (now (b .exit) ≡ writeState (now (b .entry)) j (now (out .entry))) × (now (out .exit) ≡ writeOut (now (b .entry)) j (now (out .entry))) ⌝ }
+    ensures { λ r. ⌜
+        (r ≡ writeAnswer (now (b .entry)) j (now (out .entry)))
+        × (now (b .exit) ≡ writeState (now (b .entry)) j (now (out .entry)))
+        × (now (out .exit) ≡ writeOut (now (b .entry)) j (now (out .entry)))
+        ⌝ }
 {
     let count = sent_to(&b[0..d], j);
     if count < 1 {
@@ -94,7 +98,11 @@ fn write_in(b: &mut [u8], d: usize, j: usize, out: &mut [u8]) -> Answer
 
 // Gives the message to part j.
 pub fn write(b: &mut [u8], j: u32, out: &mut [u8]) -> Answer
-    ensures { λ r. ⌜ (r ≡ writeAnswer (now (b .entry)) j (now (out .entry))) × (now (b .exit) ≡ writeState (now (b .entry)) j (now (out .entry))) × (now (out .exit) ≡ writeOut (now (b .entry)) j (now (out .entry))) ⌝ }
+    ensures { λ r. ⌜
+        (r ≡ writeAnswer (now (b .entry)) j (now (out .entry)))
+        × (now (b .exit) ≡ writeState (now (b .entry)) j (now (out .entry)))
+        × (now (out .exit) ≡ writeOut (now (b .entry)) j (now (out .entry)))
+        ⌝ }
 {
     if !is_state(b) {
         return Answer::Refused(20);
