@@ -83,23 +83,23 @@ module _ (S : Split) (i : ℕ) (order : List ℕ) (n kind : ℕ) (v : Bytes) whe
 
   pub part-back : partNumber front ≡ i
   unfolding listsRegions
-  part-back = region-at regions 0 1 1 (omega arith) (omega arith)
+  part-back = region-at regions 0 1 _ (omega arith) (omega arith)
 
   pub steps-back : stepCount front ≡ n
   unfolding listsRegions
-  steps-back = region-at regions 0 2 2 (omega arith) (omega arith)
+  steps-back = region-at regions 0 2 _ (omega arith) (omega arith)
 
   pub kind-back : ruleKind front ≡ kind
   unfolding listsRegions
-  kind-back = region-at regions 0 3 3 (omega arith) (omega arith)
+  kind-back = region-at regions 0 3 _ (omega arith) (omega arith)
 
   pub first-back : firstOfMesh front ≡ S .first
   unfolding listsRegions
-  first-back = region-at regions 2 0 9 (omega arith) (omega (arith, weights-long))
+  first-back = region-at regions 2 0 _ (omega arith) (omega (arith, weights-long))
 
   pub cells-back : cellsOfMesh front ≡ S .cells
   unfolding listsRegions
-  cells-back = region-at regions 2 1 10 (omega arith) (omega (arith, weights-long))
+  cells-back = region-at regions 2 1 _ (omega arith) (omega (arith, weights-long))
 
   pub import-back : (j : ℕ) → j ≤ 16 → importEnd front j ≡ importEnds S i order j
   unfolding listsRegions

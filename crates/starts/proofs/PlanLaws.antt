@@ -112,20 +112,20 @@ module _ (m : Bytes) (parts : ℕ) (owners : Bytes) (i : ℕ) (st table : Bytes)
 -- ---- the bytes
 
 pub state-put : (b x y z : Bytes) (t long n : ℕ) (ws : List ℕ) (f : Bytes) (first : ℕ) (order : List ℕ) → stateLength (2 * long) n ≤ length b → length ws ≡ long
-    → Put b x 0 t ws → y ≡ over x (2 * long) (replicate 34 0)
-    → z ≡ over y (depthsPlace (2 * long)) (blocks 1 n (startDepth f first order)) → z ≡ over b 0 (bytesOf ws ++ (replicate 34 0 ++ blocks 1 n (startDepth f first order)))
+    → Put b x 0 t ws → y ≡ over x (2 * long) (replicate (depthsPlace 0) 0)
+    → z ≡ over y (depthsPlace (2 * long)) (blocks 1 n (startDepth f first order)) → z ≡ over b 0 (bytesOf ws ++ (replicate (depthsPlace 0) 0 ++ blocks 1 n (startDepth f first order)))
 state-put b x y z t long n ws f first order room le P ye ze =
     let l : length (bytesOf ws) ≡ 2 * length ws = length-bytesOf ws in
     let k : 2 * long ≡ 0 + length (bytesOf ws) = omega arith in
-    let q : depthsPlace (2 * long) ≡ 2 * long + length (replicate {A = ℕ} 34 0) = omega arith in
+    let q : depthsPlace (2 * long) ≡ 2 * long + length (replicate {A = ℕ} (depthsPlace 0) 0) = omega arith in
     let lx : length x ≡ length b = put-length b x 0 t ws P (omega (arith, P .count)) in
     let e : 2 * 0 ≡ 0 = omega arith in
     let xe : x ≡ over b 0 (bytesOf ws) = P .text ∙ ap (λ o. over b o (bytesOf ws)) e in
     ze
     ∙ ap₂ (λ (u : Bytes) o. over u o (blocks 1 n (startDepth f first order))) ye q
-    ∙ over-more x (2 * long) (replicate 34 0) (omega arith) (blocks 1 n (startDepth f first order))
-    ∙ ap₂ (λ (u : Bytes) o. over u o (replicate 34 0 ++ blocks 1 n (startDepth f first order))) xe k
-    ∙ over-more b 0 (bytesOf ws) (omega arith) (replicate 34 0 ++ blocks 1 n (startDepth f first order))
+    ∙ over-more x (2 * long) (replicate (depthsPlace 0) 0) (omega arith) (blocks 1 n (startDepth f first order))
+    ∙ ap₂ (λ (u : Bytes) o. over u o (replicate (depthsPlace 0) 0 ++ blocks 1 n (startDepth f first order))) xe k
+    ∙ over-more b 0 (bytesOf ws) (omega arith) (replicate (depthsPlace 0) 0 ++ blocks 1 n (startDepth f first order))
 
 -- ---- one part named twice is one part named
 
@@ -278,10 +278,10 @@ module _ (m : Bytes) (parts : ℕ) (owners : Bytes) (i : ℕ) (st : Bytes) (kind
                 (order-at m parts owners st table ends holders R i (I₂ .0) (I₂ .1) first cells fe ce order n owned (Q .order-is) (Q .held-is) (Q .owned-is) (l - 1) (omega arith)) fe
 
             state-is : bytesOf (startWords owners table ends part first count order n owned (steps st) kind v) ++
-                (replicate 34 0 ++ blocks 1 n (startDepth f first order)) ≡ firstState m parts owners i st kind v f
+                (replicate (depthsPlace 0) 0 ++ blocks 1 n (startDepth f first order)) ≡ firstState m parts owners i st kind v f
             unfolding firstState wordBytes
             state-is =
-                ap₂ (λ (ws : List ℕ) (ds : Bytes). bytesOf ws ++ (replicate 34 0 ++ ds))
+                ap₂ (λ (ws : List ℕ) (ds : Bytes). bytesOf ws ++ (replicate (depthsPlace 0) 0 ++ ds))
                 (ap (λ x. startWords owners table ends x first count order n owned (steps st) kind v) pe
                 ∙ start-words m parts owners st table ends holders R i (I₂ .0) (I₂ .1) first count fe ke order n owned (Q .order-is) (Q .held-is) (Q .owned-is) kind v)
                 (blocks-cong 1 (startDepth f first order) (λ l. depthIn (schemeOf m st kind v) f (globalOf (locals (splitOf m parts owners st) i) l)) n
@@ -289,7 +289,7 @@ module _ (m : Bytes) (parts : ℕ) (owners : Bytes) (i : ℕ) (st : Bytes) (kind
                 ∙ ap (λ k. blocks 1 k (λ l. depthIn (schemeOf m st kind v) f (globalOf (locals (splitOf m parts owners st) i) l))) (Q .held-is))
 
             pub start-done : stateLength (2 * long) n ≤ length b → (y : Bytes)
-                → y ≡ over b 0 (bytesOf (startWords owners table ends part first count order n owned (length st - 1) kind v) ++ (replicate 34 0 ++ blocks 1 n (startDepth f first order)))
+                → y ≡ over b 0 (bytesOf (startWords owners table ends part first count order n owned (length st - 1) kind v) ++ (replicate (depthsPlace 0) 0 ++ blocks 1 n (startDepth f first order)))
                 → Answered (Done (stateLength (2 * long) n)) y
             unfolding steps
             start-done h y e =
