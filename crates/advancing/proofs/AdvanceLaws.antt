@@ -1,5 +1,5 @@
 -- Advance, by the tests and the loops of the code. Assumes nothing.
-use mathlib.Core.Path.{_≡_, refl, sym, ap, ap₂, _∙_}
+use mathlib.Core.Path.{_≡_, refl, sym, ap, ap₂, _∙_, subst}
 use mathlib.Core.Bool.{Bool, true, false, not}
 use mathlib.Core.List.{_++_}
 use Prim.Native.Nat.{ℕ, _+_, _-_, _*_, _≤_, _<_}
@@ -10,13 +10,15 @@ use borrow.Author.Tests.{le-leb, lt-leb, not-true, not-false}
 use Rattle.vocabulary.specs.Bytes.{Bytes, over}
 use Rattle.vocabulary.specs.ByteLaws.{over-length, over-more, over-front}
 use Rattle.vocabulary.specs.Ranges.{blocks}
-use Rattle.layout.specs.Words.{word, wordAt, wordBytes}
+use Rattle.layout.specs.Words.{word, wordBytes}
 use Rattle.layout.specs.WordLaws.{length-wordBytes}
 use Rattle.depths.specs.DepthLaws.{fours-length}
 use Rattle.layout.specs.AnswerLaws.{refuses, accepts}
 use Rattle.layout.specs.declared.Answer.{Answer}
 use Rattle.layout.specs.declared.Answer.the-variants.{Done, Refused}
 use Rattle.states.specs.State.{Lists, listsIn, listsOf, dynamic, ownedCount, stateLength, depthsPlace}
+use Rattle.states.specs.Checks.{Counts}
+use Rattle.states.specs.declared.places.Sizes.{Sizes}
 use Rattle.parts.specs.Calls.{allTaken, allWritten, newAt, advancedIn, advanceTestsIn, advanceNumber, advanceAnswer, advanceState}
 use Rattle.parts.specs.Opened.{Opened, advanceRest}
 use Rattle.parts.proofs.OpenedLaws.{whole, own-few, long, good-state, cut, lists-is}
@@ -104,12 +106,13 @@ module _ (b : Bytes) where
                 ∙ a .1,
           )
 
-    pub owned-room : (owned : ℕ) → owned ≡ wordAt (take (d - 0) (drop 0 b)) 11 → (owned ≡ ownedCount (take d b)) × (owned ≤ 2000) × (stateLength d owned ≤ length b)
-    owned-room owned oe =
-        let e : owned ≡ ownedCount (take d b) = oe ∙ ap (λ (x : Bytes). wordAt x 11) (cut b d) in (
+    pub owned-room : (z : Sizes) → Counts (take (d - 0) (drop 0 b)) z → (z .owned ≡ ownedCount (take d b)) × (z .owned ≤ 2000) × (stateLength d (z .owned) ≤ length b) × Counts (take d b) z
+    owned-room z C =
+        let e : z .owned ≡ ownedCount (take d b) = C .owned-is ∙ ap (λ (x : Bytes). ownedCount x) (cut b d) in (
           e,
           omega (arith, own-few (take d b) d b o, whole (take d b) d b o .few),
           omega (arith, own-few (take d b) d b o, long (take d b) d b o),
+          subst (λ (x : Bytes). Counts x z) (cut b d) C,
         )
 
     pub round-small : word b d ≤ 60000
@@ -120,8 +123,8 @@ module _ (b : Bytes) where
 pub rest-cut : (b : Bytes) (d r : ℕ) → r ≡ advanceRest (listsIn (take (d - 0) (drop 0 b))) d b → r ≡ advanceRest (listsIn (take d b)) d b
 rest-cut b d r e = e ∙ ap (λ (x : Bytes). advanceRest (listsIn x) d b) (cut b d)
 
-pub owned-cut : (b : Bytes) (d owned : ℕ) → owned ≡ ownedCount (take d b) → owned ≡ ownedCount (take (d - 0) (drop 0 b))
-owned-cut b d owned e = e ∙ ap (λ (x : Bytes). ownedCount x) (sym (cut b d))
+pub counts-cut : (b : Bytes) (d : ℕ) (z : Sizes) → Counts (take d b) z → Counts (take (d - 0) (drop 0 b)) z
+counts-cut b d z C = subst (λ (x : Bytes). Counts x z) (sym (cut b d)) C
 
 pub renewed-cut : (b new x : Bytes) (d owned : ℕ) → x ≡ over new 0 (blocks 1 owned (newAt (listsIn (take (d - 0) (drop 0 b))) d b)) → x ≡ over new 0 (blocks 1 owned (newAt (listsIn (take d b)) d b))
 renewed-cut b new x d owned e = e ∙ ap (λ (y : Bytes). over new 0 (blocks 1 owned (newAt (listsIn y) d b))) (cut b d)

@@ -9,7 +9,8 @@ use parts::inner::all_written;
 use parts::inner::clear;
 use renewing::inner::renew_by;
 use states::inner::DEPTHS;
-use states::inner::OWNED;
+use states::inner::Sizes;
+use states::inner::sizes_of;
 use states::is_state;
 ghost use mathlib.Core.Path.{_≡_};
 ghost use mathlib.Core.List.{_++_};
@@ -18,7 +19,8 @@ ghost use lib.ListN.{length, take, replicate};
 ghost use Rattle.vocabulary.specs.Bytes.{over};
 ghost use Rattle.vocabulary.specs.Ranges.{blocks};
 ghost use Rattle.layout.specs.Words.{wordBytes};
-ghost use Rattle.states.specs.State.{listsIn, ownedCount, stateLength};
+ghost use Rattle.states.specs.State.{listsIn, stateLength};
+ghost use Rattle.states.specs.Checks.{Counts};
 ghost use Rattle.parts.specs.Opened.{Opened, advanceRest};
 ghost use Rattle.parts.specs.Calls.{newAt, advanceAnswer, advanceState};
 
@@ -56,11 +58,11 @@ fn advance_number(b: &[u8], d: usize) -> u32
     advance_rest(&b[0..d], b, d)
 }
 
-fn renew_state(b: &[u8], d: usize, owned: usize, new: &mut [u8])
-    requires { ⌜ Opened (take d (now b)) d (now b) × (owned ≡ ownedCount (take d (now b))) × (owned < 65536) × (4 * owned ≤ length (now new)) ⌝ }
-    ensures { λ _. ⌜ now (new .exit) ≡ over (now (new .entry)) 0 (blocks 1 owned (newAt (listsIn (take d (now (b .entry)))) d (now (b .entry)))) ⌝ }
+fn renew_state(b: &[u8], d: usize, sizes: Sizes, new: &mut [u8])
+    requires { ⌜ Opened (take d (now b)) d (now b) × Counts (take d (now b)) sizes × (4 * sizes .owned ≤ length (now new)) ⌝ }
+    ensures { λ _. ⌜ now (new .exit) ≡ over (now (new .entry)) 0 (blocks 1 (sizes .owned) (newAt (listsIn (take d (now (b .entry)))) d (now (b .entry)))) ⌝ }
 {
-    renew_by(&b[0..d], b, d, owned, new);
+    renew_by(&b[0..d], b, d, sizes, new);
 }
 
 // Advance on a state whose lists end at d, with room for the new depths.
@@ -72,10 +74,10 @@ fn advance_in(b: &mut [u8], d: usize, new: &mut [u8]) -> Answer
     if number != 0 {
         return Answer::Refused(number);
     }
-    let owned = word_at(&b[0..d], OWNED);
+    let sizes = sizes_of(&b[0..d]);
     let round = word_in(b, d) + 1;
-    renew_state(b, d, owned, new);
-    put_round(b, d, round, owned, new);
+    renew_state(b, d, sizes, new);
+    put_round(b, d, round, sizes.owned, new);
     Answer::Done(0)
 }
 

@@ -33,6 +33,8 @@ use Rattle.rules.specs.UpdateLaws.{weightSum-own}
 use Rattle.rules.proofs.Registers.{depth-held}
 use Rattle.states.specs.State.{LocalNear, listsIn, ruleKind, stepCount, weights, heldCount, ownedCount, reachEnd}
 use Rattle.states.specs.State.{reachCount, entryAt, localReach, ownFound, depthPlace, depthsPlace, entryWord, reachWord}
+use Rattle.states.specs.Checks.{reachStart, entryStart, Counts}
+use Rattle.states.specs.declared.places.Sizes.{Sizes}
 use Rattle.parts.specs.Calls.{depthAt, newAt}
 use Rattle.states.specs.StateLaws.{Whole}
 use Rattle.parts.specs.Opened.{Opened}
@@ -75,18 +77,22 @@ module _ (st : Bytes) (d : ℕ) (b : Bytes) (o : Opened st d b) where
       let g = listed-at (reachEnd st (l - 1)) (entryAt st) (reachEnd st l - reachEnd st (l - 1)) (p .0) (record { local = 0; layer = 0 }) q in (
         p .0,
         q,
-        ap (λ (x : LocalNear). x .layer) (sym g) ∙ eqb-true _ _ (and-true (eqb (getD (localReach st l) (p .0) (record { local = 0; layer = 0 }) .local) l) (eqb (getD (localReach st l) (p .0) (record { local = 0; layer = 0 }) .layer) 0) (p .2) .1),
+        ap (λ (x : LocalNear). x .layer) (sym g) ∙ eqb-true _ _ (and-true (eqb (getD (localReach st l) (p .0) (record { local = 0; layer = 0 }) .local) l)
+            (eqb (getD (localReach st l) (p .0) (record { local = 0; layer = 0 }) .layer) 0) (p .2) .1),
       )
 
-  module _ (held owned l from n : ℕ) (he : held ≡ heldCount st) (oe : owned ≡ ownedCount st) (h : 1 ≤ l) (k : l ≤ owned)
-      (fe : from ≡ wordAt st (reachWord held + (l - 1))) (ne : n ≡ wordAt st (reachWord held + (l - 1) + 1) - wordAt st (reachWord held + (l - 1))) where
+  module _ (z : Sizes) (C : Counts st z) (ends at l from n : ℕ) (ee : ends ≡ reachStart z) (ae : at ≡ entryStart z) (h : 1 ≤ l) (k : l ≤ z .owned)
+      (fe : from ≡ wordAt st (ends + (l - 1))) (ne : n ≡ wordAt st (ends + (l - 1) + 1) - wordAt st (ends + (l - 1))) where
+    own-l : l ≤ ownedCount st
+    own-l = omega (arith, C .owned-is)
+
     from-is : reachEnd st (l - 1) ≡ from
-    from-is = ap (λ x. wordAt st (reachWord x + (l - 1))) (sym he) ∙ sym fe
+    from-is = ap (λ x. wordAt st (x + (l - 1))) (sym (ee ∙ ap reachWord (C .held-is))) ∙ sym fe
 
     size-is : reachEnd st l - reachEnd st (l - 1) ≡ n
     size-is =
-        let p : reachWord (heldCount st) + l ≡ reachWord held + (l - 1) + 1 = omega arith in
-        let q : reachWord (heldCount st) + (l - 1) ≡ reachWord held + (l - 1) = omega arith in
+        let p : reachWord (heldCount st) + l ≡ ends + (l - 1) + 1 = omega (arith, C .held-is) in
+        let q : reachWord (heldCount st) + (l - 1) ≡ ends + (l - 1) = omega (arith, C .held-is) in
         ap₂ (λ x y. wordAt st x - wordAt st y) p q ∙ sym ne
 
     row-fits : from + n ≤ reachCount st
@@ -95,26 +101,25 @@ module _ (st : Bytes) (d : ℕ) (b : Bytes) (o : Opened st d b) where
           arith,
           from-is,
           size-is,
-          w .reach-ends (l - 1) l (omega arith) (omega arith),
-          w .reach-ends l (ownedCount st) (omega arith) (omega arith),
+          w .reach-ends (l - 1) l (omega arith) own-l,
+          w .reach-ends l (ownedCount st) own-l (omega arith),
         )
 
     module _ (t : ℕ) (q : t < n) where
-      entry-local : word st (2 * (entryWord held owned) + 4 * from + 4 * t) ≡ (entryAt st (from + t)) .local
-      entry-local = word-of st _ (entryWord (heldCount st) (ownedCount st) + 2 * (from + t)) (omega (arith, he, oe))
+      entry-local : word st (2 * at + 4 * from + 4 * t) ≡ (entryAt st (from + t)) .local
+      entry-local = word-of st _ (entryWord (heldCount st) (ownedCount st) + 2 * (from + t)) (omega (arith, ae, C .held-is, C .owned-is))
 
-      entry-layer : word st (2 * (entryWord held owned) + 4 * from + 4 * t + 2) ≡ (entryAt st (from + t)) .layer
-      entry-layer = word-of st _ (47 + heldCount st + ownedCount st + 2 * (from + t)) (omega (arith, he, oe))
+      entry-layer : word st (2 * at + 4 * from + 4 * t + 2) ≡ (entryAt st (from + t)) .layer
+      entry-layer = word-of st _ (entryWord (heldCount st) (ownedCount st) + 2 * (from + t) + 1) (omega (arith, ae, C .held-is, C .owned-is))
 
     -- the reach in local numbers, as the update finds it
-    near : oldsAt b (d + 30) (entries st (2 * (entryWord held owned) + 4 * from) n) ≡ map (oldOf b d) (localReach st l)
+    near : oldsAt b (d + 30) (entries st (2 * at + 4 * from) n) ≡ map (oldOf b d) (localReach st l)
     unfolding oldsAt entries localReach
     near =
-        let at : ℕ = 2 * (entryWord held owned) + 4 * from in
-        listed-map (update.oldAt b (d + 30)) 0 (update.entryAt st at) n
-        ∙ listed-moved 0 from (λ t. update.oldAt b (d + 30) (update.entryAt st at t)) (λ t. oldOf b d (entryAt st t)) n
+        listed-map (update.oldAt b (d + 30)) 0 (update.entryAt st (2 * at + 4 * from)) n
+        ∙ listed-moved 0 from (λ t. update.oldAt b (d + 30) (update.entryAt st (2 * at + 4 * from) t)) (λ t. oldOf b d (entryAt st t)) n
         (λ t q.
-        ap (λ x. update.oldAt b (d + 30) (update.entryAt st at x)) (zero-add t)
+        ap (λ x. update.oldAt b (d + 30) (update.entryAt st (2 * at + 4 * from) x)) (zero-add t)
         ∙ ap₂ (λ x y. record { layer = y; depth = four b (depthPlace d x) }) (entry-local t q) (entry-layer t q))
         ∙ ap₂ (λ x m. listed x m (λ t. oldOf b d (entryAt st t))) (sym from-is) (sym size-is)
         ∙ sym (listed-map (oldOf b d) (reachEnd st (l - 1)) (entryAt st) (reachEnd st l - reachEnd st (l - 1)))
@@ -122,36 +127,36 @@ module _ (st : Bytes) (d : ℕ) (b : Bytes) (o : Opened st d b) where
     -- the cell's own entry
     own-entry : (t : ℕ) × (t < n) × ((entryAt st (from + t)) .layer ≡ 0)
     own-entry =
-        let p = own-witness l (w .owns l h (omega arith)) in
+        let p = own-witness l (w .owns l h own-l) in
         (p .0, omega (arith, p .1, size-is), ap (λ x. (entryAt st (x + p .0)) .layer) (sym from-is) ∙ p .2)
 
-    pub renew-ready : (kind : ℕ) (v : Bytes) → kind ≡ ruleKind st → v ≡ weights st → Ready kind v st (2 * (entryWord held owned) + 4 * from) n b (d + 30) l
+    pub renew-ready : (kind : ℕ) (v : Bytes) → kind ≡ ruleKind st → v ≡ weights st → Ready kind v st (2 * at + 4 * from) n b (d + 30) l
     renew-ready kind v ke ve = record {
       reached = record {
         few = omega (arith, row-fits, few-entries);
-        listed-there = omega (arith, row-fits, lists-length, w .lists-fit, he, oe);
+        listed-there = omega (arith, row-fits, lists-length, w .lists-fit, ae, C .held-is, C .owned-is);
         there = λ t q. let e = w .entries (from + t) (omega (arith, row-fits)) in omega (arith, entry-local t q, e .1, long st d b o);
-        ranged = λ t q. let e = w .entries (from + t) (omega (arith, row-fits)) in deep (word st (2 * (entryWord held owned) + 4 * from + 4 * t))
+        ranged = λ t q. let e = w .entries (from + t) (omega (arith, row-fits)) in deep (word st (2 * at + 4 * from + 4 * t))
             (omega (arith, entry-local t q, e .0)) (omega (arith, entry-local t q, e .1));
       };
-      own-there = omega (arith, own-few st d b o, long st d b o);
-      own-ranged = deep l h (omega (arith, own-few st d b o));
+      own-there = omega (arith, own-l, own-few st d b o, long st d b o);
+      own-ranged = deep l h (omega (arith, own-l, own-few st d b o));
       weighed = λ one.
           let r : bad11 1 (stepCount st) v ≡ false = subst (λ x. bad11 x (stepCount st) v ≡ false) (sym ke ∙ one) (ap (bad11 (ruleKind st) (stepCount st)) ve ∙ w .rule) in
           let e = own-entry in
           record {
             light = λ t q. rule-light (stepCount st) v r _ (omega (arith, entry-layer t q, w .layers (from + t) (omega (arith, row-fits))));
-            heavy = weightSum-own st (2 * (entryWord held owned) + 4 * from) b (d + 30) v n (e .0) (e .1) (entry-layer (e .0) (e .1) ∙ e .2) (rule-first (stepCount st) v r);
+            heavy = weightSum-own st (2 * at + 4 * from) b (d + 30) v n (e .0) (e .1) (entry-layer (e .0) (e .1) ∙ e .2) (rule-first (stepCount st) v r);
           };
     }
 
-    pub renew-told : (kind : ℕ) (v : Bytes) → kind ≡ ruleKind st → v ≡ weights st → (z : ℤ) → mag z < 2147483648
-        → depthBytes z ≡ newDepth kind v (four b (depthPlace d l)) (oldsAt b (d + 30) (entries st (2 * (entryWord held owned) + 4 * from) n))
-        → depthBytes (toZ w32 (ofZ w32 z)) ≡ newAt (listsIn st) d b l
-    renew-told kind v ke ve z m e =
-        ap depthBytes (depth-held z z m refl)
+    pub renew-told : (kind : ℕ) (v : Bytes) → kind ≡ ruleKind st → v ≡ weights st → (new : ℤ) → mag new < 2147483648
+        → depthBytes new ≡ newDepth kind v (four b (depthPlace d l)) (oldsAt b (d + 30) (entries st (2 * at + 4 * from) n))
+        → depthBytes (toZ w32 (ofZ w32 new)) ≡ newAt (listsIn st) d b l
+    renew-told kind v ke ve new m e =
+        ap depthBytes (depth-held new new m refl)
         ∙ e
-        ∙ ap₂ (λ x (y : Bytes). newDepth x y (four b (depthPlace d l)) (oldsAt b (d + 30) (entries st (2 * (entryWord held owned) + 4 * from) n))) ke ve
+        ∙ ap₂ (λ x (y : Bytes). newDepth x y (four b (depthPlace d l)) (oldsAt b (d + 30) (entries st (2 * at + 4 * from) n))) ke ve
         ∙ ap (newDepth (ruleKind st) (weights st) (four b (depthPlace d l))) near
         ∙ new-is st d b l
 

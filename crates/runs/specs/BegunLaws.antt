@@ -1,12 +1,12 @@
 -- Start leaves a state, and so start and all accepted calls do. Assumes nothing.
 use mathlib.Core.Path.{_≡_, refl, sym, ap, ap₂, _∙_, subst, subst₂}
 use mathlib.Core.Bool.{Bool, true, false, not, _&&_, _||_}
-use mathlib.Core.List.{List, _++_, map}
+use mathlib.Core.List.{List, map}
 use Prim.Native.Nat.{ℕ, suc, _+_, _-_, _*_, _%_, _<_, _≤_}
 use native.Mathlib.Nat.{zero-add}
 use native.Mathlib.Omega.{arith}
 use lib.Dec.{eqb, leb, ltb}
-use lib.ListN.{length, getD, take, replicate, length-append, length-replicate, length-map}
+use lib.ListN.{length, getD, take, length-map}
 use borrow.Author.Tests.{eq-eqb, le-leb, ltb-false, lt-ltb}
 use Rattle.vocabulary.specs.Bytes.{Bytes, byteAt}
 use Rattle.vocabulary.specs.Lists.{All, someOf}
@@ -26,14 +26,16 @@ use Rattle.round.specs.Rounds.{schemeOf, depthIn}
 use Rattle.round.specs.RoundLaws.{field-depth}
 use Rattle.split.specs.Split.{Split, splitOf, held, holds, imports, exports, locals, localOf, globalOf}
 use Rattle.split.specs.SplitLaws.{Cell, split-own, order-cells, own-is, own-number, own-local, import-own, local-back, local-held, reach-held}
-use Rattle.states.specs.State.{LocalNear, fineEntry, partNumber, stepCount, ruleKind, weights, firstOfMesh, cellsOfMesh, importEnd, ownedCount, heldCount, exportEnd, exportCount, globalAt, reachEnd, reachCount, entryAt, exportAt, localReach, listsLength, rises, listsTests, dynamicTests, isState, roundAt, takenPlace, writtenPlace, stateLength}
+use Rattle.states.specs.State.{LocalNear, fineEntry, partNumber, stepCount, ruleKind, weights, firstOfMesh, cellsOfMesh, importEnd, ownedCount, heldCount, exportEnd, exportCount, globalAt}
+use Rattle.states.specs.State.{reachEnd, reachCount, entryAt, exportAt, localReach, listsLength, rises, listsTests, dynamicTests, isState, roundAt, takenPlace, writtenPlace, stateLength, depthPlace}
 use Rattle.states.specs.StateLaws.{rises-intro, isStateAt, state-at}
 use Rattle.starts.specs.Start.{ownedIn, reachOf, importEnds, exportEnds, reachEnds, exportWords, listsLong}
-use Rattle.runs.specs.FormLaws.{front-length, part-back, steps-back, kind-back, first-back, cells-back, weights-back, import-back, export-back, owned-back, global-back, held-back, ends-back, count-back, entry-back, reach-back, export-word, exports-length}
+use Rattle.runs.specs.FormLaws.{front-length, part-back, steps-back, kind-back, first-back, cells-back, weights-back, import-back, export-back, owned-back, global-back}
+use Rattle.runs.specs.FormLaws.{held-back, ends-back, count-back, entry-back, reach-back, export-word, exports-length}
 use Rattle.runs.specs.Run.{Inputs, mapIn, splitIn, startNumberIn, startStateIn, StatesKept}
 use Rattle.runs.specs.RunLaws.{Part}
-use Rattle.runs.specs.StartLaws.{Ready, started-facts, frontIn, reach-inside, owner-inside, order-full, deep}
-use Rattle.runs.specs.StartLaws.{deep-length, stateOf, state-dynamic, state-front, state-zero, state-round, state-depth, start-is}
+use Rattle.runs.specs.StartLaws.{Ready, started-facts, frontIn, reach-inside, owner-inside, order-full}
+use Rattle.runs.specs.StartLaws.{stateOf, state-dynamic, state-front, state-length, state-flag, state-round, state-depth, start-is}
 use Rattle.runs.specs.KeptLaws.{Fine, local-ranged, write-kept, take-kept, advance-kept}
 
 -- an accepted mesh has few cells
@@ -181,7 +183,8 @@ module _ (I : Inputs) (R : Ready I) (i : ℕ) (part : Part (I .parts) i) where
       let q : 1 + b .0 ≤ ownedIn S i = omega (arith, b .1) in
       let p : 0 + t ≡ reachEnds S i order (1 + b .0 - 1) + b .2 .0 =
       omega (arith, b .2 .2, blocks-length 1 g (b .0), ap (λ x. total 1 x (λ k. length (reachOf S i order k))) z) in
-      let e : entryAt st (0 + t) ≡ record { local = localOf order ((getD (g l) (b .2 .0) (record { cell = 0; layer = 0 })) .cell); layer = (getD (g l) (b .2 .0) (record { cell = 0; layer = 0 })) .layer } =
+      let e : entryAt st (0 + t)
+      ≡ record { local = localOf order ((getD (g l) (b .2 .0) (record { cell = 0; layer = 0 })) .cell); layer = (getD (g l) (b .2 .0) (record { cell = 0; layer = 0 })) .layer } =
       ap (entryAt st) p ∙ entry-back S i order n k v (order-full I R i) l (omega arith) q (b .2 .0) (b .2 .1) in
       ap (fineEntry (heldCount st) (stepCount st)) e ∙ near-fine l (omega arith) q (b .2 .0) (b .2 .1))
 
@@ -203,7 +206,7 @@ module _ (I : Inputs) (R : Ready I) (i : ℕ) (part : Part (I .parts) i) where
       let lt : t < length (blocks 1 16 (exportWords S i order)) = omega (arith, exports-length S i order n k v 16, export-back S i order n k v 16 (omega arith)) in
       let p = All-getD (λ l. (1 ≤ l) × (l ≤ ownedIn S i)) xs t 0 a lt in
       let e : exportAt st (0 + t) ≡ getD (blocks 1 16 (exportWords S i order)) t 0 =
-      ap (exportAt st) (zero-add t) ∙ export-word S i order n k v (order-full I R i) t in
+      ap (exportAt st) (zero-add t) ∙ export-word S i order n k v (order-full I R i) t lt in
       upTo-intro (ownedCount st) (exportAt st (0 + t)) (omega (arith, p .0)) (omega (arith, p .1, owned-is)))
 
   -- all tests of the lists
@@ -256,21 +259,12 @@ module _ (I : Inputs) (R : Ready I) (i : ℕ) (part : Part (I .parts) i) where
     b = stateOf I i tail
 
     state-long : stateLength (length st) (heldCount st) ≤ length b
-    state-long =
-        omega (
-          arith,
-          held-is,
-          length-append st (replicate 34 0 ++ (deep I i ++ tail)),
-          length-append (replicate 34 0) (deep I i ++ tail),
-          length-append (deep I i) tail,
-          length-replicate {A = ℕ} 34 0,
-          deep-length I i,
-        )
+    state-long = omega (arith, held-is, state-length I i tail)
 
-    zero-flag : (p : ℕ) → p < 34 → (q : ℕ) → q ≡ length st + p → leb (byteAt b q) 1 ≡ true
-    zero-flag p h q e = le-leb (byteAt b q) 1 (omega (arith, ap (λ x. byteAt b x) e ∙ state-zero I i tail p h))
+    zero-flag : (p : ℕ) → p < 32 → (q : ℕ) → q ≡ length st + (2 + p) → leb (byteAt b q) 1 ≡ true
+    zero-flag p h q e = le-leb (byteAt b q) 1 (omega (arith, ap (λ x. byteAt b x) e ∙ state-flag I i tail p h))
 
-    state-fine : (l : ℕ) → 1 ≤ l → l ≤ heldCount st → Fine (four b (length st + 30 + 4 * l))
+    state-fine : (l : ℕ) → 1 ≤ l → l ≤ heldCount st → Fine (four b (depthPlace (length st) l))
     unfolding depthIn schemeOf
     state-fine l h q =
         subst Fine (sym (state-depth I i tail l h (omega (arith, held-is))))
@@ -287,8 +281,8 @@ module _ (I : Inputs) (R : Ready I) (i : ℕ) (part : Part (I .parts) i) where
               every-intro 1 (λ j. leb (byteAt b (takenPlace (length st) j)) 1 && leb (byteAt b (writtenPlace (length st) j)) 1) 16
                   (λ j h.
                   and-intro (leb (byteAt b (takenPlace (length st) (1 + j))) 1) (leb (byteAt b (writtenPlace (length st) (1 + j))) 1)
-                  (zero-flag (2 + j) (omega arith) (takenPlace (length st) (1 + j)) (omega arith))
-                  (zero-flag (18 + j) (omega arith) (writtenPlace (length st) (1 + j)) (omega arith))),
+                  (zero-flag j (omega arith) (takenPlace (length st) (1 + j)) (omega arith))
+                  (zero-flag (16 + j) (omega arith) (writtenPlace (length st) (1 + j)) (omega arith))),
               (local-ranged b (length st) (heldCount st) state-fine, tt),
             ),
           ),

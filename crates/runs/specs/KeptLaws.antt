@@ -108,7 +108,7 @@ module _ (b : Bytes) (s : isState b ≡ true) where
         (takenPlace (dynamic b) (fromIn x)) (omega (arith, v .from-most))
         ∙ getD-set-same b (takenPlace (dynamic b) (fromIn x)) 1 0 (omega (arith, v .from-most, room .long))
 
-    taken-flag : (i : ℕ) → i < dynamic b + 34 → byteAt b i ≤ 1 → byteAt (takenIn (listsOf b) (dynamic b) b x) i ≤ 1
+    taken-flag : (i : ℕ) → i < depthsPlace (dynamic b) → byteAt b i ≤ 1 → byteAt (takenIn (listsOf b) (dynamic b) b x) i ≤ 1
     taken-flag i h k = go (eqb i (takenPlace (dynamic b) (fromIn x))) refl
       where
         go : (t : Bool) → eqb i (takenPlace (dynamic b) (fromIn x)) ≡ t → byteAt (takenIn (listsOf b) (dynamic b) b x) i ≤ 1

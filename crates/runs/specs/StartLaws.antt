@@ -4,22 +4,22 @@ use mathlib.Core.Path.{_≡_, sym, ap, ap₂, _∙_, subst}
 use mathlib.Core.Logic.{_⊎_, inl, inr, ⊎-elim}
 use mathlib.Core.Bool.{false, cond}
 use mathlib.Core.List.{List, _++_, map, append-assoc, [], _∷_}
-use Prim.Native.Nat.{ℕ, _+_, _-_, _*_, _<_, _≤_}
+use Prim.Native.Nat.{ℕ, _+_, _-_, _*_, _/_, _%_, _<_, _≤_}
 use native.Mathlib.Nat.{add-zero}
 use native.Mathlib.Omega.{arith}
-use lib.ListN.{length, getD, take, drop, replicate, length-replicate, getD-replicate, List·getD-append}
+use lib.ListN.{length, getD, take, drop, replicate, length-append, length-replicate, getD-replicate, List·getD-append}
 use lib.Seq.{getD-append-add, take-append-seam}
 use borrow.Author.Tests.{eq-eqb, ltb-false}
 use Rattle.vocabulary.specs.Bytes.{Bytes, byteAt, over}
 use Rattle.vocabulary.specs.ByteLaws.{over-front}
-use Rattle.vocabulary.specs.Lists.{All}
+use Rattle.vocabulary.specs.Lists.{All, joined}
 use Rattle.vocabulary.specs.ListLaws.{All-map, All-getD, map-cong, map-map, getD-map-any, At, All-of-map, map-id}
 use Rattle.vocabulary.specs.Ranges.{blocks, total}
 use Rattle.vocabulary.specs.RangeLaws.{total-last, total-fit}
 use Rattle.vocabulary.specs.Tests.{Test, refuse}
 use Rattle.vocabulary.specs.TestLaws.{passed-by, passed-append}
-use Rattle.layout.specs.Words.{word}
-use Rattle.layout.specs.WordLaws.{wordAt-first}
+use Rattle.layout.specs.Words.{word, wordBytes}
+use Rattle.layout.specs.WordLaws.{wordAt-first, length-wordBytes}
 use Rattle.depths.specs.Depths.{four}
 use Rattle.depths.specs.DepthLaws.{length-four, four-left, four-past, fours-length, fours-at}
 use Rattle.mesh.specs.Mesh.{top, cellCount, meshNumber}
@@ -31,9 +31,10 @@ use Rattle.split.specs.Split.{Split, splitOf, owned, imports, exports, locals, 
 use Rattle.split.specs.Lists.{sizeTests}
 use Rattle.split.specs.SplitLaws.{split-parted, split-fine, sizes-parted, map-facts, split-reach, split-owner, Cell, order-length, own-is, own-has}
 use Rattle.split.specs.SplitLaws.{own-local, local-back, own-first, import-own, import-at, local-cases, reach-held, import-total, ownCells, own-count}
-use Rattle.states.specs.State.{LocalNear, Lists, listsIn, dynamic, roundAt, takenPlace, depthPlace}
-use Rattle.starts.specs.Start.{ownedIn, importEnds, listsWords, stateSize, firstState, lastTests, startTests, startNumber, startState}
-use Rattle.runs.specs.FormLaws.{front, words-length, front-length, part-back, kind-back, first-back, cells-back, owned-back, held-back, global-back, import-back, reach-back, exports-back, weights-back}
+use Rattle.states.specs.State.{LocalNear, Lists, listsIn, dynamic, roundAt, takenPlace, depthPlace, stateLength}
+use Rattle.starts.specs.Start.{ownedIn, importEnds, listsRegions, stateSize, firstState, lastTests, startTests, startNumber, startState}
+use Rattle.runs.specs.FormLaws.{front, words-length, front-length, part-back, kind-back, first-back, cells-back, owned-back, held-back, global-back, import-back, reach-back}
+use Rattle.runs.specs.FormLaws.{exports-back, weights-back}
 use Rattle.runs.specs.Run.{Inputs, schemeIn, mapIn, ownerIn, splitIn, startNumberIn, startStateIn}
 use Rattle.runs.specs.RunLaws.{Part, Parted, Block, Good, globally}
 use Rattle.runs.specs.WorldLaws.{ownerOf}
@@ -301,45 +302,69 @@ module _ (I : Inputs) (i : ℕ) where
   deep-length = fours-length 1 (length (orderIn I i)) depthOfLocal (λ j h. length-four (I .field) _)
 
   module _ (tail : Bytes) where
+    -- behind the lists: the round, what is taken, what is written, the depths; and what is left of the buffer
+    abbrev flags : Bytes
+    flags = replicate 16 0 ++ (replicate 16 0 ++ (deep ++ tail))
+
+    abbrev behind : Bytes
+    behind = wordBytes 0 ++ flags
+
     abbrev pub stateOf : Bytes
-    stateOf = frontIn I i ++ (replicate 34 0 ++ (deep ++ tail))
+    stateOf = frontIn I i ++ (wordBytes 0 ++ (replicate 16 0 ++ (replicate 16 0 ++ (deep ++ tail))))
+
+    pub state-length : length stateOf ≡ stateLength (length (frontIn I i)) (length (orderIn I i)) + length tail
+    state-length =
+        omega (
+          arith,
+          length-append (frontIn I i) behind,
+          length-append (wordBytes 0) flags,
+          length-wordBytes 0,
+          length-append (replicate 32 0) (deep ++ tail),
+          length-replicate {A = ℕ} 32 0,
+          length-append deep tail,
+          deep-length,
+        )
 
     pub state-dynamic : dynamic stateOf ≡ length (frontIn I i)
-    unfolding listsWords
+    unfolding listsRegions joined
     state-dynamic =
-        let ws : List ℕ = listsWords (splitIn I) i (orderIn I i) (steps (I .stencil)) (I .kind) (I .weights) in
+        let ws : List ℕ = joined (listsRegions (splitIn I) i (orderIn I i) (steps (I .stencil)) (I .kind) (I .weights)) in
         ap (λ n. 2 * n)
-        (wordAt-first ws (replicate 34 0 ++ (deep ++ tail)) 0
-        (omega (arith, words-length (splitIn I) i (orderIn I i) (steps (I .stencil)) (I .kind) (I .weights))))
+        (wordAt-first ws behind 0 (omega (arith, words-length (splitIn I) i (orderIn I i) (steps (I .stencil)) (I .kind) (I .weights))))
         ∙ sym (front-length (splitIn I) i (orderIn I i) (steps (I .stencil)) (I .kind) (I .weights))
 
     pub state-front : take (length (frontIn I i)) stateOf ≡ frontIn I i
-    state-front = take-append-seam (frontIn I i) (replicate 34 0 ++ (deep ++ tail))
+    state-front = take-append-seam (frontIn I i) behind
 
     -- round 0, and no flag set
-    pub state-zero : (k : ℕ) → k < 34 → byteAt stateOf (length (frontIn I i) + k) ≡ 0
-    state-zero k h =
-        getD-append-add (frontIn I i) (replicate 34 0 ++ (deep ++ tail)) k 0
-        ∙ List·getD-append (replicate 34 0) (deep ++ tail) 0 k (omega (arith, length-replicate {A = ℕ} 34 0))
-        ∙ getD-replicate 34 k 0 0 h
-
     pub state-round : roundAt stateOf (length (frontIn I i)) ≡ 0
-    unfolding word
+    unfolding word wordBytes
     state-round =
-        let a : byteAt stateOf (length (frontIn I i)) ≡ 0 = ap (λ n. byteAt stateOf n) (sym (add-zero (length (frontIn I i)))) ∙ state-zero 0 (omega arith) in
-        omega (arith, state-zero 1 (omega arith))
+        let a : byteAt stateOf (length (frontIn I i)) ≡ 0 / 256 =
+        ap (λ n. byteAt stateOf n) (sym (add-zero (length (frontIn I i)))) ∙ getD-append-add (frontIn I i) behind 0 0 in
+        let c : byteAt stateOf (length (frontIn I i) + 1) ≡ 0 % 256 = getD-append-add (frontIn I i) behind 1 0 in
+        omega (arith, a, c)
+
+    pub state-flag : (k : ℕ) → k < 32 → byteAt stateOf (length (frontIn I i) + (2 + k)) ≡ 0
+    unfolding wordBytes
+    state-flag k h =
+        getD-append-add (frontIn I i) behind (2 + k) 0
+        ∙ getD-append-add (wordBytes 0) flags k 0
+        ∙ List·getD-append (replicate 32 0) (deep ++ tail) 0 k (omega (arith, length-replicate {A = ℕ} 32 0))
+        ∙ getD-replicate 32 k 0 0 h
 
     pub state-depth : (l : ℕ) → 1 ≤ l → l ≤ length (orderIn I i)
         → four stateOf (depthPlace (length (frontIn I i)) l) ≡ depthIn (schemeIn I) (I .field) (globalOf (orderIn I i) l)
-    unfolding depthIn
+    unfolding depthIn wordBytes
     state-depth l h k =
-        let q : depthPlace (length (frontIn I i)) l ≡ length (frontIn I i) + (34 + 4 * (l - 1)) = omega arith in
+        let q : depthPlace (length (frontIn I i)) l ≡ length (frontIn I i) + (2 + (32 + 4 * (l - 1))) = omega arith in
         let p : 1 + (l - 1) ≡ l = omega arith in
-        let z : _≡_ {A = ℕ} 34 (length (replicate {A = ℕ} 34 0)) = sym (length-replicate {A = ℕ} 34 0) in
+        let z : _≡_ {A = ℕ} 32 (length (replicate {A = ℕ} 32 0)) = sym (length-replicate {A = ℕ} 32 0) in
         ap (four stateOf) q
-        ∙ four-past (frontIn I i) (replicate 34 0 ++ (deep ++ tail)) (34 + 4 * (l - 1))
-        ∙ ap (λ n. four (replicate 34 0 ++ (deep ++ tail)) (n + 4 * (l - 1))) z
-        ∙ four-past (replicate 34 0) (deep ++ tail) (4 * (l - 1))
+        ∙ four-past (frontIn I i) behind (2 + (32 + 4 * (l - 1)))
+        ∙ four-past (wordBytes 0) flags (32 + 4 * (l - 1))
+        ∙ ap (λ n. four flags (n + 4 * (l - 1))) z
+        ∙ four-past (replicate 32 0) (deep ++ tail) (4 * (l - 1))
         ∙ four-left deep tail (4 * (l - 1)) (omega (arith, deep-length))
         ∙ fours-at 1 (length (orderIn I i)) depthOfLocal (λ j h. length-four (I .field) _) (l - 1) (omega arith)
         ∙ ap depthOfLocal p
@@ -364,7 +389,7 @@ module _ (I : Inputs) (i : ℕ) where
         let q : l ≤ length (orderIn I i) = omega (arith, lists-owned I R i, order-length (splitIn I) i) in
         state-depth tail l h q ∙ ap (depthIn (schemeIn I) (I .field)) (sym (lists-global I R i l h q));
     took = λ j t h k e p.
-        let z : takenPlace (length (frontIn I i)) j ≡ length (frontIn I i) + (1 + j) = omega arith in
-        let n : _≡_ {A = ℕ} 0 1 = sym (state-zero tail (1 + j) (omega arith)) ∙ ap (λ o. byteAt (stateOf tail) o) (sym z) ∙ e in
+        let z : takenPlace (length (frontIn I i)) j ≡ length (frontIn I i) + (2 + (j - 1)) = omega arith in
+        let n : _≡_ {A = ℕ} 0 1 = sym (state-flag tail (j - 1) (omega arith)) ∙ ap (λ o. byteAt (stateOf tail) o) (sym z) ∙ e in
         let no : ⊥ = omega arith in absurd no;
   }

@@ -1,6 +1,6 @@
 -- The lists of a part's state, put together from their pieces, and the depths behind them. Assumes nothing.
 use mathlib.Core.Path.{_≡_, sym, ap, ap₂, _∙_}
-use mathlib.Core.List.{List, [], _∷_, _++_, append-assoc}
+use mathlib.Core.List.{List, [], _∷_, _++_}
 use Prim.Native.Nat.{ℕ, _+_, _-_, _*_, _≤_, _<_}
 use native.Mathlib.Nat.{zero-add}
 use native.Mathlib.Omega.{arith}
@@ -13,15 +13,17 @@ use Rattle.layout.specs.Words.{wordAt}
 use Rattle.split.specs.Numbering.{numbering}
 use Rattle.depths.specs.Depths.{four}
 use Rattle.depths.specs.DepthLaws.{length-four, fours-store}
+use Rattle.states.specs.State.{importWord, reachWord, exportsWord}
 use Rattle.word_lists.specs.Putting.{Put}
 use Rattle.start_lists.specs.Starting.{startWords, gotEnds, sentEnds, sentWords, rowEnds, rowWords, numberedWords, startDepth, Cells}
 use Rattle.start_lists.specs.Starting.{gotFrom, sentFrom, countAt, endsBy, Got, Sent}
 use Rattle.parts.proofs.OpenedLaws.{four-cut}
 use Rattle.word_lists.proofs.PutLaws.{put-as, put-both, put-length}
+use Rattle.word_lists.proofs.RegionLaws.{joined-length, joined-append, regions-two, regions-three, regions-four}
 use Rattle.start_lists.proofs.StartCounts.{rows-long, all-long}
 
 -- the words before the tables
-pub head-count : (long i steps kind first cells : ℕ) (v a b : Bytes) (t : ℕ) → Put a b 0 t ((long ∷ i ∷ steps ∷ kind ∷ []) ++ (listed 0 5 (wordAt v) ++ (first ∷ cells ∷ []))) → t ≡ 11
+pub head-count : (long i steps kind first cells : ℕ) (v a b : Bytes) (t : ℕ) → Put a b 0 t ((long ∷ i ∷ steps ∷ kind ∷ []) ++ (listed 0 5 (wordAt v) ++ (first ∷ cells ∷ []))) → t ≡ importWord
 head-count long i steps kind first cells v a b t P = omega (arith, P .count, length-append (listed 0 5 (wordAt v)) (first ∷ cells ∷ []), listed-length 0 (wordAt v) 5)
 
 -- ---- the tables of ends by the arrays of counts
@@ -52,7 +54,7 @@ borders-count a b s t owned got sent P =
 -- ---- all pieces
 
 module _ (owners table : Bytes) (ends : List ℕ) (i first cells : ℕ) (order : List ℕ) where
-  module _ (n : ℕ) (local : List ℕ) (owned long steps kind : ℕ) (v : Bytes) (le : long ≡ 46 + n + owned + 2 * rowEnds table ends first order owned + sentEnds owners table ends i first cells 16) where
+  module _ (n : ℕ) (local : List ℕ) (owned long steps kind : ℕ) (v : Bytes) (le : long ≡ exportsWord n owned (rowEnds table ends first order owned) + sentEnds owners table ends i first cells 16) where
     -- what comes after the two tables
     abbrev later : List ℕ
     later =
@@ -66,30 +68,22 @@ module _ (owners table : Bytes) (ends : List ℕ) (i first cells : ℕ) (order :
         ≡ numberedWords owners table ends i first cells order n local owned steps kind v
     unfolding numberedWords
     words-are =
-        ap₂ (λ x (xs : List ℕ). x ∷ i ∷ steps ∷ kind ∷ xs) le
-        (tail-is (listed 0 5 (wordAt v)) (first ∷ cells ∷ []) (listed 0 17 (gotEnds owners table ends i first cells owned)) (listed 0 17 (sentEnds owners table ends i first cells)) later)
-      where
-        tail-is : (ws fs gs ss rs : List ℕ) → (ws ++ fs) ++ ((gs ++ ss) ++ rs) ≡ ws ++ (fs ++ (gs ++ (ss ++ rs)))
-        tail-is ws fs gs ss rs = append-assoc ws fs ((gs ++ ss) ++ rs) ∙ ap (λ x. ws ++ (fs ++ x)) (append-assoc gs ss rs)
+        let G = listed 0 17 (gotEnds owners table ends i first cells owned) in
+        let E = listed 0 17 (sentEnds owners table ends i first cells) in
+        let R = listed 0 (owned + 1) (rowEnds table ends first order) in
+        let N = blocks 1 owned (rowWords table ends first order local) in
+        let X = blocks 1 16 (sentWords owners table ends i first cells local) in
+        ap₂ _++_ (ap (λ x. (x ∷ i ∷ steps ∷ kind ∷ []) ++ (listed 0 5 (wordAt v) ++ (first ∷ cells ∷ []))) le ∙ regions-three _ (listed 0 5 (wordAt v)) (first ∷ cells ∷ []))
+        (ap₂ _++_ (regions-two G E) (regions-four (take n order) R N X) ∙ sym (joined-append (G ∷ E ∷ []) (take n order ∷ R ∷ N ∷ X ∷ [])))
+        ∙ sym (joined-append (_ ∷ listed 0 5 (wordAt v) ∷ (first ∷ cells ∷ []) ∷ []) (G ∷ E ∷ take n order ∷ R ∷ N ∷ X ∷ []))
 
     pub words-long : n ≤ length order → length (numberedWords owners table ends i first cells order n local owned steps kind v) ≡ long
     unfolding numberedWords
     words-long h =
-        let H = blocks 1 owned (rowWords table ends first order local) in
-        let I = blocks 1 16 (sentWords owners table ends i first cells local) in
-        let G = listed 0 (owned + 1) (rowEnds table ends first order) in
-        let E = listed 0 17 (sentEnds owners table ends i first cells) in
-        let D = listed 0 17 (gotEnds owners table ends i first cells owned) in
-        let W = listed 0 5 (wordAt v) in
-        omega (
+        joined-length _
+        ∙ omega (
           arith,
           le,
-          length-append W ((first ∷ cells ∷ []) ++ (D ++ (E ++ (take n order ++ (G ++ (H ++ I)))))),
-          length-append D (E ++ (take n order ++ (G ++ (H ++ I)))),
-          length-append E (take n order ++ (G ++ (H ++ I))),
-          length-append (take n order) (G ++ (H ++ I)),
-          length-append G (H ++ I),
-          length-append H I,
           listed-length 0 (wordAt v) 5,
           listed-length 0 (gotEnds owners table ends i first cells owned) 17,
           listed-length 0 (sentEnds owners table ends i first cells) 17,
@@ -99,12 +93,12 @@ module _ (owners table : Bytes) (ends : List ℕ) (i first cells : ℕ) (order :
           all-long owners table ends i first cells local,
         )
 
-    pub lists-put : (got sent : List ℕ) (a b c d : Bytes) (t u w : ℕ) → Got owners table ends i cells got → Sent owners table ends i cells 16 sent → 90 ≤ length a
+    pub lists-put : (got sent : List ℕ) (a b c d : Bytes) (t u w : ℕ) → Got owners table ends i cells got → Sent owners table ends i cells 16 sent → 2 * reachWord 0 ≤ length a
         → Put a b 0 t ((long ∷ i ∷ steps ∷ kind ∷ []) ++ (listed 0 5 (wordAt v) ++ (first ∷ cells ∷ [])))
         → Put b c t u (listed 0 17 (endsBy got owned) ++ listed 0 17 (endsBy sent 0)) → Put c d u w later
         → Put a d 0 w (numberedWords owners table ends i first cells order n local owned steps kind v)
     lists-put got sent a b c d t u w G X room P Q R =
-        let te : t ≡ 11 = head-count long i steps kind first cells v a b t P in
+        let te : t ≡ importWord = head-count long i steps kind first cells v a b t P in
         let lb : length b ≡ length a = put-length a b 0 t _ P (omega arith) in
         put-as a d 0 w _ _ words-are
         (put-both a b d 0 t w _ _ P

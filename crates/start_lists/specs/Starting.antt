@@ -1,15 +1,17 @@
 -- How start finds the lists of a part: from the owners, the table of the reaches with its ends, and the part's
 -- local order. No public contract rests on this page; the laws in proofs/ tie it to the definitions of Start. Assumes nothing.
 use mathlib.Core.Path.{_≡_}
-use mathlib.Core.List.{List, [], _∷_, _++_, map}
+use mathlib.Core.List.{List, [], _∷_, map}
 use Prim.Native.Nat.{ℕ, _+_, _-_, _*_, _≤_, _<_}
 use lib.ListN.{length, getD, take, replicate}
 use Rattle.vocabulary.specs.Bytes.{Bytes, byteAt}
+use Rattle.vocabulary.specs.Lists.{joined}
 use Rattle.vocabulary.specs.Ranges.{listed, blocks, total}
 use Rattle.layout.specs.Words.{wordAt}
 use Rattle.depths.specs.Depths.{four}
 use Rattle.split.specs.Numbering.{numbering}
 use Rattle.split.specs.Classes.{partCells, classCount}
+use Rattle.states.specs.State.{exportsWord}
 
 -- the local number of a cell, in the array that has them
 unfoldable pub localIn : List ℕ → ℕ → ℕ
@@ -57,19 +59,22 @@ module _ (table : Bytes) (ends : List ℕ) (first : ℕ) (order : List ℕ) wher
   unfoldable pub rowWords : List ℕ → ℕ → List ℕ
   rowWords local l = blocks (getD ends (placeAt l) 0) (rowSize l) (entryWords table first local)
 
--- all words of the lists of part i, of which n cells are held and `owned` owned, for a stencil of `steps` steps and a rule, by an array of local
+-- all words of the lists of part i, region by region, of which n cells are held and `owned` owned, for a stencil of `steps` steps and a rule, by an array of local
 -- numbers, and by that of the order
 unfoldable pub numberedWords : Bytes → Bytes → List ℕ → ℕ → ℕ → ℕ → List ℕ → ℕ → List ℕ → ℕ → ℕ → ℕ → Bytes → List ℕ
 numberedWords owners table ends i first cells order n local owned steps kind v =
-    ((46 + n + owned + 2 * rowEnds table ends first order owned + sentEnds owners table ends i first cells 16) ∷ i ∷ steps ∷ kind ∷ [])
-    ++ (listed 0 5 (wordAt v)
-    ++ ((first ∷ cells ∷ [])
-    ++ (listed 0 17 (gotEnds owners table ends i first cells owned)
-    ++ (listed 0 17 (sentEnds owners table ends i first cells)
-    ++ (take n order
-    ++ (listed 0 (owned + 1) (rowEnds table ends first order)
-    ++ (blocks 1 owned (rowWords table ends first order local)
-    ++ blocks 1 16 (sentWords owners table ends i first cells local))))))))
+    joined (
+    ((exportsWord n owned (rowEnds table ends first order owned) + sentEnds owners table ends i first cells 16) ∷ i ∷ steps ∷ kind ∷ [])
+    ∷ listed 0 5 (wordAt v)
+    ∷ (first ∷ cells ∷ [])
+    ∷ listed 0 17 (gotEnds owners table ends i first cells owned)
+    ∷ listed 0 17 (sentEnds owners table ends i first cells)
+    ∷ take n order
+    ∷ listed 0 (owned + 1) (rowEnds table ends first order)
+    ∷ blocks 1 owned (rowWords table ends first order local)
+    ∷ blocks 1 16 (sentWords owners table ends i first cells local)
+    ∷ []
+    )
 
 abbrev pub startWords : Bytes → Bytes → List ℕ → ℕ → ℕ → ℕ → List ℕ → ℕ → ℕ → ℕ → ℕ → Bytes → List ℕ
 startWords owners table ends i first cells order n owned steps kind v =
@@ -126,7 +131,7 @@ pub record Fit (owners table : Bytes) (ends : List ℕ) (i first cells : ℕ) (o
   pub owned-few : owned ≤ n
   pub got : gotEnds owners table ends i first cells owned 16 < 65536
   pub near : Rows table ends first order owned
-  pub long : 46 + n + owned + 2 * rowEnds table ends first order owned + sentEnds owners table ends i first cells 16 < 65536
+  pub long : exportsWord n owned (rowEnds table ends first order owned) + sentEnds owners table ends i first cells 16 < 65536
 
 -- the depth of local cell l in a field
 unfoldable pub startDepth : Bytes → ℕ → List ℕ → ℕ → Bytes

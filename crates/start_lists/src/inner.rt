@@ -16,6 +16,14 @@ use split::inner::classify;
 use split::inner::number_cells;
 use split::inner::to_global;
 use split::inner::to_local;
+use states::inner::CELLS;
+use states::inner::FIRST;
+use states::inner::KIND;
+use states::inner::LENGTH;
+use states::inner::PART;
+use states::inner::STEPS;
+use states::inner::Sizes;
+use states::inner::WEIGHT_WORDS;
 use word_lists::inner::put_list;
 use word_lists::inner::put_one;
 use word_lists::inner::put_words;
@@ -27,6 +35,7 @@ ghost use Rattle.vocabulary.specs.Bytes.{over};
 ghost use Rattle.vocabulary.specs.Ranges.{listed, blocks, total};
 ghost use Rattle.layout.specs.Words.{wordAt};
 ghost use Rattle.split.specs.Classes.{ofClass, classCells, partCells};
+ghost use Rattle.states.specs.State.{importWord, exportsWord};
 ghost use Rattle.word_lists.specs.Putting.{Put};
 ghost use Rattle.start_lists.specs.Starting.{localIn, rowSize, countAt, endsBy, Got, Sent, entryWords, rowEnds, rowWords, sentEnds, sentWords};
 ghost use Rattle.start_lists.specs.Starting.{Row, Rows, Fit, numberedWords, startWords, startDepth, Cells};
@@ -291,16 +300,16 @@ fn put_sent(
 
 // Writes what stands before the tables: the length of the lists, the part, the stencil's steps, the rule, and the mesh's cells.
 fn put_head(b: &mut [u8], plan: Plan, steps: usize, kind: usize, v: &[u8]) -> usize
-    requires { ⌜ (22 ≤ length (now b)) × (plan .long < 65536) × (plan .part < 65536) × (steps < 65536) × (kind < 65536) × (plan .first < 65536) × (plan .cells < 65536) ⌝ }
+    requires { ⌜ (2 * importWord ≤ length (now b)) × (plan .long < 65536) × (plan .part < 65536) × (steps < 65536) × (kind < 65536) × (plan .first < 65536) × (plan .cells < 65536) ⌝ }
     ensures { λ t. ⌜ Put (now (b .entry)) (now (b .exit)) 0 t (((plan .long) ∷ (plan .part) ∷ steps ∷ kind ∷ []) ++ (listed 0 5 (wordAt (now (v .entry))) ++ ((plan .first) ∷ (plan .cells) ∷ []))) ⌝ }
 {
-    put_one(b, 0, plan.long);
-    put_one(b, 1, plan.part);
-    put_one(b, 2, steps);
-    put_one(b, 3, kind);
-    put_words(b, 4, v, 5);
-    put_one(b, 9, plan.first);
-    put_one(b, 10, plan.cells)
+    put_one(b, LENGTH, plan.long);
+    put_one(b, PART, plan.part);
+    put_one(b, STEPS, steps);
+    put_one(b, KIND, kind);
+    put_words(b, WEIGHT_WORDS, v, 5);
+    put_one(b, FIRST, plan.first);
+    put_one(b, CELLS, plan.cells)
 }
 
 // Writes the tables of the imports' and exports' ends.
@@ -361,9 +370,15 @@ pub fn lists_length(
     sent: &[u16],
 ) -> usize
     requires { ⌜ (n ≤ 2000) × (owned ≤ n) × Rows (now table) (now ends) first (now order) owned × (rowEnds (now table) (now ends) first (now order) owned < 65536) ⌝ }
-    ensures { λ r. ⌜ r ≡ 46 + n + owned + 2 * rowEnds (now (table .entry)) (now (ends .entry)) first (now (order .entry)) owned + total 1 16 (countAt (now (sent .entry))) ⌝ }
+    ensures { λ r. ⌜ r ≡ exportsWord n owned (rowEnds (now (table .entry)) (now (ends .entry)) first (now (order .entry)) owned) + total 1 16 (countAt (now (sent .entry))) ⌝ }
 {
-    46 + n + owned + 2 * row_total(table, ends, first, order, owned) + count_total(sent)
+    let sizes = Sizes {
+        held: n,
+        owned,
+        reached: row_total(table, ends, first, order, owned),
+        sent: count_total(sent),
+    };
+    sizes.words()
 }
 
 // Writes the lists by an array of local numbers. The row is work space.
@@ -384,7 +399,7 @@ fn put_pieces(
 ) -> usize
     requires { ⌜
         Fit (now owners) (now table) (now ends) (plan .part) (plan .first) (plan .cells) (now order) (plan .held) (plan .owned)
-        × (plan .long ≡ 46 + plan .held + plan .owned + 2 * rowEnds (now table) (now ends) (plan .first) (now order) (plan .owned) + sentEnds (now owners)
+        × (plan .long ≡ exportsWord (plan .held) (plan .owned) (rowEnds (now table) (now ends) (plan .first) (now order) (plan .owned)) + sentEnds (now owners)
         (now table) (now ends) (plan .part) (plan .first) (plan .cells) 16)
         × (2 * plan .long ≤ length (now b))
         × (steps < 65536)
@@ -431,7 +446,7 @@ pub fn put_lists(
 ) -> usize
     requires { ⌜
         Fit (now owners) (now table) (now ends) (plan .part) (plan .first) (plan .cells) (now order) (plan .held) (plan .owned)
-        × (plan .long ≡ 46 + plan .held + plan .owned + 2 * rowEnds (now table) (now ends) (plan .first) (now order) (plan .owned) + sentEnds (now owners)
+        × (plan .long ≡ exportsWord (plan .held) (plan .owned) (rowEnds (now table) (now ends) (plan .first) (now order) (plan .owned)) + sentEnds (now owners)
         (now table) (now ends) (plan .part) (plan .first) (plan .cells) 16)
         × (2 * plan .long ≤ length (now b))
         × (steps < 65536)

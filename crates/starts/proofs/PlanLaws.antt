@@ -11,7 +11,7 @@ use Rattle.vocabulary.specs.ByteLaws.{over-more}
 use Rattle.vocabulary.specs.Ranges.{blocks, total}
 use Rattle.vocabulary.specs.RangeLaws.{blocks-cong}
 use Rattle.vocabulary.specs.Tests.{Test, refuse, firstOf}
-use Rattle.layout.specs.Words.{bytesOf}
+use Rattle.layout.specs.Words.{wordBytes, bytesOf}
 use Rattle.layout.specs.WordLaws.{length-bytesOf}
 use Rattle.depths.specs.Depths.{four}
 use Rattle.layout.specs.Answers.{answer}
@@ -40,6 +40,7 @@ use Rattle.start_lists.proofs.StartLists.{sent-total}
 use Rattle.starts.proofs.StartFit.{fit-from, cells-from}
 use Rattle.starts.proofs.StartWords.{start-words, order-at, row-ends, sent-ends}
 use Rattle.mesh.proofs.AcceptedLaws.{cells-few, cells-fit}
+use Rattle.states.specs.State.{exportsWord, depthsPlace, stateLength}
 
 -- ---- the plan
 
@@ -95,7 +96,7 @@ module _ (m : Bytes) (parts : ℕ) (owners : Bytes) (i : ℕ) (st table : Bytes)
       plan-got = subst (λ x. Got owners table ends i x got) ce (got-told owners table ends i cells class got (cells-few m cells (P .mesh) ce) C T)
 
       pub plan-made : (long : ℕ) (sent : List ℕ) → Sent owners table ends i cells 16 sent
-          → long ≡ 46 + n + (inner + outer) + 2 * rowEnds table ends first order (inner + outer) + total 1 16 (countAt sent) → Planned m parts owners i st table ends order n (inner + outer) long
+          → long ≡ exportsWord n (inner + outer) (rowEnds table ends first order (inner + outer)) + total 1 16 (countAt sent) → Planned m parts owners i st table ends order n (inner + outer) long
       plan-made long sent Y le = record {
         order-is = order-is;
         held-is = held-is;
@@ -104,26 +105,27 @@ module _ (m : Bytes) (parts : ℕ) (owners : Bytes) (i : ℕ) (st table : Bytes)
             (added-fits a order n (classOrder class first cells parts) X room few) twelve thirteen;
         long-is =
             le
-            ∙ ap (λ x. 46 + n + (inner + outer) + 2 * rowEnds table ends first order (inner + outer) + x) (sent-total owners table ends i first cells sent Y 16 (omega arith))
-            ∙ ap₂ (λ x y. 46 + n + (inner + outer) + 2 * rowEnds table ends x order (inner + outer) + sentEnds owners table ends i x y 16) fe ce;
+            ∙ ap (λ x. exportsWord n (inner + outer) (rowEnds table ends first order (inner + outer)) + x) (sent-total owners table ends i first cells sent Y 16 (omega arith))
+            ∙ ap₂ (λ x y. exportsWord n (inner + outer) (rowEnds table ends x order (inner + outer)) + sentEnds owners table ends i x y 16) fe ce;
       }
 
 -- ---- the bytes
 
-pub state-put : (b x y z : Bytes) (t long n : ℕ) (ws : List ℕ) (f : Bytes) (first : ℕ) (order : List ℕ) → 2 * long + 34 + 4 * n ≤ length b → length ws ≡ long → Put b x 0 t ws → y ≡ over x (2 * long) (replicate 34 0)
-    → z ≡ over y (2 * long + 34) (blocks 1 n (startDepth f first order)) → z ≡ over b 0 (bytesOf ws ++ (replicate 34 0 ++ blocks 1 n (startDepth f first order)))
+pub state-put : (b x y z : Bytes) (t long n : ℕ) (ws : List ℕ) (f : Bytes) (first : ℕ) (order : List ℕ) → stateLength (2 * long) n ≤ length b → length ws ≡ long
+    → Put b x 0 t ws → y ≡ over x (2 * long) (replicate (depthsPlace 0) 0)
+    → z ≡ over y (depthsPlace (2 * long)) (blocks 1 n (startDepth f first order)) → z ≡ over b 0 (bytesOf ws ++ (replicate (depthsPlace 0) 0 ++ blocks 1 n (startDepth f first order)))
 state-put b x y z t long n ws f first order room le P ye ze =
     let l : length (bytesOf ws) ≡ 2 * length ws = length-bytesOf ws in
     let k : 2 * long ≡ 0 + length (bytesOf ws) = omega arith in
-    let q : 2 * long + 34 ≡ 2 * long + length (replicate {A = ℕ} 34 0) = omega arith in
+    let q : depthsPlace (2 * long) ≡ 2 * long + length (replicate {A = ℕ} (depthsPlace 0) 0) = omega arith in
     let lx : length x ≡ length b = put-length b x 0 t ws P (omega (arith, P .count)) in
     let e : 2 * 0 ≡ 0 = omega arith in
     let xe : x ≡ over b 0 (bytesOf ws) = P .text ∙ ap (λ o. over b o (bytesOf ws)) e in
     ze
     ∙ ap₂ (λ (u : Bytes) o. over u o (blocks 1 n (startDepth f first order))) ye q
-    ∙ over-more x (2 * long) (replicate 34 0) (omega arith) (blocks 1 n (startDepth f first order))
-    ∙ ap₂ (λ (u : Bytes) o. over u o (replicate 34 0 ++ blocks 1 n (startDepth f first order))) xe k
-    ∙ over-more b 0 (bytesOf ws) (omega arith) (replicate 34 0 ++ blocks 1 n (startDepth f first order))
+    ∙ over-more x (2 * long) (replicate (depthsPlace 0) 0) (omega arith) (blocks 1 n (startDepth f first order))
+    ∙ ap₂ (λ (u : Bytes) o. over u o (replicate (depthsPlace 0) 0 ++ blocks 1 n (startDepth f first order))) xe k
+    ∙ over-more b 0 (bytesOf ws) (omega arith) (replicate (depthsPlace 0) 0 ++ blocks 1 n (startDepth f first order))
 
 -- ---- one part named twice is one part named
 
@@ -166,11 +168,11 @@ module _ (m : Bytes) (parts : ℕ) (owners : Bytes) (i : ℕ) (st : Bytes) where
             sent-ends m parts owners st table ends holders R i (I .0) (I .1) (firstCell m) (cellCount m) refl refl 16 (omega arith),
           )
 
-      size-is : 2 * long + 34 + 4 * n ≡ stateSize m parts owners i st
+      size-is : stateLength (2 * long) n ≡ stateSize m parts owners i st
       unfolding stateSize
       size-is = omega (arith, long-is, Q .held-is)
 
-      pub size-done : Done (2 * long + 34 + 4 * n) ≡ sizeAnswer m parts owners i st
+      pub size-done : Done (stateLength (2 * long) n) ≡ sizeAnswer m parts owners i st
       unfolding sizeAnswer sizeNumber sizesNumber
       size-done =
           ap Done size-is
@@ -236,13 +238,13 @@ module _ (m : Bytes) (parts : ℕ) (owners : Bytes) (i : ℕ) (st : Bytes) (kind
 
         module _ (uf : u ≡ false) (table : Bytes) (ends : List ℕ) (holders : Bytes) (R : Prepared m parts owners st table ends holders) (order : List ℕ) (n owned long : ℕ)
             (Q : Planned m parts owners i st table ends order n owned long) where
-          size : 2 * long + 34 + 4 * n ≡ stateSize m parts owners i st
+          size : stateLength (2 * long) n ≡ stateSize m parts owners i st
           size = size-is m parts owners i st sn zn table ends holders R order n owned long Q
 
           I₂ : (1 ≤ i) × (i ≤ 16)
           I₂ = passed-facts m parts owners i i st sn .i-in
 
-          pub start-16 : length b < 2 * long + 34 + 4 * n → Answered (Refused 16) b
+          pub start-16 : length b < stateLength (2 * long) n → Answered (Refused 16) b
           start-16 h = refused 16 (in-rest ∙ simp (fourteen, uf, lt-ltb (length b) (stateSize m parts owners i st) (omega (arith, size)))) (λ z. omega (arith, z))
 
           -- by the plan's own numbers
@@ -252,11 +254,11 @@ module _ (m : Bytes) (parts : ℕ) (owners : Bytes) (i : ℕ) (st : Bytes) (kind
                 subst (λ x. Fit owners table ends x first count order n owned) (sym pe)
                 (subst₂ (λ x y. Fit owners table ends i x y order n owned) (sym fe) (sym ke) (Q .fit))
 
-            pub start-long : long ≡ 46 + n + owned + 2 * rowEnds table ends first order owned + sentEnds owners table ends part first count 16
+            pub start-long : long ≡ exportsWord n owned (rowEnds table ends first order owned) + sentEnds owners table ends part first count 16
             start-long =
                 Q .long-is
-                ∙ ap₂ (λ x y. 46 + n + owned + 2 * rowEnds table ends x order owned + sentEnds owners table ends i x y 16) (sym fe) (sym ke)
-                ∙ ap (λ x. 46 + n + owned + 2 * rowEnds table ends first order owned + sentEnds owners table ends x first count 16) (sym pe)
+                ∙ ap₂ (λ x y. exportsWord n owned (rowEnds table ends x order owned) + sentEnds owners table ends i x y 16) (sym fe) (sym ke)
+                ∙ ap (λ x. exportsWord n owned (rowEnds table ends first order owned) + sentEnds owners table ends x first count 16) (sym pe)
 
             pub start-got : (got : List ℕ) → Got owners table ends i (cellCount m) got → Got owners table ends part count got
             start-got got G = subst₂ (λ x y. Got owners table ends x y got) (sym pe) (sym ke) G
@@ -276,18 +278,19 @@ module _ (m : Bytes) (parts : ℕ) (owners : Bytes) (i : ℕ) (st : Bytes) (kind
                 (order-at m parts owners st table ends holders R i (I₂ .0) (I₂ .1) first cells fe ce order n owned (Q .order-is) (Q .held-is) (Q .owned-is) (l - 1) (omega arith)) fe
 
             state-is : bytesOf (startWords owners table ends part first count order n owned (steps st) kind v) ++
-                (replicate 34 0 ++ blocks 1 n (startDepth f first order)) ≡ firstState m parts owners i st kind v f
-            unfolding firstState
+                (replicate (depthsPlace 0) 0 ++ blocks 1 n (startDepth f first order)) ≡ firstState m parts owners i st kind v f
+            unfolding firstState wordBytes
             state-is =
-                ap₂ (λ (ws : List ℕ) (ds : Bytes). bytesOf ws ++ (replicate 34 0 ++ ds))
+                ap₂ (λ (ws : List ℕ) (ds : Bytes). bytesOf ws ++ (replicate (depthsPlace 0) 0 ++ ds))
                 (ap (λ x. startWords owners table ends x first count order n owned (steps st) kind v) pe
                 ∙ start-words m parts owners st table ends holders R i (I₂ .0) (I₂ .1) first count fe ke order n owned (Q .order-is) (Q .held-is) (Q .owned-is) kind v)
-                (blocks-cong 1 (startDepth f first order) (λ l. depthIn (schemeOf m st kind v) f (globalOf (locals (splitOf m parts owners st) i) l)) n (λ k h. depth-is (1 + k) (omega arith) (omega arith))
+                (blocks-cong 1 (startDepth f first order) (λ l. depthIn (schemeOf m st kind v) f (globalOf (locals (splitOf m parts owners st) i) l)) n
+                (λ k h. depth-is (1 + k) (omega arith) (omega arith))
                 ∙ ap (λ k. blocks 1 k (λ l. depthIn (schemeOf m st kind v) f (globalOf (locals (splitOf m parts owners st) i) l))) (Q .held-is))
 
-            pub start-done : 2 * long + 34 + 4 * n ≤ length b → (y : Bytes)
-                → y ≡ over b 0 (bytesOf (startWords owners table ends part first count order n owned (length st - 1) kind v) ++ (replicate 34 0 ++ blocks 1 n (startDepth f first order)))
-                → Answered (Done (2 * long + 34 + 4 * n)) y
+            pub start-done : stateLength (2 * long) n ≤ length b → (y : Bytes)
+                → y ≡ over b 0 (bytesOf (startWords owners table ends part first count order n owned (length st - 1) kind v) ++ (replicate (depthsPlace 0) 0 ++ blocks 1 n (startDepth f first order)))
+                → Answered (Done (stateLength (2 * long) n)) y
             unfolding steps
             start-done h y e =
                 let a = done (in-rest ∙ simp (fourteen, uf, le-ltb (length b) (stateSize m parts owners i st) (omega (arith, size)))) in

@@ -22,13 +22,15 @@ use Rattle.mesh.specs.WalkLaws.{reach-in}
 use Rattle.reaches.specs.Tables.{entryCount}
 use Rattle.reaches.proofs.EntryLaws.{count-more}
 use Rattle.split.specs.Split.{Split, splitOf, owns, held, inside, imports, exports, interior, halo, locals, localOf, globalOf}
-use Rattle.split.specs.SplitLaws.{map-facts, Cell, ownCells, split-reach, split-own, split-owner, own-is, own-local, local-back, import-own, reach-held, order-cells, order-length, own-count, own-first, held-length, imports-none, import-total, export-total}
+use Rattle.split.specs.SplitLaws.{map-facts, Cell, ownCells, split-reach, split-own, split-owner, own-is, own-local, local-back, import-own, reach-held}
+use Rattle.split.specs.SplitLaws.{order-cells, order-length, own-count, own-first, held-length, imports-none, import-total, export-total}
 use Rattle.split.specs.Numbering.{numbering}
 use Rattle.split.proofs.UnitLaws.{numbered}
 use Rattle.split.specs.Lists.{bad12}
 use Rattle.split.specs.Classes.{partCells, Prepared}
 use Rattle.cell_lists.proofs.ClassLists.{part-imports, locals-few}
-use Rattle.starts.specs.Start.{ownedIn, reachOf, importEnds, exportEnds, reachEnds, reachWords, exportWords, listsLong, listsWords}
+use Rattle.states.specs.State.{exportsWord}
+use Rattle.starts.specs.Start.{ownedIn, reachOf, importEnds, exportEnds, reachEnds, reachWords, exportWords, listsLong, listsRegions}
 use Rattle.start_lists.specs.Starting.{localIn, numbersOf, gotEnds, sentEnds, sentWords, placeAt, rowSize, rowEnds, entryWords, rowWords, numberedWords, startWords}
 
 -- ---- lists
@@ -291,26 +293,29 @@ module _ (m : Bytes) (parts : ℕ) (owners st table : Bytes) (ends : List ℕ) (
 
       -- ---- all words
 
-      head-is : 46 + n + own + 2 * rowEnds table ends first order own + sentEnds owners table ends i first cells 16 ≡ listsLong S i L
+      head-is : exportsWord n own (rowEnds table ends first order own) + sentEnds owners table ends i first cells 16 ≡ listsLong S i L
       unfolding listsLong
       head-is = omega (arith, row-ends own (omega arith), ap (reachEnds S i L) we, sent-ends 16 (omega arith))
 
       -- the count of all words
       pub long-few : bad12 S ≡ false → bad13 m st ≡ false
-          → 46 + n + own + 2 * rowEnds table ends first order own + sentEnds owners table ends i first cells 16 ≤ 24142
+          → exportsWord n own (rowEnds table ends first order own) + sentEnds owners table ends i first cells 16 ≤ 24142
       long-few e f = omega (arith, order-few, own-few, ends-few f own (omega arith), sent-few e 16 (omega arith))
 
-      pub start-words : (kind : ℕ) (v : Bytes) → startWords owners table ends i first cells order n own (steps st) kind v ≡ listsWords S i L (steps st) kind v
-      unfolding numberedWords listsWords splitOf
+      pub start-words : (kind : ℕ) (v : Bytes) → startWords owners table ends i first cells order n own (steps st) kind v ≡ joined (listsRegions S i L (steps st) kind v)
+      unfolding numberedWords listsRegions splitOf
       start-words kind v =
-          ap₂ _++_ (ap (λ x. x ∷ i ∷ steps st ∷ kind ∷ []) head-is)
-          (ap (λ xs. listed 0 5 (wordAt v) ++ xs)
-          (ap₂ _++_ (ap₂ (λ x y. x ∷ y ∷ []) fe ce)
-          (ap₂ _++_ (listed-cong 0 (gotEnds owners table ends i first cells own) (importEnds S i L) 17 (λ j h. got-ends (0 + j) (omega arith)))
-          (ap₂ _++_ (listed-cong 0 (sentEnds owners table ends i first cells) (exportEnds S i L) 17 (λ j h. sent-ends (0 + j) (omega arith)))
-          (ap₂ _++_ oe
-          (ap₂ _++_
+          ap joined
+          (ap₂ _∷_ (ap (λ x. x ∷ i ∷ steps st ∷ kind ∷ []) head-is)
+          (ap (λ rs. listed 0 5 (wordAt v) ∷ rs)
+          (ap₂ _∷_ (ap₂ (λ x y. x ∷ y ∷ []) fe ce)
+          (ap₂ _∷_ (listed-cong 0 (gotEnds owners table ends i first cells own) (importEnds S i L) 17 (λ j h. got-ends (0 + j) (omega arith)))
+          (ap₂ _∷_ (listed-cong 0 (sentEnds owners table ends i first cells) (exportEnds S i L) 17 (λ j h. sent-ends (0 + j) (omega arith)))
+          (ap₂ _∷_ oe
+          (ap₂ _∷_
           (listed-cong 0 (rowEnds table ends first order) (reachEnds S i L) (own + 1) (λ j h. row-ends (0 + j) (omega arith)) ∙ ap (λ x. listed 0 (x + 1) (reachEnds S i L)) we)
-          (ap₂ _++_
-          (blocks-cong 1 (rowWords table ends first order (numbersOf order n)) (reachWords S i L) own (λ j h. row-words (1 + j) (omega arith) (omega arith)) ∙ ap (λ x. blocks 1 x (reachWords S i L)) we)
-          (blocks-cong 1 (sentWords owners table ends i first cells (numbersOf order n)) (exportWords S i L) 16 (λ j h. sent-words (1 + j) (omega arith) (omega arith))))))))))
+          (ap₂ _∷_
+          (blocks-cong 1 (rowWords table ends first order (numbersOf order n)) (reachWords S i L) own (λ j h. row-words (1 + j) (omega arith) (omega arith))
+          ∙ ap (λ x. blocks 1 x (reachWords S i L)) we)
+          (ap (λ r. r ∷ [])
+          (blocks-cong 1 (sentWords owners table ends i first cells (numbersOf order n)) (exportWords S i L) 16 (λ j h. sent-words (1 + j) (omega arith) (omega arith))))))))))))

@@ -1,11 +1,12 @@
 -- What start makes out before it writes. No public contract rests on this page. Assumes nothing.
 use mathlib.Core.Path.{_≡_}
 use mathlib.Core.List.{List}
-use Prim.Native.Nat.{ℕ, _+_, _*_}
+use Prim.Native.Nat.{ℕ, _+_}
 use lib.ListN.{length, take}
 use Rattle.vocabulary.specs.Bytes.{Bytes}
 use Rattle.mesh.specs.Mesh.{firstCell, cellCount}
 use Rattle.split.specs.Split.{splitOf, locals}
+use Rattle.states.specs.State.{exportsWord}
 use Rattle.start_lists.specs.Starting.{rowEnds, sentEnds, Fit}
 use Rattle.starts.specs.Start.{ownedIn}
 
@@ -15,4 +16,4 @@ pub record Planned (m : Bytes) (parts : ℕ) (owners : Bytes) (i : ℕ) (st tabl
   pub held-is : n ≡ length (locals (splitOf m parts owners st) i)
   pub owned-is : owned ≡ ownedIn (splitOf m parts owners st) i
   pub fit : Fit owners table ends i (firstCell m) (cellCount m) order n owned
-  pub long-is : long ≡ 46 + n + owned + 2 * rowEnds table ends (firstCell m) order owned + sentEnds owners table ends i (firstCell m) (cellCount m) 16
+  pub long-is : long ≡ exportsWord n owned (rowEnds table ends (firstCell m) order owned) + sentEnds owners table ends i (firstCell m) (cellCount m) 16

@@ -9,7 +9,7 @@ use Rattle.vocabulary.specs.Ranges.{listed, blocks, total}
 use Rattle.vocabulary.specs.Lists.{joined}
 use Rattle.vocabulary.specs.Tests.{Test, refuse, firstOf}
 use Rattle.vocabulary.specs.Bytes.{Bytes, over}
-use Rattle.layout.specs.Words.{wordAt, bytesOf}
+use Rattle.layout.specs.Words.{wordAt, wordBytes, bytesOf}
 use Rattle.layout.specs.Answers.{answer, ifAccepted}
 use Rattle.layout.specs.declared.Answer.{Answer}
 use Rattle.mesh.specs.Mesh.{cellCount}
@@ -54,18 +54,19 @@ module _ (S : Split) (i : ℕ) (order : List ℕ) where
   unfoldable pub listsLong : ℕ
   listsLong = exportsWord (length order) (ownedIn S i) (reachEnds (ownedIn S i)) + exportEnds 16
 
-  -- the words, for a stencil of n steps and a rule
-  unfoldable pub listsWords : ℕ → ℕ → Bytes → List ℕ
-  listsWords n kind v =
+  -- the words, region by region, for a stencil of n steps and a rule
+  unfoldable pub listsRegions : ℕ → ℕ → Bytes → List (List ℕ)
+  listsRegions n kind v =
       (listsLong ∷ i ∷ n ∷ kind ∷ [])
-      ++ (listed 0 5 (wordAt v)
-      ++ ((S .first ∷ S .cells ∷ [])
-      ++ (listed 0 17 importEnds
-      ++ (listed 0 17 exportEnds
-      ++ (order
-      ++ (listed 0 (ownedIn S i + 1) reachEnds
-      ++ (blocks 1 (ownedIn S i) reachWords
-      ++ blocks 1 16 exportWords)))))))
+      ∷ listed 0 5 (wordAt v)
+      ∷ (S .first ∷ S .cells ∷ [])
+      ∷ listed 0 17 importEnds
+      ∷ listed 0 17 exportEnds
+      ∷ order
+      ∷ listed 0 (ownedIn S i + 1) reachEnds
+      ∷ blocks 1 (ownedIn S i) reachWords
+      ∷ blocks 1 16 exportWords
+      ∷ []
 
 -- ---- the calls: mesh m, P and owners, part i, stencil st, and for start rule kind and weights v, field f, state
 
@@ -87,10 +88,11 @@ module _ (m : Bytes) (parts : ℕ) (owners : Bytes) (i : ℕ) (st : Bytes) where
     -- the state of the part at round 0: "nothing is taken and nothing written"
     unfoldable pub firstState : Bytes
     firstState =
-        let S : Split = splitOf m parts owners st in
-        let order : List ℕ = orderOf in
-        bytesOf (listsWords S i order (steps st) kind v)
-        ++ (replicate 34 0 ++ blocks 1 (length order) (λ l. depthIn (schemeOf m st kind v) f (globalOf order l)))
+        let round : Bytes = wordBytes 0 in
+        let taken : Bytes = replicate 16 0 in
+        let written : Bytes = replicate 16 0 in
+        let depths : Bytes = blocks 1 (length orderOf) (λ l. depthIn (schemeOf m st kind v) f (globalOf orderOf l)) in
+        bytesOf (joined (listsRegions (splitOf m parts owners st) i orderOf (steps st) kind v)) ++ (round ++ (taken ++ (written ++ depths)))
 
     -- what start tries after 13
     abbrev pub lastTests : Bytes → List Test

@@ -35,6 +35,7 @@ ghost use Rattle.mesh.specs.Walks.{steps};
 ghost use Rattle.rules.specs.Rules.{bad11};
 ghost use Rattle.split.specs.Lists.{splitNumber, sizesNumber};
 ghost use Rattle.split.specs.Classes.{Prepared};
+ghost use Rattle.states.specs.State.{exportsWord, stateLength, depthsPlace};
 ghost use Rattle.starts.specs.Start.{sizeAnswer, startAnswer, startState};
 ghost use Rattle.start_lists.specs.Starting.{rowEnds, sentEnds, startWords, startDepth, Got, Sent, Fit, Cells};
 ghost use Rattle.starts.specs.Planning.{Planned};
@@ -58,9 +59,9 @@ fn put_state(
 )
     requires { ⌜
         Fit (now owners) (now table) (now ends) (plan .part) (plan .first) (plan .cells) (now order) (plan .held) (plan .owned)
-        × (plan .long ≡ 46 + plan .held + plan .owned + 2 * rowEnds (now table) (now ends) (plan .first) (now order) (plan .owned) + sentEnds (now owners)
+        × (plan .long ≡ exportsWord (plan .held) (plan .owned) (rowEnds (now table) (now ends) (plan .first) (now order) (plan .owned)) + sentEnds (now owners)
         (now table) (now ends) (plan .part) (plan .first) (plan .cells) 16)
-        × (2 * plan .long + 34 + 4 * plan .held ≤ length (now b))
+        × (stateLength (2 * plan .long) (plan .held) ≤ length (now b))
         × (steps < 65536)
         × (kind < 65536)
         × Got (now owners) (now table) (now ends) (plan .part) (plan .cells) (now got)
@@ -71,7 +72,7 @@ fn put_state(
         ⌝ }
     ensures { λ _. ⌜
         now (b .exit) ≡ over (now (b .entry)) 0 (bytesOf (startWords (now (owners .entry)) (now (table .entry)) (now (ends .entry)) (plan .part) (plan .first)
-        (plan .cells) (now (order .entry)) (plan .held) (plan .owned) steps kind (now (v .entry))) ++ (replicate 34 0 ++ blocks 1 (plan .held) (startDepth
+        (plan .cells) (now (order .entry)) (plan .held) (plan .owned) steps kind (now (v .entry))) ++ (replicate (depthsPlace 0) 0 ++ blocks 1 (plan .held) (startDepth
         (now (f .entry)) (plan .first) (now (order .entry)))))
         ⌝ }
 {

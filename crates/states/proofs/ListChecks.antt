@@ -27,7 +27,8 @@ use Rattle.rules.proofs.Refusals.{unknown-rule}
 use Rattle.states.specs.State.{LocalNear, partNumber, stepCount, ruleKind, weights, ownedCount, heldCount, reachEnd, reachCount, rises, entryAt}
 use Rattle.states.specs.State.{exportAt, localReach, globalAt, globalFine, entryFine, ownFound, exportFine, listsTests, exportsWord, entryWord, reachWord}
 use Rattle.states.specs.StateLaws.{rises-grow}
-use Rattle.states.specs.Checks.{Counts, Fitting, Tested, riseAt, ownEntry, rowFine, headTests, endTests, entryTests}
+use Rattle.states.specs.declared.places.Sizes.{Sizes}
+use Rattle.states.specs.Checks.{reachStart, entryStart, exportStart, Counts, Fitting, Tested, riseAt, ownEntry, rowFine, headTests, endTests, entryTests}
 
 -- ---- a test of a range, asked with the count that stands in the lists
 
@@ -72,7 +73,7 @@ module _ (b : Bytes) (at held n : ℕ) (T : Tested b at held n) (t l : ℕ) (le 
 
   module _ (layer : ℕ) (ye : layer ≡ wordAt b (at + 2 * t + 1)) where
     entry-layer : (entryAt b t) .layer ≡ layer
-    entry-layer = let p : 47 + heldCount b + ownedCount b + 2 * t ≡ at + 2 * t + 1 = omega (arith, T .at-is) in ap (wordAt b) p ∙ sym ye
+    entry-layer = let p : entryWord (heldCount b) (ownedCount b) + 2 * t + 1 ≡ at + 2 * t + 1 = omega (arith, T .at-is) in ap (wordAt b) p ∙ sym ye
 
     module _ (u : Bool) (ue : u ≡ isUpTo held l) where
       entry-held : isUpTo (heldCount b) ((entryAt b t) .local) ≡ u
@@ -155,8 +156,8 @@ rows-are end p q z (suc n) h =
     ∙ and-both (every 0 (end n) p) (every 1 n q) (every (end n) (end (suc n) - end n) p) (q (1 + n))
     ∙ ap (λ x. x && (every 1 n q && q (1 + n))) (sym w)
 
-pub row-tested : (b : Bytes) (held owned reached n : ℕ) → Counts b held owned reached → n ≡ wordAt b 2 → Tested b (entryWord held owned) held n
-row-tested b held owned reached n C e = record { at-is = ap₂ (λ x y. entryWord x y) (C .held-is) (C .owned-is); held-is = C .held-is; n-is = e }
+pub row-tested : (b : Bytes) (z : Sizes) (at n : ℕ) → Counts b z → at ≡ entryStart z → n ≡ stepCount b → Tested b at (z .held) n
+row-tested b z at n C ae e = record { at-is = ae ∙ ap₂ (λ x y. entryWord x y) (C .held-is) (C .owned-is); held-is = C .held-is; n-is = e }
 
 module _ (b : Bytes) (good : allOf (endTests b) ≡ true) where
   reach-tests : (eqb (reachEnd b 0) 0 ≡ true) × (rises (ownedCount b) (reachEnd b) ≡ true)
@@ -187,9 +188,9 @@ module _ (b : Bytes) (good : allOf (endTests b) ≡ true) where
     pub rows-right : (y : Bool) → not r ≡ false → y ≡ x → y ≡ every 0 (reachCount b) (entryFine b) && (every 1 (ownedCount b) (ownFound b) && x)
     rows-right y z q = q ∙ sym (ap (λ t. t && x) (not-false r z)) ∙ rows-here
 
-  module _ (held owned reached : ℕ) (F : Fitting b held owned reached) (l from to : ℕ) (low : 1 ≤ l) (high : l < 1 + owned) (te : to ≡ wordAt b (reachWord held + l)) where
+  module _ (z : Sizes) (F : Fitting b z) (ends : ℕ) (ee : ends ≡ reachStart z) (l from to : ℕ) (low : 1 ≤ l) (high : l < 1 + z .owned) (te : to ≡ wordAt b (ends + l)) where
     to-is : to ≡ reachEnd b l
-    to-is = te ∙ ap (λ h. wordAt b (reachWord h + l)) (F .counts .held-is)
+    to-is = te ∙ ap (λ k. wordAt b (k + l)) (ee ∙ ap reachWord (F .counts .held-is))
 
     -- and the next where this one ends
     pub rows-next : to ≡ reachEnd b (l + 1 - 1)
@@ -198,8 +199,8 @@ module _ (b : Bytes) (good : allOf (endTests b) ≡ true) where
     pub row-rises : from ≡ reachEnd b (l - 1) → from ≤ to
     row-rises fe = omega (arith, fe, to-is, F .counts .owned-is, reach-grow (l - 1) l (omega arith) (omega (arith, F .counts .owned-is)))
 
-    pub row-room : 2 * (exportsWord held owned to) ≤ length b
-    row-room = omega (arith, to-is, F .room, F .counts .reached-is, reach-grow l (ownedCount b) (omega (arith, F .counts .owned-is)) (omega arith))
+    pub row-room : (at : ℕ) → at ≡ entryStart z → 2 * (at + 2 * to) ≤ length b
+    row-room at ae = omega (arith, ae, to-is, F .room, F .counts .reached-is, reach-grow l (ownedCount b) (omega (arith, F .counts .owned-is)) (omega arith))
 
     pub row-told : (r : Bool) → from ≡ reachEnd b (l - 1) → r ≡ every from (to - from) (entryFine b) && some from (to - from) (ownEntry b l) → r ≡ rowFine b l
     unfolding rowFine ownEntry localReach
@@ -211,13 +212,13 @@ module _ (b : Bytes) (good : allOf (endTests b) ≡ true) where
 
 -- ---- the exports
 
-module _ (b : Bytes) (held owned reached : ℕ) (C : Counts b held owned reached) (t l : ℕ) (le : l ≡ wordAt b (exportsWord held owned reached + t)) where
+module _ (b : Bytes) (z : Sizes) (C : Counts b z) (at : ℕ) (ae : at ≡ exportStart z) (t l : ℕ) (le : l ≡ wordAt b (at + t)) where
   export-local : exportAt b t ≡ l
   export-local =
-      let p : exportsWord (heldCount b) (ownedCount b) (reachCount b) + t ≡ exportsWord held owned reached + t = omega (arith, C .held-is, C .owned-is, C .reached-is) in
+      let p : exportsWord (heldCount b) (ownedCount b) (reachCount b) + t ≡ at + t = omega (arith, ae, C .held-is, C .owned-is, C .reached-is) in
       ap (wordAt b) p ∙ sym le
 
-  pub export-told : (r : Bool) → r ≡ isUpTo owned l → r ≡ exportFine b t
+  pub export-told : (r : Bool) → r ≡ isUpTo (z .owned) l → r ≡ exportFine b t
   export-told r e = e ∙ ap₂ isUpTo (C .owned-is) (sym export-local)
 
 -- ---- the rule and the head
@@ -277,19 +278,19 @@ module _ (e x : ℕ) (c : x ≡ e) (r y : Bool) where
   pub first-right : (t : Bool) → x ≡ 0 → t ≡ r && y → t ≡ (eqb e 0 && r) && y
   first-right t z q = simp (sym c, eq-eqb _ _ z, q)
 
-module _ (b : Bytes) (held owned reached : ℕ) (C : Counts b held owned reached) where
-  module _ (y : ℕ) (ye : y ≡ wordAt b (reachWord held)) where
+module _ (b : Bytes) (z : Sizes) (C : Counts b z) (ends : ℕ) (ee : ends ≡ reachStart z) where
+  module _ (y : ℕ) (ye : y ≡ wordAt b ends) where
     reach-end : y ≡ reachEnd b 0
-    reach-end = ye ∙ ap (wordAt b) (let p : reachWord held ≡ reachWord (heldCount b) + 0 = omega (arith, C .held-is) in p)
+    reach-end = ye ∙ ap (wordAt b) (let p : ends ≡ reachWord (heldCount b) + 0 = omega (arith, ee, C .held-is) in p)
 
-    pub reach-wrong : (r z : Bool) → (y ≡ 0 → ⊥) → false ≡ (eqb (reachEnd b 0) 0 && r) && z
+    pub reach-wrong : (r x : Bool) → (y ≡ 0 → ⊥) → false ≡ (eqb (reachEnd b 0) 0 && r) && x
     reach-wrong = first-wrong (reachEnd b 0) y reach-end
 
-    pub reach-right : (r : Bool) → y ≡ 0 → r ≡ every 0 owned (riseAt b (reachWord held)) → r ≡ (eqb (reachEnd b 0) 0 && rises (ownedCount b) (reachEnd b)) && true
+    pub reach-right : (r : Bool) → y ≡ 0 → r ≡ every 0 (z .owned) (riseAt b ends) → r ≡ (eqb (reachEnd b 0) 0 && rises (ownedCount b) (reachEnd b)) && true
     unfolding riseAt rises
-    reach-right r z e =
-        first-right (reachEnd b 0) y reach-end (rises (ownedCount b) (reachEnd b)) true r z
-        (e ∙ ap₂ (λ h n. every 0 n (riseAt b (reachWord h))) (C .held-is) (C .owned-is) ∙ sym (and-all (rises (ownedCount b) (reachEnd b))))
+    reach-right r w e =
+        first-right (reachEnd b 0) y reach-end (rises (ownedCount b) (reachEnd b)) true r w
+        (e ∙ ap₂ (λ k n. every 0 n (riseAt b k)) (ee ∙ ap reachWord (C .held-is)) (C .owned-is) ∙ sym (and-all (rises (ownedCount b) (reachEnd b))))
 
 -- ---- the three groups
 

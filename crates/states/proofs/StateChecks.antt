@@ -12,9 +12,11 @@ use Rattle.vocabulary.specs.Ranges.{every}
 use Rattle.vocabulary.specs.Tests.{allOf}
 use Rattle.layout.specs.Words.{word, wordAt}
 use Rattle.depths.specs.Depths.{rangedAt}
-use Rattle.states.specs.State.{heldCount, listsLength, listsTests, dynamicTests, flagsFine, isState, stateLength, writtenPlace, takenPlace, depthsPlace, exportsWord, reachWord}
+use Rattle.states.specs.State.{ownedCount, heldCount, exportCount, listsLength, listsTests, dynamicTests, flagsFine, isState, stateLength}
+use Rattle.states.specs.State.{writtenPlace, takenPlace, depthsPlace, reachWord}
+use Rattle.states.specs.declared.places.Sizes.{Sizes}
 use Rattle.states.specs.StateLaws.{isStateAt, state-at}
-use Rattle.states.specs.Checks.{Counts, Fitting}
+use Rattle.states.specs.Checks.{wordCount, Counts, Fitting}
 
 -- ---- flags
 
@@ -48,45 +50,43 @@ module _ (b : Bytes) (d n : ℕ) where
 
 -- ---- the whole
 
-pub counts : (b : Bytes) (held owned reached : ℕ) → held ≡ wordAt b 27 → owned ≡ wordAt b 11 → reached ≡ wordAt b (reachWord held + owned) → held < 65536 → owned < 65536
-    → reached < 65536 → Counts b held owned reached
-counts b held owned reached h o r hs os rs = record {
+pub counts : (b : Bytes) (z : Sizes) → z .held ≡ heldCount b → z .owned ≡ ownedCount b → z .reached ≡ wordAt b (reachWord (z .held) + z .owned) → z .sent ≡ exportCount b
+    → z .held < 65536 → z .owned < 65536 → z .reached < 65536 → z .sent < 65536 → Counts b z
+counts b z h o r s hs os rs ss = record {
   held-is = h;
   owned-is = o;
   reached-is = r ∙ ap₂ (λ x y. wordAt b (reachWord x + y)) h o;
-  held-small = hs;
-  owned-small = os;
-  reached-small = rs;
+  sent-is = s;
+  small = record { held-small = hs; owned-small = os; reached-small = rs; sent-small = omega arith };
 }
 
-pub fitting : (b : Bytes) (held owned reached d sent : ℕ) → held ≡ wordAt b 27 → owned ≡ wordAt b 11 → reached ≡ wordAt b (reachWord held + owned) → sent ≡ wordAt b 44
-    → held < 65536 → owned < 65536 → reached < 65536 → d ≡ length b → d ≡ 2 * (exportsWord held owned reached + sent) → Fitting b held owned reached
-fitting b held owned reached d sent h o r e hs os rs de fit = record { counts = counts b held owned reached h o r hs os rs; room = omega arith }
+module _ (st : Bytes) (z : Sizes) (C : Counts st z) (k : ℕ) (ke : k ≡ wordCount z) (d : ℕ) where
+  pub fitting : d ≡ length st → d ≡ 2 * k → Fitting st z
+  fitting de fit = record { counts = C; room = omega (arith, ke) }
 
-module _ (st b : Bytes) (d held owned reached sent : ℕ) (he : held ≡ wordAt st 27) (oe : owned ≡ wordAt st 11) (re : reached ≡ wordAt st (reachWord held + owned)) (se : sent ≡ wordAt st 44) where
-  long-is : listsLength st ≡ 2 * (exportsWord held owned reached + sent)
-  long-is =
-      let q : wordAt st (reachWord (wordAt st 27) + wordAt st 11) ≡ reached = sym (re ∙ ap₂ (λ x y. wordAt st (reachWord x + y)) he oe) in
-      omega (arith, q, he, oe, se)
+  long-is : listsLength st ≡ 2 * k
+  long-is = omega (arith, ke, C .held-is, C .owned-is, C .reached-is, C .sent-is)
 
-  pub state-1 : (d ≡ 2 * (exportsWord held owned reached + sent) → ⊥) → false ≡ isStateAt st d b
-  state-1 z = simp (ne-eqb d (listsLength st) (λ e. z (e ∙ long-is)))
+  module _ (b : Bytes) where
+    pub state-1 : (d ≡ 2 * k → ⊥) → false ≡ isStateAt st d b
+    state-1 n = simp (ne-eqb d (listsLength st) (λ e. n (e ∙ long-is)))
 
-  module _ (de : d ≡ 2 * (exportsWord held owned reached + sent)) (u : Bool) (ue : u ≡ allOf (listsTests st)) where
-    pub state-2 : not u ≡ true → false ≡ isStateAt st d b
-    state-2 z = simp (eq-eqb d (listsLength st) (de ∙ sym long-is), sym ue, not-true u z)
+    module _ (de : d ≡ 2 * k) (u : Bool) (ue : u ≡ allOf (listsTests st)) where
+      pub state-2 : not u ≡ true → false ≡ isStateAt st d b
+      state-2 t = simp (eq-eqb d (listsLength st) (de ∙ sym long-is), sym ue, not-true u t)
 
-    pub state-3 : (w : Bool) → not u ≡ false → w ≡ allOf (dynamicTests b d held) → w ≡ isStateAt st d b
-    state-3 w z e =
-        let q : allOf (dynamicTests b d (heldCount st)) ≡ w = sym (e ∙ ap (λ n. allOf (dynamicTests b d n)) he) in
-        simp (eq-eqb d (listsLength st) (de ∙ sym long-is), sym ue, not-false u z, q)
+      pub state-3 : (w : Bool) → not u ≡ false → w ≡ allOf (dynamicTests b d (z .held)) → w ≡ isStateAt st d b
+      state-3 w t e =
+          let q : allOf (dynamicTests b d (heldCount st)) ≡ w = sym (e ∙ ap (λ n. allOf (dynamicTests b d n)) (C .held-is)) in
+          simp (eq-eqb d (listsLength st) (de ∙ sym long-is), sym ue, not-false u t, q)
 
 -- a buffer that is shorter than the lists is none
 pub state-short : (b : Bytes) (x : ℕ) → x ≡ wordAt b 0 → length b < 2 * x → false ≡ isState b
 unfolding isState dynamicTests
 state-short b x e h =
-    let k : length b < 2 * wordAt b 0 + 34 + 4 * heldCount (take (2 * wordAt b 0) b) = omega (arith, e) in
-    sym (and-right (eqb (2 * wordAt b 0) (listsLength (take (2 * wordAt b 0) b)) && allOf (listsTests (take (2 * wordAt b 0) b))) (allOf (dynamicTests b (2 * wordAt b 0) (heldCount (take (2 * wordAt b 0) b)))) (simp (lt-leb _ _ k)))
+    let k : length b < stateLength (2 * wordAt b 0) (heldCount (take (2 * wordAt b 0) b)) = omega (arith, e) in
+    sym (and-right (eqb (2 * wordAt b 0) (listsLength (take (2 * wordAt b 0) b)) && allOf (listsTests (take (2 * wordAt b 0) b)))
+    (allOf (dynamicTests b (2 * wordAt b 0) (heldCount (take (2 * wordAt b 0) b)))) (simp (lt-leb _ _ k)))
 
 pub state-told : (b : Bytes) (x : ℕ) (r : Bool) → x ≡ wordAt b 0 → r ≡ isStateAt (take (2 * x - 0) (drop 0 b)) (2 * x) b → r ≡ isState b
 state-told b x r e q =

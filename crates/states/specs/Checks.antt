@@ -11,7 +11,8 @@ use Rattle.vocabulary.specs.Ranges.{isUpTo, every}
 use Rattle.layout.specs.Words.{wordAt}
 use Rattle.rules.specs.Rules.{bad11}
 use Rattle.states.specs.State.{partNumber, stepCount, ruleKind, weights, importEnd, ownedCount, heldCount, exportEnd, exportCount}
-use Rattle.states.specs.State.{reachEnd, reachCount, entryAt, globalFine, entryFine, ownFound, exportFine, rises, exportsWord, entryWord}
+use Rattle.states.specs.State.{reachEnd, reachCount, entryAt, globalFine, entryFine, ownFound, exportFine, rises, exportsWord, entryWord, reachWord}
+use Rattle.states.specs.declared.places.Sizes.{Sizes}
 
 -- the lists b in three groups
 abbrev pub headTests : Bytes → List Bool
@@ -49,19 +50,39 @@ ownEntry b l t = eqb ((entryAt b t) .local) l && eqb ((entryAt b t) .layer) 0
 unfoldable pub rowFine : Bytes → ℕ → Bool
 rowFine b l = every (reachEnd b (l - 1)) (reachEnd b l - reachEnd b (l - 1)) (entryFine b) && ownFound b l
 
--- the counts that stand in the lists
-pub record Counts (b : Bytes) (held owned reached : ℕ) : Type 0 where
-  pub held-is : held ≡ heldCount b
-  pub owned-is : owned ≡ ownedCount b
-  pub reached-is : reached ≡ reachCount b
-  pub held-small : held < 65536
-  pub owned-small : owned < 65536
-  pub reached-small : reached < 65536
+-- ---- the places that counts give: the ends of the reaches, their entries, the exports, and how many words that makes
+
+abbrev pub reachStart : Sizes → ℕ
+reachStart z = reachWord (z .held)
+
+abbrev pub entryStart : Sizes → ℕ
+entryStart z = entryWord (z .held) (z .owned)
+
+abbrev pub exportStart : Sizes → ℕ
+exportStart z = exportsWord (z .held) (z .owned) (z .reached)
+
+abbrev pub wordCount : Sizes → ℕ
+wordCount z = exportStart z + z .sent
+
+-- every count is a word; start adds up the exports before it knows that of them
+pub record Small (z : Sizes) : Type 0 where
+  pub held-small : z .held < 65536
+  pub owned-small : z .owned < 65536
+  pub reached-small : z .reached < 65536
+  pub sent-small : z .sent < 2000000
+
+-- they are those that stand in the lists
+pub record Counts (b : Bytes) (z : Sizes) : Type 0 where
+  pub held-is : z .held ≡ heldCount b
+  pub owned-is : z .owned ≡ ownedCount b
+  pub reached-is : z .reached ≡ reachCount b
+  pub sent-is : z .sent ≡ exportCount b
+  pub small : Small z
 
 -- lists as long as their counts say
-pub record Fitting (b : Bytes) (held owned reached : ℕ) : Type 0 where
-  pub counts : Counts b held owned reached
-  pub room : length b ≡ 2 * (exportsWord held owned reached + exportCount b)
+pub record Fitting (b : Bytes) (z : Sizes) : Type 0 where
+  pub counts : Counts b z
+  pub room : length b ≡ 2 * wordCount z
 
 -- the word at which the entries of the reaches begin, and what they are tested by
 pub record Tested (b : Bytes) (at held n : ℕ) : Type 0 where

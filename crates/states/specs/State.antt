@@ -40,9 +40,6 @@ reachWord held = 45 + held
 abbrev pub entryWord : ℕ → ℕ → ℕ
 entryWord held owned = 46 + held + owned
 
-abbrev pub layerWord : ℕ → ℕ → ℕ
-layerWord held owned = 47 + held + owned
-
 abbrev pub exportsWord : ℕ → ℕ → ℕ → ℕ
 exportsWord held owned reached = entryWord held owned + 2 * reached
 
@@ -104,7 +101,7 @@ module _ (b : Bytes) where
   abbrev pub entryAt : ℕ → LocalNear
   entryAt t = record {
     local = wordAt b (entryWord heldCount ownedCount + 2 * t);
-    layer = wordAt b (layerWord heldCount ownedCount + 2 * t);
+    layer = wordAt b (entryWord heldCount ownedCount + 2 * t + 1);
   }
 
   -- the local number of each exported cell, from t = 0 on

@@ -1,16 +1,14 @@
 // Whether the lists of a state are as its form asks. `lists` are the bytes before what calls change.
 use crate::places::CELLS;
-use crate::places::ENTRIES;
 use crate::places::EXPORT_ENDS;
-use crate::places::EXPORTED;
 use crate::places::FIRST;
 use crate::places::GLOBALS;
 use crate::places::HELD;
 use crate::places::KIND;
 use crate::places::OWNED;
 use crate::places::PART;
-use crate::places::REACH_ENDS;
 use crate::places::STEPS;
+use crate::places::Sizes;
 use crate::places::WEIGHTS;
 use cell_numbers::Global;
 use cell_numbers::Local;
@@ -162,17 +160,18 @@ fn row_fine(
     false
 }
 
-// The reaches of the owned cells, row by row. Their ends rise from 0 to `reached`, so the rows have all the entries.
-fn rows_fine(lists: &[u8], held: usize, owned: usize, reached: usize) -> bool
-    requires { ⌜ Fitting (now lists) held owned reached × (allOf (endTests (now lists)) ≡ true) ⌝ }
-    ensures { λ r. ⌜ r ≡ every 1 owned (rowFine (now (lists .entry))) ⌝ }
+// The reaches of the owned cells, row by row. Their ends rise from 0 to the count of all, so the rows have all the entries.
+fn rows_fine(lists: &[u8], sizes: Sizes) -> bool
+    requires { ⌜ Fitting (now lists) sizes × (allOf (endTests (now lists)) ≡ true) ⌝ }
+    ensures { λ r. ⌜ r ≡ every 1 (sizes .owned) (rowFine (now (lists .entry))) ⌝ }
 {
     let n = word_there(lists, STEPS);
-    let at = ENTRIES + held + owned;
+    let ends = sizes.reach_word();
+    let at = sizes.entry_word();
     let mut from = 0;
-    for l in 1..1 + owned {
-        let to = word_there(lists, REACH_ENDS + held + l);
-        if !row_fine(lists, at, held, n, l, from, to) {
+    for l in 1..1 + sizes.owned {
+        let to = word_there(lists, ends + l);
+        if !row_fine(lists, at, sizes.held, n, l, from, to) {
             return false;
         }
         from = to;
@@ -181,14 +180,13 @@ fn rows_fine(lists: &[u8], held: usize, owned: usize, reached: usize) -> bool
 }
 
 // Whether the exported cells are owned.
-fn exports_fine(lists: &[u8], held: usize, owned: usize, reached: usize) -> bool
-    requires { ⌜ Fitting (now lists) held owned reached ⌝ }
+fn exports_fine(lists: &[u8], sizes: Sizes) -> bool
+    requires { ⌜ Fitting (now lists) sizes ⌝ }
     ensures { λ r. ⌜ r ≡ every 0 (exportCount (now (lists .entry))) (exportFine (now (lists .entry))) ⌝ }
 {
-    let at = ENTRIES + held + owned + 2 * reached;
-    let sent = word_there(lists, EXPORTED);
-    for t in 0..sent {
-        if !up_to(owned, word_there(lists, at + t)) {
+    let at = sizes.exports_word();
+    for t in 0..sizes.sent {
+        if !up_to(sizes.owned, word_there(lists, at + t)) {
             return false;
         }
     }
@@ -243,8 +241,8 @@ fn head_fine(lists: &[u8]) -> bool
 }
 
 // The three tables of ends.
-fn ends_fine(lists: &[u8], held: usize, owned: usize, reached: usize) -> bool
-    requires { ⌜ Fitting (now lists) held owned reached ⌝ }
+fn ends_fine(lists: &[u8], sizes: Sizes) -> bool
+    requires { ⌜ Fitting (now lists) sizes ⌝ }
     ensures { λ r. ⌜ r ≡ allOf (endTests (now (lists .entry))) ⌝ }
 {
     if !ends_rise(lists, OWNED, 16) {
@@ -256,36 +254,37 @@ fn ends_fine(lists: &[u8], held: usize, owned: usize, reached: usize) -> bool
     if !ends_rise(lists, EXPORT_ENDS, 16) {
         return false;
     }
-    if word_there(lists, REACH_ENDS + held) != 0 {
+    let ends = sizes.reach_word();
+    if word_there(lists, ends) != 0 {
         return false;
     }
-    ends_rise(lists, REACH_ENDS + held, owned)
+    ends_rise(lists, ends, sizes.owned)
 }
 
 // The held cells, the reaches and the exports.
-fn entries_fine(lists: &[u8], held: usize, owned: usize, reached: usize) -> bool
-    requires { ⌜ Fitting (now lists) held owned reached × (allOf (endTests (now lists)) ≡ true) ⌝ }
+fn entries_fine(lists: &[u8], sizes: Sizes) -> bool
+    requires { ⌜ Fitting (now lists) sizes × (allOf (endTests (now lists)) ≡ true) ⌝ }
     ensures { λ r. ⌜ r ≡ allOf (entryTests (now (lists .entry))) ⌝ }
 {
-    if !globals_fine(lists, held) {
+    if !globals_fine(lists, sizes.held) {
         return false;
     }
-    if !rows_fine(lists, held, owned, reached) {
+    if !rows_fine(lists, sizes) {
         return false;
     }
-    exports_fine(lists, held, owned, reached)
+    exports_fine(lists, sizes)
 }
 
 // Whether the lists pass all their tests.
-pub fn lists_fine(lists: &[u8], held: usize, owned: usize, reached: usize) -> bool
-    requires { ⌜ Fitting (now lists) held owned reached ⌝ }
+pub fn lists_fine(lists: &[u8], sizes: Sizes) -> bool
+    requires { ⌜ Fitting (now lists) sizes ⌝ }
     ensures { λ r. ⌜ r ≡ allOf (listsTests (now (lists .entry))) ⌝ }
 {
     if !head_fine(lists) {
         return false;
     }
-    if !ends_fine(lists, held, owned, reached) {
+    if !ends_fine(lists, sizes) {
         return false;
     }
-    entries_fine(lists, held, owned, reached)
+    entries_fine(lists, sizes)
 }

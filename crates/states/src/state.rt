@@ -1,13 +1,9 @@
 // Whether bytes begin with a part's state (20).
 use crate::lists::lists_fine;
 use crate::places::DEPTHS;
-use crate::places::ENTRIES;
-use crate::places::EXPORTED;
-use crate::places::HELD;
-use crate::places::OWNED;
-use crate::places::REACH_ENDS;
 use crate::places::TAKEN;
 use crate::places::WRITTEN;
+use crate::places::sizes_of;
 use depths::inner::depths_in_range;
 use layout::byte_at;
 use layout::inner::word_in;
@@ -65,16 +61,14 @@ fn state_fine(lists: &[u8], b: &[u8], d: usize) -> bool
     requires { ⌜ (d ≡ length (now lists)) × (d < 1000000) ⌝ }
     ensures { λ r. ⌜ r ≡ isStateAt (now (lists .entry)) d (now (b .entry)) ⌝ }
 {
-    let owned = word_at(lists, OWNED);
-    let held = word_at(lists, HELD);
-    let reached = word_at(lists, REACH_ENDS + held + owned);
-    if d != 2 * (ENTRIES + held + owned + 2 * reached + word_at(lists, EXPORTED)) {
+    let sizes = sizes_of(lists);
+    if d != 2 * sizes.words() {
         return false;
     }
-    if !lists_fine(lists, held, owned, reached) {
+    if !lists_fine(lists, sizes) {
         return false;
     }
-    changes_fine(b, d, held)
+    changes_fine(b, d, sizes.held)
 }
 
 // Whether the bytes begin with a part's state.

@@ -26,7 +26,8 @@ use Rattle.split.specs.Split.{locals, localOf, globalOf, cellsAt, holdsLower, t
 use Rattle.parts.specs.Calls.{importsFrom, exportsTo, messageTo, writeTestsIn, writtenIn, takeTestsIn, takenIn, allTaken, allWritten, advanceTestsIn, newAt, advancedIn, collectTestsIn, scatter}
 use Rattle.parts.specs.Calls.{writeNumber, message, writeAnswer, writeState, writeOut, takeNumber, takeAnswer, takeState, advanceNumber, advanceAnswer, advanceState, collectNumber, collectAnswer, collectOut}
 use Rattle.states.specs.State.{weights, localReach, localExports, listsIn, listsOf, rises, listsTests, dynamicTests, isState, bad20}
-use Rattle.starts.specs.Start.{importEnds, exportEnds, reachEnds, reachWords, exportWords, listsLong, listsWords, stateSize, sizeNumber, sizeAnswer, firstState, startTests, startNumber, startAnswer, startState}
+use Rattle.starts.specs.Start.{importEnds, exportEnds, reachEnds, reachWords, exportWords, listsLong, listsRegions, stateSize, sizeNumber, sizeAnswer}
+use Rattle.starts.specs.Start.{firstState, startTests, startNumber, startAnswer, startState}
 use Rattle.runs.specs.Run.{ownerIn, Gathered, schemeIn, collectsOf, Run, Inputs, World, Collected, collect, advance, take-in, write, Call, put, more, step, run, Fair, Honest, startNumberIn, startStateIn, begin, StateBound}
 use Rattle.text.specs.Listing.{ascii, digits, decimal, spaced, line, lineUnlessEmpty, dimensionText, partText, splitText, meshPiece, mapPiece, partsPiece, ownersPiece, lastPiece, stencilPiece, listingNumber, listText}
 
@@ -260,7 +261,7 @@ table =
     ∷ []
 
 pub worked : AllHold table
-unfolding over isIn placeOf joined repeats someOf everyOf isUpTo picked every some listed blocks total answer four numberFrom signed unsigned depthFrom numberBytes depthBytes inRange rangedAt word wordAt words wordBytes bytesOf meet stamp unlike below dimension elementIn nextOf follow records chain allRecords bad1 wrongCount bad2 meshLength bad3 headed bad4 wrongIn wrongAt bad5 leaves unclosed bad6 bare bad7 meshTests meshNumber checkAnswer incident steps rightAt bad10 stepTo walked stepsTo layer reach bad13 bad14 schemeOf depthIn oldsIn newIn round undivided roundTests roundNumber roundAnswer roundOut weightCount tooHeavy bad11 weight depthSum weightSum quotient least newDepth entries oldsAt encode bad15 reading bad8 bad9 bad12 splitTests sizeTests others listOf listWords listTests listNumber listAnswer listOut splitOf owns owned reaches holds held imports exports inside interior halo locals localOf globalOf cellsAt holdsLower touches another isCopied isShared isExposed isPrivate range importsFrom exportsTo messageTo writeTestsIn writtenIn takeTestsIn takenIn allTaken allWritten advanceTestsIn newAt advancedIn collectTestsIn scatter writeNumber message writeAnswer writeState writeOut takeNumber takeAnswer takeState advanceNumber advanceAnswer advanceState collectNumber collectAnswer collectOut put more step run Fair Honest startNumberIn startStateIn begin StateBound importEnds exportEnds reachEnds reachWords exportWords listsLong listsWords stateSize sizeNumber sizeAnswer firstState startTests startNumber startAnswer startState weights localReach localExports listsIn listsOf rises listsTests dynamicTests isState bad20 ascii digits decimal spaced line lineUnlessEmpty dimensionText partText splitText meshPiece mapPiece partsPiece ownersPiece lastPiece stencilPiece listingNumber listText buffers calls field five fiveInputs listInput numberAt numbers triangles
+unfolding over isIn placeOf joined repeats someOf everyOf isUpTo picked every some listed blocks total answer four numberFrom signed unsigned depthFrom numberBytes depthBytes inRange rangedAt word wordAt words wordBytes bytesOf meet stamp unlike below dimension elementIn nextOf follow records chain allRecords bad1 wrongCount bad2 meshLength bad3 headed bad4 wrongIn wrongAt bad5 leaves unclosed bad6 bare bad7 meshTests meshNumber checkAnswer incident steps rightAt bad10 stepTo walked stepsTo layer reach bad13 bad14 schemeOf depthIn oldsIn newIn round undivided roundTests roundNumber roundAnswer roundOut weightCount tooHeavy bad11 weight depthSum weightSum quotient least newDepth entries oldsAt encode bad15 reading bad8 bad9 bad12 splitTests sizeTests others listOf listWords listTests listNumber listAnswer listOut splitOf owns owned reaches holds held imports exports inside interior halo locals localOf globalOf cellsAt holdsLower touches another isCopied isShared isExposed isPrivate range importsFrom exportsTo messageTo writeTestsIn writtenIn takeTestsIn takenIn allTaken allWritten advanceTestsIn newAt advancedIn collectTestsIn scatter writeNumber message writeAnswer writeState writeOut takeNumber takeAnswer takeState advanceNumber advanceAnswer advanceState collectNumber collectAnswer collectOut put more step run Fair Honest startNumberIn startStateIn begin StateBound importEnds exportEnds reachEnds reachWords exportWords listsLong listsRegions stateSize sizeNumber sizeAnswer firstState startTests startNumber startAnswer startState weights localReach localExports listsIn listsOf rises listsTests dynamicTests isState bad20 ascii digits decimal spaced line lineUnlessEmpty dimensionText partText splitText meshPiece mapPiece partsPiece ownersPiece lastPiece stencilPiece listingNumber listText buffers calls field five fiveInputs listInput numberAt numbers triangles
 worked = (refl, (refl, (refl, (refl, (refl, (refl, (refl, (refl, (refl, (refl, (refl, (refl, (refl, (refl, (refl, (refl, (refl, (refl, (refl, (refl, (refl, (refl, (refl, (refl, (refl, (honest, (refl, tt)))))))))))))))))))))))))))
   where
     honest : Honest (begin fiveInputs buffers) calls

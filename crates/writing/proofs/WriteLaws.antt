@@ -23,7 +23,8 @@ use Rattle.messages.specs.Messages.{headSize, depthStart, messageSize, encode}
 use Rattle.states.specs.State.{Lists, listsIn, listsOf, dynamic, roundAt, exportEnd, exportCount, exportAt, localExports, heldCount, ownedCount, reachCount, depthPlace, writtenPlace, exportsWord}
 use Rattle.parts.specs.Calls.{exportsTo, depthAt, messageTo, writeTestsIn, writtenIn, writeNumber, message, writeAnswer, writeState, writeOut}
 use Rattle.parts.specs.CallLaws.{fours-long}
-use Rattle.states.specs.Checks.{Counts}
+use Rattle.states.specs.Checks.{exportStart, Counts}
+use Rattle.states.specs.declared.places.Sizes.{Sizes}
 use Rattle.parts.specs.Opened.{Opened, sentTo, sentAt}
 use Rattle.parts.proofs.OpenedLaws.{whole, own-few, long, good-state, four-cut, cut, lists-is, part-few}
 
@@ -104,15 +105,15 @@ module _ (st : Bytes) (j count : ℕ) (ce : count ≡ sentTo (listsIn st) j) (so
 
 -- ---- the loop over the entries
 
-module _ (st : Bytes) (d : ℕ) (b : Bytes) (o : Opened st d b) (held owned reached : ℕ) (C : Counts st held owned reached) (from count : ℕ) (fit : from + count ≤ exportCount st) where
+module _ (st : Bytes) (d : ℕ) (b : Bytes) (o : Opened st d b) (z : Sizes) (C : Counts st z) (base : ℕ) (be : base ≡ exportStart z) (from count : ℕ) (fit : from + count ≤ exportCount st) where
   sent-four : (x : ℕ) → length (sentAt st d b x) ≡ 4
   unfolding sentAt
   sent-four x = length-four b (depthPlace d (exportAt st x))
 
-  module _ (t l : ℕ) (h : t < count) (le : l ≡ wordAt st (exportsWord held owned reached + (from + t))) where
+  module _ (t l : ℕ) (h : t < count) (le : l ≡ wordAt st (base + (from + t))) where
     local-is : exportAt st (from + t) ≡ l
     local-is =
-        let p : exportsWord (heldCount st) (ownedCount st) (reachCount st) + (from + t) ≡ exportsWord held owned reached + (from + t) = omega (arith, C .held-is, C .owned-is, C .reached-is) in
+        let p : exportsWord (heldCount st) (ownedCount st) (reachCount st) + (from + t) ≡ base + (from + t) = omega (arith, be, C .held-is, C .owned-is, C .reached-is) in
         ap (wordAt st) p ∙ sym le
 
     pub put-room : depthPlace d l + 4 ≤ length b
@@ -165,7 +166,8 @@ unfolding messageTo encode
 message-length L d b j =
     let ds = map (depthAt d b) (L .exports j) in
     length-append (bytesOf (L .part ∷ j ∷ roundAt b d ∷ length (map (depthAt d b) (L .exports j)) ∷ [])) (joined (map (depthAt d b) (L .exports j)))
-    ∙ ap₂ _+_ (length-bytesOf (L .part ∷ j ∷ roundAt b d ∷ length (map (depthAt d b) (L .exports j)) ∷ [])) (joined-length _ (fours-long d b (L .exports j)) ∙ ap (λ n. 4 * n) (length-map (L .exports j) (depthAt d b)))
+    ∙ ap₂ _+_ (length-bytesOf (L .part ∷ j ∷ roundAt b d ∷ length (map (depthAt d b) (L .exports j)) ∷ [])) (joined-length _ (fours-long d b (L .exports j))
+    ∙ ap (λ n. 4 * n) (length-map (L .exports j) (depthAt d b)))
 
 module _ (b : Bytes) (j : ℕ) (out : Bytes) where
   abbrev pub Answered : Answer → Bytes → Bytes → Type 0

@@ -8,13 +8,11 @@ use messages::inner::write_head;
 use parts::inner::set_flag;
 use states::inner::BEFORE_EXPORTS;
 use states::inner::DEPTH;
-use states::inner::ENTRIES;
-use states::inner::HELD;
-use states::inner::OWNED;
 use states::inner::PART;
-use states::inner::REACH_ENDS;
+use states::inner::Sizes;
 use states::inner::WRITTEN;
 use states::inner::between;
+use states::inner::sizes_of;
 use states::is_state;
 use states::up_to;
 ghost use mathlib.Core.Path.{_≡_};
@@ -43,18 +41,16 @@ fn put_depths(
     lists: &[u8],
     b: &[u8],
     d: usize,
-    held: usize,
-    owned: usize,
-    reached: usize,
+    sizes: Sizes,
     from: usize,
     count: usize,
     out: &mut [u8],
 )
-    requires { ⌜ Opened (now lists) d (now b) × Counts (now lists) held owned reached × (from + count ≤ exportCount (now lists)) × (from < 65536) × (count < 65536)
+    requires { ⌜ Opened (now lists) d (now b) × Counts (now lists) sizes × (from + count ≤ exportCount (now lists)) × (from < 65536) × (count < 65536)
         × (messageSize count ≤ length (now out)) ⌝ }
     ensures { λ _. ⌜ now (out .exit) ≡ over (now (out .entry)) headSize (blocks from count (sentAt (now (lists .entry)) d (now (b .entry)))) ⌝ }
 {
-    let base = ENTRIES + held + owned + 2 * reached;
+    let base = sizes.exports_word();
     for t in 0..count {
         let l = word_at(lists, base + (from + t));
         copy(out, HEAD_SIZE + 4 * t, b, d + DEPTH + 4 * l, 4);
@@ -66,12 +62,10 @@ fn put_message(lists: &[u8], b: &[u8], d: usize, j: usize, count: usize, out: &m
     requires { ⌜ Opened (now lists) d (now b) × (count ≡ sentTo (listsIn (now lists)) j) × (1 ≤ count) × (count < 65536) × (messageSize count ≤ length (now out)) ⌝ }
     ensures { λ _. ⌜ now (out .exit) ≡ over (now (out .entry)) 0 (messageTo (listsIn (now (lists .entry))) d (now (b .entry)) j) ⌝ }
 {
-    let owned = word_at(lists, OWNED);
-    let held = word_at(lists, HELD);
-    let reached = word_at(lists, REACH_ENDS + held + owned);
+    let sizes = sizes_of(lists);
     let from = word_at(lists, BEFORE_EXPORTS + j);
     write_head(out, word_at(lists, PART), j, word_in(b, d), count);
-    put_depths(lists, b, d, held, owned, reached, from, count, out);
+    put_depths(lists, b, d, sizes, from, count, out);
 }
 
 fn write_message(b: &[u8], d: usize, j: usize, count: usize, out: &mut [u8])
@@ -84,7 +78,11 @@ fn write_message(b: &[u8], d: usize, j: usize, count: usize, out: &mut [u8])
 // Write on a state whose lists end at d.
 fn write_in(b: &mut [u8], d: usize, j: usize, out: &mut [u8]) -> Answer
     requires { ⌜ Opened (take d (now b)) d (now b) ⌝ }
-    ensures { λ r. ⌜ (r ≡ writeAnswer (now (b .entry)) j (now (out .entry))) × (now (b .exit) ≡ writeState (now (b .entry)) j (now (out .entry))) × (now (out .exit) ≡ writeOut (now (b .entry)) j (now (out .entry))) ⌝ }
+    ensures { λ r. ⌜
+        (r ≡ writeAnswer (now (b .entry)) j (now (out .entry)))
+        × (now (b .exit) ≡ writeState (now (b .entry)) j (now (out .entry)))
+        × (now (out .exit) ≡ writeOut (now (b .entry)) j (now (out .entry)))
+        ⌝ }
 {
     let count = sent_to(&b[0..d], j);
     if count < 1 {
@@ -100,7 +98,11 @@ fn write_in(b: &mut [u8], d: usize, j: usize, out: &mut [u8]) -> Answer
 
 // Gives the message to part j.
 pub fn write(b: &mut [u8], j: u32, out: &mut [u8]) -> Answer
-    ensures { λ r. ⌜ (r ≡ writeAnswer (now (b .entry)) j (now (out .entry))) × (now (b .exit) ≡ writeState (now (b .entry)) j (now (out .entry))) × (now (out .exit) ≡ writeOut (now (b .entry)) j (now (out .entry))) ⌝ }
+    ensures { λ r. ⌜
+        (r ≡ writeAnswer (now (b .entry)) j (now (out .entry)))
+        × (now (b .exit) ≡ writeState (now (b .entry)) j (now (out .entry)))
+        × (now (out .exit) ≡ writeOut (now (b .entry)) j (now (out .entry)))
+        ⌝ }
 {
     if !is_state(b) {
         return Answer::Refused(20);

@@ -20,8 +20,28 @@ advance-in-spec =
     (λ c κs. search needs)
     (λ c κs. omega (arith, long _ _ _ (c .before .before .before .before .before .before .before .before .before .pre .0)))
     (λ c. search needs)
-    (λ c κs. (c .before .before .before .before .before .before .before .before .before .before .before .before .pre .0, owned-room _ _ (c .before .before .before .before .before .before .before .before .before .before .before .before .pre .0) _ (c .before .before .before .before .word-at .ensures .0) .0, c .before .before .before .before .word-at .ensures .1, omega (arith, owned-room _ _ (c .before .before .before .before .before .before .before .before .before .before .before .before .pre .0) _ (c .before .before .before .before .word-at .ensures .0) .1, c .before .before .before .before .before .before .before .before .before .before .before .before .pre .1)))
-    (λ c κs. (c .before .before .before .before .before .before .before .before .before .before .before .before .before .before .before .before .before .pre .0 .place-small, omega (arith, round-small _ _ (c .before .before .before .before .before .before .before .before .before .before .before .before .before .before .before .before .before .pre .0), c .before .before .before .before .before .before .before .word-in .ensures .0), c .before .before .before .before .before .before .before .before .before .word-at .ensures .1, owned-room _ _ (c .before .before .before .before .before .before .before .before .before .before .before .before .before .before .before .before .before .pre .0) _ (c .before .before .before .before .before .before .before .before .before .word-at .ensures .0) .2, omega (arith, owned-room _ _ (c .before .before .before .before .before .before .before .before .before .before .before .before .before .before .before .before .before .pre .0) _ (c .before .before .before .before .before .before .before .before .before .word-at .ensures .0) .1, c .before .before .before .before .before .before .before .before .before .before .before .before .before .before .before .before .before .pre .1, c .before .before .before .new .given)))
+    (λ c κs.
+    let sized = c .before .before .before .before in
+    let pre = sized .before .before .before .before .before .before .before .before .pre in
+    let room = owned-room _ _ (pre .0) _ (sized .sizes-of .ensures) in
+    (pre .0, room .3, omega (arith, room .1, pre .1)))
+    (λ c κs.
+    let sized = c .before .before .before .before .before .before .before .before .before in
+    let pre = sized .before .before .before .before .before .before .before .before .pre in
+    let room = owned-room _ _ (pre .0) _ (sized .sizes-of .ensures) in (
+      pre .0 .place-small,
+      omega (arith, round-small _ _ (pre .0), c .before .before .before .before .before .before .before .word-in .ensures .0),
+      sized .sizes-of .ensures .small .owned-small,
+      room .2,
+      omega (arith, room .1, pre .1, c .before .before .before .new .given),
+    ))
     (λ c. search needs)
     (λ c. search needs)
-    (λ c. told-done _ _ (c .before .before .before .before .before .before .before .before .before .before .before .before .before .before .before .before .before .before .before .before .pre .0) _ (c .before .before .before .before .before .before .before .before .before .before .before .before .before .before .before .before .advance-number .ensures) (c .before .before .before .before .before .before .before .before .before .before .before .before .before .before .before .if1 .left) _ (owned-room _ _ (c .before .before .before .before .before .before .before .before .before .before .before .before .before .before .before .before .before .before .before .before .pre .0) _ (c .before .before .before .before .before .before .before .before .before .before .before .before .word-at .ensures .0) .0) _ (omega (arith, c .before .before .before .before .before .before .before .before .before .before .word-in .ensures .0)) _ _ _ (omega (arith, owned-room _ _ (c .before .before .before .before .before .before .before .before .before .before .before .before .before .before .before .before .before .before .before .before .pre .0) _ (c .before .before .before .before .before .before .before .before .before .before .before .before .word-at .ensures .0) .1, c .before .before .before .before .before .before .before .before .before .before .before .before .before .before .before .before .before .before .before .before .pre .1)) (c .before .before .before .before .before .before .before .renew-state .ensures) (c .before .before .put-round .ensures)))
+    (λ c.
+    let sized = c .before .before .before .before .before .before .before .before .before .before .before .before in
+    let tested = sized .before .before .before in
+    let pre = tested .before .before .before .before .before .pre in
+    let room = owned-room _ _ (pre .0) _ (sized .sizes-of .ensures) in
+    let round = c .before .before .before .before .before .before .before .before .before .before in
+    told-done _ _ (pre .0) _ (tested .before .advance-number .ensures) (tested .if1 .left) _ (room .0) _ (omega (arith, round .word-in .ensures .0)) _ _ _
+    (omega (arith, room .1, pre .1)) (c .before .before .before .before .before .before .before .renew-state .ensures) (c .before .before .put-round .ensures)))

@@ -1,7 +1,7 @@
 -- `advancing::renew_state` meets its contract. Assumes nothing.
 use native.Mathlib.Omega.{arith}
 use Rattle.parts.proofs.OpenedLaws.{long, opened-cut}
-use Rattle.advancing.proofs.AdvanceLaws.{owned-cut, renewed-cut}
+use Rattle.advancing.proofs.AdvanceLaws.{counts-cut, renewed-cut}
 use borrow.Author.Needs.{needs}
 use Rattle.advancing.proofs.renew_state.Statement.{statement}
 use Rattle.advancing.proofs.renew_state.Tie as tie
@@ -13,6 +13,6 @@ renew-state-spec =
     (λ c. search needs)
     (λ c. search needs)
     (λ c. omega (arith, long _ _ _ (c .before .before .pre .0)))
-    (λ c κs. (opened-cut _ _ (c .before .before .before .before .pre .0), search owned-cut, c .before .before .before .before .pre .2, c .before .before .before .before .pre .3))
+    (λ c κs. (opened-cut _ _ (c .before .before .before .before .pre .0), search counts-cut, c .before .before .before .before .pre .2))
     (λ c. search needs)
     (λ c. search renewed-cut))

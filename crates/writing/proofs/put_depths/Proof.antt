@@ -1,8 +1,7 @@
 -- `writing::put_depths` meets its contract. The invariant: the first t depths are copied. Assumes nothing.
-use mathlib.Core.Path.{_≡_, refl}
-use Prim.Native.Nat.{_+_, _-_, _*_, _≤_}
+use mathlib.Core.Path.{_≡_}
+use Prim.Native.Nat.{_-_, _≤_}
 use lib.ListN.{length}
-use Rattle.states.specs.State.{exportsWord}
 use Rattle.messages.specs.Messages.{headSize}
 use Rattle.vocabulary.specs.Bytes.{over}
 use Rattle.vocabulary.specs.Ranges.{blocks}
@@ -14,11 +13,10 @@ use Rattle.writing.proofs.put_depths.Statement.{statement}
 use Rattle.writing.proofs.put_depths.Tie as tie
 
 abbrev Inv-loop : tie.InvT-loop
-Inv-loop lists b d held owned reached from count out₀ base t₀ out t = (base ≡ exportsWord held owned reached) × (t ≤ count) × (length out ≡ length out₀) ×
-    (out ≡ over out₀ headSize (blocks from t (sentAt lists d b)))
+Inv-loop lists b d from count out₀ base t₀ out t = (t ≤ count) × (length out ≡ length out₀) × (out ≡ over out₀ headSize (blocks from t (sentAt lists d b)))
 
 abbrev μ-loop : tie.MeasureT-loop
-μ-loop lists b d held owned reached from count out₀ base t₀ out t = count - t
+μ-loop lists b d from count out₀ base t₀ out t = count - t
 
 pub put-depths-spec : {M : Type 1} → statement M
 put-depths-spec =
@@ -26,11 +24,8 @@ put-depths-spec =
     (tie.spec
     Inv-loop
     μ-loop
-    (λ c. search needs)
-    (λ c. search needs)
-    (λ c. search needs)
-    (λ c. search needs)
-    (λ c. (refl, search needs, search needs, search stored-start))
+    (λ c κs. search needs)
+    (λ c. (search needs, search needs, search stored-start))
     (λ c. search needs)
     (λ c. search needs)
     (λ c κs. search needs)
@@ -42,6 +37,14 @@ put-depths-spec =
     (λ c κs. (search needs, search put-room))
     (λ c. search needs)
     (λ c. search needs)
-    (λ c. (search needs, search needs, search needs, put-turn _ _ _ (c .before .before .before .before .before .before .before .before .before .before .pre .0) _ _ _ (c .before .before .before .before .before .before .before .before .before .before .pre .1) _ _ (c .before .before .before .before .before .before .before .before .before .before .pre .2) _ _ (c .before .before .before .before .before .loop-test .taken) (c .before .before .before .before .word-at .ensures .0) _ _ _ (c .before .before .before .before .before .before .before .before .before .before .pre .5) (c .before .before .before .before .before .before .loop .inv .3) (c .before .before .copy .ensures)))
+    (λ c.
+    let made = c .before .before .before .before .before .before .before in
+    let pre = made .before .before .before .before .pre in
+    let read = c .before .before .before .before in (
+      search needs,
+      search needs,
+      put-turn _ _ _ (pre .0) _ (pre .1) _ (made .exports-word .ensures) _ _ (pre .2) _ _ (read .before .loop-test .taken) (read .word-at .ensures .0) _ _ _ (pre .5)
+          (read .before .before .loop .inv .2) (c .before .before .copy .ensures),
+    ))
     (λ c. search needs)
     (λ c. search stored-end))

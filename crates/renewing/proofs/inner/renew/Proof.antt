@@ -13,10 +13,11 @@ use Rattle.renewing.proofs.inner.renew.Statement.{statement}
 use Rattle.renewing.proofs.inner.renew.Tie as tie
 
 abbrev Inv-loop : tie.InvT-loop
-Inv-loop lists v b d kind held owned new₀ l₀ l-end new l = (l-end ≡ owned + 1) × (1 ≤ l) × (l ≤ owned + 1) × (length new ≡ length new₀) × (new ≡ over new₀ 0 (blocks 1 (l - 1) (newAt (listsIn lists) d b)))
+Inv-loop lists v b d kind sizes new₀ l₀ l-end new l = (l-end ≡ sizes .owned + 1) × (1 ≤ l) × (l ≤ sizes .owned + 1) × (length new ≡ length new₀)
+    × (new ≡ over new₀ 0 (blocks 1 (l - 1) (newAt (listsIn lists) d b)))
 
 abbrev μ-loop : tie.MeasureT-loop
-μ-loop lists v b d kind held owned new₀ l₀ l-end new l = l-end - l
+μ-loop lists v b d kind sizes new₀ l₀ l-end new l = l-end - l
 
 pub renew-spec : {M : Type 1} → statement M
 renew-spec =

@@ -11,18 +11,17 @@ renew-by-spec =
     tie.close
     (tie.spec
     (λ c κs. search needs)
-    (λ c κs. search needs)
     (λ c. search needs)
     (λ c κs. search needs)
     (λ c. search needs)
     (λ c κs. search needs)
-    (λ c κs. let pre = c .before .before .before .before .before .before .before .before .before .before .pre in omega (arith, whole _ _ _ (pre .0) .steps-few, c .word-at3 .ensures .0))
+    (λ c κs. let pre = c .before .before .before .before .before .before .before .before .before .pre in omega (arith, whole _ _ _ (pre .0) .steps-few, c .word-at2 .ensures .0))
     (λ c. search needs)
     (λ c. search needs)
     (λ c. search needs)
     (λ c. search needs)
     (λ c.
-    let pre = c .before .before .before .before .before .before .before .before .before .before .before .pre in omega (
+    let pre = c .before .before .before .before .before .before .before .before .before .before .pre in omega (
       arith,
       lists-length _ _ _ (pre .0),
       whole _ _ _ (pre .0) .lists-fit,
@@ -33,17 +32,13 @@ renew-by-spec =
     let known = counted .before .before .before in
     let rule = known .before .before in
     let number = rule .before in
-    let held = number .before in
-    let pre = held .before .before .before .before .pre in
-    let kind = kind-is _ _ _ _ (number .word-at2 .ensures .0) (rule .rule-of .ensures) (known .k .given .1) in (
+    let pre = number .before .before .before .before .pre in
+    let kind = kind-is _ _ _ _ (number .word-at .ensures .0) (rule .rule-of .ensures) (known .k .given .1) in (
       pre .0,
       kind,
-      weights-cut _ _ _ _ kind (counted .before .word-at3 .ensures .0) (counted .weight-count .ensures .0),
-      held .word-at .ensures .0,
+      weights-cut _ _ _ _ kind (counted .before .word-at2 .ensures .0) (counted .weight-count .ensures .0),
       pre .1,
-      held .word-at .ensures .1,
       pre .2,
-      pre .3,
     ))
     (λ c. search needs)
     (λ c. search needs)
@@ -51,5 +46,5 @@ renew-by-spec =
     (λ c.
     let rule = c .before .before in
     let number = rule .before in
-    let pre = number .before .before .before .before .before .pre in
-    absurd (kind-known _ _ _ (pre .0) _ _ (number .word-at2 .ensures .0) (rule .rule-of .ensures) (c .enum-told .given .1))))
+    let pre = number .before .before .before .before .pre in
+    absurd (kind-known _ _ _ (pre .0) _ _ (number .word-at .ensures .0) (rule .rule-of .ensures) (c .enum-told .given .1))))

@@ -8,16 +8,19 @@ pub renew-one-spec : {M : Type 1} → statement M
 renew-one-spec =
     tie.close
     (tie.spec
+    (λ c κs. search needs)
     (λ c. search needs)
     (λ c. search needs)
-    (λ c. search needs)
-    (λ c. search needs)
-    (λ c. search needs)
+    (λ c κs. search needs)
     (λ c. search needs)
     (λ c κs. search needs)
     (λ c. search needs)
     (λ c. search needs)
     (λ c κs. search needs)
     (λ c. search needs)
-    (λ c κs. renew-ready _ _ _ (c .before .before .before .before .before .pre .0) _ _ _ _ _ (c .before .before .before .before .before .pre .3) (c .before .before .before .before .before .pre .4) (c .before .before .before .before .before .pre .7) (c .before .before .before .before .before .pre .8) (c .before .word-at .ensures .0) (c .between .ensures .0) _ _ (c .before .before .before .before .before .pre .1) (c .before .before .before .before .before .pre .2))
+    (λ c κs.
+    let entry = c .before .before in
+    let pre = entry .before .before .before .before .before .pre in
+    renew-ready _ _ _ (pre .0) _ (pre .3) _ _ _ _ _ (entry .before .reach-word .ensures) (entry .entry-word .ensures) (pre .4) (pre .5) (c .before .word-at .ensures .0) (c .between .ensures .0) _ _
+    (pre .1) (pre .2))
     (λ c. search renew-told))

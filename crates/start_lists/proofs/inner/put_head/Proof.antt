@@ -1,4 +1,5 @@
 -- `start_lists::inner::put_head` meets its contract. Assumes nothing.
+use mathlib.Core.Path.{refl}
 use Rattle.start_lists.proofs.HeadLaws.{head-put}
 use borrow.Author.Needs.{needs}
 use Rattle.start_lists.proofs.inner.put_head.Statement.{statement}
@@ -16,5 +17,12 @@ put-head-spec =
     (λ c κs. search needs)
     (λ c κs. search needs)
     (λ c. search needs)
-    (λ c. head-put _ _ _ _ _ _ _ _ _ _ _ _ _ _ _ _ _ _ _ _ _ _
-    (c .before .before .before .before .before .before .before .before .before .before .before .before .before .before .before .before .before .before .before .before .before .before .before .before .before .before .before .before .before .before .pre .0) (c .before .before .before .before .before .before .before .before .before .before .before .before .before .before .before .before .before .before .before .before .before .before .before .before .before .before .put-one .ensures) (c .before .before .before .before .before .before .before .before .before .before .before .before .before .before .before .before .before .before .before .before .before .before .put-one2 .ensures) (c .before .before .before .before .before .before .before .before .before .before .before .before .before .before .before .before .before .before .put-one3 .ensures) (c .before .before .before .before .before .before .before .before .before .before .before .before .before .before .put-one4 .ensures) (c .before .before .before .before .before .before .before .before .before .before .put-words .ensures) (c .before .before .before .before .before .before .put-one5 .ensures) (c .before .before .put-one6 .ensures)))
+    (λ c.
+    let sixth = c .before .before .before .before .before .before in
+    let words = sixth .before .before .before .before in
+    let fourth = words .before .before .before .before in
+    let third = fourth .before .before .before .before in
+    let second = third .before .before .before .before in
+    let first = second .before .before .before .before in
+    head-put _ _ _ _ _ _ _ _ _ _ _ _ _ _ _ _ _ _ _ _ _ _ _ _ _ _ _ _ (first .before .before .before .before .pre .0) refl refl refl refl refl refl (first .put-one .ensures) (second .put-one2 .ensures)
+    (third .put-one3 .ensures) (fourth .put-one4 .ensures) (words .put-words .ensures) (sixth .put-one5 .ensures) (c .before .before .put-one6 .ensures)))

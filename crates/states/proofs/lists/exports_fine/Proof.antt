@@ -1,5 +1,5 @@
 -- `states::lists::exports_fine` meets its contract. The invariant: the exports so far are owned. Assumes nothing.
-use mathlib.Core.Path.{_≡_}
+use mathlib.Core.Path.{_≡_, refl}
 use mathlib.Core.Bool.{true}
 use Prim.Native.Nat.{_-_, _≤_}
 use Rattle.vocabulary.specs.Ranges.{every}
@@ -11,10 +11,10 @@ use Rattle.states.proofs.lists.exports_fine.Statement.{statement}
 use Rattle.states.proofs.lists.exports_fine.Tie as tie
 
 abbrev Inv-loop : tie.InvT-loop
-Inv-loop lists held owned reached at sent t₀ t = (t ≤ sent) × (every 0 t (exportFine lists) ≡ true)
+Inv-loop lists sizes at t₀ t-end t = (t-end ≡ sizes .sent) × (t ≤ sizes .sent) × (every 0 t (exportFine lists) ≡ true)
 
 abbrev μ-loop : tie.MeasureT-loop
-μ-loop lists held owned reached at sent t₀ t = sent - t
+μ-loop lists sizes at t₀ t-end t = t-end - t
 
 pub exports-fine-spec : {M : Type 1} → statement M
 exports-fine-spec =
@@ -22,17 +22,13 @@ exports-fine-spec =
     (tie.spec
     Inv-loop
     μ-loop
-    (λ c. search needs)
-    (λ c. search needs)
-    (λ c. search needs)
-    (λ c. search needs)
     (λ c κs. search needs)
-    (λ c. (search needs, search every-none))
+    (λ c. (refl, search needs, search every-none))
     (λ c. search needs)
     (λ c κs. search needs)
     (λ c κs. search needs)
     (λ c. search (counted-by, every-stop, export-told))
     (λ c. search needs)
     (λ c. search needs)
-    (λ c. (search needs, search (every-turn, export-told)))
+    (λ c. (search needs, search needs, search (every-turn, export-told)))
     (λ c. search (counted-by, every-end)))

@@ -12,10 +12,11 @@ use Rattle.states.proofs.lists.rows_fine.Statement.{statement}
 use Rattle.states.proofs.lists.rows_fine.Tie as tie
 
 abbrev Inv-loop : tie.InvT-loop
-Inv-loop lists held owned reached n at from₀ l₀ l-end from l = (l-end ≡ 1 + owned) × (1 ≤ l) × (l ≤ 1 + owned) × (from ≡ reachEnd lists (l - 1)) × (every 1 (l - 1) (rowFine lists) ≡ true)
+Inv-loop lists sizes n ends at from₀ l₀ l-end from l = (l-end ≡ 1 + sizes .owned) × (1 ≤ l) × (l ≤ 1 + sizes .owned) × (from ≡ reachEnd lists (l - 1))
+    × (every 1 (l - 1) (rowFine lists) ≡ true)
 
 abbrev μ-loop : tie.MeasureT-loop
-μ-loop lists held owned reached n at from₀ l₀ l-end from l = l-end - l
+μ-loop lists sizes n ends at from₀ l₀ l-end from l = l-end - l
 
 pub rows-fine-spec : {M : Type 1} → statement M
 rows-fine-spec =
@@ -24,11 +25,10 @@ rows-fine-spec =
     Inv-loop
     μ-loop
     (λ c κs. search needs)
-    (λ c. search needs)
-    (λ c. search needs)
+    (λ c κs. search needs)
+    (λ c κs. search needs)
     (λ c. search needs)
     (λ c. (refl, search needs, search needs, search rows-start, search every-start-from))
-    (λ c. search needs)
     (λ c. search needs)
     (λ c κs. search needs)
     (λ c κs. (search row-tested, search row-rises, search row-room))
