@@ -197,31 +197,26 @@ module _ (m : Bytes) (parts : ℕ) (owners st : Bytes) where
         ap₂ (λ o b. cond (eqb o i) (cond b (cond (insideAt owners table ends i q) 17 18) 0) (cond (reachedAt owners table ends i (cellCount m) q) o 0)) (sym (owner-at q)) (lt-ltb q (cellCount m) h)
         ∙ ap₂ (λ a b. cond (eqb (S .owner (firstCell m + q)) i) (cond a 17 18) (cond b (S .owner (firstCell m + q)) 0)) (N i q h) (holds-told i q)
 
-    module _ (right : bad8 m parts owners [] ≡ false) where
-      held-by : (i q : ℕ) → q < cellCount m → heldBy owners table ends (cellCount m) q i ≡ cond (holds S i (firstCell m + q)) 1 0
-      unfolding heldBy
-      held-by i q h = ap (λ c. cond (eqb c 0) 0 1) (class-told i q h) ∙ ap (λ b. cond b 0 1) (class-held right i q h) ∙ swap (holds S i (firstCell m + q))
-        where
-          swap : (b : Bool) → _≡_ {A = ℕ} (cond (not b) 0 1) (cond b 1 0)
-          swap true = refl
-          swap false = refl
+    held-by : (i q : ℕ) → heldBy owners table ends (cellCount m) q i ≡ cond (holds S i (firstCell m + q)) 1 0
+    unfolding heldBy
+    held-by i q = ap (λ b. cond b 1 0) (holds-told i q)
 
-      part-held : (i : ℕ) → partHeld owners table ends (cellCount m) i ≡ length (held S i)
-      unfolding partHeld
-      part-held i =
-          total-cong 0 (λ q. heldBy owners table ends (cellCount m) q i) (λ q. cond (holds S i (firstCell m + q)) 1 0) (cellCount m) (λ q h. held-by i (0 + q) (omega arith))
-          ∙ sym (held-count i)
+    part-held : (i : ℕ) → partHeld owners table ends (cellCount m) i ≡ length (held S i)
+    unfolding partHeld
+    part-held i =
+        total-cong 0 (λ q. heldBy owners table ends (cellCount m) q i) (λ q. cond (holds S i (firstCell m + q)) 1 0) (cellCount m) (λ q h. held-by i (0 + q))
+        ∙ sym (held-count i)
 
-      module _ (cells : ℕ) (ce : cells ≡ cellCount m) (holders : Bytes) (s : ℕ) (H : Holders owners table ends cells parts holders s) where
-        pub held-told : (q : ℕ) → q < cellCount m → byteAt holders q ≡ holderCount S (firstCell m + q)
-        unfolding holderCount splitOf
-        held-told q h =
-            H .each q (omega arith)
-            ∙ ap (λ c. total 1 parts (heldBy owners table ends c q)) ce
-            ∙ total-cong 1 (heldBy owners table ends (cellCount m) q) (λ j. cond (holds S j (firstCell m + q)) 1 0) parts (λ j l. held-by (1 + j) q h)
+    module _ (cells : ℕ) (ce : cells ≡ cellCount m) (holders : Bytes) (s : ℕ) (H : Holders owners table ends cells parts holders s) where
+      pub held-told : (q : ℕ) → q < cellCount m → byteAt holders q ≡ holderCount S (firstCell m + q)
+      unfolding holderCount splitOf
+      held-told q h =
+          H .counted .each q (omega arith)
+          ∙ ap (λ c. total 1 parts (heldBy owners table ends c q)) ce
+          ∙ total-cong 1 (heldBy owners table ends (cellCount m) q) (λ j. cond (holds S j (firstCell m + q)) 1 0) parts (λ j l. held-by (1 + j) q)
 
-        pub sum-told : ltb 4096 s ≡ bad12 S
-        unfolding bad12 splitOf
-        sum-told =
-            ap (ltb 4096)
-            (H .sum ∙ ap (λ c. total 1 parts (partHeld owners table ends c)) ce ∙ total-cong 1 (partHeld owners table ends (cellCount m)) (λ i. length (held S i)) parts (λ k h. part-held (1 + k)))
+      pub sum-told : ltb 4096 s ≡ bad12 S
+      unfolding bad12 splitOf
+      sum-told =
+          ap (ltb 4096)
+          (H .sum ∙ ap (λ c. total 1 parts (partHeld owners table ends c)) ce ∙ total-cong 1 (partHeld owners table ends (cellCount m)) (λ i. length (held S i)) parts (λ k h. part-held (1 + k)))
