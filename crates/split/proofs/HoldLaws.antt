@@ -12,8 +12,9 @@ use borrow.Author.Tests.{eqb-true, eq-eqb, ne-eqb, lt-ltb}
 use Rattle.vocabulary.specs.Bytes.{Bytes, byteAt}
 use Rattle.vocabulary.specs.Ranges.{picked, some, total}
 use Rattle.vocabulary.specs.RangeLaws.{some-cong, some-has, some-in, some-witness, total-cong, picked-all, picked-in, picked-passes}
+use Rattle.vocabulary.specs.CountLaws.{total-add, total-zero, total-single}
 use Rattle.vocabulary.specs.Lists.{All, someOf}
-use Rattle.vocabulary.specs.ListLaws.{and-true, and-intro, not-both, same-test, All-getD, All-of-map, someOf-has, someOf-witness, getD-map-any}
+use Rattle.vocabulary.specs.ListLaws.{and-left, and-right, and-true, and-intro, not-both, same-test, All-getD, All-of-map, someOf-has, someOf-witness, getD-map-any}
 use Rattle.layout.specs.Words.{wordAt}
 use Rattle.mesh.specs.Mesh.{firstCell, cellCount}
 use Rattle.mesh.specs.Walks.{Near, layer, stepsTo, reach}
@@ -21,10 +22,11 @@ use Rattle.mesh.specs.WalkLaws.{reach-in}
 use Rattle.reaches.specs.Tables.{entryCount, Ends}
 use Rattle.reaches.proofs.EntryLaws.{count-more}
 use Rattle.reach_rows.specs.Rows.{walkedTo, rowCells, reachCount}
-use Rattle.split.specs.Split.{Split, splitOf, ownerAt, owns, owned, reaches, holds, held, inside}
+use Rattle.split.specs.Split.{Split, splitOf, ownerAt, owns, owned, reaches, holds, held, imports, exports, inside}
 use Rattle.split.specs.SplitLaws.{Cell, map-facts, own-held, split-own}
 use Rattle.split.specs.Lists.{bad8, bad12}
 use Rattle.split.specs.Classes.{ownsAt, insideAt}
+use Rattle.split.proofs.HolderLaws.{total-swap}
 use Rattle.split.specs.Classes.{classIn, holderCount, hasEntry, reachHas, reachedAt, classAt, heldBy, partHeld, Holders}
 
 -- some of the numbers whose places pass, and some of a list
@@ -157,6 +159,57 @@ module _ (m : Bytes) (parts : ℕ) (owners st : Bytes) where
 
     pub class-zero : (i q : ℕ) → q < cellCount m → (x : ℕ) → x ≡ classIn S i (firstCell m + q) → eqb x 0 ≡ not (holds S i (firstCell m + q))
     class-zero i q h x e = ap (λ y. eqb y 0) e ∙ class-held i q h
+
+  -- what part i exports to all parts, counted at its cells: each goes to every other part that holds it
+  module _ (i : ℕ) (low : 1 ≤ i) (high : i ≤ parts) where
+    own-at : (q : ℕ) → ownsAt owners i q ≡ owns S i (firstCell m + q)
+    unfolding ownsAt owns
+    own-at q = ap (λ o. eqb o i) (sym (owner-at q))
+
+    sent-at : (q : ℕ) → q < cellCount m
+        → total 1 parts (λ j. cond (not (eqb j i) && owns S i (firstCell m + q) && holds S j (firstCell m + q)) 1 0) ≡ cond (ownsAt owners i q) (holderCount S (firstCell m + q) - 1) 0
+    unfolding holderCount splitOf
+    sent-at q h = go (owns S i c) refl
+      where
+        c : ℕ
+        c = firstCell m + q
+
+        -- another part that holds it, or part i
+        one : (d a h : Bool) → a ≡ true → (d ≡ true → h ≡ true) → _≡_ {A = ℕ} (cond h 1 0) (cond (not d && a && h) 1 0 + cond d 1 0)
+        one true a h ae k = let e : _≡_ {A = ℕ} (cond h 1 0) 1 = ap (λ x. cond x 1 0) (k refl) in omega arith
+        one false a h ae k = let e : _≡_ {A = ℕ} (cond (a && h) 1 0) (cond h 1 0) = ap (λ x. cond (x && h) 1 0) ae in omega arith
+
+        alone : total 1 parts (λ j. cond (eqb j i) 1 0) ≡ 1
+        alone =
+            let z : 1 + (i - 1) ≡ i = omega arith in
+            total-single 1 parts (i - 1) (λ j. cond (eqb j i) 1 0) (omega arith) (λ j l ne. ap (λ b. cond b 1 0) (ne-eqb (1 + j) i (λ e. let no : ⊥ = omega arith in no)))
+            ∙ ap (λ j. cond (eqb j i) 1 0) z
+            ∙ ap (λ b. cond b 1 0) (eq-eqb i i refl)
+
+        go : (a : Bool) → owns S i c ≡ a → total 1 parts (λ j. cond (not (eqb j i) && owns S i c && holds S j c) 1 0) ≡ cond (ownsAt owners i q) (total 1 parts (λ j. cond (holds S j c) 1 0) - 1) 0
+        go true e =
+            let held = own-held S (split-own m parts owners st) i c (unfold splitOf in (omega arith, omega arith)) e in
+            let f : ℕ → ℕ = λ j. cond (not (eqb j i) && owns S i c && holds S j c) 1 0 in
+            let both : total 1 parts (λ j. cond (holds S j c) 1 0) ≡ total 1 parts f + total 1 parts (λ j. cond (eqb j i) 1 0) =
+            total-cong 1 (λ j. cond (holds S j c) 1 0) (λ j. f j + cond (eqb j i) 1 0) parts
+            (λ j l. one (eqb (1 + j) i) (owns S i c) (holds S (1 + j) c) e (λ w. ap (λ x. holds S x c) (eqb-true (1 + j) i w) ∙ held))
+            ∙ total-add 1 parts f (λ j. cond (eqb j i) 1 0) in
+            (let z : total 1 parts f ≡ total 1 parts (λ j. cond (holds S j c) 1 0) - 1 = omega (arith, both, alone) in z)
+            ∙ sym (ap (λ b. cond b (total 1 parts (λ j. cond (holds S j c) 1 0) - 1) 0) (own-at q ∙ e))
+        go false e =
+            total-zero 1 parts (λ j. cond (not (eqb j i) && owns S i c && holds S j c) 1 0)
+            (λ j l. ap (λ b. cond b 1 0) (and-left (not (eqb (1 + j) i) && owns S i c) (holds S (1 + j) c) (and-right (not (eqb (1 + j) i)) (owns S i c) e)))
+            ∙ sym (ap (λ b. cond b (total 1 parts (λ j. cond (holds S j c) 1 0) - 1) 0) (own-at q ∙ e))
+
+    pub exports-told : total 1 parts (λ j. length (exports S i j)) ≡ total 0 (cellCount m) (λ q. cond (ownsAt owners i q) (holderCount S (firstCell m + q) - 1) 0)
+    unfolding exports imports splitOf
+    exports-told =
+        let p : ℕ → ℕ → Bool = λ j c. not (eqb j i) && owns S i c && holds S j c in
+        total-cong 1 (λ j. length (picked (firstCell m) (cellCount m) (p j))) (λ j. total 0 (cellCount m) (λ q. cond (p j (firstCell m + q)) 1 0)) parts
+        (λ j h. picked-count (firstCell m) (cellCount m) (p (1 + j)))
+        ∙ total-swap 1 parts 0 (cellCount m) (λ j q. cond (p j (firstCell m + q)) 1 0)
+        ∙ total-cong 0 (λ q. total 1 parts (λ j. cond (p j (firstCell m + q)) 1 0)) (λ q. cond (ownsAt owners i q) (holderCount S (firstCell m + q) - 1) 0) (cellCount m)
+        (λ q h. sent-at (0 + q) (omega arith))
 
   -- ---- by the table of the reaches
 

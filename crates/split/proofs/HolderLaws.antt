@@ -121,7 +121,18 @@ raised-few k n a b c d p F P = record { room = P .count-room; each = λ x. go x 
     go x true e = omega (arith, P .count x (ltb-true x 2000 e), F .each x, one-few (p x && not (eqb (byteAt a x) k)))
     go x false e = let l : 2000 ≤ x = ltb-false x 2000 e in omega (arith, number-past d x (omega (arith, P .count-room)))
 
-few-more : (n w : ℕ) (row : Bytes) → n ≤ w → Few n row → Few w row
+pub raised-stamps : (k : ℕ) (a b c d : Bytes) (p : ℕ → Bool) → Few k a → Raised (k + 1) a b c d p → Few (k + 1) c
+raised-stamps k a b c d p F P = record { room = P .stamp-room; each = λ x. go x (ltb x 2000) refl }
+  where
+    most : (b : Bool) (x : ℕ) → x ≤ k → cond b (k + 1) x ≤ k + 1
+    most true x l = omega arith
+    most false x l = omega arith
+
+    go : (x : ℕ) (t : Bool) → ltb x 2000 ≡ t → byteAt c x ≤ k + 1
+    go x true e = omega (arith, P .stamp x (ltb-true x 2000 e), most (p x) (byteAt a x) (F .each x))
+    go x false e = let l : 2000 ≤ x = ltb-false x 2000 e in omega (arith, number-past c x (omega (arith, P .stamp-room)))
+
+pub few-more : (n w : ℕ) (row : Bytes) → n ≤ w → Few n row → Few w row
 few-more n w row h F = record { room = F .room; each = λ x. omega (arith, F .each x) }
 
 -- ---- the reach of a cell
@@ -220,17 +231,6 @@ module _ (owners table : Bytes) (ends : List ℕ) (cells : ℕ) where
   count-room k parts stamps holders h few small T C = (small, T .room, few-more k 15 holders (omega arith) (C .few))
 
   module _ (k : ℕ) (small : cells ≤ 2000) (s h s₁ h₁ : Bytes) (T : Few k s) (C : Counted owners table ends cells k h) (P : Raised (k + 1) s h s₁ h₁ (reachedAt owners table ends (k + 1) cells)) where
-    pub count-stamps : Few (k + 1) s₁
-    count-stamps = record { room = P .stamp-room; each = λ x. go x (ltb x 2000) refl }
-      where
-        most : (b : Bool) (x : ℕ) → x ≤ k → cond b (k + 1) x ≤ k + 1
-        most true x l = omega arith
-        most false x l = omega arith
-
-        go : (x : ℕ) (t : Bool) → ltb x 2000 ≡ t → byteAt s₁ x ≤ k + 1
-        go x true e = omega (arith, P .stamp x (ltb-true x 2000 e), most (reachedAt owners table ends (k + 1) cells x) (byteAt s x) (T .each x))
-        go x false e = let l : 2000 ≤ x = ltb-false x 2000 e in omega (arith, number-past s₁ x (omega (arith, P .stamp-room)))
-
     pub count-turn : Counted owners table ends cells (k + 1) h₁
     unfolding heldBy
     count-turn = record {

@@ -53,7 +53,7 @@ fn add_cell(
 }
 
 // Counts part k at all cells that it holds.
-fn add_part(
+pub fn add_part(
     owners: &[u8],
     table: &[u8],
     ends: &[u16],

@@ -1,24 +1,26 @@
 -- The lists of a part's state, put together from their pieces, and the depths behind them. Assumes nothing.
-use mathlib.Core.Path.{_≡_, sym, ap, ap₂, _∙_}
-use mathlib.Core.List.{List, [], _∷_, _++_, append-assoc}
+use mathlib.Core.Path.{_≡_, sym, ap, ap₂, _∙_, subst}
+use mathlib.Core.List.{List, [], _∷_, _++_, map, append-assoc}
 use Prim.Native.Nat.{ℕ, _+_, _-_, _*_, _≤_, _<_}
 use native.Mathlib.Nat.{zero-add}
 use native.Mathlib.Omega.{arith}
-use lib.ListN.{length, getD, take, drop, replicate, length-append}
+use lib.ListN.{length, getD, take, drop, length-append}
 use lib.Seq.{length-take-le}
 use Rattle.vocabulary.specs.Bytes.{Bytes, over}
 use Rattle.vocabulary.specs.Ranges.{listed, blocks, total}
-use Rattle.vocabulary.specs.RangeLaws.{listed-cong, listed-length, total-agree}
+use Rattle.vocabulary.specs.RangeLaws.{listed-cong, listed-length, blocks-cong, total-agree}
 use Rattle.layout.specs.Words.{wordAt}
-use Rattle.split.specs.Numbering.{numbering}
+use Rattle.split.specs.Classes.{Classed, classCells, partCells, classOrder, Added}
+use Rattle.cell_lists.proofs.ClassLists.{row-cells}
+use Rattle.cell_lists.proofs.AddLaws.{added-fits, added-take, class-count}
 use Rattle.depths.specs.Depths.{four}
 use Rattle.depths.specs.DepthLaws.{length-four, fours-store}
 use Rattle.word_lists.specs.Putting.{Put}
-use Rattle.start_lists.specs.Starting.{startWords, gotEnds, sentEnds, sentWords, rowEnds, rowWords, numberedWords, startDepth, Cells}
-use Rattle.start_lists.specs.Starting.{gotFrom, sentFrom, countAt, endsBy, Got, Sent}
+use Rattle.start_lists.specs.Starting.{localIn, gotEnds, sentEnds, sentList, sentWords, rowEnds, rowWords, numberedWords, startDepth, Cells}
+use Rattle.start_lists.specs.Starting.{gotFrom, sentFrom, countAt, endsBy, Tallied, Got, Sent, exportCount, Fit, Fitting, Drawn, partOrder, partOwned}
 use Rattle.parts.proofs.OpenedLaws.{four-cut}
-use Rattle.word_lists.proofs.PutLaws.{put-as, put-both, put-length}
-use Rattle.start_lists.proofs.StartCounts.{rows-long, all-long}
+use Rattle.word_lists.proofs.PutLaws.{put-as, put-both}
+use Rattle.start_lists.proofs.StartCounts.{rows-long, all-long, sent-mapped}
 
 -- the words before the tables
 pub head-count : (long i steps kind first cells : ℕ) (v a b : Bytes) (t : ℕ) → Put a b 0 t ((long ∷ i ∷ steps ∷ kind ∷ []) ++ (listed 0 5 (wordAt v) ++ (first ∷ cells ∷ []))) → t ≡ 11
@@ -45,9 +47,19 @@ module _ (owners table : Bytes) (ends : List ℕ) (i first cells : ℕ) where
       ap₂ _++_ (listed-cong 0 (endsBy got owned) (gotEnds owners table ends i first cells owned) 17 (λ k h. got-is got G owned (0 + k) (omega arith)))
       (listed-cong 0 (endsBy sent 0) (sentEnds owners table ends i first cells) 17 (λ k h. sent-is sent X (0 + k) (omega arith)))
 
-pub borders-count : (a b : Bytes) (s t owned : ℕ) (got sent : List ℕ) → Put a b s t (listed 0 17 (endsBy got owned) ++ listed 0 17 (endsBy sent 0)) → t ≡ s + 34
-borders-count a b s t owned got sent P =
-    omega (arith, P .count, length-append (listed 0 17 (endsBy got owned)) (listed 0 17 (endsBy sent 0)), listed-length 0 (endsBy got owned) 17, listed-length 0 (endsBy sent 0) 17)
+pub front-count : (long i steps kind first cells : ℕ) (v : Bytes) (owned : ℕ) (got sent : List ℕ) (a b : Bytes) (t : ℕ)
+    → Put a b 0 t (((long ∷ i ∷ steps ∷ kind ∷ []) ++ (listed 0 5 (wordAt v) ++ (first ∷ cells ∷ []))) ++ (listed 0 17 (endsBy got owned) ++ listed 0 17 (endsBy sent 0))) → t ≡ 45
+front-count long i steps kind first cells v owned got sent a b t P =
+    omega (
+      arith,
+      P .count,
+      length-append ((long ∷ i ∷ steps ∷ kind ∷ []) ++ (listed 0 5 (wordAt v) ++ (first ∷ cells ∷ []))) (listed 0 17 (endsBy got owned) ++ listed 0 17 (endsBy sent 0)),
+      length-append (listed 0 5 (wordAt v)) (first ∷ cells ∷ []),
+      listed-length 0 (wordAt v) 5,
+      length-append (listed 0 17 (endsBy got owned)) (listed 0 17 (endsBy sent 0)),
+      listed-length 0 (endsBy got owned) 17,
+      listed-length 0 (endsBy sent 0) 17,
+    )
 
 -- ---- all pieces
 
@@ -99,23 +111,53 @@ module _ (owners table : Bytes) (ends : List ℕ) (i first cells : ℕ) (order :
           all-long owners table ends i first cells local,
         )
 
-    pub lists-put : (got sent : List ℕ) (a b c d : Bytes) (t u w : ℕ) → Got owners table ends i cells got → Sent owners table ends i cells 16 sent → 90 ≤ length a
-        → Put a b 0 t ((long ∷ i ∷ steps ∷ kind ∷ []) ++ (listed 0 5 (wordAt v) ++ (first ∷ cells ∷ [])))
-        → Put b c t u (listed 0 17 (endsBy got owned) ++ listed 0 17 (endsBy sent 0)) → Put c d u w later
-        → Put a d 0 w (numberedWords owners table ends i first cells order n local owned steps kind v)
-    lists-put got sent a b c d t u w G X room P Q R =
-        let te : t ≡ 11 = head-count long i steps kind first cells v a b t P in
-        let lb : length b ≡ length a = put-length a b 0 t _ P (omega arith) in
-        put-as a d 0 w _ _ words-are
-        (put-both a b d 0 t w _ _ P
-        (put-both b c d t u w _ _ (put-as b c t u _ _ (borders-are owners table ends i first cells got sent owned G X) Q) R (omega (arith, borders-count b c t u owned got sent Q))) (omega arith))
+    pub lists-put : (got sent list : List ℕ) (k : ℕ) (a b c : Bytes) (t u : ℕ) → Got owners table ends i cells got → Sent owners table ends i cells 16 sent
+        → take k list ≡ sentList owners table ends i first cells 16 → 90 ≤ length a
+        → Put a b 0 t (((long ∷ i ∷ steps ∷ kind ∷ []) ++ (listed 0 5 (wordAt v) ++ (first ∷ cells ∷ []))) ++ (listed 0 17 (endsBy got owned) ++ listed 0 17 (endsBy sent 0)))
+        → Put b c t u (take n order ++ (listed 0 (owned + 1) (rowEnds table ends first order) ++ (blocks 1 owned (rowWords table ends first order local) ++ map (localIn local) (take k list))))
+        → Put a c 0 u (numberedWords owners table ends i first cells order n local owned steps kind v)
+    lists-put got sent list k a b c t u G X e room P Q =
+        put-as a c 0 u _ _
+        (append-assoc ((long ∷ i ∷ steps ∷ kind ∷ []) ++ (listed 0 5 (wordAt v) ++ (first ∷ cells ∷ []))) (listed 0 17 (endsBy got owned) ++ listed 0 17 (endsBy sent 0)) _
+        ∙ ap₂ (λ (bs : List ℕ) (xs : List ℕ). ((long ∷ i ∷ steps ∷ kind ∷ []) ++ (listed 0 5 (wordAt v) ++ (first ∷ cells ∷ []))) ++ (bs ++ (take n order
+        ++ (listed 0 (owned + 1) (rowEnds table ends first order) ++ (blocks 1 owned (rowWords table ends first order local) ++ xs)))))
+        (borders-are owners table ends i first cells got sent owned G X) (ap (map (localIn local)) e ∙ sent-mapped owners table ends i first cells local 16)
+        ∙ words-are)
+        (put-both a b c 0 t u _ _ P Q (omega (arith, front-count long i steps kind first cells v owned got sent a b t P)))
 
--- the lists by the local numbers of the order
-pub lists-numbered : (a b : Bytes) (s t : ℕ) (owners table : Bytes) (ends : List ℕ) (i first cells : ℕ) (order : List ℕ)
-    (n owned steps kind : ℕ) (v : Bytes) (empty local : List ℕ) → empty ≡ replicate 2001 0 → local ≡ numbering 0 (take n order) empty
-    → Put a b s t (numberedWords owners table ends i first cells order n local owned steps kind v) → Put a b s t (startWords owners table ends i first cells order n owned steps kind v)
-lists-numbered a b s t owners table ends i first cells order n owned steps kind v empty local z e P =
-    put-as a b s t _ _ (ap (λ l. numberedWords owners table ends i first cells order n l owned steps kind v) (e ∙ ap (numbering 0 (take n order)) z)) P
+-- ---- the plan by the tables
+
+module _ (owners table : Bytes) (ends : List ℕ) (i first cells parts : ℕ) (F : Fitting owners table ends i first cells parts) (class : Bytes) (C : Classed owners table ends i cells class)
+    (a order : List ℕ) (n : ℕ) (X : Added a order 0 n (classOrder class first cells parts)) (room : 2000 ≤ length a) where
+  order-same : classOrder class first cells parts ≡ partOrder owners table ends i first cells parts
+  unfolding classOrder partOrder
+  order-same =
+      ap₂ _++_ (row-cells owners table ends i first cells 17 class (F .cells-few) C)
+      (ap₂ _++_ (row-cells owners table ends i first cells 18 class (F .cells-few) C)
+      (blocks-cong 1 (classCells class first cells) (partCells owners table ends i first cells) parts (λ j h. row-cells owners table ends i first cells (1 + j) class (F .cells-few) C)))
+
+  few : length (classOrder class first cells parts) ≤ 2000
+  few = omega (arith, ap length order-same, F .order-few)
+
+  there : n ≤ length order
+  there = added-fits a order n (classOrder class first cells parts) X room few
+
+  order-is : take n order ≡ partOrder owners table ends i first cells parts
+  order-is = added-take a order n (classOrder class first cells parts) X room few ∙ order-same
+
+  module _ (got : List ℕ) (T : Tallied class cells got) (inner outer : ℕ) (ie : inner ≡ getD got 17 0) (oe : outer ≡ getD got 18 0) where
+    owned-is : inner + outer ≡ partOwned owners table ends i first cells
+    unfolding countAt partOwned
+    owned-is =
+        ap₂ _+_ (ie ∙ T .each 17 (omega arith) ∙ sym (class-count class 17 first cells) ∙ ap length (row-cells owners table ends i first cells 17 class (F .cells-few) C))
+        (oe ∙ T .each 18 (omega arith) ∙ sym (class-count class 18 first cells) ∙ ap length (row-cells owners table ends i first cells 18 class (F .cells-few) C))
+
+    pub plan-fit : Fit owners table ends i first cells order n (inner + outer)
+    plan-fit = subst (Fit owners table ends i first cells order n) (sym owned-is) (F .fit order n there order-is)
+
+    pub plan-drawn : (holders : Bytes) (sent long : ℕ) → sent ≡ exportCount owners holders i cells → long ≡ 46 + n + (inner + outer) + 2 * rowEnds table ends first order (inner + outer) + sent
+        → Drawn owners table ends holders i first cells parts order n (inner + outer) sent long
+    plan-drawn holders sent long se le = record { there = there; order-is = order-is; owned-is = owned-is; sent-is = se; long-is = le }
 
 -- ---- the depths
 

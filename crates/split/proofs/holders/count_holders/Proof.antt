@@ -1,7 +1,7 @@
 -- `split::holders::count_holders` meets its contract. The invariant: the first k parts are counted. Assumes nothing.
 use Prim.Native.Nat.{_-_, _≤_}
 use Rattle.split.specs.Classes.{Few, Counted}
-use Rattle.split.proofs.HolderLaws.{few-start, count-start, count-room, count-stamps, count-turn, holders-told}
+use Rattle.split.proofs.HolderLaws.{few-start, count-start, count-room, raised-stamps, count-turn, holders-told}
 use borrow.Author.Needs.{needs}
 use Rattle.split.proofs.holders.count_holders.Statement.{statement}
 use Rattle.split.proofs.holders.count_holders.Tie as tie
@@ -35,7 +35,7 @@ count-holders-spec =
     let few = turn .before .before .before .before .before .before .before .before .before .before .before .before .before .before .pre .0 in
     let inv = turn .loop .inv in
     let told = added .add-part .ensures in
-    (search needs, count-stamps _ _ _ _ _ few _ _ _ _ (inv .1) (inv .2) told, count-turn _ _ _ _ _ few _ _ _ _ (inv .1) (inv .2) told))
+    (search needs, raised-stamps _ _ _ _ _ _ (inv .1) told, count-turn _ _ _ _ _ few _ _ _ _ (inv .1) (inv .2) told))
     (λ c κs. search needs)
     (λ c. search needs)
     (λ c. search needs)

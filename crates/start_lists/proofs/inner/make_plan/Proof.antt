@@ -1,0 +1,47 @@
+-- `start_lists::inner::make_plan` meets its contract. Assumes nothing.
+use mathlib.Core.Path.{refl}
+use native.Mathlib.Omega.{arith}
+use Rattle.start_lists.proofs.CountLaws.{got-told}
+use Rattle.start_lists.proofs.StartLists.{plan-fit, plan-drawn}
+use borrow.Author.Needs.{needs}
+use Rattle.start_lists.proofs.inner.make_plan.Statement.{statement}
+use Rattle.start_lists.proofs.inner.make_plan.Tie as tie
+
+pub make-plan-spec : {M : Type 1} → statement M
+make-plan-spec =
+    tie.close
+    (tie.spec
+    (λ c κs. search needs)
+    (λ c κs. search needs)
+    (λ c κs. search needs)
+    (λ c. search needs)
+    (λ c κs. search needs)
+    (λ c. search needs)
+    (λ c. search needs)
+    (λ c κs. search needs)
+    (λ c. search needs)
+    (λ c. search needs)
+    (λ c κs. search needs)
+    (λ c κs.
+    let pre = c .before .before .before .before .before .before .before .before .before .before .before .before .before .before .before .before .before .before .before .before .before .before .before .before .before .before .before .pre in
+    let row = c .before .before .before .before .before .before .before .before .before .before .before .before .before .before .before .before .before .before .classify .ensures in
+    let order = c .before .before .before .before .before .before .before .before .before .before .before .before .before .add-order .ensures in
+    let tally = c .before .before .before .before .before .before .before .before .count-classes .ensures in
+    let fit = plan-fit _ _ _ _ _ _ _ (pre .0) _ row _ _ _ order (pre .2) _ tally _ _ (c .before .before .before .before .number-at .ensures) (c .before .before .number-at2 .ensures) in
+    (fit .order-few, fit .owned-few, fit .near, omega (arith, fit .long), c .before .count-exports .ensures .1))
+    (λ c. search needs)
+    (λ c. search needs)
+    (λ c. search needs)
+    (λ c.
+    let pre = c .before .before .before .before .before .before .before .before .before .before .before .before .before .before .before .before .before .before .before .before .before .before .before .before .before .before .before .before .pre in
+    let row = c .before .before .before .before .before .before .before .before .before .before .before .before .before .before .before .before .before .before .before .classify .ensures in
+    let order = c .before .before .before .before .before .before .before .before .before .before .before .before .before .before .add-order .ensures in
+    let tally = c .before .before .before .before .before .before .before .before .before .count-classes .ensures in (
+      refl,
+      refl,
+      refl,
+      refl,
+      plan-drawn _ _ _ _ _ _ _ (pre .0) _ row _ _ _ order (pre .2) _ tally _ _ (c .before .before .before .before .before .number-at .ensures) (c .before .before .before .number-at2 .ensures) _ _ _ (c .before .before .count-exports .ensures .0)
+          (c .lists-length .ensures),
+      got-told _ _ _ _ _ _ _ (pre .0 .cells-few) row tally,
+    )))
