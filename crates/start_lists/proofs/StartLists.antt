@@ -5,10 +5,11 @@ use Prim.Native.Nat.{ℕ, _+_, _-_, _*_, _≤_, _<_}
 use native.Mathlib.Nat.{zero-add}
 use native.Mathlib.Omega.{arith}
 use lib.ListN.{length, getD, take, drop, length-append}
-use lib.Seq.{length-take-le}
+use lib.Seq.{length-take-le, take-append-seam}
 use Rattle.vocabulary.specs.Bytes.{Bytes, over}
+use Rattle.vocabulary.specs.ByteLaws.{over-front}
 use Rattle.vocabulary.specs.Ranges.{listed, blocks, total}
-use Rattle.vocabulary.specs.RangeLaws.{listed-cong, listed-length, blocks-cong, total-agree}
+use Rattle.vocabulary.specs.RangeLaws.{listed-cong, listed-length, blocks-cong, blocks-length, total-agree}
 use Rattle.layout.specs.Words.{wordAt}
 use Rattle.split.specs.Classes.{Classed, classCells, partCells, classOrder, Added}
 use Rattle.cell_lists.proofs.ClassLists.{row-cells}
@@ -16,7 +17,7 @@ use Rattle.cell_lists.proofs.AddLaws.{added-fits, added-take, class-count}
 use Rattle.depths.specs.Depths.{four}
 use Rattle.depths.specs.DepthLaws.{length-four, fours-store}
 use Rattle.word_lists.specs.Putting.{Put}
-use Rattle.start_lists.specs.Starting.{localIn, gotEnds, sentEnds, sentList, sentWords, rowEnds, rowWords, numberedWords, startDepth, Cells}
+use Rattle.start_lists.specs.Starting.{localIn, numbersOf, startWords, gotEnds, sentEnds, sentList, sentWords, rowEnds, rowWords, numberedWords, startDepth, Cells}
 use Rattle.start_lists.specs.Starting.{gotFrom, sentFrom, countAt, endsBy, Tallied, Got, Sent, exportCount, Fit, Fitting, Drawn, partOrder, partOwned}
 use Rattle.parts.proofs.OpenedLaws.{four-cut}
 use Rattle.word_lists.proofs.PutLaws.{put-as, put-both}
@@ -60,6 +61,15 @@ front-count long i steps kind first cells v owned got sent a b t P =
       listed-length 0 (endsBy got owned) 17,
       listed-length 0 (endsBy sent 0) 17,
     )
+
+-- the exports stand at the front of their list
+sent-taken : (a b ws : List ℕ) (n k : ℕ) → Added a b 0 n ws → k ≡ length ws → k ≤ length a → take k b ≡ ws
+sent-taken a b ws n k X e h =
+    ap₂ (λ j (xs : List ℕ). take j xs) e (X .text (omega (arith, X .count)) ∙ over-front a ws) ∙ take-append-seam ws (drop (length ws) a)
+
+sent-length : (owners table : Bytes) (ends : List ℕ) (i first cells : ℕ) → length (sentList owners table ends i first cells 16) ≡ sentEnds owners table ends i first cells 16
+unfolding sentList sentEnds
+sent-length owners table ends i first cells = blocks-length 1 (λ j. partCells owners table ends j first cells i) 16
 
 -- ---- all pieces
 
@@ -111,12 +121,13 @@ module _ (owners table : Bytes) (ends : List ℕ) (i first cells : ℕ) (order :
           all-long owners table ends i first cells local,
         )
 
-    pub lists-put : (got sent list : List ℕ) (k : ℕ) (a b c : Bytes) (t u : ℕ) → Got owners table ends i cells got → Sent owners table ends i cells 16 sent
-        → take k list ≡ sentList owners table ends i first cells 16 → 90 ≤ length a
+    pub lists-put : (got sent before list : List ℕ) (x k : ℕ) (a b c : Bytes) (t u : ℕ) → Got owners table ends i cells got → Sent owners table ends i cells 16 sent
+        → Added before list 0 x (sentList owners table ends i first cells 16) → k ≡ sentEnds owners table ends i first cells 16 → k ≤ length before → 90 ≤ length a
         → Put a b 0 t (((long ∷ i ∷ steps ∷ kind ∷ []) ++ (listed 0 5 (wordAt v) ++ (first ∷ cells ∷ []))) ++ (listed 0 17 (endsBy got owned) ++ listed 0 17 (endsBy sent 0)))
         → Put b c t u (take n order ++ (listed 0 (owned + 1) (rowEnds table ends first order) ++ (blocks 1 owned (rowWords table ends first order local) ++ map (localIn local) (take k list))))
         → Put a c 0 u (numberedWords owners table ends i first cells order n local owned steps kind v)
-    lists-put got sent list k a b c t u G X e room P Q =
+    lists-put got sent before list x k a b c t u G X Y ke there room P Q =
+        let e = sent-taken before list (sentList owners table ends i first cells 16) x k Y (ke ∙ sym (sent-length owners table ends i first cells)) there in
         put-as a c 0 u _ _
         (append-assoc ((long ∷ i ∷ steps ∷ kind ∷ []) ++ (listed 0 5 (wordAt v) ++ (first ∷ cells ∷ []))) (listed 0 17 (endsBy got owned) ++ listed 0 17 (endsBy sent 0)) _
         ∙ ap₂ (λ (bs : List ℕ) (xs : List ℕ). ((long ∷ i ∷ steps ∷ kind ∷ []) ++ (listed 0 5 (wordAt v) ++ (first ∷ cells ∷ []))) ++ (bs ++ (take n order
@@ -125,16 +136,28 @@ module _ (owners table : Bytes) (ends : List ℕ) (i first cells : ℕ) (order :
         ∙ words-are)
         (put-both a b c 0 t u _ _ P Q (omega (arith, front-count long i steps kind first cells v owned got sent a b t P)))
 
+-- the lists by the local numbers of the order
+pub lists-numbered : (a b : Bytes) (s t : ℕ) (owners table : Bytes) (ends : List ℕ) (i first cells : ℕ) (order : List ℕ) (n owned steps kind : ℕ) (v : Bytes) (local : List ℕ)
+    → local ≡ numbersOf order n → Put a b s t (numberedWords owners table ends i first cells order n local owned steps kind v)
+    → Put a b s t (startWords owners table ends i first cells order n owned steps kind v)
+lists-numbered a b s t owners table ends i first cells order n owned steps kind v local e P =
+    put-as a b s t _ _ (ap (λ l. numberedWords owners table ends i first cells order n l owned steps kind v) e) P
+
 -- ---- the plan by the tables
+
+-- a row tells the order that the tables tell
+pub row-order : (owners table : Bytes) (ends : List ℕ) (i first cells parts : ℕ) (class : Bytes) → cells ≤ 2000 → Classed owners table ends i cells class
+    → classOrder class first cells parts ≡ partOrder owners table ends i first cells parts
+unfolding classOrder partOrder
+row-order owners table ends i first cells parts class few C =
+    ap₂ _++_ (row-cells owners table ends i first cells 17 class few C)
+    (ap₂ _++_ (row-cells owners table ends i first cells 18 class few C)
+    (blocks-cong 1 (classCells class first cells) (partCells owners table ends i first cells) parts (λ j h. row-cells owners table ends i first cells (1 + j) class few C)))
 
 module _ (owners table : Bytes) (ends : List ℕ) (i first cells parts : ℕ) (F : Fitting owners table ends i first cells parts) (class : Bytes) (C : Classed owners table ends i cells class)
     (a order : List ℕ) (n : ℕ) (X : Added a order 0 n (classOrder class first cells parts)) (room : 2000 ≤ length a) where
   order-same : classOrder class first cells parts ≡ partOrder owners table ends i first cells parts
-  unfolding classOrder partOrder
-  order-same =
-      ap₂ _++_ (row-cells owners table ends i first cells 17 class (F .cells-few) C)
-      (ap₂ _++_ (row-cells owners table ends i first cells 18 class (F .cells-few) C)
-      (blocks-cong 1 (classCells class first cells) (partCells owners table ends i first cells) parts (λ j h. row-cells owners table ends i first cells (1 + j) class (F .cells-few) C)))
+  order-same = row-order owners table ends i first cells parts class (F .cells-few) C
 
   few : length (classOrder class first cells parts) ≤ 2000
   few = omega (arith, ap length order-same, F .order-few)

@@ -334,9 +334,9 @@ pub fn make_plan(
         × (p .parts ≡ asked .parts)
         × (p .first ≡ asked .first)
         × (p .cells ≡ asked .cells)
-        × Drawn (now (owners .entry)) (now (table .entry)) (now (ends .entry)) (now (holders .entry)) (asked .part) (asked .first) (asked .cells) (asked .parts)
+        × Drawn (now (owners .entry)) (now (table .entry)) (now (ends .entry)) (now (holders .entry)) (p .part) (p .first) (p .cells) (p .parts)
         (now (order .exit)) (p .held) (p .owned) (p .sent) (p .long)
-        × Got (now (owners .entry)) (now (table .entry)) (now (ends .entry)) (asked .part) (asked .cells) (now (got .exit))
+        × Got (now (owners .entry)) (now (table .entry)) (now (ends .entry)) (p .part) (p .cells) (now (got .exit))
         ⌝ }
 {
     classify(owners, table, ends, asked.cells, asked.part, class);

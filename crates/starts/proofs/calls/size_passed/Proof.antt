@@ -1,7 +1,8 @@
 -- `starts::calls::size_passed` meets its contract. Assumes nothing.
 use mathlib.Core.Path.{refl, sym, _∙_}
+use native.Mathlib.Omega.{arith}
 use Rattle.split.proofs.PassedLaws.{passed-facts}
-use Rattle.starts.proofs.PlanLaws.{size-sizes}
+use Rattle.starts.proofs.PlanLaws.{plan-fitting, plan-made, size-sizes, size-done}
 use borrow.Author.Needs.{needs}
 use Rattle.starts.proofs.calls.size_passed.Statement.{statement}
 use Rattle.starts.proofs.calls.size_passed.Tie as tie
@@ -20,11 +21,8 @@ size-passed-spec =
     (λ c κs.
     let f = passed-facts _ _ _ _ _ _ (c .before .before .before .before .before .before .before .before .before .before .pre) in
     (f .mesh, f .map, f .stencil, refl, refl, refl, refl, refl, refl, refl))
-    (λ c.
-    let after-prepare = c .before .before .before .before .before .before .before .before in
-    let start = after-prepare .before .before .before .before .before .before .before .before .before .before .before in
-    size-sizes _ _ _ _ _ (start .pre) _ (after-prepare .prepare .ensures .0) (c .if1 .taken))
-    (λ c. search needs)
+    (λ c. size-sizes _ _ _ _ _ (c .before .before .before .before .before .before .before .before .before .before .before .before .before .before .before .before .before .before .before .pre) _ (c .before .before .before .before .before .before .before .before .prepare .ensures .0) (c .if1 .taken))
+    (λ c κs. search needs)
     (λ c. search needs)
     (λ c. search needs)
     (λ c. search needs)
@@ -32,11 +30,75 @@ size-passed-spec =
     (λ c. search needs)
     (λ c. search needs)
     (λ c κs.
-    let after-if1 = c .before .before .before .before .before .before .before in
-    let after-prepare = after-if1 .before .before .before .before .before .before .before .before in
-    let start = after-prepare .before .before .before .before .before .before .before .before .before .before .before in
-    let pre = start .pre in
-    let told = after-prepare .prepare .ensures in
-    let zero = after-if1 .if1 .left in
-    (pre, sym (told .0) ∙ zero, told .1 zero, search needs, search needs, refl, refl))
-    (λ c. search needs))
+    let sn = c .before .before .before .before .before .before .before .before .before .before .before .before .before .before .before .before .before .before .before .before .before .before .before .before .before .before .pre in
+    let prepared = c .before .before .before .before .before .before .before .before .before .before .before .before .before .before .before .prepare .ensures in
+    let zero = c .before .before .before .before .before .before .before .if1 .left in
+    let zn = sym (prepared .0) ∙ zero in
+    let asked = c .before .before .before .before .before .before .asked-of .ensures in
+    (plan-fitting _ _ _ _ _ _ _ _ sn zn (prepared .1 zero) _ _ _ _ (asked .0) (asked .1) (asked .2) (asked .3), search needs, search needs, refl))
+    (λ c.
+    let sn = c .before .before .before .before .before .before .before .before .before .before .before .before .before .before .before .before .before .before .before .before .before .before .before .before .before .before .before .before .before .before .before .pre in
+    let prepared = c .before .before .before .before .before .before .before .before .before .before .before .before .before .before .before .before .before .before .before .before .prepare .ensures in
+    let zero = c .before .before .before .before .before .before .before .before .before .before .before .before .if1 .left in
+    let zn = sym (prepared .0) ∙ zero in
+    let asked = c .before .before .before .before .before .before .before .before .before .before .before .asked-of .ensures in
+    let told = c .before .before .before .before .make-plan .ensures in
+    let part = told .0 ∙ asked .0 in
+    let parts = told .1 ∙ asked .1 in
+    let first = told .2 ∙ asked .2 in
+    let cells = told .3 ∙ asked .3 in
+    let plan = plan-made _ _ _ _ _ _ _ _ sn zn (prepared .1 zero) _ _ _ _ part parts first cells _ _ _ _ _ (told .4) in
+    omega (arith, plan .long-is, plan .fit .long, plan .fit .order-few))
+    (λ c.
+    let sn = c .before .before .before .before .before .before .before .before .before .before .before .before .before .before .before .before .before .before .before .before .before .before .before .before .before .before .before .before .before .before .before .pre in
+    let prepared = c .before .before .before .before .before .before .before .before .before .before .before .before .before .before .before .before .before .before .before .before .prepare .ensures in
+    let zero = c .before .before .before .before .before .before .before .before .before .before .before .before .if1 .left in
+    let zn = sym (prepared .0) ∙ zero in
+    let asked = c .before .before .before .before .before .before .before .before .before .before .before .asked-of .ensures in
+    let told = c .before .before .before .before .make-plan .ensures in
+    let part = told .0 ∙ asked .0 in
+    let parts = told .1 ∙ asked .1 in
+    let first = told .2 ∙ asked .2 in
+    let cells = told .3 ∙ asked .3 in
+    let plan = plan-made _ _ _ _ _ _ _ _ sn zn (prepared .1 zero) _ _ _ _ part parts first cells _ _ _ _ _ (told .4) in
+    omega (arith, plan .long-is, plan .fit .long, plan .fit .order-few))
+    (λ c. search needs)
+    (λ c.
+    let sn = c .before .before .before .before .before .before .before .before .before .before .before .before .before .before .before .before .before .before .before .before .before .before .before .before .before .before .before .before .before .before .before .before .pre in
+    let prepared = c .before .before .before .before .before .before .before .before .before .before .before .before .before .before .before .before .before .before .before .before .before .prepare .ensures in
+    let zero = c .before .before .before .before .before .before .before .before .before .before .before .before .before .if1 .left in
+    let zn = sym (prepared .0) ∙ zero in
+    let asked = c .before .before .before .before .before .before .before .before .before .before .before .before .asked-of .ensures in
+    let told = c .before .before .before .before .before .make-plan .ensures in
+    let part = told .0 ∙ asked .0 in
+    let parts = told .1 ∙ asked .1 in
+    let first = told .2 ∙ asked .2 in
+    let cells = told .3 ∙ asked .3 in
+    let plan = plan-made _ _ _ _ _ _ _ _ sn zn (prepared .1 zero) _ _ _ _ part parts first cells _ _ _ _ _ (told .4) in
+    omega (arith, plan .long-is, plan .fit .long, plan .fit .order-few))
+    (λ c.
+    let sn = c .before .before .before .before .before .before .before .before .before .before .before .before .before .before .before .before .before .before .before .before .before .before .before .before .before .before .before .before .before .before .before .before .pre in
+    let prepared = c .before .before .before .before .before .before .before .before .before .before .before .before .before .before .before .before .before .before .before .before .before .prepare .ensures in
+    let zero = c .before .before .before .before .before .before .before .before .before .before .before .before .before .if1 .left in
+    let zn = sym (prepared .0) ∙ zero in
+    let asked = c .before .before .before .before .before .before .before .before .before .before .before .before .asked-of .ensures in
+    let told = c .before .before .before .before .before .make-plan .ensures in
+    let part = told .0 ∙ asked .0 in
+    let parts = told .1 ∙ asked .1 in
+    let first = told .2 ∙ asked .2 in
+    let cells = told .3 ∙ asked .3 in
+    let plan = plan-made _ _ _ _ _ _ _ _ sn zn (prepared .1 zero) _ _ _ _ part parts first cells _ _ _ _ _ (told .4) in
+    omega (arith, plan .long-is, plan .fit .long, plan .fit .order-few))
+    (λ c.
+    let sn = c .before .before .before .before .before .before .before .before .before .before .before .before .before .before .before .before .before .before .before .before .before .before .before .before .before .before .before .before .before .before .before .before .pre in
+    let prepared = c .before .before .before .before .before .before .before .before .before .before .before .before .before .before .before .before .before .before .before .before .before .prepare .ensures in
+    let zero = c .before .before .before .before .before .before .before .before .before .before .before .before .before .if1 .left in
+    let zn = sym (prepared .0) ∙ zero in
+    let asked = c .before .before .before .before .before .before .before .before .before .before .before .before .asked-of .ensures in
+    let told = c .before .before .before .before .before .make-plan .ensures in
+    let part = told .0 ∙ asked .0 in
+    let parts = told .1 ∙ asked .1 in
+    let first = told .2 ∙ asked .2 in
+    let cells = told .3 ∙ asked .3 in
+    let plan = plan-made _ _ _ _ _ _ _ _ sn zn (prepared .1 zero) _ _ _ _ part parts first cells _ _ _ _ _ (told .4) in
+    size-done _ _ _ _ _ sn zn _ _ _ (prepared .1 zero) _ _ _ _ plan))
