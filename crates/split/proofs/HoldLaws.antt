@@ -149,12 +149,14 @@ module _ (m : Bytes) (parts : ℕ) (owners st : Bytes) where
         mine false = refl
 
         go : (a : Bool) → owns S i (firstCell m + q) ≡ a → (b : Bool) → holds S i (firstCell m + q) ≡ b → eqb (classIn S i (firstCell m + q)) 0 ≡ not b
-        go true e true f = (ap (λ x. eqb (cond x (cond (inside S i (firstCell m + q)) 17 18) (cond (holds S i (firstCell m + q)) (S .owner (firstCell m + q)) 0)) 0) e) ∙ mine (inside S i (firstCell m + q))
+        go true e true f = (ap (λ x. eqb (cond x (cond (inside S i (firstCell m + q)) 17 18) (cond (holds S i (firstCell m + q)) (S .owner (firstCell m + q)) 0)) 0) e)
+            ∙ mine (inside S i (firstCell m + q))
         go true e false f = absurd (not-both (holds S i (firstCell m + q)) (own-held S (split-own m parts owners st) i (firstCell m + q) cell e) f)
           where
             cell : Cell S (firstCell m + q)
             cell = unfold splitOf in (omega arith, omega arith)
-        go false e true f = (ap₂ (λ x y. eqb (cond x (cond (inside S i (firstCell m + q)) 17 18) (cond y (S .owner (firstCell m + q)) 0)) 0) e f) ∙ ne-eqb (S .owner (firstCell m + q)) 0 (omega (arith, owner-some))
+        go false e true f = (ap₂ (λ x y. eqb (cond x (cond (inside S i (firstCell m + q)) 17 18) (cond y (S .owner (firstCell m + q)) 0)) 0) e f)
+            ∙ ne-eqb (S .owner (firstCell m + q)) 0 (omega (arith, owner-some))
         go false e false f = (ap₂ (λ x y. eqb (cond x (cond (inside S i (firstCell m + q)) 17 18) (cond y (S .owner (firstCell m + q)) 0)) 0) e f)
 
     pub class-zero : (i q : ℕ) → q < cellCount m → (x : ℕ) → x ≡ classIn S i (firstCell m + q) → eqb x 0 ≡ not (holds S i (firstCell m + q))

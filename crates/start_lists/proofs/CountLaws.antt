@@ -287,8 +287,8 @@ module _ (owners table : Bytes) (ends : List ℕ) (i first cells : ℕ) where
 
   module _ (low : 1 ≤ i) (high : i ≤ 16) (few : cells ≤ 2000) (k : ℕ) (s h s₁ h₁ : Bytes) (F : Few k s) (P : Raised (k + 1) s h s₁ h₁ (reachedAt owners table ends (k + 1) cells)) where
     -- of the cells that are not its own, part k + 1 imports those from i that part i owns and it reaches
-    imports-one : (o x : ℕ) (l t r : Bool) → (k + 1 ≡ i → ⊥) → eqb (cond (eqb o (k + 1)) (cond l (cond t 17 18) 0) (cond r o 0)) i ≡ eqb o i && r
-    imports-one o x l t r ne = go (eqb o (k + 1)) refl r
+    imports-one : (o : ℕ) (l t r : Bool) → (k + 1 ≡ i → ⊥) → eqb (cond (eqb o (k + 1)) (cond l (cond t 17 18) 0) (cond r o 0)) i ≡ eqb o i && r
+    imports-one o l t r ne = go (eqb o (k + 1)) refl r
       where
         own : (l t : Bool) → eqb (cond l (cond t 17 18) 0) i ≡ false
         own true true = ne-eqb 17 i (λ z. let no : ⊥ = omega arith in no)
@@ -324,7 +324,8 @@ module _ (owners table : Bytes) (ends : List ℕ) (i first cells : ℕ) where
             (λ q l.
             ap (λ b. cond b ((first + (0 + q)) ∷ []) [])
             (ap (λ b. eqb (ownerAt owners (0 + q)) i && b) (stamped-is (0 + q) (omega arith))
-            ∙ sym (imports-one (ownerAt owners (0 + q)) (0 + q) (ltb (0 + q) cells) (insideAt owners table ends (k + 1) (0 + q)) (reachedAt owners table ends (k + 1) cells (0 + q)) (eqb-false (k + 1) i e))))
+            ∙ sym (imports-one (ownerAt owners (0 + q)) (ltb (0 + q) cells) (insideAt owners table ends (k + 1) (0 + q))
+            (reachedAt owners table ends (k + 1) cells (0 + q)) (eqb-false (k + 1) i e))))
 
     module _ (n t : ℕ) (b c : List ℕ) (Y : Added b c n t (stampedCells owners s₁ i (k + 1) first cells)) where
       pub sent-more : (a : List ℕ) → Added a b 0 n (sentList owners table ends i first cells k) → Added a c 0 t (sentList owners table ends i first cells (k + 1))
@@ -336,7 +337,8 @@ module _ (owners table : Bytes) (ends : List ℕ) (i first cells : ℕ) where
           ∙ sym (blocks-turn 1 (λ j. partCells owners table ends j first cells i) k))
           (add-both a b c 0 n t (blocks 1 k (λ j. partCells owners table ends j first cells i)) (stampedCells owners s₁ i (k + 1) first cells) X Y)
 
-      pub sent-counted : (parts : ℕ) (sent after : List ℕ) → k < parts → parts ≤ 16 → Sent owners table ends i cells k sent → after ≡ set sent (k + 1) (t - n) → Sent owners table ends i cells (k + 1) after
+      pub sent-counted : (parts : ℕ) (sent after : List ℕ) → k < parts → parts ≤ 16 → Sent owners table ends i cells k sent → after ≡ set sent (k + 1) (t - n)
+          → Sent owners table ends i cells (k + 1) after
       sent-counted parts sent after l small X e =
           sent-turn owners table ends i cells k parts (t - n) sent after l small X
           (omega (arith, Y .count, ap length stamped-cells, cells-many owners table ends i cells (k + 1) first i)) e

@@ -76,8 +76,10 @@ module _ (m : Bytes) (parts : ℕ) (owners : Bytes) (i : ℕ) (st table : Bytes)
   unfolding partOwned
   owned-told =
       ap₂ _+_
-      (ap length (sym (row-cells owners table ends i (firstCell m) (cellCount m) 17 row few row-classed) ∙ interior-is m parts owners st table ends holders R i (firstCell m) (cellCount m) refl refl row row-classed))
-      (ap length (sym (row-cells owners table ends i (firstCell m) (cellCount m) 18 row few row-classed) ∙ halo-is m parts owners st table ends holders R i (firstCell m) (cellCount m) refl refl row row-classed))
+      (ap length (sym (row-cells owners table ends i (firstCell m) (cellCount m) 17 row few row-classed)
+      ∙ interior-is m parts owners st table ends holders R i (firstCell m) (cellCount m) refl refl row row-classed))
+      (ap length (sym (row-cells owners table ends i (firstCell m) (cellCount m) 18 row few row-classed)
+      ∙ halo-is m parts owners st table ends holders R i (firstCell m) (cellCount m) refl refl row row-classed))
       ∙ sym (length-append (interior (splitOf m parts owners st) i) (halo (splitOf m parts owners st) i))
       ∙ own-count (splitOf m parts owners st) i
 
@@ -324,7 +326,8 @@ module _ (m : Bytes) (parts : ℕ) (owners : Bytes) (i : ℕ) (st : Bytes) (kind
                 ap₂ (λ (ws : List ℕ) (ds : Bytes). bytesOf ws ++ (replicate 34 0 ++ ds))
                 (ap (λ x. startWords owners table ends x first count order n owned (steps st) kind v) pe
                 ∙ start-words m parts owners st table ends holders R i (I₂ .0) (I₂ .1) first count fe ke order n owned (Q .order-is) (Q .held-is) (Q .owned-is) kind v)
-                (blocks-cong 1 (startDepth f first order) (λ l. depthIn (schemeOf m st kind v) f (globalOf (locals (splitOf m parts owners st) i) l)) n (λ k h. depth-is (1 + k) (omega arith) (omega arith))
+                (blocks-cong 1 (startDepth f first order) (λ l. depthIn (schemeOf m st kind v) f (globalOf (locals (splitOf m parts owners st) i) l)) n
+                (λ k h. depth-is (1 + k) (omega arith) (omega arith))
                 ∙ ap (λ k. blocks 1 k (λ l. depthIn (schemeOf m st kind v) f (globalOf (locals (splitOf m parts owners st) i) l))) (Q .held-is))
 
             pub start-done : 2 * long + 34 + 4 * n ≤ length b → (y : Bytes)

@@ -22,7 +22,8 @@ use Rattle.mesh.specs.WalkLaws.{reach-in}
 use Rattle.reaches.specs.Tables.{entryCount}
 use Rattle.reaches.proofs.EntryLaws.{count-more}
 use Rattle.split.specs.Split.{Split, splitOf, owns, held, inside, imports, exports, interior, halo, locals, localOf, globalOf}
-use Rattle.split.specs.SplitLaws.{map-facts, Cell, ownCells, split-reach, split-own, split-owner, own-is, own-local, local-back, import-own, reach-held, order-cells, order-length, own-count, own-first, held-length, imports-none, import-total, export-total}
+use Rattle.split.specs.SplitLaws.{map-facts, Cell, ownCells, split-reach, split-own, split-owner, own-is, own-local, local-back, import-own, reach-held}
+use Rattle.split.specs.SplitLaws.{order-cells, order-length, own-count, own-first, held-length, imports-none, import-total, export-total}
 use Rattle.split.specs.Numbering.{numbering}
 use Rattle.split.proofs.UnitLaws.{numbered}
 use Rattle.split.specs.Lists.{bad12}
@@ -316,5 +317,6 @@ module _ (m : Bytes) (parts : ℕ) (owners st table : Bytes) (ends : List ℕ) (
           (ap₂ _++_
           (listed-cong 0 (rowEnds table ends first order) (reachEnds S i L) (own + 1) (λ j h. row-ends (0 + j) (omega arith)) ∙ ap (λ x. listed 0 (x + 1) (reachEnds S i L)) we)
           (ap₂ _++_
-          (blocks-cong 1 (rowWords table ends first order (numbersOf order n)) (reachWords S i L) own (λ j h. row-words (1 + j) (omega arith) (omega arith)) ∙ ap (λ x. blocks 1 x (reachWords S i L)) we)
+          (blocks-cong 1 (rowWords table ends first order (numbersOf order n)) (reachWords S i L) own (λ j h. row-words (1 + j) (omega arith) (omega arith))
+          ∙ ap (λ x. blocks 1 x (reachWords S i L)) we)
           (blocks-cong 1 (sentWords owners table ends i first cells (numbersOf order n)) (exportWords S i L) 16 (λ j h. sent-words (1 + j) (omega arith) (omega arith))))))))))

@@ -30,11 +30,15 @@ add-cell-spec =
     (λ c. (search needs, inr refl, search pass-start))
     (λ c. search needs)
     (λ c κs. search needs)
-    (λ c κs. pass-room _ _ _ _ _ _ _ (c .before .before .before .before .before .before .before .before .before .before .before .before .before .before .pre .2) (c .before .before .before .before .loop .inv .2))
+    (λ c κs.
+    let at-loop = c .before .before .before .before in
+    let start = at-loop .before .before .before .before .before .before .before .before .before .before in
+    pass-room _ _ _ _ _ _ _ (start .pre .2) (at-loop .loop .inv .2))
     (λ c. search needs)
     (λ c. search needs)
     (λ c.
-    let added = c .before .before .before .before in
+    let at-before = c .before .before .before in
+    let added = at-before .before in
     let turn = added .before .before .before .before .before in
     (search needs, inl (search needs), pass-turn _ _ _ _ _ _ _ _ _ _ _ (turn .loop .inv .0) (turn .loop .inv .2) (added .before .before .before .word-at .ensures .0) (added .add-holder .ensures)))
     (λ c. search needs)

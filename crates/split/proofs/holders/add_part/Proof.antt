@@ -20,8 +20,10 @@ add-part-spec =
     μ-loop
     (λ c. (search needs, search part-start))
     (λ c κs.
-    let start = c .before .before .before .before .before .before .before .before .before in
-    let inv = c .before .before .before .loop .inv in
+    let at-loop = c .before .before .before in
+    let at-before = at-loop .before .before .before .before .before in
+    let start = at-before .before in
+    let inv = at-loop .loop .inv in
     part-room _ _ _ _ _ _ _ _ _ _ (c .before .before .loop-test .taken) (start .pre .0) (start .pre .2) (inv .1))
     (λ c. search needs)
     (λ c. search needs)

@@ -24,13 +24,16 @@ count-holders-spec =
     (λ c. search needs)
     (λ c. search needs)
     (λ c κs.
-    let start = c .before .before .before .before .before .before .before .before .before .before .before .before .before .before .before .before .before in
-    let inv = c .before .before .before .loop .inv in
+    let at-loop = c .before .before .before in
+    let at-before = at-loop .before .before .before .before .before .before .before .before .before .before .before .before .before in
+    let start = at-before .before in
+    let inv = at-loop .loop .inv in
     count-room _ _ _ _ _ _ _ _ (c .before .before .loop-test .taken) (start .pre .1) (start .pre .0) (inv .1) (inv .2))
     (λ c. search needs)
     (λ c. search needs)
     (λ c.
-    let added = c .before .before .before .before in
+    let at-before = c .before .before .before in
+    let added = at-before .before in
     let turn = added .before .before .before .before in
     let few = turn .before .before .before .before .before .before .before .before .before .before .before .before .before .before .pre .0 in
     let inv = turn .loop .inv in

@@ -12,7 +12,8 @@ use Rattle.start_lists.proofs.exports.add_exports.Statement.{statement}
 use Rattle.start_lists.proofs.exports.add_exports.Tie as tie
 
 abbrev Inv-loop : tie.InvT-loop
-Inv-loop owners stamps plan j list₀ s t₀ q₀ q-end list t q = (q ≤ plan .cells) × (t ≤ s + q) × (length list ≡ length list₀) × Added list₀ list s t (blocks 0 q (ownStamped owners stamps (plan .part) j (plan .first)))
+Inv-loop owners stamps plan j list₀ s t₀ q₀ q-end list t q = (q ≤ plan .cells) × (t ≤ s + q) × (length list ≡ length list₀) ×
+    Added list₀ list s t (blocks 0 q (ownStamped owners stamps (plan .part) j (plan .first)))
 
 abbrev μ-loop : tie.MeasureT-loop
 μ-loop owners stamps plan j list₀ s t₀ q₀ q-end list t q = plan .cells - q

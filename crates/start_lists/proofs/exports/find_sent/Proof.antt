@@ -12,7 +12,8 @@ use Rattle.start_lists.proofs.exports.find_sent.Statement.{statement}
 use Rattle.start_lists.proofs.exports.find_sent.Tie as tie
 
 abbrev Inv-loop : tie.InvT-loop
-Inv-loop owners table ends plan stamps₀ holders₀ list₀ sent₀ n₀ j₀ j-end stamps holders list sent n j = (j ≤ plan .parts) × Few j stamps × Few j holders × (n ≤ 2000 * j) × (length list ≡ length list₀) × (length sent ≡ length sent₀) ×
+Inv-loop owners table ends plan stamps₀ holders₀ list₀ sent₀ n₀ j₀ j-end stamps holders list sent n j = (j ≤ plan .parts) × Few j stamps × Few j holders × (n ≤ 2000 * j) ×
+    (length list ≡ length list₀) × (length sent ≡ length sent₀) ×
     Added list₀ list 0 n (sentList owners table ends (plan .part) (plan .first) (plan .cells) j) × Sent owners table ends (plan .part) (plan .cells) j sent
 
 abbrev μ-loop : tie.MeasureT-loop
@@ -30,25 +31,45 @@ find-sent-spec =
     (λ c. search needs)
     (λ c. search needs)
     (λ c κs.
-    let pre = c .before .before .before .before .before .before .before .before .before .before .before .before .before .before .before .before .before .before .before .pre in
-    let inv = c .before .before .before .loop .inv in
+    let at-loop = c .before .before .before in
+    let start-way = at-loop .before .before .before .before .before .before .before .before .before .before .before .before in
+    let start = start-way .before .before .before .before in
+    let pre = start .pre in
+    let inv = at-loop .loop .inv in
     (pre .3, inv .1 .room, few-more _ 15 _ (omega (arith, c .before .before .loop-test .taken, pre .4)) (inv .2)))
     (λ c κs.
-    let pre = c .before .before .before .before .before .before .before .before .before .before .before .before .before .before .before .before .before .before .before .before .before .before .before .before .before .before .pre in
-    let inv = c .before .before .before .before .before .before .before .before .before .before .loop .inv in
-    (pre .2, pre .3, omega (arith, inv .3, c .before .before .before .before .before .before .before .before .before .loop-test .taken, pre .4)))
+    let at-loop-test = c .before .before .before .before .before .before .before .before .before in
+    let at-loop = at-loop-test .before in
+    let start-way = at-loop .before .before .before .before .before .before .before .before .before .before .before .before in
+    let start = start-way .before .before .before .before in
+    let pre = start .pre in
+    let inv = at-loop .loop .inv in
+    (pre .2, pre .3, omega (arith, inv .3, at-loop-test .loop-test .taken, pre .4)))
     (λ c. search needs)
-    (λ c. omega (arith, c .before .before .before .add-exports .ensures .0 .count))
-    (λ c. omega (arith, c .before .before .before .add-exports .ensures .1, c .before .before .before .before .before .before .before .before .before .before .before .before .before .before .before .before .before .before .before .before .before .before .before .before .before .before .before .before .before .before .pre .3))
+    (λ c.
+    let at-add-exports = c .before .before .before in
+    omega (arith, at-add-exports .add-exports .ensures .0 .count))
+    (λ c.
+    let at-add-exports = c .before .before .before in
+    let start-way = at-add-exports .before .before .before .before .before .before .before .before .before .before .before .before in
+    let start-way2 = start-way .before .before .before .before .before .before .before .before .before .before .before .before in
+    let start = start-way2 .before .before .before in
+    omega (arith, at-add-exports .add-exports .ensures .1, start .pre .3))
     (λ c κs. search needs)
     (λ c. search needs)
     (λ c. search needs)
     (λ c.
-    let pre = c .before .before .before .before .before .before .before .before .before .before .before .before .before .before .before .before .before .before .before .before .before .before .before .before .before .before .before .before .before .before .before .before .before .pre in
-    let inv = c .before .before .before .before .before .before .before .before .before .before .before .before .before .before .before .before .before .loop .inv in
-    let taken = c .before .before .before .before .before .before .before .before .before .before .before .before .before .before .before .before .loop-test .taken in
-    let raised = c .before .before .before .before .before .before .before .before .before .before .before .before .before .add-part .ensures in
-    let told = c .before .before .before .before .before .before .add-exports .ensures in (
+    let at-add-exports = c .before .before .before .before .before .before in
+    let at-add-part = at-add-exports .before .before .before .before .before .before .before in
+    let at-loop-test = at-add-part .before .before .before in
+    let at-loop = at-loop-test .before in
+    let start-way = at-loop .before .before .before .before .before .before .before .before .before .before .before .before in
+    let start = start-way .before .before .before .before in
+    let pre = start .pre in
+    let inv = at-loop .loop .inv in
+    let taken = at-loop-test .loop-test .taken in
+    let raised = at-add-part .add-part .ensures in
+    let told = at-add-exports .add-exports .ensures in (
       search needs,
       raised-stamps _ _ _ _ _ _ (inv .1) raised,
       raised-few _ _ _ _ _ _ _ (inv .2) raised,
@@ -63,7 +84,9 @@ find-sent-spec =
     (λ c. search needs)
     (λ c. search needs)
     (λ c.
-    let pre = c .before .before .before .before .before .before .before .before .before .before .before .before .before .before .before .before .before .pre in
+    let start-way = c .before .before .before .before .before .before .before .before .before .before .before .before in
+    let start = start-way .before .before .before .before .before in
+    let pre = start .pre in
     let inv = c .before .loop .inv in
     let left = c .loop-test .left in
     (sent-all _ _ _ _ _ _ _ _ _ _ _ (inv .0) left (pre .0) (pre .4) (pre .5) (inv .6), sent-end _ _ _ _ _ _ _ _ (inv .0) left (pre .0) (pre .4) (pre .5) (inv .7))))

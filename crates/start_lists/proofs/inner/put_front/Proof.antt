@@ -12,10 +12,14 @@ put-front-spec =
     (tie.spec
     (λ c κs. search needs)
     (λ c κs.
-    let pre = c .before .before .before .before .before .before .before .before .before .pre in
-    let s = head-count _ _ _ _ _ _ _ _ _ _ (c .before .before .before .put-head .ensures) in
+    let at-put-head = c .before .before .before in
+    let start = at-put-head .before .before .before .before .before .before in
+    let pre = start .pre in
+    let s = head-count _ _ _ _ _ _ _ _ _ _ (at-put-head .put-head .ensures) in
     (omega (arith, pre .0, s, c .before .before .b .given), omega (arith, s), pre .7, pre .8))
     (λ c. search needs)
     (λ c.
-    let head = c .before .before .before .before .before .before .put-head .ensures in
-    put-both _ _ _ _ _ _ _ _ head (c .before .before .put-borders .ensures) (omega (arith, c .before .before .before .before .before .before .before .before .before .before .before .before .pre .0, head-count _ _ _ _ _ _ _ _ _ _ head))))
+    let at-put-head = c .before .before .before .before .before .before in
+    let start = at-put-head .before .before .before .before .before .before in
+    let head = at-put-head .put-head .ensures in
+    put-both _ _ _ _ _ _ _ _ head (c .before .before .put-borders .ensures) (omega (arith, start .pre .0, head-count _ _ _ _ _ _ _ _ _ _ head))))

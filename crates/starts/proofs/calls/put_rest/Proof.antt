@@ -14,4 +14,7 @@ put-rest-spec =
     (λ c. search needs)
     (λ c κs. search needs)
     (λ c. search needs)
-    (λ c. rest-put _ _ _ _ _ _ _ _ (c .before .before .before .before .before .before .before .before .before .before .before .before .before .pre .0) (c .before .before .before .before .before .before .before .clear .ensures) (c .before .before .put-cells .ensures)))
+    (λ c.
+    let at-clear = c .before .before .before .before .before .before .before in
+    let start = at-clear .before .before .before .before .before .before in
+    rest-put _ _ _ _ _ _ _ _ (start .pre .0) (at-clear .clear .ensures) (c .before .before .put-cells .ensures)))

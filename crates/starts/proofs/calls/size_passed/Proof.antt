@@ -19,9 +19,13 @@ size-passed-spec =
     (λ c. search needs)
     (λ c. search needs)
     (λ c κs.
-    let f = passed-facts _ _ _ _ _ _ (c .before .before .before .before .before .before .before .before .before .before .pre) in
+    let start = c .before .before .before .before .before .before .before .before .before .before in
+    let f = passed-facts _ _ _ _ _ _ (start .pre) in
     (f .mesh, f .map, f .stencil, refl, refl, refl, refl, refl, refl, refl))
-    (λ c. size-sizes _ _ _ _ _ (c .before .before .before .before .before .before .before .before .before .before .before .before .before .before .before .before .before .before .before .pre) _ (c .before .before .before .before .before .before .before .before .prepare .ensures .0) (c .if1 .taken))
+    (λ c.
+    let at-prepare = c .before .before .before .before .before .before .before .before in
+    let start = at-prepare .before .before .before .before .before .before .before .before .before .before .before in
+    size-sizes _ _ _ _ _ (start .pre) _ (at-prepare .prepare .ensures .0) (c .if1 .taken))
     (λ c κs. search needs)
     (λ c. search needs)
     (λ c. search needs)
@@ -30,19 +34,32 @@ size-passed-spec =
     (λ c. search needs)
     (λ c. search needs)
     (λ c κs.
-    let sn = c .before .before .before .before .before .before .before .before .before .before .before .before .before .before .before .before .before .before .before .before .before .before .before .before .before .before .pre in
-    let prepared = c .before .before .before .before .before .before .before .before .before .before .before .before .before .before .before .prepare .ensures in
-    let zero = c .before .before .before .before .before .before .before .if1 .left in
+    let at-asked-of = c .before .before .before .before .before .before in
+    let at-if1 = at-asked-of .before in
+    let at-prepare = at-if1 .before .before .before .before .before .before .before .before in
+    let start = at-prepare .before .before .before .before .before .before .before .before .before .before .before in
+    let sn = start .pre in
+    let prepared = at-prepare .prepare .ensures in
+    let zero = at-if1 .if1 .left in
     let zn = sym (prepared .0) ∙ zero in
-    let asked = c .before .before .before .before .before .before .asked-of .ensures in
-    (plan-fitting _ _ _ _ _ _ _ _ sn zn (prepared .1 zero) _ _ _ _ (asked .0) (asked .1) (asked .2) (asked .3), search needs, search needs, refl))
+    let asked = at-asked-of .asked-of .ensures in (
+      plan-fitting _ _ _ _ _ _ _ _ sn zn (prepared .1 zero) _ _ _ _ (asked .0) (asked .1) (asked .2) (asked .3),
+      omega (arith, at-if1 .before .class2 .given),
+      omega (arith, at-if1 .before .before .before .before .before .before .prev2 .given),
+      refl,
+    ))
     (λ c.
-    let sn = c .before .before .before .before .before .before .before .before .before .before .before .before .before .before .before .before .before .before .before .before .before .before .before .before .before .before .before .before .before .before .before .pre in
-    let prepared = c .before .before .before .before .before .before .before .before .before .before .before .before .before .before .before .before .before .before .before .before .prepare .ensures in
-    let zero = c .before .before .before .before .before .before .before .before .before .before .before .before .if1 .left in
+    let at-make-plan = c .before .before .before .before in
+    let at-asked-of = at-make-plan .before .before .before .before .before .before .before in
+    let at-if1 = at-asked-of .before in
+    let at-prepare = at-if1 .before .before .before .before .before .before .before .before in
+    let start = at-prepare .before .before .before .before .before .before .before .before .before .before .before in
+    let sn = start .pre in
+    let prepared = at-prepare .prepare .ensures in
+    let zero = at-if1 .if1 .left in
     let zn = sym (prepared .0) ∙ zero in
-    let asked = c .before .before .before .before .before .before .before .before .before .before .before .asked-of .ensures in
-    let told = c .before .before .before .before .make-plan .ensures in
+    let asked = at-asked-of .asked-of .ensures in
+    let told = at-make-plan .make-plan .ensures in
     let part = told .0 ∙ asked .0 in
     let parts = told .1 ∙ asked .1 in
     let first = told .2 ∙ asked .2 in
@@ -50,12 +67,17 @@ size-passed-spec =
     let plan = plan-made _ _ _ _ _ _ _ _ sn zn (prepared .1 zero) _ _ _ _ part parts first cells _ _ _ _ _ (told .4) in
     omega (arith, plan .long-is, plan .fit .long, plan .fit .order-few))
     (λ c.
-    let sn = c .before .before .before .before .before .before .before .before .before .before .before .before .before .before .before .before .before .before .before .before .before .before .before .before .before .before .before .before .before .before .before .pre in
-    let prepared = c .before .before .before .before .before .before .before .before .before .before .before .before .before .before .before .before .before .before .before .before .prepare .ensures in
-    let zero = c .before .before .before .before .before .before .before .before .before .before .before .before .if1 .left in
+    let at-make-plan = c .before .before .before .before in
+    let at-asked-of = at-make-plan .before .before .before .before .before .before .before in
+    let at-if1 = at-asked-of .before in
+    let at-prepare = at-if1 .before .before .before .before .before .before .before .before in
+    let start = at-prepare .before .before .before .before .before .before .before .before .before .before .before in
+    let sn = start .pre in
+    let prepared = at-prepare .prepare .ensures in
+    let zero = at-if1 .if1 .left in
     let zn = sym (prepared .0) ∙ zero in
-    let asked = c .before .before .before .before .before .before .before .before .before .before .before .asked-of .ensures in
-    let told = c .before .before .before .before .make-plan .ensures in
+    let asked = at-asked-of .asked-of .ensures in
+    let told = at-make-plan .make-plan .ensures in
     let part = told .0 ∙ asked .0 in
     let parts = told .1 ∙ asked .1 in
     let first = told .2 ∙ asked .2 in
@@ -64,12 +86,17 @@ size-passed-spec =
     omega (arith, plan .long-is, plan .fit .long, plan .fit .order-few))
     (λ c. search needs)
     (λ c.
-    let sn = c .before .before .before .before .before .before .before .before .before .before .before .before .before .before .before .before .before .before .before .before .before .before .before .before .before .before .before .before .before .before .before .before .pre in
-    let prepared = c .before .before .before .before .before .before .before .before .before .before .before .before .before .before .before .before .before .before .before .before .before .prepare .ensures in
-    let zero = c .before .before .before .before .before .before .before .before .before .before .before .before .before .if1 .left in
+    let at-make-plan = c .before .before .before .before .before in
+    let at-asked-of = at-make-plan .before .before .before .before .before .before .before in
+    let at-if1 = at-asked-of .before in
+    let at-prepare = at-if1 .before .before .before .before .before .before .before .before in
+    let start = at-prepare .before .before .before .before .before .before .before .before .before .before .before in
+    let sn = start .pre in
+    let prepared = at-prepare .prepare .ensures in
+    let zero = at-if1 .if1 .left in
     let zn = sym (prepared .0) ∙ zero in
-    let asked = c .before .before .before .before .before .before .before .before .before .before .before .before .asked-of .ensures in
-    let told = c .before .before .before .before .before .make-plan .ensures in
+    let asked = at-asked-of .asked-of .ensures in
+    let told = at-make-plan .make-plan .ensures in
     let part = told .0 ∙ asked .0 in
     let parts = told .1 ∙ asked .1 in
     let first = told .2 ∙ asked .2 in
@@ -77,12 +104,17 @@ size-passed-spec =
     let plan = plan-made _ _ _ _ _ _ _ _ sn zn (prepared .1 zero) _ _ _ _ part parts first cells _ _ _ _ _ (told .4) in
     omega (arith, plan .long-is, plan .fit .long, plan .fit .order-few))
     (λ c.
-    let sn = c .before .before .before .before .before .before .before .before .before .before .before .before .before .before .before .before .before .before .before .before .before .before .before .before .before .before .before .before .before .before .before .before .pre in
-    let prepared = c .before .before .before .before .before .before .before .before .before .before .before .before .before .before .before .before .before .before .before .before .before .prepare .ensures in
-    let zero = c .before .before .before .before .before .before .before .before .before .before .before .before .before .if1 .left in
+    let at-make-plan = c .before .before .before .before .before in
+    let at-asked-of = at-make-plan .before .before .before .before .before .before .before in
+    let at-if1 = at-asked-of .before in
+    let at-prepare = at-if1 .before .before .before .before .before .before .before .before in
+    let start = at-prepare .before .before .before .before .before .before .before .before .before .before .before in
+    let sn = start .pre in
+    let prepared = at-prepare .prepare .ensures in
+    let zero = at-if1 .if1 .left in
     let zn = sym (prepared .0) ∙ zero in
-    let asked = c .before .before .before .before .before .before .before .before .before .before .before .before .asked-of .ensures in
-    let told = c .before .before .before .before .before .make-plan .ensures in
+    let asked = at-asked-of .asked-of .ensures in
+    let told = at-make-plan .make-plan .ensures in
     let part = told .0 ∙ asked .0 in
     let parts = told .1 ∙ asked .1 in
     let first = told .2 ∙ asked .2 in
@@ -90,12 +122,17 @@ size-passed-spec =
     let plan = plan-made _ _ _ _ _ _ _ _ sn zn (prepared .1 zero) _ _ _ _ part parts first cells _ _ _ _ _ (told .4) in
     omega (arith, plan .long-is, plan .fit .long, plan .fit .order-few))
     (λ c.
-    let sn = c .before .before .before .before .before .before .before .before .before .before .before .before .before .before .before .before .before .before .before .before .before .before .before .before .before .before .before .before .before .before .before .before .pre in
-    let prepared = c .before .before .before .before .before .before .before .before .before .before .before .before .before .before .before .before .before .before .before .before .before .prepare .ensures in
-    let zero = c .before .before .before .before .before .before .before .before .before .before .before .before .before .if1 .left in
+    let at-make-plan = c .before .before .before .before .before in
+    let at-asked-of = at-make-plan .before .before .before .before .before .before .before in
+    let at-if1 = at-asked-of .before in
+    let at-prepare = at-if1 .before .before .before .before .before .before .before .before in
+    let start = at-prepare .before .before .before .before .before .before .before .before .before .before .before in
+    let sn = start .pre in
+    let prepared = at-prepare .prepare .ensures in
+    let zero = at-if1 .if1 .left in
     let zn = sym (prepared .0) ∙ zero in
-    let asked = c .before .before .before .before .before .before .before .before .before .before .before .before .asked-of .ensures in
-    let told = c .before .before .before .before .before .make-plan .ensures in
+    let asked = at-asked-of .asked-of .ensures in
+    let told = at-make-plan .make-plan .ensures in
     let part = told .0 ∙ asked .0 in
     let parts = told .1 ∙ asked .1 in
     let first = told .2 ∙ asked .2 in
