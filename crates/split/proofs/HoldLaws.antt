@@ -12,8 +12,9 @@ use borrow.Author.Tests.{eqb-true, eq-eqb, ne-eqb, lt-ltb}
 use Rattle.vocabulary.specs.Bytes.{Bytes, byteAt}
 use Rattle.vocabulary.specs.Ranges.{picked, some, total}
 use Rattle.vocabulary.specs.RangeLaws.{some-cong, some-has, some-in, some-witness, total-cong, picked-all, picked-in, picked-passes}
+use Rattle.vocabulary.specs.CountLaws.{total-add, total-zero, total-single}
 use Rattle.vocabulary.specs.Lists.{All, someOf}
-use Rattle.vocabulary.specs.ListLaws.{and-true, and-intro, not-both, same-test, All-getD, All-of-map, someOf-has, someOf-witness, getD-map-any}
+use Rattle.vocabulary.specs.ListLaws.{and-left, and-right, and-true, and-intro, not-both, same-test, All-getD, All-of-map, someOf-has, someOf-witness, getD-map-any}
 use Rattle.layout.specs.Words.{wordAt}
 use Rattle.mesh.specs.Mesh.{firstCell, cellCount}
 use Rattle.mesh.specs.Walks.{Near, layer, stepsTo, reach}
@@ -21,10 +22,11 @@ use Rattle.mesh.specs.WalkLaws.{reach-in}
 use Rattle.reaches.specs.Tables.{entryCount, Ends}
 use Rattle.reaches.proofs.EntryLaws.{count-more}
 use Rattle.reach_rows.specs.Rows.{walkedTo, rowCells, reachCount}
-use Rattle.split.specs.Split.{Split, splitOf, ownerAt, owns, owned, reaches, holds, held, inside}
+use Rattle.split.specs.Split.{Split, splitOf, ownerAt, owns, owned, reaches, holds, held, imports, exports, inside}
 use Rattle.split.specs.SplitLaws.{Cell, map-facts, own-held, split-own}
 use Rattle.split.specs.Lists.{bad8, bad12}
 use Rattle.split.specs.Classes.{ownsAt, insideAt}
+use Rattle.split.proofs.HolderLaws.{total-swap}
 use Rattle.split.specs.Classes.{classIn, holderCount, hasEntry, reachHas, reachedAt, classAt, heldBy, partHeld, Holders}
 
 -- some of the numbers whose places pass, and some of a list
@@ -147,16 +149,69 @@ module _ (m : Bytes) (parts : ℕ) (owners st : Bytes) where
         mine false = refl
 
         go : (a : Bool) → owns S i (firstCell m + q) ≡ a → (b : Bool) → holds S i (firstCell m + q) ≡ b → eqb (classIn S i (firstCell m + q)) 0 ≡ not b
-        go true e true f = (ap (λ x. eqb (cond x (cond (inside S i (firstCell m + q)) 17 18) (cond (holds S i (firstCell m + q)) (S .owner (firstCell m + q)) 0)) 0) e) ∙ mine (inside S i (firstCell m + q))
+        go true e true f = (ap (λ x. eqb (cond x (cond (inside S i (firstCell m + q)) 17 18) (cond (holds S i (firstCell m + q)) (S .owner (firstCell m + q)) 0)) 0) e)
+            ∙ mine (inside S i (firstCell m + q))
         go true e false f = absurd (not-both (holds S i (firstCell m + q)) (own-held S (split-own m parts owners st) i (firstCell m + q) cell e) f)
           where
             cell : Cell S (firstCell m + q)
             cell = unfold splitOf in (omega arith, omega arith)
-        go false e true f = (ap₂ (λ x y. eqb (cond x (cond (inside S i (firstCell m + q)) 17 18) (cond y (S .owner (firstCell m + q)) 0)) 0) e f) ∙ ne-eqb (S .owner (firstCell m + q)) 0 (omega (arith, owner-some))
+        go false e true f = (ap₂ (λ x y. eqb (cond x (cond (inside S i (firstCell m + q)) 17 18) (cond y (S .owner (firstCell m + q)) 0)) 0) e f)
+            ∙ ne-eqb (S .owner (firstCell m + q)) 0 (omega (arith, owner-some))
         go false e false f = (ap₂ (λ x y. eqb (cond x (cond (inside S i (firstCell m + q)) 17 18) (cond y (S .owner (firstCell m + q)) 0)) 0) e f)
 
     pub class-zero : (i q : ℕ) → q < cellCount m → (x : ℕ) → x ≡ classIn S i (firstCell m + q) → eqb x 0 ≡ not (holds S i (firstCell m + q))
     class-zero i q h x e = ap (λ y. eqb y 0) e ∙ class-held i q h
+
+  -- what part i exports to all parts, counted at its cells: each goes to every other part that holds it
+  module _ (i : ℕ) (low : 1 ≤ i) (high : i ≤ parts) where
+    own-at : (q : ℕ) → ownsAt owners i q ≡ owns S i (firstCell m + q)
+    unfolding ownsAt owns
+    own-at q = ap (λ o. eqb o i) (sym (owner-at q))
+
+    sent-at : (q : ℕ) → q < cellCount m
+        → total 1 parts (λ j. cond (not (eqb j i) && owns S i (firstCell m + q) && holds S j (firstCell m + q)) 1 0) ≡ cond (ownsAt owners i q) (holderCount S (firstCell m + q) - 1) 0
+    unfolding holderCount splitOf
+    sent-at q h = go (owns S i c) refl
+      where
+        c : ℕ
+        c = firstCell m + q
+
+        -- another part that holds it, or part i
+        one : (d a h : Bool) → a ≡ true → (d ≡ true → h ≡ true) → _≡_ {A = ℕ} (cond h 1 0) (cond (not d && a && h) 1 0 + cond d 1 0)
+        one true a h ae k = let e : _≡_ {A = ℕ} (cond h 1 0) 1 = ap (λ x. cond x 1 0) (k refl) in omega arith
+        one false a h ae k = let e : _≡_ {A = ℕ} (cond (a && h) 1 0) (cond h 1 0) = ap (λ x. cond (x && h) 1 0) ae in omega arith
+
+        alone : total 1 parts (λ j. cond (eqb j i) 1 0) ≡ 1
+        alone =
+            let z : 1 + (i - 1) ≡ i = omega arith in
+            total-single 1 parts (i - 1) (λ j. cond (eqb j i) 1 0) (omega arith) (λ j l ne. ap (λ b. cond b 1 0) (ne-eqb (1 + j) i (λ e. let no : ⊥ = omega arith in no)))
+            ∙ ap (λ j. cond (eqb j i) 1 0) z
+            ∙ ap (λ b. cond b 1 0) (eq-eqb i i refl)
+
+        go : (a : Bool) → owns S i c ≡ a → total 1 parts (λ j. cond (not (eqb j i) && owns S i c && holds S j c) 1 0) ≡ cond (ownsAt owners i q) (total 1 parts (λ j. cond (holds S j c) 1 0) - 1) 0
+        go true e =
+            let held = own-held S (split-own m parts owners st) i c (unfold splitOf in (omega arith, omega arith)) e in
+            let f : ℕ → ℕ = λ j. cond (not (eqb j i) && owns S i c && holds S j c) 1 0 in
+            let both : total 1 parts (λ j. cond (holds S j c) 1 0) ≡ total 1 parts f + total 1 parts (λ j. cond (eqb j i) 1 0) =
+            total-cong 1 (λ j. cond (holds S j c) 1 0) (λ j. f j + cond (eqb j i) 1 0) parts
+            (λ j l. one (eqb (1 + j) i) (owns S i c) (holds S (1 + j) c) e (λ w. ap (λ x. holds S x c) (eqb-true (1 + j) i w) ∙ held))
+            ∙ total-add 1 parts f (λ j. cond (eqb j i) 1 0) in
+            (let z : total 1 parts f ≡ total 1 parts (λ j. cond (holds S j c) 1 0) - 1 = omega (arith, both, alone) in z)
+            ∙ sym (ap (λ b. cond b (total 1 parts (λ j. cond (holds S j c) 1 0) - 1) 0) (own-at q ∙ e))
+        go false e =
+            total-zero 1 parts (λ j. cond (not (eqb j i) && owns S i c && holds S j c) 1 0)
+            (λ j l. ap (λ b. cond b 1 0) (and-left (not (eqb (1 + j) i) && owns S i c) (holds S (1 + j) c) (and-right (not (eqb (1 + j) i)) (owns S i c) e)))
+            ∙ sym (ap (λ b. cond b (total 1 parts (λ j. cond (holds S j c) 1 0) - 1) 0) (own-at q ∙ e))
+
+    pub exports-told : total 1 parts (λ j. length (exports S i j)) ≡ total 0 (cellCount m) (λ q. cond (ownsAt owners i q) (holderCount S (firstCell m + q) - 1) 0)
+    unfolding exports imports splitOf
+    exports-told =
+        let p : ℕ → ℕ → Bool = λ j c. not (eqb j i) && owns S i c && holds S j c in
+        total-cong 1 (λ j. length (picked (firstCell m) (cellCount m) (p j))) (λ j. total 0 (cellCount m) (λ q. cond (p j (firstCell m + q)) 1 0)) parts
+        (λ j h. picked-count (firstCell m) (cellCount m) (p (1 + j)))
+        ∙ total-swap 1 parts 0 (cellCount m) (λ j q. cond (p j (firstCell m + q)) 1 0)
+        ∙ total-cong 0 (λ q. total 1 parts (λ j. cond (p j (firstCell m + q)) 1 0)) (λ q. cond (ownsAt owners i q) (holderCount S (firstCell m + q) - 1) 0) (cellCount m)
+        (λ q h. sent-at (0 + q) (omega arith))
 
   -- ---- by the table of the reaches
 
@@ -197,31 +252,26 @@ module _ (m : Bytes) (parts : ℕ) (owners st : Bytes) where
         ap₂ (λ o b. cond (eqb o i) (cond b (cond (insideAt owners table ends i q) 17 18) 0) (cond (reachedAt owners table ends i (cellCount m) q) o 0)) (sym (owner-at q)) (lt-ltb q (cellCount m) h)
         ∙ ap₂ (λ a b. cond (eqb (S .owner (firstCell m + q)) i) (cond a 17 18) (cond b (S .owner (firstCell m + q)) 0)) (N i q h) (holds-told i q)
 
-    module _ (right : bad8 m parts owners [] ≡ false) where
-      held-by : (i q : ℕ) → q < cellCount m → heldBy owners table ends (cellCount m) q i ≡ cond (holds S i (firstCell m + q)) 1 0
-      unfolding heldBy
-      held-by i q h = ap (λ c. cond (eqb c 0) 0 1) (class-told i q h) ∙ ap (λ b. cond b 0 1) (class-held right i q h) ∙ swap (holds S i (firstCell m + q))
-        where
-          swap : (b : Bool) → _≡_ {A = ℕ} (cond (not b) 0 1) (cond b 1 0)
-          swap true = refl
-          swap false = refl
+    held-by : (i q : ℕ) → heldBy owners table ends (cellCount m) q i ≡ cond (holds S i (firstCell m + q)) 1 0
+    unfolding heldBy
+    held-by i q = ap (λ b. cond b 1 0) (holds-told i q)
 
-      part-held : (i : ℕ) → partHeld owners table ends (cellCount m) i ≡ length (held S i)
-      unfolding partHeld
-      part-held i =
-          total-cong 0 (λ q. heldBy owners table ends (cellCount m) q i) (λ q. cond (holds S i (firstCell m + q)) 1 0) (cellCount m) (λ q h. held-by i (0 + q) (omega arith))
-          ∙ sym (held-count i)
+    part-held : (i : ℕ) → partHeld owners table ends (cellCount m) i ≡ length (held S i)
+    unfolding partHeld
+    part-held i =
+        total-cong 0 (λ q. heldBy owners table ends (cellCount m) q i) (λ q. cond (holds S i (firstCell m + q)) 1 0) (cellCount m) (λ q h. held-by i (0 + q))
+        ∙ sym (held-count i)
 
-      module _ (cells : ℕ) (ce : cells ≡ cellCount m) (holders : Bytes) (s : ℕ) (H : Holders owners table ends cells parts holders s) where
-        pub held-told : (q : ℕ) → q < cellCount m → byteAt holders q ≡ holderCount S (firstCell m + q)
-        unfolding holderCount splitOf
-        held-told q h =
-            H .each q (omega arith)
-            ∙ ap (λ c. total 1 parts (heldBy owners table ends c q)) ce
-            ∙ total-cong 1 (heldBy owners table ends (cellCount m) q) (λ j. cond (holds S j (firstCell m + q)) 1 0) parts (λ j l. held-by (1 + j) q h)
+    module _ (cells : ℕ) (ce : cells ≡ cellCount m) (holders : Bytes) (s : ℕ) (H : Holders owners table ends cells parts holders s) where
+      pub held-told : (q : ℕ) → q < cellCount m → byteAt holders q ≡ holderCount S (firstCell m + q)
+      unfolding holderCount splitOf
+      held-told q h =
+          H .counted .each q (omega arith)
+          ∙ ap (λ c. total 1 parts (heldBy owners table ends c q)) ce
+          ∙ total-cong 1 (heldBy owners table ends (cellCount m) q) (λ j. cond (holds S j (firstCell m + q)) 1 0) parts (λ j l. held-by (1 + j) q)
 
-        pub sum-told : ltb 4096 s ≡ bad12 S
-        unfolding bad12 splitOf
-        sum-told =
-            ap (ltb 4096)
-            (H .sum ∙ ap (λ c. total 1 parts (partHeld owners table ends c)) ce ∙ total-cong 1 (partHeld owners table ends (cellCount m)) (λ i. length (held S i)) parts (λ k h. part-held (1 + k)))
+      pub sum-told : ltb 4096 s ≡ bad12 S
+      unfolding bad12 splitOf
+      sum-told =
+          ap (ltb 4096)
+          (H .sum ∙ ap (λ c. total 1 parts (partHeld owners table ends c)) ce ∙ total-cong 1 (partHeld owners table ends (cellCount m)) (λ i. length (held S i)) parts (λ k h. part-held (1 + k)))

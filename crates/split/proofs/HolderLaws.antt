@@ -1,160 +1,278 @@
--- How many parts hold each cell, as the code counts them. Assumes nothing.
-use mathlib.Core.Path.{_≡_, refl, sym, ap, ap₂, _∙_}
-use mathlib.Core.Bool.{Bool, true, false, cond}
+-- How many parts hold each cell, as the code counts them by stamps. Assumes nothing.
+use mathlib.Core.Path.{_≡_, refl, sym, ap, ap₂, _∙_, subst}
+use mathlib.Core.Logic.{_⊎_, ⊎-elim}
+use mathlib.Core.Bool.{Bool, true, false, not, _&&_, _||_, cond}
 use mathlib.Core.List.{List}
-use Prim.Native.Nat.{ℕ, _+_, _≤_, _<_}
+use Prim.Native.Nat.{ℕ, zero, suc, _+_, _-_, _*_, _≤_, _<_}
 use native.Mathlib.Nat.{zero-add}
 use native.Mathlib.Omega.{arith}
 use lib.Dec.{eqb, ltb}
-use lib.ListN.{length, set, length-set}
+use lib.ListN.{length, getD, set, length-set}
 use lib.Seq.{getD-set-same, getD-set-other}
-use borrow.Author.Tests.{eqb-true, eqb-false, eq-eqb, ne-eqb, lt-ltb, le-ltb, ltb-true, ltb-false}
+use borrow.Author.Tests.{eqb-true, eqb-false, eq-eqb, ne-eqb, ltb-true, ltb-false}
 use Rattle.vocabulary.specs.Bytes.{Bytes, byteAt}
-use Rattle.vocabulary.specs.Ranges.{total}
-use Rattle.vocabulary.specs.RangeLaws.{at-last, total-start, total-turn, total-cong}
+use Rattle.vocabulary.specs.Ranges.{some, total}
+use Rattle.vocabulary.specs.RangeLaws.{at-last, some-next, some-start, total-start, total-turn, total-cong}
+use Rattle.vocabulary.specs.CountLaws.{total-add, total-zero}
+use Rattle.vocabulary.specs.ListLaws.{and-left, and-right}
+use Rattle.layout.specs.Words.{wordAt}
 use Rattle.layout.proofs.Laws.{number-past}
-use Rattle.split.specs.Classes.{classAt, Classed, Cleared, heldOne, rowHeld, Raised, isBefore, Few, heldBy, partHeld, Holders}
-
-one-few : (class : Bytes) (q : ℕ) → heldOne class q ≤ 1
-unfolding heldOne
-one-few class q = go (eqb (byteAt class q) 0)
-  where
-    go : (b : Bool) → cond b 0 1 ≤ 1
-    go true = omega arith
-    go false = omega arith
+use Rattle.split.specs.Split.{ownerAt}
+use Rattle.split.specs.Classes.{ownsAt, hasEntry, reachHas, reachedAt, ownReach, Cleared, Raised, Few, rowSum, heldBy, partHeld, Counted, Holders}
 
 -- ---- one place
 
-module _ (class : Bytes) (q x : ℕ) (e : x ≡ byteAt class q) (before : Bytes) where
-  pub holder-none : x ≡ 0 → (0 ≡ heldOne class q) × (0 ≤ 1) × Raised class (eqb q) before before
-  unfolding heldOne
-  holder-none h = (sym zero, omega arith, record { size = refl; each = λ y. stays y (eqb q y) refl })
+module _ (k x y : ℕ) (stamps holders : Bytes) (e : y ≡ byteAt stamps x) (ls : length stamps ≡ 2000) (lh : length holders ≡ 2000) where
+  pub stamp-old : y ≡ k → Raised k stamps holders stamps holders (eqb x)
+  stamp-old h = record { stamp-room = ls; count-room = lh; stamp = λ z l. sym (same z (eqb x z) refl); count = λ z l. sym (none z (eqb x z) refl) }
     where
-      zero : _≡_ {A = ℕ} (cond (eqb (byteAt class q) 0) 0 1) 0
-      zero = ap (λ b. cond b 0 1) (eq-eqb (byteAt class q) 0 (sym e ∙ h))
+      same : (z : ℕ) (b : Bool) → eqb x z ≡ b → cond (eqb x z) k (byteAt stamps z) ≡ byteAt stamps z
+      same z true w = ap (λ b. cond b k (byteAt stamps z)) w ∙ sym h ∙ e ∙ ap (byteAt stamps) (eqb-true x z w)
+      same z false w = ap (λ b. cond b k (byteAt stamps z)) w
 
-      stays : (y : ℕ) (b : Bool) → eqb q y ≡ b → byteAt before y ≡ byteAt before y + cond (eqb q y) (cond (eqb (byteAt class y) 0) 0 1) 0
-      stays y true w = let z : _≡_ {A = ℕ} (cond (eqb (byteAt class y) 0) 0 1) 0 = ap (λ p. cond (eqb (byteAt class p) 0) 0 1) (sym (eqb-true q y w)) ∙ zero in (let n : byteAt before y ≡ byteAt before y + 0 = omega arith in n) ∙ ap₂ (λ b k. byteAt before y + cond b k 0) (sym w) (sym z)
-      stays y false w = (let n : byteAt before y ≡ byteAt before y + 0 = omega arith in n) ∙ ap (λ b. byteAt before y + cond b (cond (eqb (byteAt class y) 0) 0 1) 0) (sym w)
+      none : (z : ℕ) (b : Bool) → eqb x z ≡ b → byteAt holders z + cond (eqb x z && not (eqb (byteAt stamps z) k)) 1 0 ≡ byteAt holders z
+      none z true w =
+          let s : eqb (byteAt stamps z) k ≡ true = eq-eqb (byteAt stamps z) k (ap (byteAt stamps) (sym (eqb-true x z w)) ∙ sym e ∙ h) in
+          ap (λ b. byteAt holders z + cond b 1 0) (and-right (eqb x z) (not (eqb (byteAt stamps z) k)) (ap not s))
+          ∙ (let n : byteAt holders z + 0 ≡ byteAt holders z = omega arith in n)
+      none z false w =
+          ap (λ b. byteAt holders z + cond b 1 0) (and-left (eqb x z) (not (eqb (byteAt stamps z) k)) w)
+          ∙ (let n : byteAt holders z + 0 ≡ byteAt holders z = omega arith in n)
 
-  pub holder-one : (k : ℕ) (after : Bytes) → (x ≡ 0 → ⊥) → q < length before → k ≡ byteAt before q → after ≡ set before q (k + 1)
-      → (1 ≡ heldOne class q) × (1 ≤ 1) × Raised class (eqb q) before after
-  unfolding heldOne
-  holder-one k after h l ke f = (sym one, omega arith, record { size = ap length f ∙ length-set before q (k + 1); each = λ y. ap (λ (b : Bytes). byteAt b y) f ∙ told y (eqb q y) refl })
-    where
-      one : _≡_ {A = ℕ} (cond (eqb (byteAt class q) 0) 0 1) 1
-      one = ap (λ b. cond b 0 1) (ne-eqb (byteAt class q) 0 (λ z. h (e ∙ z)))
-
-      told : (y : ℕ) (b : Bool) → eqb q y ≡ b → byteAt (set before q (k + 1)) y ≡ byteAt before y + cond (eqb q y) (cond (eqb (byteAt class y) 0) 0 1) 0
-      told y true w =
-          let p : q ≡ y = eqb-true q y w in
-          ap (byteAt (set before q (k + 1))) (sym p)
-          ∙ getD-set-same before q (k + 1) 0 l
-          ∙ ap₂ _+_ (ke ∙ ap (byteAt before) p) (sym one ∙ ap (λ z. cond (eqb (byteAt class z) 0) 0 1) p)
-          ∙ ap (λ b. byteAt before y + cond b (cond (eqb (byteAt class y) 0) 0 1) 0) (sym w)
-      told y false w =
-          getD-set-other before q y (k + 1) 0 (λ p. eqb-false q y w (sym p))
-          ∙ (let n : byteAt before y ≡ byteAt before y + 0 = omega arith in n)
-          ∙ ap (λ b. byteAt before y + cond b (cond (eqb (byteAt class y) 0) 0 1) 0) (sym w)
-
--- ---- a row
-
-module _ (class : Bytes) where
-  pub row-start : 0 ≡ rowHeld class 0
-  unfolding rowHeld
-  row-start = sym (total-start 0 (heldOne class))
-
-  pub row-turn : (q s k : ℕ) → s ≡ rowHeld class q → k ≡ heldOne class q → s + k ≡ rowHeld class (q + 1)
-  unfolding rowHeld
-  row-turn q s k e f = ap₂ _+_ e (f ∙ ap (heldOne class) (sym (zero-add q))) ∙ sym (total-turn 0 (heldOne class) q)
-
-  pub row-end : (q cells s : ℕ) → q ≤ cells → cells ≤ q → s ≡ rowHeld class q → s ≡ rowHeld class cells
-  row-end q cells s g h e = at-last (λ k. s ≡ rowHeld class k) q cells g h e
-
-  pub raised-start : (b : Bytes) → Raised class (isBefore 0) b b
-  unfolding isBefore
-  raised-start b = record { size = refl; each = λ x. (let n : byteAt b x ≡ byteAt b x + 0 = omega arith in n) ∙ ap (λ t. byteAt b x + cond t (heldOne class x) 0) (sym (le-ltb x 0 (omega arith))) }
-
-  pub raised-turn : (q : ℕ) (a b c : Bytes) → Raised class (isBefore q) a b → Raised class (eqb q) b c → Raised class (isBefore (q + 1)) a c
-  unfolding isBefore
-  raised-turn q a b c P Q = record {
-    size = Q .size ∙ P .size;
-    each = λ x. Q .each x ∙ ap (λ y. y + cond (eqb q x) (heldOne class x) 0) (P .each x) ∙ both x (ltb x q) refl (eqb q x) refl;
+  pub stamp-new : (c : ℕ) (stamped raised : Bytes) → (y ≡ k → ⊥) → stamped ≡ set stamps x k → c ≡ byteAt holders x → raised ≡ set holders x (c + 1)
+      → Raised k stamps holders stamped raised (eqb x)
+  stamp-new c stamped raised ne se ce re = record {
+    stamp-room = ap length se ∙ length-set stamps x k ∙ ls;
+    count-room = ap length re ∙ length-set holders x (c + 1) ∙ lh;
+    stamp = λ z l. ap (λ (b : Bytes). byteAt b z) se ∙ stamp z l (eqb x z) refl;
+    count = λ z l. ap (λ (b : Bytes). byteAt b z) re ∙ count z l (eqb x z) refl;
   }
     where
-      both : (x : ℕ) (l : Bool) → ltb x q ≡ l → (e : Bool) → eqb q x ≡ e
-          → byteAt a x + cond (ltb x q) (heldOne class x) 0 + cond (eqb q x) (heldOne class x) 0 ≡ byteAt a x + cond (ltb x (q + 1)) (heldOne class x) 0
-      both x true u true w = let n : ⊥ = omega (arith, ltb-true x q u, eqb-true q x w) in absurd n
-      both x true u false w =
-          ap₂ (λ l e. byteAt a x + cond l (heldOne class x) 0 + cond e (heldOne class x) 0) u w
-          ∙ (let n : byteAt a x + heldOne class x + 0 ≡ byteAt a x + heldOne class x = omega arith in n)
-          ∙ ap (λ l. byteAt a x + cond l (heldOne class x) 0) (sym (lt-ltb x (q + 1) (omega (arith, ltb-true x q u))))
-      both x false u true w =
-          ap₂ (λ l e. byteAt a x + cond l (heldOne class x) 0 + cond e (heldOne class x) 0) u w
-          ∙ (let n : byteAt a x + 0 + heldOne class x ≡ byteAt a x + heldOne class x = omega arith in n)
-          ∙ ap (λ l. byteAt a x + cond l (heldOne class x) 0) (sym (lt-ltb x (q + 1) (omega (arith, eqb-true q x w))))
-      both x false u false w =
-          let ne : q ≡ x → ⊥ = eqb-false q x w in
-          ap₂ (λ l e. byteAt a x + cond l (heldOne class x) 0 + cond e (heldOne class x) 0) u w
-          ∙ (let n : byteAt a x + 0 + 0 ≡ byteAt a x + 0 = omega arith in n)
-          ∙ ap (λ l. byteAt a x + cond l (heldOne class x) 0) (sym (le-ltb x (q + 1) (next (ltb-false x q u) ne)))
-        where
-          next : q ≤ x → (q ≡ x → ⊥) → q + 1 ≤ x
-          next g ne = omega arith
+      stamp : (z : ℕ) → z < 2000 → (b : Bool) → eqb x z ≡ b → byteAt (set stamps x k) z ≡ cond (eqb x z) k (byteAt stamps z)
+      stamp z l true w =
+          let p : x ≡ z = eqb-true x z w in
+          ap (byteAt (set stamps x k)) (sym p) ∙ getD-set-same stamps x k 0 (omega arith) ∙ sym (ap (λ b. cond b k (byteAt stamps z)) w)
+      stamp z l false w = getD-set-other stamps x z k 0 (λ p. eqb-false x z w (sym p)) ∙ sym (ap (λ b. cond b k (byteAt stamps z)) w)
 
-  pub raised-end : (q cells : ℕ) (a b : Bytes) → q ≤ cells → cells ≤ q → Raised class (isBefore q) a b → Raised class (isBefore cells) a b
-  raised-end q cells a b g h P = at-last (λ k. Raised class (isBefore k) a b) q cells g h P
+      count : (z : ℕ) → z < 2000 → (b : Bool) → eqb x z ≡ b → byteAt (set holders x (c + 1)) z ≡ byteAt holders z + cond (eqb x z && not (eqb (byteAt stamps z) k)) 1 0
+      count z l true w =
+          let p : x ≡ z = eqb-true x z w in
+          ap (byteAt (set holders x (c + 1))) (sym p)
+          ∙ getD-set-same holders x (c + 1) 0 (omega arith)
+          ∙ ap (λ n. n + 1) (ce ∙ ap (byteAt holders) p)
+          ∙ sym (ap₂ (λ a b. byteAt holders z + cond (a && not b) 1 0) w (ne-eqb (byteAt stamps z) k (λ q. ne (e ∙ ap (byteAt stamps) p ∙ q))))
+      count z l false w =
+          getD-set-other holders x z (c + 1) 0 (λ p. eqb-false x z w (sym p))
+          ∙ (let n : byteAt holders z ≡ byteAt holders z + 0 = omega arith in n)
+          ∙ sym (ap (λ b. byteAt holders z + cond b 1 0) (and-left (eqb x z) (not (eqb (byteAt stamps z) k)) w))
 
-  -- there is room for one more
-  pub raised-room : (q n : ℕ) (a b : Bytes) → n ≤ 16 → q < 2000 → Few n a → Raised class (isBefore q) a b → (q < length b) × (byteAt b q < 255)
-  unfolding isBefore
-  raised-room q n a b h l F P = (
-    omega (arith, P .size, F .room),
-    omega (arith, F .each q, P .each q ∙ ap (λ t. byteAt a q + cond t (heldOne class q) 0) (le-ltb q q (omega arith))),
-  )
+-- ---- several places
+
+raised-none : (k : ℕ) (stamps holders : Bytes) (p : ℕ → Bool) → length stamps ≡ 2000 → length holders ≡ 2000 → ((x : ℕ) → p x ≡ false) → Raised k stamps holders stamps holders p
+raised-none k stamps holders p ls lh f = record {
+  stamp-room = ls;
+  count-room = lh;
+  stamp = λ x h. sym (ap (λ b. cond b k (byteAt stamps x)) (f x));
+  count = λ x h.
+      (let n : byteAt holders x ≡ byteAt holders x + 0 = omega arith in n)
+      ∙ sym (ap (λ b. byteAt holders x + cond b 1 0) (and-left (p x) (not (eqb (byteAt stamps x) k)) (f x)));
+}
+
+raised-as : (k : ℕ) (a b c d : Bytes) (p r : ℕ → Bool) → ((x : ℕ) → p x ≡ r x) → Raised k a b c d p → Raised k a b c d r
+raised-as k a b c d p r f P = record {
+  stamp-room = P .stamp-room;
+  count-room = P .count-room;
+  stamp = λ x h. P .stamp x h ∙ ap (λ t. cond t k (byteAt a x)) (f x);
+  count = λ x h. P .count x h ∙ ap (λ t. byteAt b x + cond (t && not (eqb (byteAt a x) k)) 1 0) (f x);
+}
+
+-- a place that passes twice is counted once
+raised-both : (k : ℕ) (a b c d e f : Bytes) (p r : ℕ → Bool) → Raised k a b c d p → Raised k c d e f r → Raised k a b e f (λ x. p x || r x)
+raised-both k a b c d e f p r P Q = record {
+  stamp-room = Q .stamp-room;
+  count-room = Q .count-room;
+  stamp = λ x h. Q .stamp x h ∙ ap (cond (r x) k) (P .stamp x h) ∙ last (p x) (r x) (byteAt a x);
+  count = λ x h. Q .count x h ∙ ap₂ (λ n s. n + cond (r x && not (eqb s k)) 1 0) (P .count x h) (P .stamp x h) ∙ once (p x) (r x) (byteAt a x) (byteAt b x);
+}
+  where
+    last : (p r : Bool) (s : ℕ) → cond r k (cond p k s) ≡ cond (p || r) k s
+    last true true s = refl
+    last true false s = refl
+    last false true s = refl
+    last false false s = refl
+
+    once : (p r : Bool) (s n : ℕ) → n + cond (p && not (eqb s k)) 1 0 + cond (r && not (eqb (cond p k s) k)) 1 0 ≡ n + cond ((p || r) && not (eqb s k)) 1 0
+    once true true s n =
+        ap (λ t. n + cond (not (eqb s k)) 1 0 + cond (not t) 1 0) (eq-eqb k k refl)
+        ∙ (let z : n + cond (not (eqb s k)) 1 0 + 0 ≡ n + cond (not (eqb s k)) 1 0 = omega arith in z)
+    once true false s n = let z : n + cond (not (eqb s k)) 1 0 + 0 ≡ n + cond (not (eqb s k)) 1 0 = omega arith in z
+    once false true s n = let z : n + 0 + cond (not (eqb s k)) 1 0 ≡ n + cond (not (eqb s k)) 1 0 = omega arith in z
+    once false false s n = let z : n + 0 + 0 ≡ n + 0 = omega arith in z
+
+one-few : (b : Bool) → cond b 1 0 ≤ 1
+one-few true = omega arith
+one-few false = omega arith
+
+-- what was small is still
+pub raised-few : (k n : ℕ) (a b c d : Bytes) (p : ℕ → Bool) → Few n b → Raised k a b c d p → Few (n + 1) d
+raised-few k n a b c d p F P = record { room = P .count-room; each = λ x. go x (ltb x 2000) refl }
+  where
+    go : (x : ℕ) (t : Bool) → ltb x 2000 ≡ t → byteAt d x ≤ n + 1
+    go x true e = omega (arith, P .count x (ltb-true x 2000 e), F .each x, one-few (p x && not (eqb (byteAt a x) k)))
+    go x false e = let l : 2000 ≤ x = ltb-false x 2000 e in omega (arith, number-past d x (omega (arith, P .count-room)))
+
+pub raised-stamps : (k : ℕ) (a b c d : Bytes) (p : ℕ → Bool) → Few k a → Raised (k + 1) a b c d p → Few (k + 1) c
+raised-stamps k a b c d p F P = record { room = P .stamp-room; each = λ x. go x (ltb x 2000) refl }
+  where
+    most : (b : Bool) (x : ℕ) → x ≤ k → cond b (k + 1) x ≤ k + 1
+    most true x l = omega arith
+    most false x l = omega arith
+
+    go : (x : ℕ) (t : Bool) → ltb x 2000 ≡ t → byteAt c x ≤ k + 1
+    go x true e = omega (arith, P .stamp x (ltb-true x 2000 e), most (p x) (byteAt a x) (F .each x))
+    go x false e = let l : 2000 ≤ x = ltb-false x 2000 e in omega (arith, number-past c x (omega (arith, P .stamp-room)))
+
+pub few-more : (n w : ℕ) (row : Bytes) → n ≤ w → Few n row → Few w row
+few-more n w row h F = record { room = F .room; each = λ x. omega (arith, F .each x) }
+
+-- ---- the reach of a cell
+
+-- there is room for one more
+pub pass-room : (k x : ℕ) (s h s₁ h₁ : Bytes) (p : ℕ → Bool) → Few 16 h → Raised k s h s₁ h₁ p → (length s₁ ≡ 2000) × (length h₁ ≡ 2000) × (byteAt h₁ x < 255)
+pass-room k x s h s₁ h₁ p F P = (P .stamp-room, P .count-room, omega (arith, raised-few k 16 s h s₁ h₁ p F P .each x))
+
+module _ (table : Bytes) (k a : ℕ) where
+  pub pass-start : (stamps holders : Bytes) → length stamps ≡ 2000 → Few 16 holders → Raised k stamps holders stamps holders (hasEntry table a (a - a))
+  unfolding hasEntry
+  pass-start stamps holders l F =
+      let z : a - a ≡ 0 = omega arith in
+      raised-none k stamps holders (λ x. some a (a - a) (λ t. eqb (wordAt table (2 * t)) x)) l (F .room)
+      (λ x. ap (λ n. some a n (λ t. eqb (wordAt table (2 * t)) x)) z ∙ some-start a (λ t. eqb (wordAt table (2 * t)) x))
+
+  pub pass-turn : (t x : ℕ) (s h s₁ h₁ s₂ h₂ : Bytes) → a ≤ t → Raised k s h s₁ h₁ (hasEntry table a (t - a)) → x ≡ wordAt table (2 * t) → Raised k s₁ h₁ s₂ h₂ (eqb x)
+      → Raised k s h s₂ h₂ (hasEntry table a (t + 1 - a))
+  unfolding hasEntry
+  pass-turn t x s h s₁ h₁ s₂ h₂ l P e Q =
+      raised-as k s h s₂ h₂ (λ y. some a (t - a) (λ t. eqb (wordAt table (2 * t)) y) || eqb x y) (λ y. some a (t + 1 - a) (λ t. eqb (wordAt table (2 * t)) y))
+      (λ y.
+      ap (λ z. some a (t - a) (λ t. eqb (wordAt table (2 * t)) y) || eqb z y) (e ∙ ap (λ u. wordAt table (2 * u)) here)
+      ∙ sym (some-next a (t - a) (λ t. eqb (wordAt table (2 * t)) y))
+      ∙ ap (λ n. some a n (λ t. eqb (wordAt table (2 * t)) y)) next)
+      (raised-both k s h s₁ h₁ s₂ h₂ (λ y. some a (t - a) (λ t. eqb (wordAt table (2 * t)) y)) (eqb x) P Q)
+    where
+      here : t ≡ a + (t - a)
+      here = omega arith
+
+      next : t - a + 1 ≡ t + 1 - a
+      next = omega arith
+
+module _ (owners table : Bytes) (ends : List ℕ) (q k o : ℕ) (oe : o ≡ ownerAt owners q) where
+  pub cell-skip : (stamps holders : Bytes) → (o ≡ k → ⊥) → length stamps ≡ 2000 → Few 16 holders → Raised k stamps holders stamps holders (ownReach owners table ends k q)
+  unfolding ownReach ownsAt
+  cell-skip stamps holders ne l F =
+      raised-none k stamps holders (λ x. eqb (ownerAt owners q) k && reachHas table ends q x) l (F .room)
+      (λ x. and-left (eqb (ownerAt owners q) k) (reachHas table ends q x) (ne-eqb (ownerAt owners q) k (λ e. ne (oe ∙ e))))
+
+  pub cell-end : (s h s₁ h₁ : Bytes) (a z t : ℕ) → o ≡ k → a ≡ getD ends q 0 → z ≡ getD ends (q + 1) 0 → z ≤ t → (t ≤ z) ⊎ (t ≡ a) → Raised k s h s₁ h₁ (hasEntry table a (t - a))
+      → Raised k s h s₁ h₁ (ownReach owners table ends k q)
+  unfolding ownReach ownsAt reachHas
+  cell-end s h s₁ h₁ a z t own ae ze l c P =
+      raised-as k s h s₁ h₁ (hasEntry table a (t - a))
+      (λ x. eqb (ownerAt owners q) k && hasEntry table (getD ends q 0) (getD ends (q + 1) 0 - getD ends q 0) x)
+      (λ x.
+      ap₂ (λ u n. hasEntry table u n x) ae whole
+      ∙ sym (ap (λ b. b && hasEntry table (getD ends q 0) (getD ends (q + 1) 0 - getD ends q 0) x) (eq-eqb (ownerAt owners q) k (sym oe ∙ own)))) P
+    where
+      whole : t - a ≡ getD ends (q + 1) 0 - getD ends q 0
+      whole = ⊎-elim (λ g. omega arith) (λ g. omega arith) c
+
+-- ---- the cells of a part
+
+module _ (owners table : Bytes) (ends : List ℕ) (k : ℕ) where
+  pub part-start : (stamps holders : Bytes) → length stamps ≡ 2000 → Few 15 holders → Raised k stamps holders stamps holders (reachedAt owners table ends k 0)
+  unfolding reachedAt
+  part-start stamps holders l F =
+      raised-none k stamps holders (λ x. some 0 0 (λ q. ownsAt owners k q && reachHas table ends q x)) l (F .room) (λ x. some-start 0 (λ q. ownsAt owners k q && reachHas table ends q x))
+
+  pub part-room : (q cells : ℕ) (s h s₁ h₁ : Bytes) → q < cells → cells ≤ 2000 → Few 15 h → Raised k s h s₁ h₁ (reachedAt owners table ends k q) → (q < 65536) × (length s₁ ≡ 2000) × Few 16 h₁
+  part-room q cells s h s₁ h₁ l few F P = (omega arith, P .stamp-room, raised-few k 15 s h s₁ h₁ (reachedAt owners table ends k q) F P)
+
+  pub part-turn : (q : ℕ) (s h s₁ h₁ s₂ h₂ : Bytes) → Raised k s h s₁ h₁ (reachedAt owners table ends k q) → Raised k s₁ h₁ s₂ h₂ (ownReach owners table ends k q)
+      → Raised k s h s₂ h₂ (reachedAt owners table ends k (q + 1))
+  unfolding reachedAt ownReach
+  part-turn q s h s₁ h₁ s₂ h₂ P Q =
+      raised-as k s h s₂ h₂ (λ x. some 0 q (λ q. ownsAt owners k q && reachHas table ends q x) || (ownsAt owners k q && reachHas table ends q x))
+      (λ x. some 0 (q + 1) (λ q. ownsAt owners k q && reachHas table ends q x))
+      (λ x.
+      ap (λ y. some 0 q (λ q. ownsAt owners k q && reachHas table ends q x) || (ownsAt owners k y && reachHas table ends y x)) (sym (zero-add q))
+      ∙ sym (some-next 0 q (λ q. ownsAt owners k q && reachHas table ends q x)))
+      (raised-both k s h s₁ h₁ s₂ h₂ (λ x. some 0 q (λ q. ownsAt owners k q && reachHas table ends q x)) (λ x. ownsAt owners k q && reachHas table ends q x) P Q)
+
+  pub part-end : (q cells : ℕ) (s h s₁ h₁ : Bytes) → q ≤ cells → cells ≤ q → Raised k s h s₁ h₁ (reachedAt owners table ends k q) → Raised k s h s₁ h₁ (reachedAt owners table ends k cells)
+  part-end q cells s h s₁ h₁ g l P = at-last (λ n. Raised k s h s₁ h₁ (reachedAt owners table ends k n)) q cells g l P
 
 -- ---- all parts
 
-pub holders-start : (owners table : Bytes) (ends : List ℕ) (cells : ℕ) (holders : Bytes) → Cleared 2000 holders → Holders owners table ends cells 0 holders 0
-holders-start owners table ends cells holders C = record {
-  few = record { room = C .room; each = λ x. low x (ltb x 2000) refl };
-  each = λ q h. none q (ltb q 2000) refl ∙ sym (total-start 1 (heldBy owners table ends cells q));
-  sum = sym (total-start 1 (partHeld owners table ends cells));
-  small = omega arith;
-}
+pub few-start : (row : Bytes) → Cleared 2000 row → Few 0 row
+few-start row C = record { room = C .room; each = λ x. low x (ltb x 2000) refl }
   where
-    none : (q : ℕ) (b : Bool) → ltb q 2000 ≡ b → byteAt holders q ≡ 0
-    none q true e = C .each q (ltb-true q 2000 e)
-    none q false e = let l : 2000 ≤ q = ltb-false q 2000 e in sym (number-past holders q (omega (arith, C .room)))
+    low : (x : ℕ) (b : Bool) → ltb x 2000 ≡ b → byteAt row x ≤ 0
+    low x true e = omega (arith, C .each x (ltb-true x 2000 e))
+    low x false e = let l : 2000 ≤ x = ltb-false x 2000 e in omega (arith, number-past row x (omega (arith, C .room)))
 
-    low : (x : ℕ) (b : Bool) → ltb x 2000 ≡ b → byteAt holders x ≤ 0
-    low x b e = omega (arith, none x b e)
+module _ (owners table : Bytes) (ends : List ℕ) (cells : ℕ) where
+  pub count-start : (holders : Bytes) → Cleared 2000 holders → Counted owners table ends cells 0 holders
+  count-start holders C =
+      let F = few-start holders C in
+      record { few = F; each = λ q h. (let z : byteAt holders q ≡ 0 = omega (arith, F .each q) in z) ∙ sym (total-start 1 (heldBy owners table ends cells q)) }
 
-module _ (owners table : Bytes) (ends : List ℕ) (cells k : ℕ) (small : cells ≤ 2000) (before : Bytes) (s : ℕ) (H : Holders owners table ends cells k before s)
-    (class : Bytes) (C : Classed owners table ends (k + 1) cells class) (after : Bytes) (t : ℕ) where
-  one-is : (q : ℕ) → q < cells → heldOne class q ≡ heldBy owners table ends cells q (1 + k)
-  unfolding heldOne heldBy
-  one-is q h = let z : k + 1 ≡ 1 + k = omega arith in ap (λ c. cond (eqb c 0) 0 1) (C .each q (omega arith) ∙ ap (λ j. classAt owners table ends j cells q) z)
+  pub count-room : (k parts : ℕ) (stamps holders : Bytes) → k < parts → parts ≤ 16 → cells ≤ 2000 → Few k stamps → Counted owners table ends cells k holders
+      → (cells ≤ 2000) × (length stamps ≡ 2000) × Few 15 holders
+  count-room k parts stamps holders h few small T C = (small, T .room, few-more k 15 holders (omega arith) (C .few))
 
-  pub holders-turn : t ≡ rowHeld class cells → t ≤ cells → Raised class (isBefore cells) before after → Holders owners table ends cells (k + 1) after (s + t)
-  unfolding rowHeld isBefore partHeld
-  holders-turn te tl P = record {
-    few = record { room = P .size ∙ H .few .room; each = λ x. let o = one-few class x in omega (arith, P .each x, H .few .each x, most x (ltb x cells)) };
-    each = λ q h.
-        P .each q
-        ∙ ap₂ (λ y b. y + cond b (heldOne class q) 0) (H .each q h) (lt-ltb q cells h)
-        ∙ ap (λ y. total 1 k (heldBy owners table ends cells q) + y) (one-is q h)
-        ∙ sym (total-turn 1 (heldBy owners table ends cells q) k);
-    sum =
-        ap₂ _+_ (H .sum)
-        (te ∙ total-cong 0 (heldOne class) (λ q. heldBy owners table ends cells q (1 + k)) cells (λ q h. one-is (0 + q) (omega arith)))
-        ∙ sym (total-turn 1 (partHeld owners table ends cells) k);
-    small = omega (arith, H .small);
-  }
-    where
-      most : (x : ℕ) (b : Bool) → cond b (heldOne class x) 0 ≤ 1
-      most x true = one-few class x
-      most x false = omega arith
+  module _ (k : ℕ) (small : cells ≤ 2000) (s h s₁ h₁ : Bytes) (T : Few k s) (C : Counted owners table ends cells k h) (P : Raised (k + 1) s h s₁ h₁ (reachedAt owners table ends (k + 1) cells)) where
+    pub count-turn : Counted owners table ends cells (k + 1) h₁
+    unfolding heldBy
+    count-turn = record {
+      few = raised-few (k + 1) k s h s₁ h₁ (reachedAt owners table ends (k + 1) cells) (C .few) P;
+      each = λ q l.
+          P .count q (omega arith)
+          ∙ ap₂ (λ n t. n + cond (reachedAt owners table ends (k + 1) cells q && not t) 1 0) (C .each q l) (ne-eqb (byteAt s q) (k + 1) (λ e. let no : ⊥ = omega (arith, T .each q) in no))
+          ∙ ap (λ b. total 1 k (heldBy owners table ends cells q) + cond b 1 0) (all (reachedAt owners table ends (k + 1) cells q))
+          ∙ ap (λ j. total 1 k (heldBy owners table ends cells q) + cond (reachedAt owners table ends j cells q) 1 0) (let z : k + 1 ≡ 1 + k = omega arith in z)
+          ∙ sym (total-turn 1 (heldBy owners table ends cells q) k);
+    }
+      where
+        all : (b : Bool) → b && true ≡ b
+        all true = refl
+        all false = refl
 
-pub holders-end : (owners table : Bytes) (ends : List ℕ) (cells k parts : ℕ) (holders : Bytes) (s : ℕ) → k ≤ parts → parts ≤ k → Holders owners table ends cells k holders s → Holders owners table ends cells parts holders s
-holders-end owners table ends cells k parts holders s g h H = at-last (λ n. Holders owners table ends cells n holders s) k parts g h H
+-- sums over sums change places
+pub total-swap : (a n b m : ℕ) (f : ℕ → ℕ → ℕ) → total a n (λ x. total b m (f x)) ≡ total b m (λ y. total a n (λ x. f x y))
+unfolding total
+total-swap a zero b m f = sym (total-zero b m (λ y. 0) (λ i h. refl))
+total-swap a (suc n) b m f = ap (λ s. s + total b m (f (a + n))) (total-swap a n b m f) ∙ sym (total-add b m (λ y. total a n (λ x. f x y)) (f (a + n)))
+
+pub sum-start : (row : Bytes) → 0 ≡ rowSum row 0
+unfolding rowSum
+sum-start row = sym (total-start 0 (byteAt row))
+
+pub sum-turn : (row : Bytes) (q s x : ℕ) → s ≡ rowSum row q → x ≡ byteAt row q → s + x ≡ rowSum row (q + 1)
+unfolding rowSum
+sum-turn row q s x e f = ap₂ _+_ e (f ∙ ap (byteAt row) (sym (zero-add q))) ∙ sym (total-turn 0 (byteAt row) q)
+
+pub sum-end : (row : Bytes) (q cells s : ℕ) → q ≤ cells → cells ≤ q → s ≡ rowSum row q → s ≡ rowSum row cells
+sum-end row q cells s g h e = at-last (λ n. s ≡ rowSum row n) q cells g h e
+
+pub holders-told : (owners table : Bytes) (ends : List ℕ) (cells k parts : ℕ) (holders : Bytes) (s : ℕ) → k ≤ parts → parts ≤ k → Counted owners table ends cells k holders → s ≡ rowSum holders cells
+    → Holders owners table ends cells parts holders s
+unfolding rowSum partHeld
+holders-told owners table ends cells k parts holders s g h C e =
+    let D : Counted owners table ends cells parts holders = at-last (λ n. Counted owners table ends cells n holders) k parts g h C in
+    record {
+      counted = D;
+      sum =
+          e
+          ∙ total-cong 0 (byteAt holders) (λ q. total 1 parts (heldBy owners table ends cells q)) cells (λ q l. D .each (0 + q) (omega arith))
+          ∙ total-swap 0 cells 1 parts (heldBy owners table ends cells);
+    }

@@ -78,7 +78,7 @@ module _ (m : Bytes) (parts : ℕ) (owners st : Bytes) where
       N = insides-are m st start table (T .text fits) parts owners ends (T .ended fits)
 
       twelve : ltb 4096 s ≡ bad12 (splitOf m parts owners st)
-      twelve = sum-told m parts owners st table ends (T .ended fits) (entry-is m st start table (T .text fits)) N right cells ce holders s H
+      twelve = sum-told m parts owners st table ends (T .ended fits) (entry-is m st start table (T .text fits)) N cells ce holders s H
 
       pub tables-held : 4096 < s → 12 ≡ sizesNumber m parts owners st
       unfolding sizesNumber sizeTests
@@ -96,5 +96,5 @@ module _ (m : Bytes) (parts : ℕ) (owners st : Bytes) where
         ended = T .ended fits;
         entries = entry-is m st start table (T .text fits);
         classes = class-told m parts owners st table ends (T .ended fits) (entry-is m st start table (T .text fits)) N;
-        held = held-told m parts owners st table ends (T .ended fits) (entry-is m st start table (T .text fits)) N right cells ce holders s H;
+        held = held-told m parts owners st table ends (T .ended fits) (entry-is m st start table (T .text fits)) N cells ce holders s H;
       }

@@ -78,40 +78,46 @@ pub record Marked (owners : Bytes) (i : ℕ) (before after : Bytes) (p : ℕ →
 
 -- ---- how many parts hold a cell
 
--- one where a row says that its part holds the cell at place q; how many of the first n cells it says so of
+-- one where a row says that its part holds the cell at place q
 unfoldable pub heldOne : Bytes → ℕ → ℕ
 heldOne class q = cond (eqb (byteAt class q) 0) 0 1
 
-unfoldable pub rowHeld : Bytes → ℕ → ℕ
-rowHeld class n = total 0 n (heldOne class)
+-- the cell at place q belongs to part k and reaches the cell at place x
+unfoldable pub ownReach : Bytes → Bytes → List ℕ → ℕ → ℕ → ℕ → Bool
+ownReach owners table ends k q x = ownsAt owners k q && reachHas table ends q x
 
--- the places that pass have that one more afterwards
-pub record Raised (class : Bytes) (p : ℕ → Bool) (before after : Bytes) : Type 0 where
-  pub size : length after ≡ length before
-  pub each : (x : ℕ) → byteAt after x ≡ byteAt before x + cond (p x) (heldOne class x) 0
+-- the places that pass bear the stamp k afterwards, and those of them that did not bear it before are counted once more
+pub record Raised (k : ℕ) (stamps holders stamped raised : Bytes) (p : ℕ → Bool) : Type 0 where
+  pub stamp-room : length stamped ≡ 2000
+  pub count-room : length raised ≡ 2000
+  pub stamp : (x : ℕ) → x < 2000 → byteAt stamped x ≡ cond (p x) k (byteAt stamps x)
+  pub count : (x : ℕ) → x < 2000 → byteAt raised x ≡ byteAt holders x + cond (p x && not (eqb (byteAt stamps x) k)) 1 0
 
--- x stands before n
-unfoldable pub isBefore : ℕ → ℕ → Bool
-isBefore n x = ltb x n
+-- no byte of a row is above n
+pub record Few (n : ℕ) (row : Bytes) : Type 0 where
+  pub room : length row ≡ 2000
+  pub each : (x : ℕ) → byteAt row x ≤ n
 
--- no count is above n
-pub record Few (n : ℕ) (holders : Bytes) : Type 0 where
-  pub room : length holders ≡ 2000
-  pub each : (x : ℕ) → byteAt holders x ≤ n
+-- the sum of the first n bytes of a row
+unfoldable pub rowSum : Bytes → ℕ → ℕ
+rowSum row n = total 0 n (byteAt row)
 
--- the same by the tables, for part j among `cells` cells
+-- one where part j holds the cell at place q, by the tables; how many of `cells` cells it holds
 unfoldable pub heldBy : Bytes → Bytes → List ℕ → ℕ → ℕ → ℕ → ℕ
-heldBy owners table ends cells q j = cond (eqb (classAt owners table ends j cells q) 0) 0 1
+heldBy owners table ends cells q j = cond (reachedAt owners table ends j cells q) 1 0
 
 unfoldable pub partHeld : Bytes → Bytes → List ℕ → ℕ → ℕ → ℕ
 partHeld owners table ends cells j = total 0 cells (λ q. heldBy owners table ends cells q j)
 
--- the first n parts are counted at each cell, and s is what they hold together
-pub record Holders (owners table : Bytes) (ends : List ℕ) (cells n : ℕ) (holders : Bytes) (s : ℕ) : Type 0 where
+-- the first n parts are counted at each cell
+pub record Counted (owners table : Bytes) (ends : List ℕ) (cells n : ℕ) (holders : Bytes) : Type 0 where
   pub few : Few n holders
   pub each : (q : ℕ) → q < cells → byteAt holders q ≡ total 1 n (heldBy owners table ends cells q)
+
+-- and s is what they hold together
+pub record Holders (owners table : Bytes) (ends : List ℕ) (cells n : ℕ) (holders : Bytes) (s : ℕ) : Type 0 where
+  pub counted : Counted owners table ends cells n holders
   pub sum : s ≡ total 1 n (partHeld owners table ends cells)
-  pub small : s ≤ 2000 * n
 
 -- an accepted mesh, map and stencil, with the table of the reaches, its ends, and how many parts hold each cell
 pub record Prepared (m : Bytes) (parts : ℕ) (owners st table : Bytes) (ends : List ℕ) (holders : Bytes) : Type 0 where

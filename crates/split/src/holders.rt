@@ -1,58 +1,107 @@
-// How many parts hold each cell, by the classes of the cells for every part.
-use crate::classes::classify;
+// How many parts hold each cell. One part after another is counted at the cells that its own cells reach; a row of stamps has the last part that was
+// counted at each cell, so that none is counted twice.
 use crate::classes::clear_row;
 use crate::classes::put_class;
+use crate::owners::owner_of;
 use layout::byte_at;
+use layout::number_at;
+use layout::word_at;
 ghost use mathlib.Core.Path.{_≡_};
-ghost use Prim.Native.Nat.{_+_, _≤_, _<_};
+ghost use Prim.Native.Nat.{_*_, _≤_, _<_};
 ghost use lib.Dec.{eqb};
 ghost use lib.ListN.{length};
 ghost use Rattle.vocabulary.specs.Bytes.{byteAt};
-ghost use Rattle.split.specs.Classes.{heldOne, rowHeld, Raised, isBefore, Few, Holders};
+ghost use Rattle.split.specs.Classes.{reachedAt, ownReach, Raised, Few, rowSum, Holders};
 
-// Counts the cell at place q, if the row says that it is held: one for a cell that is.
-fn add_holder(class: &[u8], q: usize, holders: &mut [u8]) -> usize
-    requires { ⌜ (q < length (now holders)) × (byteAt (now holders) q < 255) ⌝ }
-    ensures { λ k. ⌜ (k ≡ heldOne (now (class .entry)) q) × (k ≤ 1) × Raised (now (class .entry)) (eqb q) (now (holders .entry)) (now (holders .exit)) ⌝ }
+// Counts part k at the cell at place x, unless the stamp there says that it is.
+fn add_holder(x: usize, k: u8, stamps: &mut [u8], holders: &mut [u8])
+    requires { ⌜ (length (now stamps) ≡ 2000) × (length (now holders) ≡ 2000) × (byteAt (now holders) x < 255) ⌝ }
+    ensures { λ _. ⌜ Raised k (now (stamps .entry)) (now (holders .entry)) (now (stamps .exit)) (now (holders .exit)) (eqb x) ⌝ }
 {
-    if byte_at(class, q) == 0 {
-        return 0;
+    if byte_at(stamps, x) == k {
+        return;
     }
-    let count = byte_at(holders, q);
-    put_class(holders, q, count + 1);
-    1
+    put_class(stamps, x, k);
+    let count = byte_at(holders, x);
+    put_class(holders, x, count + 1);
 }
 
-// Counts the cells that the row says are held: how many they are.
-fn add_holders(class: &[u8], cells: usize, n: usize, holders: &mut [u8]) -> usize
-    requires { ⌜ (cells ≤ 2000) × (n ≤ 16) × Few n (now holders) ⌝ }
-    ensures { λ s. ⌜ (s ≡ rowHeld (now (class .entry)) cells) × (s ≤ cells) × Raised (now (class .entry)) (isBefore cells) (now (holders .entry)) (now (holders .exit)) ⌝ }
+// Counts part k at the cells in the reach of the cell at place q, if that is its own.
+fn add_cell(
+    owners: &[u8],
+    table: &[u8],
+    ends: &[u16],
+    q: usize,
+    k: u8,
+    stamps: &mut [u8],
+    holders: &mut [u8],
+)
+    requires { ⌜ (q < 65536) × (length (now stamps) ≡ 2000) × Few 16 (now holders) ⌝ }
+    ensures { λ _. ⌜
+        Raised k (now (stamps .entry)) (now (holders .entry)) (now (stamps .exit)) (now (holders .exit)) (ownReach (now (owners .entry)) (now (table .entry))
+        (now (ends .entry)) k q)
+        ⌝ }
+{
+    if owner_of(owners, q) != k {
+        return;
+    }
+    let from = number_at(ends, q) as usize;
+    let to = number_at(ends, q + 1) as usize;
+    for t in from..to {
+        add_holder(word_at(table, 2 * t), k, stamps, holders);
+    }
+}
+
+// Counts part k at all cells that it holds.
+pub fn add_part(
+    owners: &[u8],
+    table: &[u8],
+    ends: &[u16],
+    cells: usize,
+    k: u8,
+    stamps: &mut [u8],
+    holders: &mut [u8],
+)
+    requires { ⌜ (cells ≤ 2000) × (length (now stamps) ≡ 2000) × Few 15 (now holders) ⌝ }
+    ensures { λ _. ⌜
+        Raised k (now (stamps .entry)) (now (holders .entry)) (now (stamps .exit)) (now (holders .exit)) (reachedAt (now (owners .entry)) (now (table .entry))
+        (now (ends .entry)) k cells)
+        ⌝ }
+{
+    for q in 0..cells {
+        add_cell(owners, table, ends, q, k, stamps, holders);
+    }
+}
+
+// The sum of the counts at the cells.
+fn sum_holders(holders: &[u8], cells: usize) -> usize
+    requires { ⌜ cells ≤ 2000 ⌝ }
+    ensures { λ s. ⌜ s ≡ rowSum (now (holders .entry)) cells ⌝ }
 {
     let mut s = 0;
     for q in 0..cells {
-        s += add_holder(class, q, holders);
+        s += byte_at(holders, q) as usize;
     }
     s
 }
 
-// Counts at each cell the parts that hold it, and gives how many cells the parts hold together. The row is work space.
+// Counts at each cell the parts that hold it, and gives how many cells the parts hold together. The row of stamps is work space.
 pub fn count_holders(
     owners: &[u8],
     table: &[u8],
     ends: &[u16],
     cells: usize,
     parts: usize,
-    class: &mut [u8],
+    stamps: &mut [u8],
     holders: &mut [u8],
 ) -> usize
-    requires { ⌜ (cells ≤ 2000) × (parts ≤ 16) × (length (now class) ≡ 2000) × (length (now holders) ≡ 2000) ⌝ }
+    requires { ⌜ (cells ≤ 2000) × (parts ≤ 16) × (length (now stamps) ≡ 2000) × (length (now holders) ≡ 2000) ⌝ }
     ensures { λ s. ⌜ Holders (now (owners .entry)) (now (table .entry)) (now (ends .entry)) cells parts (now (holders .exit)) s ⌝ }
 {
+    clear_row(stamps);
     clear_row(holders);
-    let mut s = 0;
     for k in 0..parts {
-        classify(owners, table, ends, cells, k + 1, class);
-        s += add_holders(class, cells, k, holders);
+        add_part(owners, table, ends, cells, (k + 1) as u8, stamps, holders);
     }
-    s
+    sum_holders(holders, cells)
 }

@@ -1,21 +1,25 @@
--- The arrays of counts: the cells of each class in a row, and what a part exports to each part. Assumes nothing.
-use mathlib.Core.Path.{_≡_, refl, sym, ap, ap₂, _∙_}
+-- The arrays of counts: the cells of each class in a row, what a part exports to each part, and the lists of that. Assumes nothing.
+use mathlib.Core.Path.{_≡_, refl, sym, ap, ap₂, _∙_, subst}
 use mathlib.Core.Bool.{Bool, true, false, _&&_, cond}
-use mathlib.Core.List.{List, [], _∷_}
-use Prim.Native.Nat.{ℕ, _+_, _≤_, _<_}
+use mathlib.Core.List.{List, [], _∷_, _++_, append-nil}
+use Prim.Native.Nat.{ℕ, zero, suc, _+_, _-_, _≤_, _<_}
+use native.Mathlib.Nat.{zero-add, add-zero}
 use native.Mathlib.Omega.{arith}
 use lib.Dec.{eqb, ltb}
-use lib.ListN.{List·getD-eq-default, length, getD, set, replicate, length-set, length-replicate}
+use lib.ListN.{List·getD-eq-default, length, getD, set, take, replicate, length-set, length-replicate}
 use lib.Seq.{getD-set-same, getD-set-other, ext-getD}
-use borrow.Author.Tests.{eqb-true, eqb-false, ne-eqb, ltb-true, ltb-false}
+use borrow.Author.Tests.{eqb-true, eqb-false, eq-eqb, ne-eqb, ltb-true, ltb-false}
 use Rattle.vocabulary.specs.Bytes.{Bytes, byteAt}
-use Rattle.vocabulary.specs.ListLaws.{zeros-at}
-use Rattle.vocabulary.specs.Ranges.{some, total}
-use Rattle.vocabulary.specs.RangeLaws.{at-last, blocks-empty, blocks-length, some-none, total-cong, total-start, total-turn, total-grows}
-use Rattle.split.specs.Classes.{ownsAt, insideAt, reachHas, reachedAt, classAt, classCount, partCells, Classed}
-use Rattle.cell_lists.proofs.AddLaws.{count-start, count-turn, place-one, place-none, class-count, class-few}
+use Rattle.vocabulary.specs.ListLaws.{zeros-at, and-left, and-right}
+use Rattle.vocabulary.specs.Ranges.{some, blocks, total}
+use Rattle.vocabulary.specs.RangeLaws.{at-last, blocks-empty, blocks-length, blocks-start, blocks-turn, blocks-cong, some-none, total-cong, total-start, total-turn, total-grows}
+use Rattle.split.specs.Split.{ownerAt}
+use Rattle.split.specs.Numbering.{numbering}
+use Rattle.split.specs.Classes.{ownsAt, insideAt, reachHas, reachedAt, classAt, classCount, partCells, Classed, Raised, Few, Added}
+use Rattle.vocabulary.specs.Lists.{Zeros}
+use Rattle.cell_lists.proofs.AddLaws.{add-none, add-one, add-both, add-end, count-start, count-turn, place-one, place-none, class-count, class-few}
 use Rattle.cell_lists.proofs.ClassLists.{row-cells}
-use Rattle.start_lists.specs.Starting.{countAt, endsBy, Tallied, Got, Sent, Mapped}
+use Rattle.start_lists.specs.Starting.{numbersOf, countAt, endsBy, Tallied, Got, Sent, Mapped, sentList, exportedAt, exportCount, ownStamped, stampedCells}
 
 cleared : (n k : ℕ) (counts : List ℕ) → counts ≡ replicate n 0 → countAt counts k ≡ 0
 unfolding countAt
@@ -101,15 +105,12 @@ module _ (owners table : Bytes) (ends : List ℕ) (i cells : ℕ) where
       go false e l s true = e
       go false e l s false = ne-eqb 0 i (λ z. let no : ⊥ = omega arith in no)
 
-  pub sent-own : (j : ℕ) → 1 ≤ i → i ≤ 16 → j ≡ i → 0 ≡ length (partCells owners table ends j 0 cells i)
+  own-none : (j first : ℕ) → 1 ≤ i → i ≤ 16 → j ≡ i → partCells owners table ends j first cells i ≡ []
   unfolding partCells
-  sent-own j low high e =
-      sym (ap (λ x. length (partCells owners table ends x 0 cells i)) e
-      ∙ ap length (blocks-empty 0 (λ q. cond (eqb (classAt owners table ends i cells q) i) ((0 + q) ∷ []) []) cells
-      (λ q h. ap (λ b. cond b ((0 + (0 + q)) ∷ []) []) (own-class low high (0 + q)))))
-
-  pub sent-row : (j n : ℕ) (class : Bytes) → cells ≤ 2000 → Classed owners table ends j cells class → n ≡ classCount class cells i → n ≡ length (partCells owners table ends j 0 cells i)
-  sent-row j n class few C e = row-told j 0 i n class few C e
+  own-none j first low high e =
+      ap (λ x. partCells owners table ends x first cells i) e
+      ∙ blocks-empty 0 (λ q. cond (eqb (classAt owners table ends i cells q) i) ((first + q) ∷ []) []) cells
+      (λ q h. ap (λ b. cond b ((first + (0 + q)) ∷ []) []) (own-class low high (0 + q)))
 
   pub sent-start : (sent : List ℕ) → sent ≡ replicate 17 0 → Sent owners table ends i cells 0 sent
   sent-start sent e = record {
@@ -173,17 +174,11 @@ module _ (owners table : Bytes) (ends : List ℕ) (i cells : ℕ) where
 -- ---- sums and ends
 
 module _ (counts : List ℕ) where
-  pub sum-start : 0 ≡ total 1 0 (countAt counts)
-  sum-start = sym (total-start 1 (countAt counts))
-
-  pub sum-turn : (k n x : ℕ) → n ≡ total 1 k (countAt counts) → x ≡ getD counts (k + 1) 0 → n + x ≡ total 1 (k + 1) (countAt counts)
+  sum-turn : (k n x : ℕ) → n ≡ total 1 k (countAt counts) → x ≡ getD counts (k + 1) 0 → n + x ≡ total 1 (k + 1) (countAt counts)
   unfolding countAt
   sum-turn k n x e f =
       let p : k + 1 ≡ 1 + k = omega arith in
       ap₂ _+_ e (f ∙ ap (λ y. getD counts y 0) p) ∙ sym (total-turn 1 (countAt counts) k)
-
-  pub sum-end : (k n : ℕ) → k ≤ 16 → 16 ≤ k → n ≡ total 1 k (countAt counts) → n ≡ total 1 16 (countAt counts)
-  sum-end k n g h e = at-last (λ j. n ≡ total 1 j (countAt counts)) k 16 g h e
 
   module _ (base : ℕ) where
     pub ends-start : base ≡ endsBy counts base 0
@@ -204,24 +199,157 @@ module _ (counts : List ℕ) where
           let g : endsBy counts base (k + 1) ≤ endsBy counts base 16 = unfold endsBy in omega (arith, total-grows 1 (countAt counts) (k + 1) 16 (omega arith)) in
           omega (arith, small, ends-turn k e x p q)
 
--- ---- an array cleared place by place
+-- ---- how many cells are exported
 
-pub record Zeroed (q : ℕ) (list : List ℕ) : Type 0 where
-  pub each : (x : ℕ) → x < q → getD list x 0 ≡ 0
+module _ (owners holders : Bytes) (i : ℕ) where
+  module _ (q o : ℕ) (oe : o ≡ ownerAt owners q) where
+    pub exported-other : (o ≡ i → ⊥) → 0 ≡ exportedAt owners holders i q
+    unfolding exportedAt ownsAt
+    exported-other ne = sym (ap (λ b. cond b (byteAt holders q - 1) 0) (ne-eqb (ownerAt owners q) i (λ e. ne (oe ∙ e))))
 
-pub zero-start : (list : List ℕ) → Zeroed 0 list
-zero-start list = record { each = λ x h. let no : ⊥ = omega arith in absurd no }
+    module _ (x : ℕ) (own : o ≡ i) (xe : x ≡ byteAt holders q) where
+      pub exported-own : x - 1 ≡ exportedAt owners holders i q
+      unfolding exportedAt ownsAt
+      exported-own = ap (λ y. y - 1) xe ∙ sym (ap (λ b. cond b (byteAt holders q - 1) 0) (eq-eqb (ownerAt owners q) i (sym oe ∙ own)))
 
-pub zero-turn : (q n m : ℕ) (list : List ℕ) → q < n → length list ≡ m → m ≡ n → Zeroed q list → Zeroed (q + 1) (set list q 0)
-zero-turn q n m list h e f Z = record { each = λ x l. told x l (eqb q x) refl }
-  where
-    told : (x : ℕ) → x < q + 1 → (b : Bool) → eqb q x ≡ b → getD (set list q 0) x 0 ≡ 0
-    told x l true w = ap (λ y. getD (set list q 0) y 0) (sym (eqb-true q x w)) ∙ getD-set-same list q 0 0 (omega arith)
-    told x l false w =
-        let no : q ≡ x → ⊥ = eqb-false q x w in
-        getD-set-other list q x 0 0 (λ p. no (sym p)) ∙ Z .each x (omega arith)
+      pub exported-none : x ≡ 0 → 0 ≡ exportedAt owners holders i q
+      exported-none z = (let n : 0 ≡ x - 1 = omega arith in n) ∙ exported-own
 
-pub zero-end : (q n m : ℕ) (list : List ℕ) → n ≤ q → length list ≡ m → m ≡ n → Zeroed q list → list ≡ replicate n 0
-zero-end q n m list h e f Z =
-    let r : length (replicate {A = ℕ} n 0) ≡ n = length-replicate {A = ℕ} n 0 in
-    ext-getD 0 list (replicate n 0) (e ∙ f ∙ sym r) (λ x l. Z .each x (omega arith) ∙ sym (zeros-at n x))
+  pub exports-start : 0 ≡ exportCount owners holders i 0
+  unfolding exportCount
+  exports-start = sym (total-start 0 (exportedAt owners holders i))
+
+  pub exports-turn : (q n x : ℕ) → n ≡ exportCount owners holders i q → x ≡ exportedAt owners holders i q → n + x ≡ exportCount owners holders i (q + 1)
+  unfolding exportCount
+  exports-turn q n x e f = ap₂ _+_ e (f ∙ ap (exportedAt owners holders i) (sym (zero-add q))) ∙ sym (total-turn 0 (exportedAt owners holders i) q)
+
+  pub exports-end : (q cells n : ℕ) → q ≤ cells → cells ≤ q → n ≡ exportCount owners holders i q → n ≡ exportCount owners holders i cells
+  exports-end q cells n g h e = at-last (λ k. n ≡ exportCount owners holders i k) q cells g h e
+
+-- ---- the exports by stamps
+
+module _ (owners stamps : Bytes) (i j first : ℕ) where
+  module _ (q x : ℕ) (xe : x ≡ byteAt stamps q) (list : List ℕ) (s : ℕ) where
+    pub export-unstamped : (x ≡ j → ⊥) → Added list list s s (ownStamped owners stamps i j first q)
+    unfolding ownStamped
+    export-unstamped ne =
+        subst (λ b. Added list list s s (cond b ((first + q) ∷ []) []))
+        (sym (and-right (ownsAt owners i q) (eqb (byteAt stamps q) j) (ne-eqb (byteAt stamps q) j (λ e. ne (xe ∙ e))))) (add-none list s)
+
+    module _ (o : ℕ) (st : x ≡ j) (oe : o ≡ ownerAt owners q) where
+      pub export-other : (o ≡ i → ⊥) → Added list list s s (ownStamped owners stamps i j first q)
+      unfolding ownStamped ownsAt
+      export-other ne =
+          subst (λ b. Added list list s s (cond b ((first + q) ∷ []) []))
+          (sym (and-left (eqb (ownerAt owners q) i) (eqb (byteAt stamps q) j) (ne-eqb (ownerAt owners q) i (λ e. ne (oe ∙ e))))) (add-none list s)
+
+      pub export-added : (after : List ℕ) → o ≡ i → after ≡ set list s (first + q) → Added list after s (s + 1) (ownStamped owners stamps i j first q)
+      unfolding ownStamped ownsAt
+      export-added after own e =
+          subst (λ b. Added list after s (s + 1) (cond b ((first + q) ∷ []) []))
+          (sym (ap₂ (λ a b. a && b) (eq-eqb (ownerAt owners q) i (sym oe ∙ own)) (eq-eqb (byteAt stamps q) j (sym xe ∙ st)))) (add-one list after s (first + q) e)
+
+  pub stamped-own : (cells : ℕ) (list : List ℕ) (s : ℕ) → j ≡ i → Added list list s s (stampedCells owners stamps i j first cells)
+  unfolding stampedCells
+  stamped-own cells list s e =
+      subst (λ b. Added list list s s (cond b [] (blocks 0 cells (ownStamped owners stamps i j first)))) (sym (eq-eqb j i e)) (add-none list s)
+
+  pub stamped-end : (cells : ℕ) (a b : List ℕ) (s t q : ℕ) → (j ≡ i → ⊥) → q ≤ cells → cells ≤ q → Added a b s t (blocks 0 q (ownStamped owners stamps i j first))
+      → Added a b s t (stampedCells owners stamps i j first cells)
+  unfolding stampedCells
+  stamped-end cells a b s t q ne g h X =
+      subst (λ c. Added a b s t (cond c [] (blocks 0 cells (ownStamped owners stamps i j first)))) (sym (ne-eqb j i ne))
+      (add-end (ownStamped owners stamps i j first) a b s t q cells g h X)
+
+-- lists of which the later ones are empty
+blocks-short : (a n k : ℕ) (g : ℕ → List ℕ) → ((x : ℕ) → n ≤ x → g (a + x) ≡ []) → blocks a (n + k) g ≡ blocks a n g
+unfolding blocks
+blocks-short a n zero g f = ap (λ x. blocks a x g) (add-zero n)
+blocks-short a n (suc k) g f =
+    let e : n + suc k ≡ suc (n + k) = omega arith in
+    ap (λ x. blocks a x g) e ∙ ap₂ _++_ (blocks-short a n k g f) (f (n + k) (omega arith)) ∙ append-nil (blocks a n g)
+
+module _ (owners table : Bytes) (ends : List ℕ) (i first cells : ℕ) where
+  pub sent-begin : (list : List ℕ) → Added list list 0 0 (sentList owners table ends i first cells 0)
+  unfolding sentList
+  sent-begin list = subst (Added list list 0 0) (sym (blocks-start 1 (λ j. partCells owners table ends j first cells i))) (add-none list 0)
+
+  pub sent-all : (parts k n : ℕ) (a b : List ℕ) → k ≤ parts → parts ≤ k → 1 ≤ i → parts ≤ 16 → Mapped owners cells parts → Added a b 0 n (sentList owners table ends i first cells k)
+      → Added a b 0 n (sentList owners table ends i first cells 16)
+  unfolding sentList
+  sent-all parts k n a b g h low few M X =
+      let z : parts + (16 - parts) ≡ 16 = omega arith in
+      let e : k ≡ parts = omega arith in
+      subst (Added a b 0 n)
+      (ap (λ x. blocks 1 x (λ j. partCells owners table ends j first cells i)) e
+      ∙ sym (blocks-short 1 parts (16 - parts) (λ j. partCells owners table ends j first cells i) (λ x l. cells-none owners table ends i cells parts M (1 + x) (omega arith) first low))
+      ∙ ap (λ x. blocks 1 x (λ j. partCells owners table ends j first cells i)) z) X
+
+  module _ (low : 1 ≤ i) (high : i ≤ 16) (few : cells ≤ 2000) (k : ℕ) (s h s₁ h₁ : Bytes) (F : Few k s) (P : Raised (k + 1) s h s₁ h₁ (reachedAt owners table ends (k + 1) cells)) where
+    -- of the cells that are not its own, part k + 1 imports those from i that part i owns and it reaches
+    imports-one : (o : ℕ) (l t r : Bool) → (k + 1 ≡ i → ⊥) → eqb (cond (eqb o (k + 1)) (cond l (cond t 17 18) 0) (cond r o 0)) i ≡ eqb o i && r
+    imports-one o l t r ne = go (eqb o (k + 1)) refl r
+      where
+        own : (l t : Bool) → eqb (cond l (cond t 17 18) 0) i ≡ false
+        own true true = ne-eqb 17 i (λ z. let no : ⊥ = omega arith in no)
+        own true false = ne-eqb 18 i (λ z. let no : ⊥ = omega arith in no)
+        own false t = ne-eqb 0 i (λ z. let no : ⊥ = omega arith in no)
+
+        all : (b : Bool) → b ≡ b && true
+        all true = refl
+        all false = refl
+
+        go : (a : Bool) → eqb o (k + 1) ≡ a → (r : Bool) → eqb (cond a (cond l (cond t 17 18) 0) (cond r o 0)) i ≡ eqb o i && r
+        go true e r = own l t ∙ sym (and-left (eqb o i) r (ne-eqb o i (λ z. ne (sym (eqb-true o (k + 1) e) ∙ z))))
+        go false e true = all (eqb o i)
+        go false e false = ne-eqb 0 i (λ z. let no : ⊥ = omega arith in no) ∙ sym (and-right (eqb o i) false refl)
+
+    stamped-is : (q : ℕ) → q < cells → eqb (byteAt s₁ q) (k + 1) ≡ reachedAt owners table ends (k + 1) cells q
+    stamped-is q l = ap (λ x. eqb x (k + 1)) (P .stamp q (omega arith)) ∙ go (reachedAt owners table ends (k + 1) cells q)
+      where
+        go : (b : Bool) → eqb (cond b (k + 1) (byteAt s q)) (k + 1) ≡ b
+        go true = eq-eqb (k + 1) (k + 1) refl
+        go false = ne-eqb (byteAt s q) (k + 1) (λ e. let no : ⊥ = omega (arith, F .each q) in no)
+
+    stamped-cells : stampedCells owners s₁ i (k + 1) first cells ≡ partCells owners table ends (k + 1) first cells i
+    unfolding stampedCells
+    stamped-cells = go (eqb (k + 1) i) refl
+      where
+        go : (b : Bool) → eqb (k + 1) i ≡ b → cond b [] (blocks 0 cells (ownStamped owners s₁ i (k + 1) first)) ≡ partCells owners table ends (k + 1) first cells i
+        go true e = sym (own-none owners table ends i cells (k + 1) first low high (eqb-true (k + 1) i e))
+        go false e =
+            unfold ownStamped partCells classAt ownsAt in blocks-cong 0 (λ q. cond (eqb (ownerAt owners q) i && eqb (byteAt s₁ q) (k + 1)) ((first + q) ∷ []) [])
+            (λ q. cond (eqb (cond (eqb (ownerAt owners q) (k + 1)) (cond (ltb q cells) (cond (insideAt owners table ends (k + 1) q) 17 18) 0)
+            (cond (reachedAt owners table ends (k + 1) cells q) (ownerAt owners q) 0)) i) ((first + q) ∷ []) []) cells
+            (λ q l.
+            ap (λ b. cond b ((first + (0 + q)) ∷ []) [])
+            (ap (λ b. eqb (ownerAt owners (0 + q)) i && b) (stamped-is (0 + q) (omega arith))
+            ∙ sym (imports-one (ownerAt owners (0 + q)) (ltb (0 + q) cells) (insideAt owners table ends (k + 1) (0 + q))
+            (reachedAt owners table ends (k + 1) cells (0 + q)) (eqb-false (k + 1) i e))))
+
+    module _ (n t : ℕ) (b c : List ℕ) (Y : Added b c n t (stampedCells owners s₁ i (k + 1) first cells)) where
+      pub sent-more : (a : List ℕ) → Added a b 0 n (sentList owners table ends i first cells k) → Added a c 0 t (sentList owners table ends i first cells (k + 1))
+      unfolding sentList
+      sent-more a X =
+          let z : k + 1 ≡ 1 + k = omega arith in
+          subst (Added a c 0 t)
+          (ap (λ (xs : List ℕ). blocks 1 k (λ j. partCells owners table ends j first cells i) ++ xs) (stamped-cells ∙ ap (λ j. partCells owners table ends j first cells i) z)
+          ∙ sym (blocks-turn 1 (λ j. partCells owners table ends j first cells i) k))
+          (add-both a b c 0 n t (blocks 1 k (λ j. partCells owners table ends j first cells i)) (stampedCells owners s₁ i (k + 1) first cells) X Y)
+
+      pub sent-counted : (parts : ℕ) (sent after : List ℕ) → k < parts → parts ≤ 16 → Sent owners table ends i cells k sent → after ≡ set sent (k + 1) (t - n)
+          → Sent owners table ends i cells (k + 1) after
+      sent-counted parts sent after l small X e =
+          sent-turn owners table ends i cells k parts (t - n) sent after l small X
+          (omega (arith, Y .count, ap length stamped-cells, cells-many owners table ends i cells (k + 1) first i)) e
+
+-- ---- a cleared array
+
+zero-list : (list : List ℕ) → Zeros 2001 list → list ≡ replicate 2001 0
+zero-list list Z =
+    let r : length (replicate {A = ℕ} 2001 0) ≡ 2001 = length-replicate {A = ℕ} 2001 0 in
+    ext-getD 0 list (replicate 2001 0) (Z .size ∙ sym r) (λ x l. Z .each x ∙ sym (zeros-at 2001 x))
+
+-- local numbers, from a cleared array
+pub order-numbered : (order : List ℕ) (n : ℕ) (empty local : List ℕ) → Zeros 2001 empty → local ≡ numbering 0 (take n order) empty → local ≡ numbersOf order n
+order-numbered order n empty local Z e = e ∙ ap (numbering 0 (take n order)) (zero-list empty Z)

@@ -1,25 +1,22 @@
--- The rows, their ends, and the cells of a class, in local numbers. Assumes nothing.
+-- The rows, their ends, and listed cells, in local numbers. Assumes nothing.
 use mathlib.Core.Path.{_≡_, refl, sym, ap, ap₂, _∙_}
-use mathlib.Core.Bool.{Bool, true, false, cond}
 use mathlib.Core.List.{List, [], _∷_, _++_, map}
-use Prim.Native.Nat.{ℕ, _+_, _-_, _*_, _≤_, _<_}
-use native.Mathlib.Nat.{zero-add}
+use Prim.Native.Nat.{ℕ, zero, suc, _+_, _-_, _*_, _≤_, _<_}
+use native.Mathlib.Numerals.{add-one}
 use native.Mathlib.Omega.{arith}
-use lib.Dec.{eqb}
-use lib.ListN.{length, getD, length-map}
-use borrow.Author.Tests.{eq-eqb, ne-eqb}
+use lib.ListN.{length, getD, take, length-map}
+use lib.Seq.{take-suc, length-take-le}
 use Rattle.vocabulary.specs.ListLaws.{map-append}
-use Rattle.vocabulary.specs.Bytes.{Bytes, byteAt}
+use Rattle.vocabulary.specs.Bytes.{Bytes}
 use Rattle.vocabulary.specs.Ranges.{blocks}
-use Rattle.vocabulary.specs.RangeLaws.{total-start, total-turn, total-grows, blocks-start, blocks-turn, blocks-fit, blocks-sized, rows-length, at-last}
+use Rattle.vocabulary.specs.RangeLaws.{total-start, total-turn, total-grows, blocks-turn, blocks-sized, rows-length, at-last}
 use Rattle.vocabulary.specs.CountLaws.{total-double}
 use Rattle.layout.specs.Words.{wordAt}
 use Rattle.split.specs.Split.{globalOf}
-use Rattle.split.specs.Classes.{ofClass, classCells, partCells, Classed}
-use Rattle.cell_lists.proofs.ClassLists.{row-cells}
+use Rattle.split.specs.Classes.{partCells}
 use Rattle.word_lists.proofs.PutLaws.{put-as, put-none, put-both}
 use Rattle.word_lists.specs.Putting.{Put}
-use Rattle.start_lists.specs.Starting.{localIn, countAt, Sent, placeAt, rowSize, entryWords, rowEnds, rowWords, Row, Rows, sentEnds, sentWords}
+use Rattle.start_lists.specs.Starting.{localIn, placeAt, rowSize, entryWords, rowEnds, rowWords, Row, Rows, sentEnds, sentList, sentWords}
 
 module _ (table : Bytes) (ends : List ℕ) (first : ℕ) (order : List ℕ) (l q from to : ℕ) (qe : q ≡ getD order (l - 1) 0 - first) (fe : from ≡ getD ends q 0) (te : to ≡ getD ends (q + 1) 0) where
   size-is : rowSize table ends first order l ≡ to - from
@@ -139,89 +136,41 @@ module _ (table : Bytes) (ends : List ℕ) (first : ℕ) (order local : List ℕ
   pub rows-each : (l : ℕ) → Rows table ends first order owned → 1 ≤ l → l < owned + 1 → Row table ends first order l
   rows-each l R h k = R .each l h (omega arith)
 
--- ---- the cells of a class in local numbers
+-- ---- listed cells in local numbers
 
-module _ (class : Bytes) (first k : ℕ) (local : List ℕ) where
-  module _ (q x : ℕ) (e : x ≡ byteAt class q) where
-    cell-of : (b : Bool) → eqb x k ≡ b → ofClass class first k q ≡ cond b ((first + q) ∷ []) []
-    unfolding ofClass
-    cell-of b w = ap (λ y. cond (eqb y k) ((first + q) ∷ []) []) (sym e) ∙ ap (λ c. cond c ((first + q) ∷ []) []) w
+pub locals-start : (b : Bytes) (s : ℕ) (list local : List ℕ) → Put b b s s (map (localIn local) (take 0 list))
+locals-start b s list local = put-none b s
 
-    pub cell-none : (b : Bytes) (s : ℕ) → (x ≡ k → ⊥) → Put b b s s (map (localIn local) (ofClass class first k q))
-    cell-none b s h = put-as b b s s [] _ (sym (ap (map (localIn local)) (cell-of false (ne-eqb x k h)))) (put-none b s)
+pub locals-turn : (list local : List ℕ) (a b c : Bytes) (s t u k n x l : ℕ) → 2 * (s + n) ≤ length a → k < n → n ≤ length list → t ≡ s + k → x ≡ getD list k 0 → l ≡ getD local x 0
+    → Put a b s t (map (localIn local) (take k list)) → Put b c t u (l ∷ []) → Put a c s u (map (localIn local) (take (k + 1) list))
+unfolding localIn
+locals-turn list local a b c s t u k n x l room h there te xe le P Q =
+    put-as a c s u (map (localIn local) (take k list) ++ (l ∷ [])) _
+    (ap (λ y. map (localIn local) (take k list) ++ (y ∷ [])) (le ∙ ap (λ y. getD local y 0) xe)
+    ∙ sym (map-append (localIn local) (take k list) (getD list k 0 ∷ []))
+    ∙ ap (map (localIn local)) (sym (take-suc list k 0 (omega arith)) ∙ ap (λ j. take j list) (sym (add-one k))))
+    (put-both a b c s t u _ _ P Q (omega arith))
 
-    pub cell-room : (b : Bytes) (s : ℕ) → x ≡ k → 2 * (s + length (ofClass class first k q)) ≤ length b → 2 * (s + 1) ≤ length b
-    cell-room b s h r = omega (arith, ap length (cell-of true (eq-eqb x k h)))
+pub locals-end : (list local : List ℕ) (a b : Bytes) (s t k n : ℕ) → k ≤ n → n ≤ k → Put a b s t (map (localIn local) (take k list)) → Put a b s t (map (localIn local) (take n list))
+locals-end list local a b s t k n g h P = at-last (λ j. Put a b s t (map (localIn local) (take j list))) k n g h P
 
-    pub cell-put : (a b : Bytes) (s u c l : ℕ) → x ≡ k → c ≡ first + q → l ≡ getD local c 0 → Put a b s u (l ∷ []) → Put a b s u (map (localIn local) (ofClass class first k q))
-    unfolding localIn
-    cell-put a b s u c l h ce le P =
-        put-as a b s u (l ∷ []) _ (ap (λ y. y ∷ []) (le ∙ ap (λ y. getD local y 0) ce) ∙ sym (ap (map (localIn local)) (cell-of true (eq-eqb x k h)))) P
-
-  -- one after the other
-  pub class-start : (b : Bytes) (s : ℕ) → Put b b s s (map (localIn local) (blocks 0 0 (ofClass class first k)))
-  class-start b s = put-as b b s s [] _ (sym (ap (map (localIn local)) (blocks-start 0 (ofClass class first k)))) (put-none b s)
-
-  module _ (cells : ℕ) (a b : Bytes) (s u q : ℕ) (P : Put a b s u (map (localIn local) (blocks 0 q (ofClass class first k)))) (h : q < cells)
-      (room : 2 * (s + length (classCells class first cells k)) ≤ length a) where
-    class-fit : u + length (ofClass class first k q) ≤ s + length (classCells class first cells k)
-    unfolding classCells
-    class-fit =
-        omega (
-          arith,
-          P .count,
-          length-map (blocks 0 q (ofClass class first k)) (localIn local),
-          blocks-fit 0 (ofClass class first k) cells q h,
-          ap (λ x. length (ofClass class first k x)) (zero-add q),
-        )
-
-    pub class-room : length b ≡ length a → 2 * (u + length (ofClass class first k q)) ≤ length b
-    class-room e = omega (arith, class-fit)
-
-    pub class-turn : (c : Bytes) (w : ℕ) → Put b c u w (map (localIn local) (ofClass class first k q)) → Put a c s w (map (localIn local) (blocks 0 (q + 1) (ofClass class first k)))
-    class-turn c w Q =
-        put-as a c s w (map (localIn local) (blocks 0 q (ofClass class first k)) ++ map (localIn local) (ofClass class first k q)) _
-        (ap (λ x. map (localIn local) (blocks 0 q (ofClass class first k)) ++ map (localIn local) (ofClass class first k x)) (sym (zero-add q))
-        ∙ sym (map-append (localIn local) (blocks 0 q (ofClass class first k)) (ofClass class first k (0 + q)))
-        ∙ ap (map (localIn local)) (sym (blocks-turn 0 (ofClass class first k) q)))
-        (put-both a b c s u w _ _ P Q (omega (arith, class-fit)))
-
-  pub class-end : (cells : ℕ) (a b : Bytes) (s u q : ℕ) → q ≤ cells → cells ≤ q → Put a b s u (map (localIn local) (blocks 0 q (ofClass class first k)))
-      → Put a b s u (map (localIn local) (classCells class first cells k))
-  unfolding classCells
-  class-end cells a b s u q g h P = at-last (λ n. Put a b s u (map (localIn local) (blocks 0 n (ofClass class first k)))) q cells g h P
+pub locals-count : (list local : List ℕ) (a b : Bytes) (s t n : ℕ) → n ≤ length list → Put a b s t (map (localIn local) (take n list)) → t ≡ s + n
+locals-count list local a b s t n h P = omega (arith, P .count, length-map (take n list) (localIn local), length-take-le n list h)
 
 -- ---- exports in local numbers
 
-module _ (owners table : Bytes) (ends : List ℕ) (i first cells : ℕ) where
-  pub sent-room : (x s j : ℕ) (class : Bytes) → cells ≤ 2000 → Classed owners table ends j cells class → 2 * (s + length (partCells owners table ends j first cells i)) ≤ x
-      → 2 * (s + length (classCells class first cells i)) ≤ x
-  sent-room x s j class few C r = omega (arith, ap length (row-cells owners table ends j first cells i class few C))
-
-  -- the count of the exports to part j
-  pub sent-here : (sent : List ℕ) (j x : ℕ) → Sent owners table ends i cells 16 sent → x ≡ getD sent j 0 → 1 ≤ j → j < 17 → x ≡ length (partCells owners table ends j first cells i)
-  unfolding countAt
-  sent-here sent j x X e low high = e ∙ X .each first j low (omega arith)
-
 module _ (owners table : Bytes) (ends : List ℕ) (i first cells : ℕ) (local : List ℕ) where
-  pub sent-none : (b : Bytes) (s j count : ℕ) → count ≡ length (partCells owners table ends j first cells i) → count ≡ 0 → Put b b s s (sentWords owners table ends i first cells local j)
-  unfolding sentWords
-  sent-none b s j count e z =
-      put-as b b s s [] _ (sym (ap (map (localIn local)) (nothing (partCells owners table ends j first cells i) (sym e ∙ z)))) (put-none b s)
-    where
-      nothing : (xs : List ℕ) → length xs ≡ 0 → xs ≡ []
-      nothing [] h = refl
-      nothing (x ∷ xs) h = let no : ⊥ = omega arith in absurd no
-
-  pub sent-put : (a b : Bytes) (s t j : ℕ) (class : Bytes) → cells ≤ 2000 → Classed owners table ends j cells class → Put a b s t (map (localIn local) (classCells class first cells i))
-      → Put a b s t (sentWords owners table ends i first cells local j)
-  unfolding sentWords
-  sent-put a b s t j class few C P = put-as a b s t _ _ (ap (map (localIn local)) (row-cells owners table ends j first cells i class few C)) P
-
-  pub sent-long : (j : ℕ) → length (sentWords owners table ends i first cells local j) ≡ length (partCells owners table ends j first cells i)
+  sent-long : (j : ℕ) → length (sentWords owners table ends i first cells local j) ≡ length (partCells owners table ends j first cells i)
   unfolding sentWords
   sent-long j = length-map (partCells owners table ends j first cells i) (localIn local)
 
   pub all-long : length (blocks 1 16 (sentWords owners table ends i first cells local)) ≡ sentEnds owners table ends i first cells 16
   unfolding sentEnds
   all-long = blocks-sized 1 (sentWords owners table ends i first cells local) (λ j. length (partCells owners table ends j first cells i)) 16 sent-long
+
+  pub sent-mapped : (n : ℕ) → map (localIn local) (sentList owners table ends i first cells n) ≡ blocks 1 n (sentWords owners table ends i first cells local)
+  unfolding sentList sentWords blocks
+  sent-mapped zero = refl
+  sent-mapped (suc n) =
+      map-append (localIn local) (blocks 1 n (λ j. partCells owners table ends j first cells i)) (partCells owners table ends (1 + n) first cells i)
+      ∙ ap (λ (xs : List ℕ). xs ++ map (localIn local) (partCells owners table ends (1 + n) first cells i)) (sent-mapped n)

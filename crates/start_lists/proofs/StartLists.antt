@@ -1,26 +1,29 @@
 -- The lists of a part's state, put together from their pieces, and the depths behind them. Assumes nothing.
-use mathlib.Core.Path.{_≡_, sym, ap, ap₂, _∙_}
-use mathlib.Core.List.{List, [], _∷_, _++_}
+use mathlib.Core.Path.{_≡_, sym, ap, ap₂, _∙_, subst}
+use mathlib.Core.List.{List, [], _∷_, _++_, map, append-assoc}
 use Prim.Native.Nat.{ℕ, _+_, _-_, _*_, _≤_, _<_}
 use native.Mathlib.Nat.{zero-add}
 use native.Mathlib.Omega.{arith}
-use lib.ListN.{length, getD, take, drop, replicate, length-append}
-use lib.Seq.{length-take-le}
+use lib.ListN.{length, getD, take, drop, length-append}
+use lib.Seq.{length-take-le, take-append-seam}
 use Rattle.vocabulary.specs.Bytes.{Bytes, over}
+use Rattle.vocabulary.specs.ByteLaws.{over-front}
 use Rattle.vocabulary.specs.Ranges.{listed, blocks, total}
-use Rattle.vocabulary.specs.RangeLaws.{listed-cong, listed-length, total-agree}
+use Rattle.vocabulary.specs.RangeLaws.{listed-cong, listed-length, blocks-cong, blocks-length, total-agree}
 use Rattle.layout.specs.Words.{wordAt}
-use Rattle.split.specs.Numbering.{numbering}
+use Rattle.split.specs.Classes.{Classed, classCells, partCells, classOrder, Added}
+use Rattle.cell_lists.proofs.ClassLists.{row-cells}
+use Rattle.cell_lists.proofs.AddLaws.{added-fits, added-take, class-count}
 use Rattle.depths.specs.Depths.{four}
 use Rattle.depths.specs.DepthLaws.{length-four, fours-store}
 use Rattle.states.specs.State.{importWord, reachWord, exportsWord}
 use Rattle.word_lists.specs.Putting.{Put}
-use Rattle.start_lists.specs.Starting.{startWords, gotEnds, sentEnds, sentWords, rowEnds, rowWords, numberedWords, startDepth, Cells}
-use Rattle.start_lists.specs.Starting.{gotFrom, sentFrom, countAt, endsBy, Got, Sent}
+use Rattle.start_lists.specs.Starting.{localIn, numbersOf, startWords, gotEnds, sentEnds, sentList, sentWords, rowEnds, rowWords, numberedWords, startDepth, Cells}
+use Rattle.start_lists.specs.Starting.{gotFrom, sentFrom, countAt, endsBy, Tallied, Got, Sent, exportCount, Fit, Fitting, Drawn, partOrder, partOwned}
 use Rattle.parts.proofs.OpenedLaws.{four-cut}
-use Rattle.word_lists.proofs.PutLaws.{put-as, put-both, put-length}
+use Rattle.word_lists.proofs.PutLaws.{put-as, put-both}
 use Rattle.word_lists.proofs.RegionLaws.{joined-length, joined-append, regions-two, regions-three, regions-four}
-use Rattle.start_lists.proofs.StartCounts.{rows-long, all-long}
+use Rattle.start_lists.proofs.StartCounts.{rows-long, all-long, sent-mapped}
 
 -- the words before the tables
 pub head-count : (long i steps kind first cells : ℕ) (v a b : Bytes) (t : ℕ) → Put a b 0 t ((long ∷ i ∷ steps ∷ kind ∷ []) ++ (listed 0 5 (wordAt v) ++ (first ∷ cells ∷ []))) → t ≡ importWord
@@ -47,9 +50,28 @@ module _ (owners table : Bytes) (ends : List ℕ) (i first cells : ℕ) where
       ap₂ _++_ (listed-cong 0 (endsBy got owned) (gotEnds owners table ends i first cells owned) 17 (λ k h. got-is got G owned (0 + k) (omega arith)))
       (listed-cong 0 (endsBy sent 0) (sentEnds owners table ends i first cells) 17 (λ k h. sent-is sent X (0 + k) (omega arith)))
 
-pub borders-count : (a b : Bytes) (s t owned : ℕ) (got sent : List ℕ) → Put a b s t (listed 0 17 (endsBy got owned) ++ listed 0 17 (endsBy sent 0)) → t ≡ s + 34
-borders-count a b s t owned got sent P =
-    omega (arith, P .count, length-append (listed 0 17 (endsBy got owned)) (listed 0 17 (endsBy sent 0)), listed-length 0 (endsBy got owned) 17, listed-length 0 (endsBy sent 0) 17)
+pub front-count : (long i steps kind first cells : ℕ) (v : Bytes) (owned : ℕ) (got sent : List ℕ) (a b : Bytes) (t : ℕ)
+    → Put a b 0 t (((long ∷ i ∷ steps ∷ kind ∷ []) ++ (listed 0 5 (wordAt v) ++ (first ∷ cells ∷ []))) ++ (listed 0 17 (endsBy got owned) ++ listed 0 17 (endsBy sent 0))) → t ≡ reachWord 0
+front-count long i steps kind first cells v owned got sent a b t P =
+    omega (
+      arith,
+      P .count,
+      length-append ((long ∷ i ∷ steps ∷ kind ∷ []) ++ (listed 0 5 (wordAt v) ++ (first ∷ cells ∷ []))) (listed 0 17 (endsBy got owned) ++ listed 0 17 (endsBy sent 0)),
+      length-append (listed 0 5 (wordAt v)) (first ∷ cells ∷ []),
+      listed-length 0 (wordAt v) 5,
+      length-append (listed 0 17 (endsBy got owned)) (listed 0 17 (endsBy sent 0)),
+      listed-length 0 (endsBy got owned) 17,
+      listed-length 0 (endsBy sent 0) 17,
+    )
+
+-- the exports stand at the front of their list
+sent-taken : (a b ws : List ℕ) (n k : ℕ) → Added a b 0 n ws → k ≡ length ws → k ≤ length a → take k b ≡ ws
+sent-taken a b ws n k X e h =
+    ap₂ (λ j (xs : List ℕ). take j xs) e (X .text (omega (arith, X .count)) ∙ over-front a ws) ∙ take-append-seam ws (drop (length ws) a)
+
+sent-length : (owners table : Bytes) (ends : List ℕ) (i first cells : ℕ) → length (sentList owners table ends i first cells 16) ≡ sentEnds owners table ends i first cells 16
+unfolding sentList sentEnds
+sent-length owners table ends i first cells = blocks-length 1 (λ j. partCells owners table ends j first cells i) 16
 
 -- ---- all pieces
 
@@ -93,23 +115,66 @@ module _ (owners table : Bytes) (ends : List ℕ) (i first cells : ℕ) (order :
           all-long owners table ends i first cells local,
         )
 
-    pub lists-put : (got sent : List ℕ) (a b c d : Bytes) (t u w : ℕ) → Got owners table ends i cells got → Sent owners table ends i cells 16 sent → 2 * reachWord 0 ≤ length a
-        → Put a b 0 t ((long ∷ i ∷ steps ∷ kind ∷ []) ++ (listed 0 5 (wordAt v) ++ (first ∷ cells ∷ [])))
-        → Put b c t u (listed 0 17 (endsBy got owned) ++ listed 0 17 (endsBy sent 0)) → Put c d u w later
-        → Put a d 0 w (numberedWords owners table ends i first cells order n local owned steps kind v)
-    lists-put got sent a b c d t u w G X room P Q R =
-        let te : t ≡ importWord = head-count long i steps kind first cells v a b t P in
-        let lb : length b ≡ length a = put-length a b 0 t _ P (omega arith) in
-        put-as a d 0 w _ _ words-are
-        (put-both a b d 0 t w _ _ P
-        (put-both b c d t u w _ _ (put-as b c t u _ _ (borders-are owners table ends i first cells got sent owned G X) Q) R (omega (arith, borders-count b c t u owned got sent Q))) (omega arith))
+    pub lists-put : (got sent before list : List ℕ) (x k : ℕ) (a b c : Bytes) (t u : ℕ) → Got owners table ends i cells got → Sent owners table ends i cells 16 sent
+        → Added before list 0 x (sentList owners table ends i first cells 16) → k ≡ sentEnds owners table ends i first cells 16 → k ≤ length before → 2 * reachWord 0 ≤ length a
+        → Put a b 0 t (((long ∷ i ∷ steps ∷ kind ∷ []) ++ (listed 0 5 (wordAt v) ++ (first ∷ cells ∷ []))) ++ (listed 0 17 (endsBy got owned) ++ listed 0 17 (endsBy sent 0)))
+        → Put b c t u (take n order ++ (listed 0 (owned + 1) (rowEnds table ends first order) ++ (blocks 1 owned (rowWords table ends first order local) ++ map (localIn local) (take k list))))
+        → Put a c 0 u (numberedWords owners table ends i first cells order n local owned steps kind v)
+    lists-put got sent before list x k a b c t u G X Y ke there room P Q =
+        let e = sent-taken before list (sentList owners table ends i first cells 16) x k Y (ke ∙ sym (sent-length owners table ends i first cells)) there in
+        put-as a c 0 u _ _
+        (append-assoc ((long ∷ i ∷ steps ∷ kind ∷ []) ++ (listed 0 5 (wordAt v) ++ (first ∷ cells ∷ []))) (listed 0 17 (endsBy got owned) ++ listed 0 17 (endsBy sent 0)) _
+        ∙ ap₂ (λ (bs : List ℕ) (xs : List ℕ). ((long ∷ i ∷ steps ∷ kind ∷ []) ++ (listed 0 5 (wordAt v) ++ (first ∷ cells ∷ []))) ++ (bs ++ (take n order
+        ++ (listed 0 (owned + 1) (rowEnds table ends first order) ++ (blocks 1 owned (rowWords table ends first order local) ++ xs)))))
+        (borders-are owners table ends i first cells got sent owned G X) (ap (map (localIn local)) e ∙ sent-mapped owners table ends i first cells local 16)
+        ∙ words-are)
+        (put-both a b c 0 t u _ _ P Q (omega (arith, front-count long i steps kind first cells v owned got sent a b t P)))
 
 -- the lists by the local numbers of the order
-pub lists-numbered : (a b : Bytes) (s t : ℕ) (owners table : Bytes) (ends : List ℕ) (i first cells : ℕ) (order : List ℕ)
-    (n owned steps kind : ℕ) (v : Bytes) (empty local : List ℕ) → empty ≡ replicate 2001 0 → local ≡ numbering 0 (take n order) empty
-    → Put a b s t (numberedWords owners table ends i first cells order n local owned steps kind v) → Put a b s t (startWords owners table ends i first cells order n owned steps kind v)
-lists-numbered a b s t owners table ends i first cells order n owned steps kind v empty local z e P =
-    put-as a b s t _ _ (ap (λ l. numberedWords owners table ends i first cells order n l owned steps kind v) (e ∙ ap (numbering 0 (take n order)) z)) P
+pub lists-numbered : (a b : Bytes) (s t : ℕ) (owners table : Bytes) (ends : List ℕ) (i first cells : ℕ) (order : List ℕ) (n owned steps kind : ℕ) (v : Bytes) (local : List ℕ)
+    → local ≡ numbersOf order n → Put a b s t (numberedWords owners table ends i first cells order n local owned steps kind v)
+    → Put a b s t (startWords owners table ends i first cells order n owned steps kind v)
+lists-numbered a b s t owners table ends i first cells order n owned steps kind v local e P =
+    put-as a b s t _ _ (ap (λ l. numberedWords owners table ends i first cells order n l owned steps kind v) e) P
+
+-- ---- the plan by the tables
+
+-- a row tells the order that the tables tell
+pub row-order : (owners table : Bytes) (ends : List ℕ) (i first cells parts : ℕ) (class : Bytes) → cells ≤ 2000 → Classed owners table ends i cells class
+    → classOrder class first cells parts ≡ partOrder owners table ends i first cells parts
+unfolding classOrder partOrder
+row-order owners table ends i first cells parts class few C =
+    ap₂ _++_ (row-cells owners table ends i first cells 17 class few C)
+    (ap₂ _++_ (row-cells owners table ends i first cells 18 class few C)
+    (blocks-cong 1 (classCells class first cells) (partCells owners table ends i first cells) parts (λ j h. row-cells owners table ends i first cells (1 + j) class few C)))
+
+module _ (owners table : Bytes) (ends : List ℕ) (i first cells parts : ℕ) (F : Fitting owners table ends i first cells parts) (class : Bytes) (C : Classed owners table ends i cells class)
+    (a order : List ℕ) (n : ℕ) (X : Added a order 0 n (classOrder class first cells parts)) (room : 2000 ≤ length a) where
+  order-same : classOrder class first cells parts ≡ partOrder owners table ends i first cells parts
+  order-same = row-order owners table ends i first cells parts class (F .cells-few) C
+
+  few : length (classOrder class first cells parts) ≤ 2000
+  few = omega (arith, ap length order-same, F .order-few)
+
+  there : n ≤ length order
+  there = added-fits a order n (classOrder class first cells parts) X room few
+
+  order-is : take n order ≡ partOrder owners table ends i first cells parts
+  order-is = added-take a order n (classOrder class first cells parts) X room few ∙ order-same
+
+  module _ (got : List ℕ) (T : Tallied class cells got) (inner outer : ℕ) (ie : inner ≡ getD got 17 0) (oe : outer ≡ getD got 18 0) where
+    owned-is : inner + outer ≡ partOwned owners table ends i first cells
+    unfolding countAt partOwned
+    owned-is =
+        ap₂ _+_ (ie ∙ T .each 17 (omega arith) ∙ sym (class-count class 17 first cells) ∙ ap length (row-cells owners table ends i first cells 17 class (F .cells-few) C))
+        (oe ∙ T .each 18 (omega arith) ∙ sym (class-count class 18 first cells) ∙ ap length (row-cells owners table ends i first cells 18 class (F .cells-few) C))
+
+    pub plan-fit : Fit owners table ends i first cells order n (inner + outer)
+    plan-fit = subst (Fit owners table ends i first cells order n) (sym owned-is) (F .fit order n there order-is)
+
+    pub plan-drawn : (holders : Bytes) (sent long : ℕ) → sent ≡ exportCount owners holders i cells → long ≡ exportsWord n (inner + outer) (rowEnds table ends first order (inner + outer)) + sent
+        → Drawn owners table ends holders i first cells parts order n (inner + outer) sent long
+    plan-drawn holders sent long se le = record { there = there; order-is = order-is; owned-is = owned-is; sent-is = se; long-is = le }
 
 -- ---- the depths
 

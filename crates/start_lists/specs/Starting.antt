@@ -1,8 +1,10 @@
 -- How start finds the lists of a part: from the owners, the table of the reaches with its ends, and the part's
 -- local order. No public contract rests on this page; the laws in proofs/ tie it to the definitions of Start. Assumes nothing.
 use mathlib.Core.Path.{_≡_}
-use mathlib.Core.List.{List, [], _∷_, map}
+use mathlib.Core.Bool.{_&&_, cond}
+use mathlib.Core.List.{List, [], _∷_, _++_, map}
 use Prim.Native.Nat.{ℕ, _+_, _-_, _*_, _≤_, _<_}
+use lib.Dec.{eqb}
 use lib.ListN.{length, getD, take, replicate}
 use Rattle.vocabulary.specs.Bytes.{Bytes, byteAt}
 use Rattle.vocabulary.specs.Lists.{joined}
@@ -10,7 +12,7 @@ use Rattle.vocabulary.specs.Ranges.{listed, blocks, total}
 use Rattle.layout.specs.Words.{wordAt}
 use Rattle.depths.specs.Depths.{four}
 use Rattle.split.specs.Numbering.{numbering}
-use Rattle.split.specs.Classes.{partCells, classCount}
+use Rattle.split.specs.Classes.{ownsAt, partCells, classCount}
 use Rattle.states.specs.State.{exportsWord}
 
 -- the local number of a cell, in the array that has them
@@ -35,6 +37,10 @@ module _ (owners table : Bytes) (ends : List ℕ) (i first cells : ℕ) where
 
   unfoldable pub sentEnds : ℕ → ℕ
   sentEnds j = total 1 j (λ k. length (sentFrom k))
+
+  -- what it exports to the parts up to n, one part after another
+  unfoldable pub sentList : ℕ → List ℕ
+  sentList n = blocks 1 n sentFrom
 
   -- exports to j as local numbers, by the array of them
   unfoldable pub sentWords : List ℕ → ℕ → List ℕ
@@ -105,6 +111,20 @@ pub record Sent (owners table : Bytes) (ends : List ℕ) (i cells n : ℕ) (sent
   pub each : (first k : ℕ) → 1 ≤ k → k ≤ n → countAt sent k ≡ length (sentFrom owners table ends i first cells k)
   pub rest : (k : ℕ) → n < k → countAt sent k ≡ 0
 
+-- how many parts the cell at place q is exported to, if part i owns it, by the counts of those that hold it; that of the first n cells together
+unfoldable pub exportedAt : Bytes → Bytes → ℕ → ℕ → ℕ
+exportedAt owners holders i q = cond (ownsAt owners i q) (byteAt holders q - 1) 0
+
+unfoldable pub exportCount : Bytes → Bytes → ℕ → ℕ → ℕ
+exportCount owners holders i n = total 0 n (exportedAt owners holders i)
+
+-- the cell at place q, if part i owns it and it bears the stamp j; all such cells, where j is another part
+unfoldable pub ownStamped : Bytes → Bytes → ℕ → ℕ → ℕ → ℕ → List ℕ
+ownStamped owners stamps i j first q = cond (ownsAt owners i q && eqb (byteAt stamps q) j) ((first + q) ∷ []) []
+
+unfoldable pub stampedCells : Bytes → Bytes → ℕ → ℕ → ℕ → ℕ → List ℕ
+stampedCells owners stamps i j first cells = cond (eqb j i) [] (blocks 0 cells (ownStamped owners stamps i j first))
+
 -- no cell has an owner above `parts`
 pub record Mapped (owners : Bytes) (cells parts : ℕ) : Type 0 where
   pub each : (q : ℕ) → q < cells → byteAt owners q ≤ parts
@@ -132,6 +152,31 @@ pub record Fit (owners table : Bytes) (ends : List ℕ) (i first cells : ℕ) (o
   pub got : gotEnds owners table ends i first cells owned 16 < 65536
   pub near : Rows table ends first order owned
   pub long : exportsWord n owned (rowEnds table ends first order owned) + sentEnds owners table ends i first cells 16 < 65536
+
+-- the local order by the tables, and how many cells are owned by it
+unfoldable pub partOrder : Bytes → Bytes → List ℕ → ℕ → ℕ → ℕ → ℕ → List ℕ
+partOrder owners table ends i first cells parts =
+    partCells owners table ends i first cells 17 ++ (partCells owners table ends i first cells 18 ++ blocks 1 parts (partCells owners table ends i first cells))
+
+unfoldable pub partOwned : Bytes → Bytes → List ℕ → ℕ → ℕ → ℕ → ℕ
+partOwned owners table ends i first cells = length (partCells owners table ends i first cells 17) + length (partCells owners table ends i first cells 18)
+
+-- tables whose lists keep to that, in whatever array the order stands
+pub record Fitting (owners table : Bytes) (ends : List ℕ) (i first cells parts : ℕ) : Type 0 where
+  pub cells-fit : first + cells ≤ 65536
+  pub cells-few : cells ≤ 2000
+  pub parts-few : parts ≤ 16
+  pub order-few : length (partOrder owners table ends i first cells parts) ≤ 2000
+  pub fit : (order : List ℕ) (n : ℕ) → n ≤ length order → take n order ≡ partOrder owners table ends i first cells parts
+      → Fit owners table ends i first cells order n (partOwned owners table ends i first cells)
+
+-- the plan of a part by the tables: its local order, how many cells it holds, owns and exports, and how long its lists are
+pub record Drawn (owners table : Bytes) (ends : List ℕ) (holders : Bytes) (i first cells parts : ℕ) (order : List ℕ) (n owned sent long : ℕ) : Type 0 where
+  pub there : n ≤ length order
+  pub order-is : take n order ≡ partOrder owners table ends i first cells parts
+  pub owned-is : owned ≡ partOwned owners table ends i first cells
+  pub sent-is : sent ≡ exportCount owners holders i cells
+  pub long-is : long ≡ exportsWord n owned (rowEnds table ends first order owned) + sent
 
 -- the depth of local cell l in a field
 unfoldable pub startDepth : Bytes → ℕ → List ℕ → ℕ → Bytes

@@ -1,15 +1,12 @@
-// How many cells a part imports from each part and exports to it, in arrays with a place for each number.
-use cell_lists::inner::count_class;
+// How many cells of a row are of each class, and how many cells a part exports.
 use layout::byte_at;
 use layout::number_at;
 use layout::put_number_at;
-use split::inner::classify;
+use split::inner::owner_of;
 ghost use mathlib.Core.Path.{_≡_};
-ghost use Prim.Native.Nat.{_*_, _≤_};
-ghost use lib.ListN.{length, replicate};
-ghost use Rattle.vocabulary.specs.Ranges.{total};
-ghost use Rattle.split.specs.Classes.{partCells};
-ghost use Rattle.start_lists.specs.Starting.{countAt, Tallied, Mapped, Sent};
+ghost use Prim.Native.Nat.{_≤_, _<_};
+ghost use lib.ListN.{replicate};
+ghost use Rattle.start_lists.specs.Starting.{Tallied, exportedAt, exportCount};
 
 // The most parts.
 pub const MOST_PARTS: usize = 16;
@@ -29,53 +26,25 @@ pub fn count_classes(class: &[u8], cells: usize, counts: &mut [u16])
     }
 }
 
-// How many cells part i exports to part j: to itself none. The row is work space.
-fn sent_to(
-    owners: &[u8],
-    table: &[u8],
-    ends: &[u16],
-    i: usize,
-    cells: usize,
-    j: usize,
-    class: &mut [u8],
-) -> usize
-    requires { ⌜ (1 ≤ i) × (i ≤ 16) × (cells ≤ 2000) × (length (now class) ≡ 2000) ⌝ }
-    ensures { λ n. ⌜ (n ≡ length (partCells (now (owners .entry)) (now (table .entry)) (now (ends .entry)) j 0 cells i)) × (n ≤ 2000) ⌝ }
+// How many parts the cell at place q is exported to, if part i owns it: all others that hold it.
+fn exported_at(owners: &[u8], holders: &[u8], i: usize, q: usize) -> usize
+    ensures { λ n. ⌜ (n ≡ exportedAt (now (owners .entry)) (now (holders .entry)) i q) × (n < 256) ⌝ }
 {
-    if j == i {
+    if owner_of(owners, q) as usize != i {
         return 0;
     }
-    classify(owners, table, ends, cells, j, class);
-    count_class(class, cells, i)
+    let count = byte_at(holders, q) as usize;
+    if count == 0 { 0 } else { count - 1 }
 }
 
-// Counts what part i exports to each part, in a cleared array. The row is work space.
-pub fn count_sent(
-    owners: &[u8],
-    table: &[u8],
-    ends: &[u16],
-    i: usize,
-    cells: usize,
-    parts: usize,
-    class: &mut [u8],
-    sent: &mut [u16],
-)
-    requires { ⌜ (1 ≤ i) × (i ≤ 16) × (cells ≤ 2000) × (parts ≤ 16) × Mapped (now owners) cells parts × (length (now class) ≡ 2000) × (now sent ≡ replicate 17 0) ⌝ }
-    ensures { λ _. ⌜ Sent (now (owners .entry)) (now (table .entry)) (now (ends .entry)) i cells 16 (now (sent .exit)) ⌝ }
-{
-    for j in 0..parts {
-        let n = sent_to(owners, table, ends, i, cells, j + 1, class);
-        put_number_at(sent, j + 1, n as u16);
-    }
-}
-
-// The sum of the counts for the parts.
-pub fn count_total(counts: &[u16]) -> usize
-    ensures { λ n. ⌜ (n ≡ total 1 16 (countAt (now (counts .entry)))) × (n ≤ 65535 * 16) ⌝ }
+// How many cells part i exports to all parts together.
+pub fn count_exports(owners: &[u8], holders: &[u8], i: usize, cells: usize) -> usize
+    requires { ⌜ cells ≤ 2000 ⌝ }
+    ensures { λ n. ⌜ (n ≡ exportCount (now (owners .entry)) (now (holders .entry)) i cells) × (n ≤ 512000) ⌝ }
 {
     let mut n = 0;
-    for k in 0..MOST_PARTS {
-        n += number_at(counts, k + 1) as usize;
+    for q in 0..cells {
+        n += exported_at(owners, holders, i, q);
     }
     n
 }

@@ -1,17 +1,19 @@
 // The lists of a part as the words of its state, from the owners, the table of the reaches with its ends, and the part's local order.
 pub use crate::counts::CLASSES;
 pub use crate::counts::MOST_PARTS;
-pub use crate::counts::count_classes;
-pub use crate::counts::count_sent;
-use crate::counts::count_total;
+use crate::counts::count_classes;
+use crate::counts::count_exports;
+pub use crate::exports::find_sent;
+use cell_lists::inner::add_order;
+use cell_numbers::Global;
 use cell_numbers::Local;
 use cell_numbers::inner::cell_at;
 use cell_numbers::inner::index_of;
-use layout::byte_at;
 use layout::inner::copy;
 use layout::number_at;
 use layout::word_at;
-use split::inner::MOST_CELLS;
+use split::inner::HALO;
+use split::inner::INTERIOR;
 use split::inner::classify;
 use split::inner::number_cells;
 use split::inner::to_global;
@@ -24,6 +26,7 @@ use states::inner::PART;
 use states::inner::STEPS;
 use states::inner::Sizes;
 use states::inner::WEIGHT_WORDS;
+use walks::inner::clear;
 use word_lists::inner::put_list;
 use word_lists::inner::put_one;
 use word_lists::inner::put_words;
@@ -32,21 +35,30 @@ ghost use mathlib.Core.List.{[], _∷_, _++_, map};
 ghost use Prim.Native.Nat.{_+_, _-_, _*_, _<_, _≤_};
 ghost use lib.ListN.{length, getD, take, replicate};
 ghost use Rattle.vocabulary.specs.Bytes.{over};
-ghost use Rattle.vocabulary.specs.Ranges.{listed, blocks, total};
+ghost use Rattle.vocabulary.specs.Ranges.{listed, blocks};
 ghost use Rattle.layout.specs.Words.{wordAt};
-ghost use Rattle.split.specs.Classes.{ofClass, classCells, partCells};
-ghost use Rattle.states.specs.State.{importWord, exportsWord};
+ghost use Rattle.states.specs.State.{importWord, reachWord, exportsWord};
 ghost use Rattle.word_lists.specs.Putting.{Put};
-ghost use Rattle.start_lists.specs.Starting.{localIn, rowSize, countAt, endsBy, Got, Sent, entryWords, rowEnds, rowWords, sentEnds, sentWords};
-ghost use Rattle.start_lists.specs.Starting.{Row, Rows, Fit, numberedWords, startWords, startDepth, Cells};
+ghost use Rattle.start_lists.specs.Starting.{localIn, numbersOf, rowSize, endsBy, Got, entryWords, rowEnds, rowWords, Row, Rows, startDepth, Cells};
+ghost use Rattle.start_lists.specs.Starting.{Fitting, Drawn};
 
-// What the lists of a part are made by: the part, the mesh's cells, how many of them it holds and owns, and how many words the lists have.
+// Whose lists are made: the part, how many parts there are, and the mesh's cells.
+pub struct Asked {
+    pub part: usize,
+    pub parts: usize,
+    pub first: usize,
+    pub cells: usize,
+}
+
+// What its lists are made by: that, how many cells it holds, owns and exports, and how many words the lists have.
 pub struct Plan {
     pub part: usize,
+    pub parts: usize,
     pub first: usize,
     pub cells: usize,
     pub held: usize,
     pub owned: usize,
+    pub sent: usize,
     pub long: usize,
 }
 
@@ -191,111 +203,17 @@ fn put_rows(
     u
 }
 
-// Writes the local number of the cell at place q, if the row has the class k there.
-fn put_class_cell(
-    b: &mut [u8],
-    s: usize,
-    class: &[u8],
-    first: usize,
-    k: usize,
-    local: &[u16],
-    q: usize,
-) -> usize
-    requires { ⌜ (2 * (s + length (ofClass (now class) first k q)) ≤ length (now b)) × (s < 100000) × (first + q < 65536) ⌝ }
-    ensures { λ u. ⌜ Put (now (b .entry)) (now (b .exit)) s u (map (localIn (now (local .entry))) (ofClass (now (class .entry)) first k q)) × (u ≤ s + 1) ⌝ }
+// Writes the first n cells of a list in local numbers.
+fn put_locals(b: &mut [u8], s: usize, list: &[u16], n: usize, local: &[u16]) -> usize
+    requires { ⌜ (2 * (s + n) ≤ length (now b)) × (s < 65536) × (n ≤ length (now list)) × (n ≤ 65536) ⌝ }
+    ensures { λ t. ⌜ Put (now (b .entry)) (now (b .exit)) s t (map (localIn (now (local .entry))) (take n (now (list .entry)))) ⌝ }
 {
-    if byte_at(class, q) as usize != k {
-        return s;
+    let mut t = s;
+    for k in 0..n {
+        let c = Global(number_at(list, k));
+        t = put_local(b, t, to_local(local, c));
     }
-    let c = cell_at(first, q);
-    put_local(b, s, to_local(local, c))
-}
-
-// Writes the cells of class k in local numbers.
-fn put_class_cells(
-    b: &mut [u8],
-    s: usize,
-    class: &[u8],
-    first: usize,
-    cells: usize,
-    k: usize,
-    local: &[u16],
-) -> usize
-    requires { ⌜ (2 * (s + length (classCells (now class) first cells k)) ≤ length (now b)) × (s < 65536) × (first + cells ≤ 65536) × (cells ≤ 2000) ⌝ }
-    ensures { λ u. ⌜ Put (now (b .entry)) (now (b .exit)) s u (map (localIn (now (local .entry))) (classCells (now (class .entry)) first cells k)) ⌝ }
-{
-    let mut u = s;
-    for q in 0..cells {
-        u = put_class_cell(b, u, class, first, k, local, q);
-    }
-    u
-}
-
-// Writes the exports to part j, `count` of them, in local numbers. The row is work space.
-fn put_sent_to(
-    b: &mut [u8],
-    s: usize,
-    owners: &[u8],
-    table: &[u8],
-    ends: &[u16],
-    plan: Plan,
-    local: &[u16],
-    j: usize,
-    count: usize,
-    class: &mut [u8],
-) -> usize
-    requires { ⌜
-        (2 * (s + length (partCells (now owners) (now table) (now ends) j (plan .first) (plan .cells) (plan .part))) ≤ length (now b))
-        × (s < 65536)
-        × (plan .first + plan .cells ≤ 65536)
-        × (plan .cells ≤ 2000)
-        × (count ≡ length (partCells (now owners) (now table) (now ends) j (plan .first) (plan .cells) (plan .part)))
-        × (length (now class) ≡ 2000)
-        ⌝ }
-    ensures { λ u. ⌜
-        Put (now (b .entry)) (now (b .exit)) s u (sentWords (now (owners .entry)) (now (table .entry)) (now (ends .entry)) (plan .part) (plan .first)
-        (plan .cells) (now (local .entry)) j)
-        × (length (now (class .exit)) ≡ 2000)
-        ⌝ }
-{
-    if count == 0 {
-        return s;
-    }
-    classify(owners, table, ends, plan.cells, j, class);
-    put_class_cells(b, s, class, plan.first, plan.cells, plan.part, local)
-}
-
-// Writes the exports to all parts.
-fn put_sent(
-    b: &mut [u8],
-    s: usize,
-    owners: &[u8],
-    table: &[u8],
-    ends: &[u16],
-    plan: Plan,
-    local: &[u16],
-    sent: &[u16],
-    class: &mut [u8],
-) -> usize
-    requires { ⌜
-        (2 * (s + sentEnds (now owners) (now table) (now ends) (plan .part) (plan .first) (plan .cells) 16) ≤ length (now b))
-        × (s + sentEnds (now owners) (now table) (now ends) (plan .part) (plan .first) (plan .cells) 16 < 65536)
-        × (plan .first + plan .cells ≤ 65536)
-        × (plan .cells ≤ 2000)
-        × Sent (now owners) (now table) (now ends) (plan .part) (plan .cells) 16 (now sent)
-        × (length (now class) ≡ 2000)
-        ⌝ }
-    ensures { λ u. ⌜
-        Put (now (b .entry)) (now (b .exit)) s u (blocks 1 16 (sentWords (now (owners .entry)) (now (table .entry)) (now (ends .entry)) (plan .part)
-        (plan .first) (plan .cells) (now (local .entry))))
-        ⌝ }
-{
-    let mut u = s;
-    for j in 1..17 {
-        let count = number_at(sent, j) as usize;
-        u = put_sent_to(b, u, owners, table, ends, plan, local, j, count, class);
-    }
-    u
+    t
 }
 
 // Writes what stands before the tables: the length of the lists, the part, the stencil's steps, the rule, and the mesh's cells.
@@ -321,163 +239,147 @@ fn put_borders(b: &mut [u8], s: usize, owned: usize, got: &[u16], sent: &[u16]) 
     put_ends(b, t, sent, 0)
 }
 
-// Writes the local order, the reaches with their ends, and the exports. The row is work space.
-fn put_entries(
+// Writes what stands before the local order.
+pub fn put_front(
+    b: &mut [u8],
+    plan: Plan,
+    steps: usize,
+    kind: usize,
+    v: &[u8],
+    got: &[u16],
+    sent: &[u16],
+) -> usize
+    requires { ⌜
+        (2 * reachWord 0 ≤ length (now b))
+        × (plan .long < 65536)
+        × (plan .part < 65536)
+        × (steps < 65536)
+        × (kind < 65536)
+        × (plan .first < 65536)
+        × (plan .cells < 65536)
+        × (endsBy (now got) (plan .owned) 16 < 65536)
+        × (endsBy (now sent) 0 16 < 65536)
+        ⌝ }
+    ensures { λ t. ⌜
+        Put (now (b .entry)) (now (b .exit)) 0 t ((((plan .long) ∷ (plan .part) ∷ steps ∷ kind ∷ []) ++ (listed 0 5 (wordAt (now (v .entry)))
+        ++ ((plan .first) ∷ (plan .cells) ∷ []))) ++ (listed 0 17 (endsBy (now (got .entry)) (plan .owned)) ++ listed 0 17 (endsBy (now (sent .entry)) 0)))
+        ⌝ }
+{
+    let s = put_head(b, plan, steps, kind, v);
+    put_borders(b, s, plan.owned, got, sent)
+}
+
+// Writes the local order, the reaches with their ends, and the exports, which are listed one part after another.
+pub fn put_entries(
     b: &mut [u8],
     s: usize,
-    owners: &[u8],
     table: &[u8],
     ends: &[u16],
     plan: Plan,
     order: &[u16],
     local: &[u16],
-    sent: &[u16],
-    class: &mut [u8],
+    list: &[u16],
 ) -> usize
     requires { ⌜
-        (2 * (s + plan .held + plan .owned + 1 + 2 * rowEnds (now table) (now ends) (plan .first) (now order) (plan .owned) + sentEnds (now owners) (now table)
-        (now ends) (plan .part) (plan .first) (plan .cells) 16) ≤ length (now b))
-        × (s + plan .held + plan .owned + 1 + 2 * rowEnds (now table) (now ends) (plan .first) (now order) (plan .owned) + sentEnds (now owners) (now table)
-        (now ends) (plan .part) (plan .first) (plan .cells) 16 < 65536)
-        × (plan .first + plan .cells ≤ 65536)
-        × (plan .cells ≤ 2000)
+        (2 * (s + plan .held + plan .owned + 1 + 2 * rowEnds (now table) (now ends) (plan .first) (now order) (plan .owned) + plan .sent) ≤ length (now b))
+        × (s + plan .held + plan .owned + 1 + 2 * rowEnds (now table) (now ends) (plan .first) (now order) (plan .owned) + plan .sent < 65536)
         × (plan .held ≤ length (now order))
         × Rows (now table) (now ends) (plan .first) (now order) (plan .owned)
-        × Sent (now owners) (now table) (now ends) (plan .part) (plan .cells) 16 (now sent)
-        × (length (now class) ≡ 2000)
+        × (plan .sent ≤ length (now list))
         ⌝ }
     ensures { λ t. ⌜
         Put (now (b .entry)) (now (b .exit)) s t (take (plan .held) (now (order .entry)) ++ (listed 0 (plan .owned + 1) (rowEnds (now (table .entry))
         (now (ends .entry)) (plan .first) (now (order .entry))) ++ (blocks 1 (plan .owned) (rowWords (now (table .entry)) (now (ends .entry)) (plan .first)
-        (now (order .entry)) (now (local .entry))) ++ blocks 1 16 (sentWords (now (owners .entry)) (now (table .entry)) (now (ends .entry)) (plan .part)
-        (plan .first) (plan .cells) (now (local .entry))))))
+        (now (order .entry)) (now (local .entry))) ++ map (localIn (now (local .entry))) (take (plan .sent) (now (list .entry))))))
         ⌝ }
 {
     let t = put_list(b, s, order, plan.held);
     let u = put_row_ends(b, t, table, ends, plan.first, order, plan.owned);
     let w = put_rows(b, u, table, ends, plan.first, order, local, plan.owned);
-    put_sent(b, w, owners, table, ends, plan, local, sent, class)
+    put_locals(b, w, list, plan.sent, local)
 }
 
 // How many words the lists have.
-pub fn lists_length(
+fn lists_length(
     table: &[u8],
     ends: &[u16],
     first: usize,
     order: &[u16],
     n: usize,
     owned: usize,
-    sent: &[u16],
+    sent: usize,
 ) -> usize
-    requires { ⌜ (n ≤ 2000) × (owned ≤ n) × Rows (now table) (now ends) first (now order) owned × (rowEnds (now table) (now ends) first (now order) owned < 65536) ⌝ }
-    ensures { λ r. ⌜ r ≡ exportsWord n owned (rowEnds (now (table .entry)) (now (ends .entry)) first (now (order .entry)) owned) + total 1 16 (countAt (now (sent .entry))) ⌝ }
+    requires { ⌜
+        (n ≤ 2000)
+        × (owned ≤ n)
+        × Rows (now table) (now ends) first (now order) owned
+        × (rowEnds (now table) (now ends) first (now order) owned < 65536)
+        × (sent ≤ 512000)
+        ⌝ }
+    ensures { λ r. ⌜ r ≡ exportsWord n owned (rowEnds (now (table .entry)) (now (ends .entry)) first (now (order .entry)) owned) + sent ⌝ }
 {
     let sizes = Sizes {
         held: n,
         owned,
         reached: row_total(table, ends, first, order, owned),
-        sent: count_total(sent),
+        sent,
     };
     sizes.words()
 }
 
-// Writes the lists by an array of local numbers. The row is work space.
-fn put_pieces(
-    b: &mut [u8],
-    plan: Plan,
-    steps: usize,
-    kind: usize,
-    v: &[u8],
+// The local order of the part, and what comes of it, with the counts of its imports in a cleared array. The row is work space.
+pub fn make_plan(
+    asked: Asked,
     owners: &[u8],
     table: &[u8],
     ends: &[u16],
-    order: &[u16],
-    local: &[u16],
-    got: &[u16],
-    sent: &[u16],
+    holders: &[u8],
     class: &mut [u8],
-) -> usize
+    order: &mut [u16],
+    got: &mut [u16],
+) -> Plan
     requires { ⌜
-        Fit (now owners) (now table) (now ends) (plan .part) (plan .first) (plan .cells) (now order) (plan .held) (plan .owned)
-        × (plan .long ≡ exportsWord (plan .held) (plan .owned) (rowEnds (now table) (now ends) (plan .first) (now order) (plan .owned)) + sentEnds (now owners)
-        (now table) (now ends) (plan .part) (plan .first) (plan .cells) 16)
-        × (2 * plan .long ≤ length (now b))
-        × (steps < 65536)
-        × (kind < 65536)
-        × Got (now owners) (now table) (now ends) (plan .part) (plan .cells) (now got)
-        × Sent (now owners) (now table) (now ends) (plan .part) (plan .cells) 16 (now sent)
+        Fitting (now owners) (now table) (now ends) (asked .part) (asked .first) (asked .cells) (asked .parts)
         × (length (now class) ≡ 2000)
+        × (2000 ≤ length (now order))
+        × (now got ≡ replicate 19 0)
         ⌝ }
-    ensures { λ t. ⌜
-        Put (now (b .entry)) (now (b .exit)) 0 t (numberedWords (now (owners .entry)) (now (table .entry)) (now (ends .entry)) (plan .part) (plan .first)
-        (plan .cells) (now (order .entry)) (plan .held) (now (local .entry)) (plan .owned) steps kind (now (v .entry)))
+    ensures { λ p. ⌜
+        (p .part ≡ asked .part)
+        × (p .parts ≡ asked .parts)
+        × (p .first ≡ asked .first)
+        × (p .cells ≡ asked .cells)
+        × Drawn (now (owners .entry)) (now (table .entry)) (now (ends .entry)) (now (holders .entry)) (p .part) (p .first) (p .cells) (p .parts)
+        (now (order .exit)) (p .held) (p .owned) (p .sent) (p .long)
+        × Got (now (owners .entry)) (now (table .entry)) (now (ends .entry)) (p .part) (p .cells) (now (got .exit))
         ⌝ }
 {
-    let s = put_head(b, plan, steps, kind, v);
-    let t = put_borders(b, s, plan.owned, got, sent);
-    put_entries(b, t, owners, table, ends, plan, order, local, sent, class)
-}
-
-// Clears an array of local numbers.
-fn clear_numbers(local: &mut [u16])
-    requires { ⌜ length (now local) ≡ 2001 ⌝ }
-    ensures { λ _. ⌜ now (local .exit) ≡ replicate 2001 0 ⌝ }
-{
-    for q in 0..MOST_CELLS + 1 {
-        local[q] = 0;
+    classify(owners, table, ends, asked.cells, asked.part, class);
+    let held = add_order(class, asked.first, asked.cells, asked.parts, order);
+    count_classes(class, asked.cells, got);
+    let inner = number_at(got, INTERIOR as usize) as usize;
+    let owned = inner + number_at(got, HALO as usize) as usize;
+    let sent = count_exports(owners, holders, asked.part, asked.cells);
+    let long = lists_length(table, ends, asked.first, order, held, owned, sent);
+    Plan {
+        part: asked.part,
+        parts: asked.parts,
+        first: asked.first,
+        cells: asked.cells,
+        held,
+        owned,
+        sent,
+        long,
     }
 }
 
-// Writes the lists. The row is work space, and so is the array for the local numbers.
-pub fn put_lists(
-    b: &mut [u8],
-    plan: Plan,
-    steps: usize,
-    kind: usize,
-    v: &[u8],
-    owners: &[u8],
-    table: &[u8],
-    ends: &[u16],
-    order: &[u16],
-    local: &mut [u16],
-    got: &[u16],
-    sent: &[u16],
-    class: &mut [u8],
-) -> usize
-    requires { ⌜
-        Fit (now owners) (now table) (now ends) (plan .part) (plan .first) (plan .cells) (now order) (plan .held) (plan .owned)
-        × (plan .long ≡ exportsWord (plan .held) (plan .owned) (rowEnds (now table) (now ends) (plan .first) (now order) (plan .owned)) + sentEnds (now owners)
-        (now table) (now ends) (plan .part) (plan .first) (plan .cells) 16)
-        × (2 * plan .long ≤ length (now b))
-        × (steps < 65536)
-        × (kind < 65536)
-        × Got (now owners) (now table) (now ends) (plan .part) (plan .cells) (now got)
-        × Sent (now owners) (now table) (now ends) (plan .part) (plan .cells) 16 (now sent)
-        × (length (now class) ≡ 2000)
-        × (length (now local) ≡ 2001)
-        ⌝ }
-    ensures { λ t. ⌜
-        Put (now (b .entry)) (now (b .exit)) 0 t (startWords (now (owners .entry)) (now (table .entry)) (now (ends .entry)) (plan .part) (plan .first)
-        (plan .cells) (now (order .entry)) (plan .held) (plan .owned) steps kind (now (v .entry)))
-        ⌝ }
+// The local numbers of the first n cells of the order, in an array of numbers.
+pub fn number_order(order: &[u16], n: usize, local: &mut [u16])
+    requires { ⌜ (n ≤ length (now order)) × (n < 65536) × (length (now local) ≡ 2001) ⌝ }
+    ensures { λ _. ⌜ now (local .exit) ≡ numbersOf (now (order .entry)) n ⌝ }
 {
-    clear_numbers(local);
-    number_cells(order, plan.held, local);
-    put_pieces(
-        b,
-        plan,
-        steps,
-        kind,
-        v,
-        owners,
-        table,
-        ends,
-        order,
-        local,
-        got,
-        sent,
-        class,
-    )
+    clear(local);
+    number_cells(order, n, local);
 }
 
 // Copies the depths of the held cells out of a field.

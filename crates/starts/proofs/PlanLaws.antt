@@ -3,13 +3,15 @@ use mathlib.Core.Path.{_≡_, refl, sym, ap, ap₂, _∙_, subst, subst₂}
 use mathlib.Core.Bool.{Bool, true, false, cond}
 use mathlib.Core.List.{List, [], _∷_, _++_}
 use Prim.Native.Nat.{ℕ, _+_, _-_, _*_, _≤_, _<_}
+use native.Mathlib.Nat.{zero-add}
 use native.Mathlib.Omega.{arith}
-use lib.ListN.{length, take, replicate, length-append, getD}
+use lib.ListN.{length, take, replicate, length-append}
+use lib.Seq.{length-take-le}
 use borrow.Author.Tests.{lt-ltb, le-ltb}
-use Rattle.vocabulary.specs.Bytes.{Bytes, over}
+use Rattle.vocabulary.specs.Bytes.{Bytes, byteAt, over}
 use Rattle.vocabulary.specs.ByteLaws.{over-more}
-use Rattle.vocabulary.specs.Ranges.{blocks, total}
-use Rattle.vocabulary.specs.RangeLaws.{blocks-cong}
+use Rattle.vocabulary.specs.Ranges.{listed, blocks}
+use Rattle.vocabulary.specs.RangeLaws.{listed-at, listed-length, blocks-cong, total-cong}
 use Rattle.vocabulary.specs.Tests.{Test, refuse, firstOf}
 use Rattle.layout.specs.Words.{wordBytes, bytesOf}
 use Rattle.layout.specs.WordLaws.{length-bytesOf}
@@ -25,22 +27,19 @@ use Rattle.round.specs.Rounds.{schemeOf, depthIn, bad14}
 use Rattle.split.specs.Split.{splitOf, interior, halo, locals, globalOf}
 use Rattle.split.specs.SplitLaws.{own-count, split-then, split-refuses, sizes-fine, sizes-then, sizes-refuse, map-facts}
 use Rattle.split.specs.Lists.{bad12, sizeTests, splitNumber, sizesNumber}
-use Rattle.split.specs.Classes.{Added}
-use Rattle.split.specs.Classes.{Classed, Prepared, classOrder}
+use Rattle.split.specs.Classes.{ownsAt, holderCount, classAt, Classed, Prepared}
+use Rattle.split.proofs.HoldLaws.{exports-told}
 use Rattle.split.proofs.PassedLaws.{Passed, twice, passed-facts}
-use Rattle.cell_lists.proofs.ClassLists.{interior-is, halo-is, order-is as cells-order, locals-few}
-use Rattle.cell_lists.proofs.AddLaws.{added-fits, added-take, class-count}
-use Rattle.starts.specs.Start.{ownedIn, reachEnds, listsLong, stateSize, sizeNumber, sizeAnswer, firstState, lastTests, startTests, startNumber, startAnswer, startState}
+use Rattle.cell_lists.proofs.ClassLists.{row-cells, interior-is, halo-is, order-is as cells-order, locals-few}
+use Rattle.starts.specs.Start.{ownedIn, exportEnds, reachEnds, listsLong, stateSize, sizeNumber, sizeAnswer, firstState, lastTests, startTests, startNumber, startAnswer, startState}
 use Rattle.word_lists.specs.Putting.{Put}
-use Rattle.start_lists.specs.Starting.{rowEnds, sentEnds, startWords, startDepth, Fit, Cells, countAt, Tallied, Got, Sent, Mapped}
-use Rattle.starts.specs.Planning.{Planned}
-use Rattle.word_lists.proofs.PutLaws.{put-length}
-use Rattle.start_lists.proofs.CountLaws.{got-told}
-use Rattle.start_lists.proofs.StartLists.{sent-total}
-use Rattle.starts.proofs.StartFit.{fit-from, cells-from}
-use Rattle.starts.proofs.StartWords.{start-words, order-at, row-ends, sent-ends}
-use Rattle.mesh.proofs.AcceptedLaws.{cells-few, cells-fit}
 use Rattle.states.specs.State.{exportsWord, depthsPlace, stateLength}
+use Rattle.start_lists.specs.Starting.{rowEnds, sentEnds, startWords, startDepth, Fit, Cells, Got, Mapped, exportedAt, exportCount, partOrder, partOwned, Fitting, Drawn}
+use Rattle.starts.specs.Planning.{Planned}
+use Rattle.start_lists.proofs.StartLists.{row-order}
+use Rattle.starts.proofs.StartFit.{fit-from, cells-from}
+use Rattle.starts.proofs.StartWords.{start-words, order-at, row-ends, sent-ends, sent-few, exports-sixteen}
+use Rattle.mesh.proofs.AcceptedLaws.{cells-few, cells-fit}
 
 -- ---- the plan
 
@@ -55,77 +54,124 @@ module _ (m : Bytes) (parts : ℕ) (owners : Bytes) (i : ℕ) (st table : Bytes)
   thirteen : bad13 m st ≡ false
   thirteen = sizes-fine m parts owners st zn .1
 
-  module _ (first cells : ℕ) (fe : first ≡ firstCell m) (ce : cells ≡ cellCount m) where
-    pub plan-bounds : (i < 65536) × (first + cells ≤ 65536) × (cells ≤ 2000) × (parts ≤ 16)
-    plan-bounds = (omega (arith, P .i-in .1), cells-fit m first cells (P .mesh) fe ce, cells-few m cells (P .mesh) ce, P .few)
+  -- a row with the classes that the tables tell
+  row : Bytes
+  row = listed 0 2000 (classAt owners table ends i (cellCount m))
 
-    pub plan-mapped : (1 ≤ i) × (i ≤ 16) × Mapped owners cells parts
-    plan-mapped = (P .i-in .0, P .i-in .1, record { each = λ q h. map-facts m parts owners [] (R .map) .owner-in q (omega (arith, ce)) .1 })
+  row-classed : Classed owners table ends i (cellCount m) row
+  unfolding row
+  row-classed = record {
+    room = listed-length 0 (classAt owners table ends i (cellCount m)) 2000;
+    each = λ x h. listed-at 0 (classAt owners table ends i (cellCount m)) 2000 x 0 h ∙ ap (classAt owners table ends i (cellCount m)) (zero-add x);
+  }
 
-    pub plan-sent : (sent : List ℕ) → Sent owners table ends i cells 16 sent → Sent owners table ends i (cellCount m) 16 sent
-    plan-sent sent X = subst (λ x. Sent owners table ends i x 16 sent) ce X
+  few : cellCount m ≤ 2000
+  few = cells-few m (cellCount m) (P .mesh) refl
 
-    module _ (class : Bytes) (C : Classed owners table ends i cells class) (a order : List ℕ) (n inner outer : ℕ) (X : Added a order 0 n (classOrder class first cells parts)) (room : 2000 ≤ length a)
-        (got : List ℕ) (T : Tallied class cells got) (ie : inner ≡ getD got 17 0) (he : outer ≡ getD got 18 0) where
-      words-is : classOrder class first cells parts ≡ locals (splitOf m parts owners st) i
-      words-is = cells-order m parts owners st table ends holders R i first cells fe ce class C
+  order-told : partOrder owners table ends i (firstCell m) (cellCount m) parts ≡ locals (splitOf m parts owners st) i
+  order-told =
+      sym (row-order owners table ends i (firstCell m) (cellCount m) parts row few row-classed)
+      ∙ cells-order m parts owners st table ends holders R i (firstCell m) (cellCount m) refl refl row row-classed
 
-      few : length (classOrder class first cells parts) ≤ 2000
-      few = omega (arith, ap length words-is, locals-few m parts owners st table ends holders R i)
+  owned-told : partOwned owners table ends i (firstCell m) (cellCount m) ≡ ownedIn (splitOf m parts owners st) i
+  unfolding partOwned
+  owned-told =
+      ap₂ _+_
+      (ap length (sym (row-cells owners table ends i (firstCell m) (cellCount m) 17 row few row-classed)
+      ∙ interior-is m parts owners st table ends holders R i (firstCell m) (cellCount m) refl refl row row-classed))
+      (ap length (sym (row-cells owners table ends i (firstCell m) (cellCount m) 18 row few row-classed)
+      ∙ halo-is m parts owners st table ends holders R i (firstCell m) (cellCount m) refl refl row row-classed))
+      ∙ sym (length-append (interior (splitOf m parts owners st) i) (halo (splitOf m parts owners st) i))
+      ∙ own-count (splitOf m parts owners st) i
 
-      order-is : take n order ≡ locals (splitOf m parts owners st) i
-      order-is = added-take a order n (classOrder class first cells parts) X room few ∙ words-is
+  module _ (order : List ℕ) (n owned : ℕ) (there : n ≤ length order) (oe : take n order ≡ partOrder owners table ends i (firstCell m) (cellCount m) parts)
+      (we : owned ≡ partOwned owners table ends i (firstCell m) (cellCount m)) where
+    order-is : take n order ≡ locals (splitOf m parts owners st) i
+    order-is = oe ∙ order-told
 
-      held-is : n ≡ length (locals (splitOf m parts owners st) i)
-      held-is = omega (arith, X .count, ap length words-is)
+    held-is : n ≡ length (locals (splitOf m parts owners st) i)
+    held-is = sym (length-take-le n order there) ∙ ap length order-is
 
-      owned-is : inner + outer ≡ ownedIn (splitOf m parts owners st) i
-      unfolding countAt
-      owned-is =
-          ap₂ _+_ (ie ∙ T .each 17 (omega arith) ∙ sym (class-count class 17 first cells) ∙ ap length (interior-is m parts owners st table ends holders R i first cells fe ce class C))
-          (he ∙ T .each 18 (omega arith) ∙ sym (class-count class 18 first cells) ∙ ap length (halo-is m parts owners st table ends holders R i first cells fe ce class C))
-          ∙ sym (length-append (interior (splitOf m parts owners st) i) (halo (splitOf m parts owners st) i))
-          ∙ own-count (splitOf m parts owners st) i
+    fits : Fit owners table ends i (firstCell m) (cellCount m) order n owned
+    fits =
+        fit-from m parts owners st table ends holders R i (P .i-in .0) (P .i-in .1) (firstCell m) (cellCount m) refl refl order n owned order-is held-is (we ∙ owned-told) there
+        twelve thirteen
 
-      pub plan-fit : Fit owners table ends i first cells order n (inner + outer)
-      plan-fit =
-          fit-from m parts owners st table ends holders R i (P .i-in .0) (P .i-in .1) first cells fe ce order n (inner + outer) order-is held-is owned-is
-          (added-fits a order n (classOrder class first cells parts) X room few) twelve thirteen
+  fitting : Fitting owners table ends i (firstCell m) (cellCount m) parts
+  fitting = record {
+    cells-fit = cells-fit m (firstCell m) (cellCount m) (P .mesh) refl refl;
+    cells-few = few;
+    parts-few = P .few;
+    order-few = omega (arith, ap length order-told, locals-few m parts owners st table ends holders R i);
+    fit = λ order n there oe. fits order n (partOwned owners table ends i (firstCell m) (cellCount m)) there oe refl;
+  }
 
-      pub plan-got : Got owners table ends i (cellCount m) got
-      plan-got = subst (λ x. Got owners table ends i x got) ce (got-told owners table ends i cells class got (cells-few m cells (P .mesh) ce) C T)
+  sent-told : exportCount owners holders i (cellCount m) ≡ sentEnds owners table ends i (firstCell m) (cellCount m) 16
+  unfolding exportCount exportedAt
+  sent-told =
+      total-cong 0 (λ q. cond (ownsAt owners i q) (byteAt holders q - 1) 0) (λ q. cond (ownsAt owners i q) (holderCount (splitOf m parts owners st) (firstCell m + q) - 1) 0) (cellCount m)
+      (λ q h. ap (λ x. cond (ownsAt owners i (0 + q)) (x - 1) 0) (R .held (0 + q) (omega arith)))
+      ∙ sym (exports-told m parts owners st i (P .i-in .0) (P .i-high))
+      ∙ sym (exports-sixteen m parts owners st table ends holders R i)
+      ∙ sym (unfold exportEnds in sent-ends m parts owners st table ends holders R i (P .i-in .0) (P .i-in .1) (firstCell m) (cellCount m) refl refl 16 (omega arith))
 
-      pub plan-made : (long : ℕ) (sent : List ℕ) → Sent owners table ends i cells 16 sent
-          → long ≡ exportsWord n (inner + outer) (rowEnds table ends first order (inner + outer)) + total 1 16 (countAt sent) → Planned m parts owners i st table ends order n (inner + outer) long
-      plan-made long sent Y le = record {
-        order-is = order-is;
-        held-is = held-is;
-        owned-is = owned-is;
-        fit = fit-from m parts owners st table ends holders R i (P .i-in .0) (P .i-in .1) (firstCell m) (cellCount m) refl refl order n (inner + outer) order-is held-is owned-is
-            (added-fits a order n (classOrder class first cells parts) X room few) twelve thirteen;
-        long-is =
-            le
-            ∙ ap (λ x. exportsWord n (inner + outer) (rowEnds table ends first order (inner + outer)) + x) (sent-total owners table ends i first cells sent Y 16 (omega arith))
-            ∙ ap₂ (λ x y. exportsWord n (inner + outer) (rowEnds table ends x order (inner + outer)) + sentEnds owners table ends i x y 16) fe ce;
+  -- by the numbers that the code has
+  module _ (part count first cells : ℕ) (pe : part ≡ i) (qe : count ≡ parts) (fe : first ≡ firstCell m) (ce : cells ≡ cellCount m) where
+    pub plan-fitting : Fitting owners table ends part first cells count
+    plan-fitting =
+        subst₂ (λ x y. Fitting owners table ends x first cells y) (sym pe) (sym qe)
+        (subst₂ (λ x y. Fitting owners table ends i x y parts) (sym fe) (sym ce) fitting)
+
+    pub plan-mapped : (1 ≤ part) × (part ≤ 16) × (first + cells ≤ 65536) × (cells ≤ 2000) × (count ≤ 16) × Mapped owners cells count
+    plan-mapped = (
+      omega (arith, P .i-in .0),
+      omega (arith, P .i-in .1),
+      plan-fitting .cells-fit,
+      plan-fitting .cells-few,
+      plan-fitting .parts-few,
+      record { each = λ q h. omega (arith, map-facts m parts owners [] (R .map) .owner-in q (omega arith) .1) },
+    )
+
+    module _ (order : List ℕ) (n owned sent long : ℕ) (D : Drawn owners table ends holders part first cells count order n owned sent long) where
+      drawn : Drawn owners table ends holders i (firstCell m) (cellCount m) parts order n owned sent long
+      drawn =
+          subst₂ (λ x y. Drawn owners table ends holders i x y parts order n owned sent long) fe ce
+          (subst₂ (λ x y. Drawn owners table ends holders x first cells y order n owned sent long) pe qe D)
+
+      pub plan-made : Planned m parts owners i st table ends order n owned long
+      plan-made = record {
+        order-is = order-is order n owned (drawn .there) (drawn .order-is) (drawn .owned-is);
+        held-is = held-is order n owned (drawn .there) (drawn .order-is) (drawn .owned-is);
+        owned-is = drawn .owned-is ∙ owned-told;
+        fit = fits order n owned (drawn .there) (drawn .order-is) (drawn .owned-is);
+        long-is = drawn .long-is ∙ ap (λ x. exportsWord n owned (rowEnds table ends (firstCell m) order owned) + x) (drawn .sent-is ∙ sent-told);
       }
+
+      pub plan-sent : (sent ≡ sentEnds owners table ends part first cells 16) × (sent ≤ 4096)
+      plan-sent =
+          let e : sent ≡ sentEnds owners table ends i (firstCell m) (cellCount m) 16 = drawn .sent-is ∙ sent-told in (
+            e ∙ ap₂ (λ x y. sentEnds owners table ends i x y 16) (sym fe) (sym ce) ∙ ap (λ x. sentEnds owners table ends x first cells 16) (sym pe),
+            omega (arith, sent-few m parts owners st table ends holders R i (P .i-in .0) (P .i-in .1) (firstCell m) (cellCount m) refl refl twelve 16 (omega arith)),
+          )
 
 -- ---- the bytes
 
-pub state-put : (b x y z : Bytes) (t long n : ℕ) (ws : List ℕ) (f : Bytes) (first : ℕ) (order : List ℕ) → stateLength (2 * long) n ≤ length b → length ws ≡ long
-    → Put b x 0 t ws → y ≡ over x (2 * long) (replicate (depthsPlace 0) 0)
-    → z ≡ over y (depthsPlace (2 * long)) (blocks 1 n (startDepth f first order)) → z ≡ over b 0 (bytesOf ws ++ (replicate (depthsPlace 0) 0 ++ blocks 1 n (startDepth f first order)))
-state-put b x y z t long n ws f first order room le P ye ze =
+pub rest-put : (b x y : Bytes) (at n : ℕ) (f : Bytes) (first : ℕ) (order : List ℕ) → stateLength at n ≤ length b → x ≡ over b at (replicate (depthsPlace 0) 0)
+    → y ≡ over x (depthsPlace at) (blocks 1 n (startDepth f first order)) → y ≡ over b at (replicate (depthsPlace 0) 0 ++ blocks 1 n (startDepth f first order))
+rest-put b x y at n f first order room xe ye =
+    let q : depthsPlace at ≡ at + length (replicate {A = ℕ} (depthsPlace 0) 0) = omega arith in
+    ye
+    ∙ ap₂ (λ (u : Bytes) o. over u o (blocks 1 n (startDepth f first order))) xe q
+    ∙ over-more b at (replicate (depthsPlace 0) 0) (omega arith) (blocks 1 n (startDepth f first order))
+
+pub state-put : (b x y : Bytes) (t long : ℕ) (ws : List ℕ) (rest : Bytes) → 2 * long ≤ length b → length ws ≡ long → Put b x 0 t ws → y ≡ over x (2 * long) rest
+    → y ≡ over b 0 (bytesOf ws ++ rest)
+state-put b x y t long ws rest room le P ye =
     let l : length (bytesOf ws) ≡ 2 * length ws = length-bytesOf ws in
     let k : 2 * long ≡ 0 + length (bytesOf ws) = omega arith in
-    let q : depthsPlace (2 * long) ≡ 2 * long + length (replicate {A = ℕ} (depthsPlace 0) 0) = omega arith in
-    let lx : length x ≡ length b = put-length b x 0 t ws P (omega (arith, P .count)) in
     let e : 2 * 0 ≡ 0 = omega arith in
     let xe : x ≡ over b 0 (bytesOf ws) = P .text ∙ ap (λ o. over b o (bytesOf ws)) e in
-    ze
-    ∙ ap₂ (λ (u : Bytes) o. over u o (blocks 1 n (startDepth f first order))) ye q
-    ∙ over-more x (2 * long) (replicate (depthsPlace 0) 0) (omega arith) (blocks 1 n (startDepth f first order))
-    ∙ ap₂ (λ (u : Bytes) o. over u o (replicate (depthsPlace 0) 0 ++ blocks 1 n (startDepth f first order))) xe k
-    ∙ over-more b 0 (bytesOf ws) (omega arith) (replicate (depthsPlace 0) 0 ++ blocks 1 n (startDepth f first order))
+    ye ∙ ap₂ (λ (u : Bytes) o. over u o rest) xe k ∙ over-more b 0 (bytesOf ws) (omega arith) rest
 
 -- ---- one part named twice is one part named
 
@@ -262,9 +308,6 @@ module _ (m : Bytes) (parts : ℕ) (owners : Bytes) (i : ℕ) (st : Bytes) (kind
 
             pub start-got : (got : List ℕ) → Got owners table ends i (cellCount m) got → Got owners table ends part count got
             start-got got G = subst₂ (λ x y. Got owners table ends x y got) (sym pe) (sym ke) G
-
-            pub start-sent : (sent : List ℕ) → Sent owners table ends i (cellCount m) 16 sent → Sent owners table ends part count 16 sent
-            start-sent sent X = subst₂ (λ x y. Sent owners table ends x y 16 sent) (sym pe) (sym ke) X
 
             pub start-cells : Cells f first order n
             start-cells =

@@ -146,6 +146,10 @@ module _ (m : Bytes) (parts : ℕ) (owners st table : Bytes) (ends : List ℕ) (
             ap (λ k. length (imports S j k)) z,
           )
 
+  pub exports-sixteen : (i : ℕ) → total 1 16 (λ j. length (exports S i j)) ≡ total 1 parts (λ j. length (exports S i j))
+  unfolding splitOf
+  exports-sixteen i = export-total S (split-reach m parts owners st) owner-in i few-parts
+
   pub exports-few : bad12 S ≡ false → (i : ℕ) → 1 ≤ i → total 1 16 (λ j. length (exports S i j)) ≤ 4096
   unfolding bad12 exports
   exports-few e i h =

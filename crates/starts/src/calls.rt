@@ -1,198 +1,65 @@
 // Start and state size.
-use cell_lists::inner::add_order;
 use layout::Answer;
-use layout::number_at;
 use mesh::inner::cell_count;
 use mesh::inner::first_cell;
 use parts::inner::clear;
 use round::bad_field;
 use rules::bad_rule;
-use split::inner::HALO;
-use split::inner::INTERIOR;
 use split::inner::MOST_CELLS;
-use split::inner::classify;
 use split::inner::prepare;
 use split::inner::split_number;
+use start_lists::inner::Asked;
 use start_lists::inner::CLASSES;
 use start_lists::inner::MOST_PARTS;
 use start_lists::inner::Plan;
-use start_lists::inner::count_classes;
-use start_lists::inner::count_sent;
-use start_lists::inner::lists_length;
+use start_lists::inner::find_sent;
+use start_lists::inner::make_plan;
+use start_lists::inner::number_order;
 use start_lists::inner::put_cells;
-use start_lists::inner::put_lists;
+use start_lists::inner::put_entries;
+use start_lists::inner::put_front;
 use states::inner::DEPTHS;
 ghost use mathlib.Core.Path.{_≡_};
-ghost use mathlib.Core.Bool.{false};
-ghost use mathlib.Core.List.{[], _∷_, _++_};
-ghost use Prim.Native.Nat.{_+_, _*_, _<_, _≤_};
+ghost use mathlib.Core.List.{_++_};
+ghost use Prim.Native.Nat.{_*_, _<_, _≤_};
 ghost use lib.ListN.{length, replicate};
 ghost use Rattle.vocabulary.specs.Bytes.{over};
 ghost use Rattle.vocabulary.specs.Ranges.{blocks};
-ghost use Rattle.layout.specs.Words.{bytesOf};
 ghost use Rattle.mesh.specs.Mesh.{firstCell, cellCount};
-ghost use Rattle.mesh.specs.Walks.{steps};
-ghost use Rattle.rules.specs.Rules.{bad11};
-ghost use Rattle.split.specs.Lists.{splitNumber, sizesNumber};
-ghost use Rattle.split.specs.Classes.{Prepared};
-ghost use Rattle.states.specs.State.{exportsWord, stateLength, depthsPlace};
+ghost use Rattle.states.specs.State.{stateLength, depthsPlace};
 ghost use Rattle.starts.specs.Start.{sizeAnswer, startAnswer, startState};
-ghost use Rattle.start_lists.specs.Starting.{rowEnds, sentEnds, startWords, startDepth, Got, Sent, Fit, Cells};
-ghost use Rattle.starts.specs.Planning.{Planned};
+ghost use Rattle.start_lists.specs.Starting.{startDepth, Cells};
 
-// Writes a whole state at round 0. The row is work space, and so is the array for the local numbers.
-fn put_state(
-    b: &mut [u8],
-    plan: Plan,
-    steps: usize,
-    kind: usize,
-    v: &[u8],
-    owners: &[u8],
-    table: &[u8],
-    ends: &[u16],
-    order: &[u16],
-    local: &mut [u16],
-    f: &[u8],
-    got: &[u16],
-    sent: &[u16],
-    class: &mut [u8],
-)
+// Writes what stands behind the lists at round 0: the round, the flags, and the depths of the held cells.
+fn put_rest(b: &mut [u8], plan: Plan, f: &[u8], order: &[u16])
     requires { ⌜
-        Fit (now owners) (now table) (now ends) (plan .part) (plan .first) (plan .cells) (now order) (plan .held) (plan .owned)
-        × (plan .long ≡ exportsWord (plan .held) (plan .owned) (rowEnds (now table) (now ends) (plan .first) (now order) (plan .owned)) + sentEnds (now owners)
-        (now table) (now ends) (plan .part) (plan .first) (plan .cells) 16)
-        × (stateLength (2 * plan .long) (plan .held) ≤ length (now b))
-        × (steps < 65536)
-        × (kind < 65536)
-        × Got (now owners) (now table) (now ends) (plan .part) (plan .cells) (now got)
-        × Sent (now owners) (now table) (now ends) (plan .part) (plan .cells) 16 (now sent)
-        × (length (now class) ≡ 2000)
-        × (length (now local) ≡ 2001)
+        (stateLength (2 * plan .long) (plan .held) ≤ length (now b))
+        × (plan .long < 65536)
+        × (plan .held ≤ 2000)
         × Cells (now f) (plan .first) (now order) (plan .held)
         ⌝ }
     ensures { λ _. ⌜
-        now (b .exit) ≡ over (now (b .entry)) 0 (bytesOf (startWords (now (owners .entry)) (now (table .entry)) (now (ends .entry)) (plan .part) (plan .first)
-        (plan .cells) (now (order .entry)) (plan .held) (plan .owned) steps kind (now (v .entry))) ++ (replicate (depthsPlace 0) 0 ++ blocks 1 (plan .held) (startDepth
-        (now (f .entry)) (plan .first) (now (order .entry)))))
+        now (b .exit) ≡ over (now (b .entry)) (2 * plan .long) (replicate (depthsPlace 0) 0 ++ blocks 1 (plan .held) (startDepth (now (f .entry)) (plan .first) (now (order .entry))))
         ⌝ }
 {
-    put_lists(
-        b,
-        plan,
-        steps,
-        kind,
-        v,
-        owners,
-        table,
-        ends,
-        order,
-        local,
-        got,
-        sent,
-        class,
-    );
     clear(b, 2 * plan.long, DEPTHS);
     put_cells(b, 2 * plan.long + DEPTHS, f, plan.first, order, plan.held);
 }
 
-// The local order of part i, and what comes of it, with the counts of the imports and exports in cleared arrays. The row is work space.
-fn make_plan(
-    m: &[u8],
-    parts: usize,
-    owners: &[u8],
-    i: usize,
-    st: &[u8],
-    table: &[u8],
-    ends: &[u16],
-    holders: &[u8],
-    class: &mut [u8],
-    order: &mut [u16],
-    got: &mut [u16],
-    sent: &mut [u16],
-) -> Plan
-    requires { ⌜
-        (splitNumber (now m) parts (now owners) (i ∷ i ∷ []) (now st) ≡ 0)
-        × (sizesNumber (now m) parts (now owners) (now st) ≡ 0)
-        × Prepared (now m) parts (now owners) (now st) (now table) (now ends) (now holders)
-        × (length (now class) ≡ 2000)
-        × (2000 ≤ length (now order))
-        × (now got ≡ replicate 19 0)
-        × (now sent ≡ replicate 17 0)
-        ⌝ }
-    ensures { λ p. ⌜
-        (p .part ≡ i)
-        × (p .first ≡ firstCell (now (m .entry)))
-        × (p .cells ≡ cellCount (now (m .entry)))
-        × Planned (now (m .entry)) parts (now (owners .entry)) i (now (st .entry)) (now (table .entry)) (now (ends .entry)) (now (order .exit)) (p .held)
-        (p .owned) (p .long)
-        × Got (now (owners .entry)) (now (table .entry)) (now (ends .entry)) i (cellCount (now (m .entry))) (now (got .exit))
-        × Sent (now (owners .entry)) (now (table .entry)) (now (ends .entry)) i (cellCount (now (m .entry))) 16 (now (sent .exit))
-        ⌝ }
+// Whose lists a call asks for.
+fn asked_of(m: &[u8], parts: u32, i: u32) -> Asked
+    ensures { λ a. ⌜ (a .part ≡ i) × (a .parts ≡ parts) × (a .first ≡ firstCell (now (m .entry))) × (a .cells ≡ cellCount (now (m .entry))) ⌝ }
 {
-    let first = first_cell(m);
-    let cells = cell_count(m);
-    classify(owners, table, ends, cells, i, class);
-    let n = add_order(class, first, cells, parts, order);
-    count_classes(class, cells, got);
-    let inner = number_at(got, INTERIOR as usize) as usize;
-    let owned = inner + number_at(got, HALO as usize) as usize;
-    count_sent(owners, table, ends, i, cells, parts, class, sent);
-    let long = lists_length(table, ends, first, order, n, owned, sent);
-    Plan {
-        part: i,
-        first,
-        cells,
-        held: n,
-        owned,
-        long,
+    Asked {
+        part: i as usize,
+        parts: parts as usize,
+        first: first_cell(m),
+        cells: cell_count(m),
     }
 }
 
-// The size, from prepared tables.
-fn size_from(
-    m: &[u8],
-    parts: usize,
-    owners: &[u8],
-    i: usize,
-    st: &[u8],
-    table: &[u8],
-    ends: &[u16],
-    holders: &[u8],
-    class: &mut [u8],
-    order: &mut [u16],
-    got: &mut [u16],
-    sent: &mut [u16],
-) -> Answer
-    requires { ⌜
-        (splitNumber (now m) parts (now owners) (i ∷ i ∷ []) (now st) ≡ 0)
-        × (sizesNumber (now m) parts (now owners) (now st) ≡ 0)
-        × Prepared (now m) parts (now owners) (now st) (now table) (now ends) (now holders)
-        × (length (now class) ≡ 2000)
-        × (2000 ≤ length (now order))
-        × (now got ≡ replicate 19 0)
-        × (now sent ≡ replicate 17 0)
-        ⌝ }
-    ensures { λ r. ⌜ r ≡ sizeAnswer (now (m .entry)) parts (now (owners .entry)) i (now (st .entry)) ⌝ }
-{
-    let p = make_plan(
-        m,
-        parts,
-        owners,
-        i,
-        st,
-        table,
-        ends,
-        holders,
-        class,
-        order,
-        got,
-        sent,
-    );
-    Answer::Done((2 * p.long + DEPTHS + 4 * p.held) as u32)
-}
-
-// How many bytes the state of part i needs. The mesh is tested in arrays that hold the links and the ends of the reaches afterwards. The order stands
-// in an array of the links, which are not needed once the tables are prepared.
+// How many bytes the state of part i needs. The mesh is tested in arrays that hold the links and the ends of the reaches afterwards. Once the tables are
+// prepared the links are not needed: the order stands in one of their arrays.
 pub fn state_size(m: &[u8], parts: u32, owners: &[u8], i: u32, st: &[u8]) -> Answer
     ensures { λ r. ⌜ r ≡ sizeAnswer (now (m .entry)) parts (now (owners .entry)) i (now (st .entry)) ⌝ }
 {
@@ -208,7 +75,6 @@ pub fn state_size(m: &[u8], parts: u32, owners: &[u8], i: u32, st: &[u8]) -> Ans
     let mut holders = [0u8; MOST_CELLS];
     let mut class = [0u8; MOST_CELLS];
     let mut got = [0u16; CLASSES];
-    let mut sent = [0u16; MOST_PARTS + 1];
     let number = prepare(
         m,
         parts,
@@ -225,101 +91,22 @@ pub fn state_size(m: &[u8], parts: u32, owners: &[u8], i: u32, st: &[u8]) -> Ans
     if number != 0 {
         return Answer::Refused(number);
     }
-    size_from(
-        m,
-        parts as usize,
+    let p = make_plan(
+        asked_of(m, parts, i),
         owners,
-        i as usize,
-        st,
         &table,
         &ends,
         &holders,
         &mut class,
         &mut prev,
         &mut got,
-        &mut sent,
-    )
-}
-
-// Start, from prepared tables.
-fn start_from(
-    m: &[u8],
-    parts: usize,
-    owners: &[u8],
-    i: usize,
-    st: &[u8],
-    kind: usize,
-    v: &[u8],
-    f: &[u8],
-    table: &[u8],
-    ends: &[u16],
-    holders: &[u8],
-    class: &mut [u8],
-    order: &mut [u16],
-    local: &mut [u16],
-    got: &mut [u16],
-    sent: &mut [u16],
-    b: &mut [u8],
-) -> Answer
-    requires { ⌜
-        (splitNumber (now m) parts (now owners) (i ∷ i ∷ []) (now st) ≡ 0)
-        × (sizesNumber (now m) parts (now owners) (now st) ≡ 0)
-        × Prepared (now m) parts (now owners) (now st) (now table) (now ends) (now holders)
-        × (length (now class) ≡ 2000)
-        × (2000 ≤ length (now order))
-        × (bad11 kind (steps (now st)) (now v) ≡ false)
-        × (now got ≡ replicate 19 0)
-        × (now sent ≡ replicate 17 0)
-        × (length (now local) ≡ 2001)
-        ⌝ }
-    ensures { λ r. ⌜
-        (r ≡ startAnswer (now (m .entry)) parts (now (owners .entry)) i (now (st .entry)) kind (now (v .entry)) (now (f .entry)) (now (b .entry)))
-        × (now (b .exit) ≡ startState (now (m .entry)) parts (now (owners .entry)) i (now (st .entry)) kind (now (v .entry)) (now (f .entry)) (now (b .entry)))
-        ⌝ }
-{
-    if bad_field(cell_count(m), f) {
-        return Answer::Refused(14);
-    }
-    let p = make_plan(
-        m,
-        parts,
-        owners,
-        i,
-        st,
-        table,
-        ends,
-        holders,
-        class,
-        order,
-        got,
-        sent,
     );
-    let size = 2 * p.long + DEPTHS + 4 * p.held;
-    if b.len() < size {
-        return Answer::Refused(16);
-    }
-    put_state(
-        b,
-        p,
-        st.len() - 1,
-        kind,
-        v,
-        owners,
-        table,
-        ends,
-        order,
-        local,
-        f,
-        got,
-        sent,
-        class,
-    );
-    Answer::Done(size as u32)
+    Answer::Done((2 * p.long + DEPTHS + 4 * p.held) as u32)
 }
 
 // Makes the state of part i at round 0 at the front of b: mesh, number of parts and owners, the part, stencil, rule kind and weights, field. The mesh is
-// tested in arrays that hold the links and the ends of the reaches afterwards. Once the tables are prepared the links are not needed: the order and
-// the local numbers stand in their arrays.
+// tested in arrays that hold the links and the ends of the reaches afterwards. Once the tables are prepared the links are not needed: the order, the local
+// numbers and the exports stand in their arrays.
 pub fn start(
     m: &[u8],
     parts: u32,
@@ -368,23 +155,37 @@ pub fn start(
     if number != 0 {
         return Answer::Refused(number);
     }
-    start_from(
-        m,
-        parts as usize,
+    let asked = asked_of(m, parts, i);
+    if bad_field(asked.cells, f) {
+        return Answer::Refused(14);
+    }
+    let p = make_plan(
+        asked,
         owners,
-        i as usize,
-        st,
-        kind as usize,
-        v,
-        f,
         &table,
         &ends,
         &holders,
         &mut class,
         &mut prev,
-        &mut last,
         &mut got,
+    );
+    let size = 2 * p.long + DEPTHS + 4 * p.held;
+    if b.len() < size {
+        return Answer::Refused(16);
+    }
+    find_sent(
+        owners,
+        &table,
+        &ends,
+        p,
+        &mut class,
+        &mut holders,
+        &mut cell,
         &mut sent,
-        b,
-    )
+    );
+    number_order(&prev, p.held, &mut last);
+    let s = put_front(b, p, st.len() - 1, kind as usize, v, &got, &sent);
+    put_entries(b, s, &table, &ends, p, &prev, &last, &cell);
+    put_rest(b, p, f, &prev);
+    Answer::Done(size as u32)
 }

@@ -1,7 +1,7 @@
 -- `start_lists::inner::put_entries` meets its contract. Assumes nothing.
 use native.Mathlib.Omega.{arith}
 use Rattle.word_lists.proofs.PutLaws.{list-count, words-count, many-count, put-four}
-use Rattle.start_lists.proofs.StartCounts.{rows-long, all-long}
+use Rattle.start_lists.proofs.StartCounts.{rows-long, locals-count}
 use borrow.Author.Needs.{needs}
 use Rattle.start_lists.proofs.inner.put_entries.Statement.{statement}
 use Rattle.start_lists.proofs.inner.put_entries.Tie as tie
@@ -12,53 +12,45 @@ put-entries-spec =
     (tie.spec
     (λ c κs. search needs)
     (λ c κs.
-    let pre = c .before .before .before .before .before .before .before .before .before .before .before .before .before .pre in
-    let t = list-count _ _ _ _ _ _ (c .before .before .before .put-list .ensures) (pre .4) in
-    (omega (arith, pre .0, t, c .before .before .b .given), omega (arith, pre .1, t), omega (arith, pre .1), pre .5, omega (arith, pre .1)))
-    (λ c κs.
-    let after-b2 = c .before .before in
-    let after-put-row-ends = after-b2 .before in
-    let after-b = after-put-row-ends .before .before .before in
-    let after-put-list = after-b .before in
-    let start = after-put-list .before .before .before .before .before .before .before .before .before .before in
+    let at-put-list = c .before .before .before in
+    let start = at-put-list .before .before .before .before .before .before .before .before in
     let pre = start .pre in
-    let t = list-count _ _ _ _ _ _ (after-put-list .put-list .ensures) (pre .4) in
-    let u = words-count _ _ _ _ _ _ (after-put-row-ends .put-row-ends .ensures) in
-    (omega (arith, pre .0, t, u, after-b .b .given, after-b2 .b2 .given), omega (arith, pre .1, t, u), omega (arith, pre .1), pre .5))
+    let t = list-count _ _ _ _ _ _ (at-put-list .put-list .ensures) (pre .2) in
+    (omega (arith, pre .0, t, c .before .before .b .given), omega (arith, pre .1, t), omega (arith, pre .1), pre .3, omega (arith, pre .1)))
     (λ c κs.
-    let after-b3 = c .before .before .before in
-    let after-put-rows = after-b3 .before in
-    let after-b2 = after-put-rows .before .before .before in
-    let after-put-row-ends = after-b2 .before in
-    let after-b = after-put-row-ends .before .before .before in
-    let after-put-list = after-b .before in
-    let start = after-put-list .before .before .before .before .before .before .before .before .before .before in
+    let at-put-row-ends = c .before .before .before in
+    let at-b = at-put-row-ends .before .before .before in
+    let at-put-list = at-b .before in
+    let start = at-put-list .before .before .before .before .before .before .before .before in
     let pre = start .pre in
-    let t = list-count _ _ _ _ _ _ (after-put-list .put-list .ensures) (pre .4) in
-    let u = words-count _ _ _ _ _ _ (after-put-row-ends .put-row-ends .ensures) in
-    let w = many-count _ _ _ (rows-long _ _ _ _ _ _) _ _ _ _ (after-put-rows .put-rows .ensures) in (
-      omega (arith, pre .0, t, u, w, after-b .b .given, after-b2 .b2 .given, after-b3 .b3 .given),
-      omega (arith, pre .1, t, u, w),
-      pre .2,
-      pre .3,
-      pre .6,
-      pre .7,
-    ))
-    (λ c. search needs)
+    let t = list-count _ _ _ _ _ _ (at-put-list .put-list .ensures) (pre .2) in
+    let u = words-count _ _ _ _ _ _ (at-put-row-ends .put-row-ends .ensures) in
+    (omega (arith, pre .0, t, u, at-b .b .given, c .before .before .b2 .given), omega (arith, pre .1, t, u), omega (arith, pre .1), pre .3))
+    (λ c κs.
+    let at-put-rows = c .before .before .before in
+    let at-b2 = at-put-rows .before .before .before in
+    let at-put-row-ends = at-b2 .before in
+    let at-b = at-put-row-ends .before .before .before in
+    let at-put-list = at-b .before in
+    let start = at-put-list .before .before .before .before .before .before .before .before in
+    let pre = start .pre in
+    let t = list-count _ _ _ _ _ _ (at-put-list .put-list .ensures) (pre .2) in
+    let u = words-count _ _ _ _ _ _ (at-put-row-ends .put-row-ends .ensures) in
+    let w = many-count _ _ _ (rows-long _ _ _ _ _ _) _ _ _ _ (at-put-rows .put-rows .ensures) in
+    (omega (arith, pre .0, t, u, w, at-b .b .given, at-b2 .b2 .given, c .before .before .b3 .given), omega (arith, pre .1, t, u, w), pre .4, omega (arith, pre .1)))
     (λ c. search needs)
     (λ c.
-    let after-put-sent = c .before .before .before .before in
-    let after-put-rows = after-put-sent .before .before .before .before .before in
-    let after-put-row-ends = after-put-rows .before .before .before .before in
-    let after-put-list = after-put-row-ends .before .before .before .before in
-    let start = after-put-list .before .before .before .before .before .before .before .before .before .before in
+    let at-put-rows = c .before .before .before .before .before .before in
+    let at-put-row-ends = at-put-rows .before .before .before .before in
+    let at-put-list = at-put-row-ends .before .before .before .before in
+    let start = at-put-list .before .before .before .before .before .before .before .before in
     let pre = start .pre in
-    let order = after-put-list .put-list .ensures in
-    let ends = after-put-row-ends .put-row-ends .ensures in
-    let rows = after-put-rows .put-rows .ensures in
-    let sent = after-put-sent .put-sent .ensures in
-    let t = list-count _ _ _ _ _ _ order (pre .4) in
+    let order = at-put-list .put-list .ensures in
+    let ends = at-put-row-ends .put-row-ends .ensures in
+    let rows = at-put-rows .put-rows .ensures in
+    let sent = c .before .before .put-locals .ensures in
+    let t = list-count _ _ _ _ _ _ order (pre .2) in
     let u = words-count _ _ _ _ _ _ ends in
     let w = many-count _ _ _ (rows-long _ _ _ _ _ _) _ _ _ _ rows in
-    let x = many-count _ _ _ (all-long _ _ _ _ _ _ _) _ _ _ _ sent in
+    let x = locals-count _ _ _ _ _ _ _ (pre .4) sent in
     put-four _ _ _ _ _ _ _ _ _ _ _ _ _ _ (omega (arith, pre .0, t, u, w, x)) order ends rows sent))
