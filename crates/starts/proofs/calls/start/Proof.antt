@@ -29,7 +29,6 @@ returns-3 c =
     let at-bad-rule = at-rule .before in
     let at-passed = at-bad-rule .before in
     let at-split-number = at-passed .before .before .before in
-    let start = at-split-number .before .before .before .before .before .before .before in
     start-sizes _ _ _ _ _ _ _ _ _ (sym (at-split-number .split-number .ensures) ∙ at-passed .if1 .left) (rule-good _ _ _ _ (at-bad-rule .bad-rule .ensures) (at-rule .if2 .left)) _ (at-prepare .prepare .ensures .0) (c .if3 .taken)
 
 returns-4 : tie.Need-returns-4
@@ -40,7 +39,7 @@ returns-4 c =
     let at-bad-rule = at-rule .before in
     let at-passed = at-bad-rule .before in
     let at-split-number = at-passed .before .before .before in
-    let start = at-split-number .before .before .before .before .before .before .before in
+    let start = at-split-number .before .before .before .before .before .before .before .before .before in
     let sn = sym (at-split-number .split-number .ensures) ∙ at-passed .if1 .left in
     let prepared = at-prepare .prepare .ensures in
     let zero = at-if1 .if3 .left in
@@ -58,7 +57,6 @@ make-plan-requires c κs =
     let at-bad-rule = at-rule .before in
     let at-passed = at-bad-rule .before in
     let at-split-number = at-passed .before .before .before in
-    let start = at-split-number .before .before .before .before .before .before .before in
     let sn = sym (at-split-number .split-number .ensures) ∙ at-passed .if1 .left in
     let prepared = at-prepare .prepare .ensures in
     let zero = at-if1 .if3 .left in
@@ -80,13 +78,11 @@ mul-size c =
     let at-bad-rule = at-rule .before in
     let at-passed = at-bad-rule .before in
     let at-split-number = at-passed .before .before .before in
-    let start = at-split-number .before .before .before .before .before .before .before in
     let sn = sym (at-split-number .split-number .ensures) ∙ at-passed .if1 .left in
     let prepared = at-prepare .prepare .ensures in
     let zero = at-if1 .if3 .left in
     let zn = sym (prepared .0) ∙ zero in
     let asked = at-asked-of .asked-of .ensures in
-    let eleven = rule-good _ _ _ _ (at-bad-rule .bad-rule .ensures) (at-rule .if2 .left) in
     let told = at-make-plan .make-plan .ensures in
     let part = told .0 ∙ asked .0 in
     let parts = told .1 ∙ asked .1 in
@@ -105,13 +101,11 @@ add-size c =
     let at-bad-rule = at-rule .before in
     let at-passed = at-bad-rule .before in
     let at-split-number = at-passed .before .before .before in
-    let start = at-split-number .before .before .before .before .before .before .before in
     let sn = sym (at-split-number .split-number .ensures) ∙ at-passed .if1 .left in
     let prepared = at-prepare .prepare .ensures in
     let zero = at-if1 .if3 .left in
     let zn = sym (prepared .0) ∙ zero in
     let asked = at-asked-of .asked-of .ensures in
-    let eleven = rule-good _ _ _ _ (at-bad-rule .bad-rule .ensures) (at-rule .if2 .left) in
     let told = at-make-plan .make-plan .ensures in
     let part = told .0 ∙ asked .0 in
     let parts = told .1 ∙ asked .1 in
@@ -130,13 +124,11 @@ add-size-2 c =
     let at-bad-rule = at-rule .before in
     let at-passed = at-bad-rule .before in
     let at-split-number = at-passed .before .before .before in
-    let start = at-split-number .before .before .before .before .before .before .before in
     let sn = sym (at-split-number .split-number .ensures) ∙ at-passed .if1 .left in
     let prepared = at-prepare .prepare .ensures in
     let zero = at-if1 .if3 .left in
     let zn = sym (prepared .0) ∙ zero in
     let asked = at-asked-of .asked-of .ensures in
-    let eleven = rule-good _ _ _ _ (at-bad-rule .bad-rule .ensures) (at-rule .if2 .left) in
     let told = at-make-plan .make-plan .ensures in
     let part = told .0 ∙ asked .0 in
     let parts = told .1 ∙ asked .1 in
@@ -157,7 +149,7 @@ returns-5 c =
     let at-bad-rule = at-rule .before in
     let at-passed = at-bad-rule .before in
     let at-split-number = at-passed .before .before .before in
-    let start = at-split-number .before .before .before .before .before .before .before in
+    let start = at-split-number .before .before .before .before .before .before .before .before .before in
     let sn = sym (at-split-number .split-number .ensures) ∙ at-passed .if1 .left in
     let prepared = at-prepare .prepare .ensures in
     let zero = at-if1 .if3 .left in
@@ -185,7 +177,7 @@ slice-aggregate-find-sent-2 : tie.Need-slice-aggregate-find-sent-2
 slice-aggregate-find-sent-2 c =
     let at-ends2-way = c .before .before .before .before .before .before .before .before .before .before .before .before in
     let at-ends2 = at-ends2-way .before .before .before .before .before .before .before .before .before in
-    omega (arith, at-ends2 .ends2 .given)
+    omega (arith, at-ends2 .ends4 .given)
 
 slice-aggregate-find-sent-4 : tie.Need-slice-aggregate-find-sent-4
 slice-aggregate-find-sent-4 c =
@@ -198,7 +190,7 @@ slice-aggregate-find-sent-5 c =
     let at-cell2-way = c .before .before .before .before .before .before .before .before .before .before .before .before in
     let at-cell2-way2 = at-cell2-way .before .before .before .before .before .before .before .before .before .before .before .before in
     let at-cell2 = at-cell2-way2 .before .before .before .before in
-    omega (arith, at-cell2 .cell2 .given)
+    omega (arith, at-cell2 .cell4 .given)
 
 find-sent-requires : tie.Need-find-sent-requires
 find-sent-requires c κs =
@@ -213,19 +205,16 @@ find-sent-requires c κs =
     let at-bad-rule = at-rule .before in
     let at-passed = at-bad-rule .before in
     let at-split-number = at-passed .before .before .before in
-    let start = at-split-number .before .before .before .before .before .before .before in
     let sn = sym (at-split-number .split-number .ensures) ∙ at-passed .if1 .left in
     let prepared = at-prepare .prepare .ensures in
     let zero = at-if1 .if3 .left in
     let zn = sym (prepared .0) ∙ zero in
     let asked = at-asked-of .asked-of .ensures in
-    let eleven = rule-good _ _ _ _ (at-bad-rule .bad-rule .ensures) (at-rule .if2 .left) in
     let told = at-make-plan .make-plan .ensures in
     let part = told .0 ∙ asked .0 in
     let parts = told .1 ∙ asked .1 in
     let first = told .2 ∙ asked .2 in
     let cells = told .3 ∙ asked .3 in
-    let plan = plan-made _ _ _ _ _ _ _ _ sn zn (prepared .1 zero) _ _ _ _ part parts first cells _ _ _ _ _ (told .4) in
     let map = plan-mapped _ _ _ _ _ _ _ _ sn zn (prepared .1 zero) _ _ _ _ part parts first cells in
     (map .0, map .1, map .2, map .3, map .4, map .5, omega (arith, at-class4 .class4 .given, at-class2 .class2 .given), omega (arith, at-holders2 .holders2 .given), refl)
 
@@ -248,13 +237,11 @@ number-order-requires c κs =
     let at-bad-rule = at-rule .before in
     let at-passed = at-bad-rule .before in
     let at-split-number = at-passed .before .before .before in
-    let start = at-split-number .before .before .before .before .before .before .before in
     let sn = sym (at-split-number .split-number .ensures) ∙ at-passed .if1 .left in
     let prepared = at-prepare .prepare .ensures in
     let zero = at-if1 .if3 .left in
     let zn = sym (prepared .0) ∙ zero in
     let asked = at-asked-of .asked-of .ensures in
-    let eleven = rule-good _ _ _ _ (at-bad-rule .bad-rule .ensures) (at-rule .if2 .left) in
     let told = at-make-plan .make-plan .ensures in
     let part = told .0 ∙ asked .0 in
     let parts = told .1 ∙ asked .1 in
@@ -288,7 +275,7 @@ put-front-requires c κs =
     let at-bad-rule = at-rule .before in
     let at-passed = at-bad-rule .before in
     let at-split-number = at-passed .before .before .before in
-    let start = at-split-number .before .before .before .before .before .before .before in
+    let start = at-split-number .before .before .before .before .before .before .before .before .before in
     let sn = sym (at-split-number .split-number .ensures) ∙ at-passed .if1 .left in
     let prepared = at-prepare .prepare .ensures in
     let zero = at-if1 .if3 .left in
@@ -332,7 +319,7 @@ slice-aggregate-put-entries-2 c =
     let at-ends2-way2 = at-ends2-way .before .before .before .before .before .before .before .before .before .before .before .before in
     let at-ends2-way3 = at-ends2-way2 .before .before .before .before .before .before .before .before .before .before .before .before in
     let at-ends2 = at-ends2-way3 .before .before .before .before .before .before .before in
-    omega (arith, at-ends2 .ends2 .given)
+    omega (arith, at-ends2 .ends4 .given)
 
 put-entries-requires : tie.Need-put-entries-requires
 put-entries-requires c κs =
@@ -351,7 +338,7 @@ put-entries-requires c κs =
     let at-bad-rule = at-rule .before in
     let at-passed = at-bad-rule .before in
     let at-split-number = at-passed .before .before .before in
-    let start = at-split-number .before .before .before .before .before .before .before in
+    let start = at-split-number .before .before .before .before .before .before .before .before .before in
     let sn = sym (at-split-number .split-number .ensures) ∙ at-passed .if1 .left in
     let prepared = at-prepare .prepare .ensures in
     let zero = at-if1 .if3 .left in
@@ -375,7 +362,7 @@ put-entries-requires c κs =
       omega (arith, fit .long, sent .0, s),
       fit .order-there,
       fit .near,
-      omega (arith, sent .1, at-cell4 .cell4 .given, at-cell2 .cell2 .given),
+      omega (arith, sent .1, at-cell4 .cell6 .given, at-cell2 .cell4 .given),
     )
 
 slice-aggregate-put-rest : tie.Need-slice-aggregate-put-rest
@@ -403,7 +390,7 @@ put-rest-requires c κs =
     let at-bad-rule = at-rule .before in
     let at-passed = at-bad-rule .before in
     let at-split-number = at-passed .before .before .before in
-    let start = at-split-number .before .before .before .before .before .before .before in
+    let start = at-split-number .before .before .before .before .before .before .before .before .before in
     let sn = sym (at-split-number .split-number .ensures) ∙ at-passed .if1 .left in
     let prepared = at-prepare .prepare .ensures in
     let zero = at-if1 .if3 .left in
@@ -427,34 +414,6 @@ put-rest-requires c κs =
       start-cells _ _ _ _ _ _ _ _ b sn eleven zn _ (asked .3) _ field good _ _ _ (prepared .1 zero) _ _ _ _ plan _ _ _ part first cells,
     )
 
-cast-t94 : tie.Need-cast-t94
-cast-t94 c =
-    let at-make-plan-way = c .before .before .before .before .before .before .before .before .before .before .before .before in
-    let at-make-plan-way2 = at-make-plan-way .before .before .before .before .before .before .before .before .before .before .before .before in
-    let at-make-plan-way3 = at-make-plan-way2 .before .before .before .before .before .before .before .before .before .before .before .before in
-    let at-make-plan = at-make-plan-way3 .before .before .before .before .before in
-    let at-asked-of = at-make-plan .before .before .before .before .before .before .before .before .before in
-    let at-if1 = at-asked-of .before in
-    let at-prepare = at-if1 .before .before .before .before .before .before .before .before in
-    let at-rule = at-prepare .before .before .before .before .before .before .before .before in
-    let at-bad-rule = at-rule .before in
-    let at-passed = at-bad-rule .before in
-    let at-split-number = at-passed .before .before .before in
-    let start = at-split-number .before .before .before .before .before .before .before in
-    let sn = sym (at-split-number .split-number .ensures) ∙ at-passed .if1 .left in
-    let prepared = at-prepare .prepare .ensures in
-    let zero = at-if1 .if3 .left in
-    let zn = sym (prepared .0) ∙ zero in
-    let asked = at-asked-of .asked-of .ensures in
-    let eleven = rule-good _ _ _ _ (at-bad-rule .bad-rule .ensures) (at-rule .if2 .left) in
-    let told = at-make-plan .make-plan .ensures in
-    let part = told .0 ∙ asked .0 in
-    let parts = told .1 ∙ asked .1 in
-    let first = told .2 ∙ asked .2 in
-    let cells = told .3 ∙ asked .3 in
-    let plan = plan-made _ _ _ _ _ _ _ _ sn zn (prepared .1 zero) _ _ _ _ part parts first cells _ _ _ _ _ (told .4) in
-    omega (arith, plan .long-is, plan .fit .long, plan .fit .order-few)
-
 returns-6 : tie.Need-returns-6
 returns-6 c =
     let at-put-entries = c .before .before .before .before .before .before .before in
@@ -473,7 +432,7 @@ returns-6 c =
     let at-bad-rule = at-rule .before in
     let at-passed = at-bad-rule .before in
     let at-split-number = at-passed .before .before .before in
-    let start = at-split-number .before .before .before .before .before .before .before in
+    let start = at-split-number .before .before .before .before .before .before .before .before .before in
     let sn = sym (at-split-number .split-number .ensures) ∙ at-passed .if1 .left in
     let prepared = at-prepare .prepare .ensures in
     let zero = at-if1 .if3 .left in
@@ -494,7 +453,7 @@ returns-6 c =
     let sent = plan-sent _ _ _ _ _ _ _ _ sn zn (prepared .1 zero) _ _ _ _ part parts first cells _ _ _ _ _ (told .4) in
     let found = at-find-sent .find-sent .ensures in
     let lists =
-    lists-put _ _ _ _ _ _ _ _ _ _ _ _ _ _ long _ _ _ _ _ _ _ _ _ _ _ (told .5) (found .1) (found .0) (sent .0) (omega (arith, sent .1, at-cell2 .cell2 .given))
+    lists-put _ _ _ _ _ _ _ _ _ _ _ _ _ _ long _ _ _ _ _ _ _ _ _ _ _ (told .5) (found .1) (found .0) (sent .0) (omega (arith, sent .1, at-cell2 .cell4 .given))
     (omega (arith, at-if3 .if5 .left, long)) (at-put-front .put-front .ensures) (at-put-entries .put-entries .ensures) in
     let words = lists-numbered _ _ _ _ _ _ _ _ _ _ _ _ _ _ _ _ _ (at-number-order .number-order .ensures) lists in
     start-done _ _ _ _ _ _ _ _ b sn eleven zn _ (asked .3) _ field good _ _ _ (prepared .1 zero) _ _ _ _ plan _ _ _ part first cells (at-if3 .if5 .left) _
@@ -562,6 +521,30 @@ start-spec =
     put-entries-requires
     slice-aggregate-put-rest
     put-rest-requires
-    cast-t94
+    (λ c.
+    let at-make-plan-way = c .before .before .before .before .before .before .before .before .before .before .before .before in
+    let at-make-plan-way2 = at-make-plan-way .before .before .before .before .before .before .before .before .before .before .before .before in
+    let at-make-plan-way3 = at-make-plan-way2 .before .before .before .before .before .before .before .before .before .before .before .before in
+    let at-make-plan = at-make-plan-way3 .before .before .before .before .before in
+    let at-asked-of = at-make-plan .before .before .before .before .before .before .before .before .before in
+    let at-if1 = at-asked-of .before in
+    let at-prepare = at-if1 .before .before .before .before .before .before .before .before in
+    let at-rule = at-prepare .before .before .before .before .before .before .before .before in
+    let at-bad-rule = at-rule .before in
+    let at-passed = at-bad-rule .before in
+    let at-split-number = at-passed .before .before .before in
+    let start = at-split-number .before .before .before .before .before .before .before .before .before in
+    let sn = sym (at-split-number .split-number .ensures) ∙ at-passed .if1 .left in
+    let prepared = at-prepare .prepare .ensures in
+    let zero = at-if1 .if3 .left in
+    let zn = sym (prepared .0) ∙ zero in
+    let asked = at-asked-of .asked-of .ensures in
+    let told = at-make-plan .make-plan .ensures in
+    let part = told .0 ∙ asked .0 in
+    let parts = told .1 ∙ asked .1 in
+    let first = told .2 ∙ asked .2 in
+    let cells = told .3 ∙ asked .3 in
+    let plan = plan-made _ _ _ _ _ _ _ _ sn zn (prepared .1 zero) _ _ _ _ part parts first cells _ _ _ _ _ (told .4) in
+    omega (arith, plan .long-is, plan .fit .long, plan .fit .order-few))
     (λ c. search needs)
     returns-6)

@@ -27,13 +27,13 @@ state-size-spec =
     (λ c. search needs)
     (λ c. search needs)
     (λ c κs.
-    let at-passed = c .before .before .before .before .before .before in
+    let at-passed = c .before .before .before .before .before .before .before in
     let at-split-number = at-passed .before .before .before in
     let f = passed-facts _ _ _ _ _ _ (sym (at-split-number .split-number .ensures) ∙ at-passed .if1 .left) in
     (f .mesh, f .map, f .stencil, search needs, refl, refl, refl, search needs, refl, refl))
     (λ c.
     let at-prepare = c .before .before .before .before .before .before .before .before in
-    let at-passed = at-prepare .before .before .before .before .before .before .before in
+    let at-passed = at-prepare .before .before .before .before .before .before .before .before in
     let at-split-number = at-passed .before .before .before in
     size-sizes _ _ _ _ _ (sym (at-split-number .split-number .ensures) ∙ at-passed .if1 .left) _ (at-prepare .prepare .ensures .0) (c .if2 .taken))
     (λ c κs. search needs)
@@ -47,7 +47,7 @@ state-size-spec =
     let at-asked-of = c .before .before .before .before .before .before in
     let at-if1 = at-asked-of .before in
     let at-prepare = at-if1 .before .before .before .before .before .before .before .before in
-    let at-passed = at-prepare .before .before .before .before .before .before .before in
+    let at-passed = at-prepare .before .before .before .before .before .before .before .before in
     let at-split-number = at-passed .before .before .before in
     let sn = sym (at-split-number .split-number .ensures) ∙ at-passed .if1 .left in
     let prepared = at-prepare .prepare .ensures in
@@ -64,7 +64,7 @@ state-size-spec =
     let at-asked-of = at-make-plan .before .before .before .before .before .before .before in
     let at-if1 = at-asked-of .before in
     let at-prepare = at-if1 .before .before .before .before .before .before .before .before in
-    let at-passed = at-prepare .before .before .before .before .before .before .before in
+    let at-passed = at-prepare .before .before .before .before .before .before .before .before in
     let at-split-number = at-passed .before .before .before in
     let sn = sym (at-split-number .split-number .ensures) ∙ at-passed .if1 .left in
     let prepared = at-prepare .prepare .ensures in
@@ -83,7 +83,7 @@ state-size-spec =
     let at-asked-of = at-make-plan .before .before .before .before .before .before .before in
     let at-if1 = at-asked-of .before in
     let at-prepare = at-if1 .before .before .before .before .before .before .before .before in
-    let at-passed = at-prepare .before .before .before .before .before .before .before in
+    let at-passed = at-prepare .before .before .before .before .before .before .before .before in
     let at-split-number = at-passed .before .before .before in
     let sn = sym (at-split-number .split-number .ensures) ∙ at-passed .if1 .left in
     let prepared = at-prepare .prepare .ensures in
@@ -103,7 +103,7 @@ state-size-spec =
     let at-asked-of = at-make-plan .before .before .before .before .before .before .before in
     let at-if1 = at-asked-of .before in
     let at-prepare = at-if1 .before .before .before .before .before .before .before .before in
-    let at-passed = at-prepare .before .before .before .before .before .before .before in
+    let at-passed = at-prepare .before .before .before .before .before .before .before .before in
     let at-split-number = at-passed .before .before .before in
     let sn = sym (at-split-number .split-number .ensures) ∙ at-passed .if1 .left in
     let prepared = at-prepare .prepare .ensures in
@@ -122,7 +122,7 @@ state-size-spec =
     let at-asked-of = at-make-plan .before .before .before .before .before .before .before in
     let at-if1 = at-asked-of .before in
     let at-prepare = at-if1 .before .before .before .before .before .before .before .before in
-    let at-passed = at-prepare .before .before .before .before .before .before .before in
+    let at-passed = at-prepare .before .before .before .before .before .before .before .before in
     let at-split-number = at-passed .before .before .before in
     let sn = sym (at-split-number .split-number .ensures) ∙ at-passed .if1 .left in
     let prepared = at-prepare .prepare .ensures in
@@ -141,7 +141,7 @@ state-size-spec =
     let at-asked-of = at-make-plan .before .before .before .before .before .before .before in
     let at-if1 = at-asked-of .before in
     let at-prepare = at-if1 .before .before .before .before .before .before .before .before in
-    let at-passed = at-prepare .before .before .before .before .before .before .before in
+    let at-passed = at-prepare .before .before .before .before .before .before .before .before in
     let at-split-number = at-passed .before .before .before in
     let sn = sym (at-split-number .split-number .ensures) ∙ at-passed .if1 .left in
     let prepared = at-prepare .prepare .ensures in
