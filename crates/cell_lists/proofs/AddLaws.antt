@@ -100,9 +100,6 @@ module _ (class : Bytes) (k : ℕ) where
   unfolding classCount
   count-turn q s n e f = ap₂ _+_ e (f ∙ ap (placeCount class k) (sym (zero-add q))) ∙ sym (total-turn 0 (placeCount class k) q)
 
-  pub count-end : (q cells s : ℕ) → q ≤ cells → cells ≤ q → s ≡ classCount class q k → s ≡ classCount class cells k
-  count-end q cells s g h e = at-last (λ n. s ≡ classCount class n k) q cells g h e
-
   -- it is the length of the list
   pub class-count : (first cells : ℕ) → length (classCells class first cells k) ≡ classCount class cells k
   unfolding classCells classCount

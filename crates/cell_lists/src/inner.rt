@@ -3,10 +3,9 @@ use layout::byte_at;
 use layout::put_number_at;
 use split::inner::HALO;
 use split::inner::INTERIOR;
-ghost use mathlib.Core.Path.{_≡_};
 ghost use Prim.Native.Nat.{_+_, _≤_, _<_};
 ghost use Rattle.vocabulary.specs.Ranges.{blocks};
-ghost use Rattle.split.specs.Classes.{ofClass, classCells, placeCount, classCount, classOrder, Added};
+ghost use Rattle.split.specs.Classes.{ofClass, classCells, classOrder, Added};
 
 // Adds the number of place q, counted from `first`, to the list, if the row has the class k there.
 fn add_place(class: &[u8], first: usize, k: u8, q: usize, list: &mut [u16], s: usize) -> usize
@@ -66,27 +65,4 @@ pub fn add_order(class: &[u8], first: usize, cells: usize, parts: usize, list: &
     let inner = add_class(class, first, cells, INTERIOR, list, 0);
     let own = add_class(class, first, cells, HALO, list, inner);
     add_imported(class, first, cells, parts, list, own)
-}
-
-// One if the row has the class k at place q.
-fn count_place(class: &[u8], k: usize, q: usize) -> usize
-    ensures { λ n. ⌜ (n ≡ placeCount (now (class .entry)) k q) × (n ≤ 1) ⌝ }
-{
-    if byte_at(class, q) as usize == k {
-        1
-    } else {
-        0
-    }
-}
-
-// How many cells are of class k.
-pub fn count_class(class: &[u8], cells: usize, k: usize) -> usize
-    requires { ⌜ cells ≤ 2000 ⌝ }
-    ensures { λ n. ⌜ (n ≡ classCount (now (class .entry)) cells k) × (n ≤ 2000) ⌝ }
-{
-    let mut n = 0;
-    for q in 0..cells {
-        n += count_place(class, k, q);
-    }
-    n
 }

@@ -34,7 +34,7 @@ use Rattle.cell_lists.proofs.ClassLists.{row-cells, interior-is, halo-is, order
 use Rattle.starts.specs.Start.{ownedIn, exportEnds, reachEnds, listsLong, stateSize, sizeNumber, sizeAnswer, firstState, lastTests, startTests, startNumber, startAnswer, startState}
 use Rattle.word_lists.specs.Putting.{Put}
 use Rattle.states.specs.State.{exportsWord, depthsPlace, stateLength}
-use Rattle.start_lists.specs.Starting.{rowEnds, sentEnds, startWords, startDepth, Fit, Cells, Got, Mapped, exportedAt, exportCount, partOrder, partOwned, Fitting, Drawn}
+use Rattle.start_lists.specs.Starting.{rowEnds, sentEnds, startWords, startDepth, Fit, Cells, Mapped, exportedAt, exportCount, partOrder, partOwned, Fitting, Drawn}
 use Rattle.starts.specs.Planning.{Planned}
 use Rattle.start_lists.proofs.StartLists.{row-order}
 use Rattle.starts.proofs.StartFit.{fit-from, cells-from}
@@ -305,9 +305,6 @@ module _ (m : Bytes) (parts : ℕ) (owners : Bytes) (i : ℕ) (st : Bytes) (kind
                 Q .long-is
                 ∙ ap₂ (λ x y. exportsWord n owned (rowEnds table ends x order owned) + sentEnds owners table ends i x y 16) (sym fe) (sym ke)
                 ∙ ap (λ x. exportsWord n owned (rowEnds table ends first order owned) + sentEnds owners table ends x first count 16) (sym pe)
-
-            pub start-got : (got : List ℕ) → Got owners table ends i (cellCount m) got → Got owners table ends part count got
-            start-got got G = subst₂ (λ x y. Got owners table ends x y got) (sym pe) (sym ke) G
 
             pub start-cells : Cells f first order n
             start-cells =
