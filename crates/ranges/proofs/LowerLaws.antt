@@ -31,6 +31,8 @@ use Rattle.split.specs.Classes.{Added}
 use Rattle.split.proofs.HoldLaws.{class-zero}
 use Rattle.cell_lists.proofs.AddLaws.{add-none}
 use Rattle.cell_lists.proofs.ClassLists.{class-at}
+use Rattle.ranges.specs.declared.inner.Side.{Side}
+use Rattle.ranges.specs.declared.inner.Side.the-variants.{Mine, Anothers, Held, HeldByAnother}
 use Rattle.ranges.specs.Lowers.{sideAt, someSide, lowerClass, trailClass, elementClass, Trailed, Lowered, rangeOf, rowRange}
 
 -- the stencil (d), which is always right: the chains turned round do not depend on the stencil
@@ -81,9 +83,9 @@ module _ (m : Bytes) (cell prev last : List ℕ) (G : Ground m (top m ∷ []) ce
   module _ (first : ℕ) (fe : first ≡ firstCell m) (class holders : Bytes) where
     class-like : (e : ℕ) → 1 ≤ e → e ≤ below m (top m) → trailClass cell prev last first class holders e ≡ elementClass m class holders e
     unfolding trailClass elementClass lowerClass
-    class-like e low high = λ x. cond (side 0 x) (cond (side 1 x) 3 (cond (side 3 x) 2 1)) (cond (side 2 x) 4 0)
+    class-like e low high = λ x. cond (side Mine x) (cond (side Anothers x) 3 (cond (side HeldByAnother x) 2 1)) (cond (side Held x) 4 0)
       where
-        side : (k : ℕ) → someSide (trail cell prev 12001 (getD last e 0)) first k class holders ≡ someSide (picked (firstCell m) (cellCount m) (incident m e)) (firstCell m) k class holders
+        side : (k : Side) → someSide (trail cell prev 12001 (getD last e 0)) first k class holders ≡ someSide (picked (firstCell m) (cellCount m) (incident m e)) (firstCell m) k class holders
         side k =
             unfold someSide in someOf-like (trail cell prev 12001 (getD last e 0)) (picked (firstCell m) (cellCount m) (incident m e)) (λ y. sideAt k class holders (y - first)) (λ z. trail-told e z low high)
             ∙ ap (λ f. someOf (picked (firstCell m) (cellCount m) (incident m e)) (λ y. sideAt k class holders (y - f))) fe
@@ -266,15 +268,15 @@ module _ (m : Bytes) (parts : ℕ) (owners st table : Bytes) (ends : List ℕ) (
       by : (p q : ℕ → Bool) → ((y : ℕ) → firstCell m ≤ y → y < firstCell m + cellCount m → p (y - firstCell m) ≡ q y) → someOf (cellsAt m S e) (λ y. p (y - firstCell m)) ≡ someOf (cellsAt m S e) q
       by p q f = someOf-cong (λ y. p (y - firstCell m)) q (cellsAt m S e) (All-map (cellsAt m S e) (λ y w. f y (w .0) (w .1)) (at-cells e))
 
-      mine : someSide (cellsAt m S e) (firstCell m) 0 class holders ≡ touches m S e i
+      mine : someSide (cellsAt m S e) (firstCell m) Mine class holders ≡ touches m S e i
       unfolding someSide sideAt touches
       mine = by (λ q. leb 17 (byteAt class q)) (owns S i) mine-told
 
-      held-here : someSide (cellsAt m S e) (firstCell m) 2 class holders ≡ holdsLower m S i e
+      held-here : someSide (cellsAt m S e) (firstCell m) Held class holders ≡ holdsLower m S i e
       unfolding someSide sideAt holdsLower
       held-here = by (λ q. not (eqb (byteAt class q) 0)) (holds S i) held-told
 
-      anothers : someSide (cellsAt m S e) (firstCell m) 1 class holders ≡ another m S i (touches m S e)
+      anothers : someSide (cellsAt m S e) (firstCell m) Anothers class holders ≡ another m S i (touches m S e)
       unfolding someSide sideAt another touches owns splitOf
       anothers = by (λ q. ltb (byteAt class q) 17) (λ y. not (eqb (S .owner y) i)) other-told ∙ same-test _ _ left right
         where
@@ -296,7 +298,7 @@ module _ (m : Bytes) (parts : ℕ) (owners st table : Bytes) (ends : List ℕ) (
               someOf-has (λ y. not (eqb (S .owner y) i)) (cellsAt m S e) 0 (v .0) (v .1)
               (ap not (ne-eqb (S .owner (getD (cellsAt m S e) (v .0) 0)) i (λ z. eqb-false i (1 + w .0) (not-true (eqb i (1 + w .0)) (u .0)) (sym z ∙ eqb-true (S .owner (getD (cellsAt m S e) (v .0) 0)) (1 + w .0) (v .2)))))
 
-      held-others : someSide (cellsAt m S e) (firstCell m) 3 class holders ≡ another m S i (λ j. holdsLower m S j e)
+      held-others : someSide (cellsAt m S e) (firstCell m) HeldByAnother class holders ≡ another m S i (λ j. holdsLower m S j e)
       unfolding someSide sideAt another holdsLower splitOf
       held-others =
           by (λ q. ltb (heldOne class q) (byteAt holders q)) (λ y. some 1 parts (λ j. not (eqb i j) && holds S j y)) elsewhere-told
