@@ -19,7 +19,8 @@ use Rattle.mesh.specs.Accepted.{Accepted}
 use Rattle.mesh.specs.Walks.{Near, incident, reach, layer, stepsTo, steps, walked, bad10}
 use Rattle.split.specs.Split.{Split, splitOf, owns, owned, reaches, holds, held, imports, locals, localOf, globalOf}
 use Rattle.split.specs.Split.{cellsAt, holdsLower, touches, another, isCopied, isShared, isExposed, isPrivate, range}
-use Rattle.split.specs.Lists.{splitNumber, listOf, private-range, exposed-range, shared-range, copied-range}
+use Rattle.split.specs.Lists.{splitNumber, listOf}
+use Rattle.split.specs.declared.Wanted.the-variants.{Private, Exposed, Shared, Copied}
 use Rattle.split.specs.SplitLaws as Laws
 use Rattle.split.specs.SplitLaws.{Cell, import-facts, import-has, order-cells, local-back, own-held, held-has, map-facts, split-reach, split-own, split-owner}
 use Rattle.split.proofs.PassedLaws.{twice, passed-facts}
@@ -138,7 +139,7 @@ module _ (m : Bytes) (parts : ℕ) (owners : Bytes) (i : ℕ) (st : Bytes) (A : 
       someOf-has (holds S i) (cellsAt m S e) 0 (w .0) (w .1) (own-held S (split-own m parts owners st) i (getD (cellsAt m S e) (w .0) 0) (p .0, p .1) (w .2))
 
   one-range : (k e : ℕ)
-      → listsWith e (listOf m S i (private-range k) ∷ listOf m S i (exposed-range k) ∷ listOf m S i (shared-range k) ∷ listOf m S i (copied-range k) ∷ [])
+      → listsWith e (listOf m S i (Private k) ∷ listOf m S i (Exposed k) ∷ listOf m S i (Shared k) ∷ listOf m S i (Copied k) ∷ [])
       ≡ cond (ltb k (top m) && isOf m k e && holdsLower m S i e) 1 0
   unfolding listsWith listOf isPrivate isExposed isShared isCopied
   one-range k e =

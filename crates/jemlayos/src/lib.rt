@@ -5,7 +5,8 @@ ghost use mathlib.Core.Path.{_≡_};
 ghost use Rattle.packed.specs.Packed.{packed};
 ghost use Rattle.mesh.specs.Mesh.{checkAnswer};
 ghost use Rattle.round.specs.Rounds.{roundAnswer, roundOut};
-ghost use Rattle.split.specs.Lists.{interior-cells, halo-cells, local-order, imports-from, exports-to, private-range, exposed-range, shared-range, copied-range, listAnswer, listOut};
+ghost use Rattle.split.specs.Lists.{listAnswer, listOut};
+ghost use Rattle.split.specs.declared.Wanted.the-variants.{Interior, Halo, Locals, Imports, Exports, Private, Exposed, Shared, Copied};
 ghost use Rattle.parts.specs.Calls.{writeAnswer, writeState, writeOut, takeAnswer, takeState, advanceAnswer, advanceState, collectAnswer, collectOut};
 ghost use Rattle.starts.specs.Start.{sizeAnswer, startAnswer, startState};
 
@@ -42,7 +43,7 @@ pub extern "C" fn jem_interior(
     stencil: &[u8],
     out: &mut [u8],
 ) -> u64
-    ensures { λ r. ⌜ (r ≡ packed (listAnswer (now (mesh .entry)) parts (now (owners .entry)) part (now (stencil .entry)) interior-cells (now (out .entry)))) × (now (out .exit) ≡ listOut (now (mesh .entry)) parts (now (owners .entry)) part (now (stencil .entry)) interior-cells (now (out .entry))) ⌝ }
+    ensures { λ r. ⌜ (r ≡ packed (listAnswer (now (mesh .entry)) parts (now (owners .entry)) part (now (stencil .entry)) Interior (now (out .entry)))) × (now (out .exit) ≡ listOut (now (mesh .entry)) parts (now (owners .entry)) part (now (stencil .entry)) Interior (now (out .entry))) ⌝ }
 {
     pack(part_lists::interior(mesh, parts, owners, part, stencil, out))
 }
@@ -57,7 +58,7 @@ pub extern "C" fn jem_halo(
     stencil: &[u8],
     out: &mut [u8],
 ) -> u64
-    ensures { λ r. ⌜ (r ≡ packed (listAnswer (now (mesh .entry)) parts (now (owners .entry)) part (now (stencil .entry)) halo-cells (now (out .entry)))) × (now (out .exit) ≡ listOut (now (mesh .entry)) parts (now (owners .entry)) part (now (stencil .entry)) halo-cells (now (out .entry))) ⌝ }
+    ensures { λ r. ⌜ (r ≡ packed (listAnswer (now (mesh .entry)) parts (now (owners .entry)) part (now (stencil .entry)) Halo (now (out .entry)))) × (now (out .exit) ≡ listOut (now (mesh .entry)) parts (now (owners .entry)) part (now (stencil .entry)) Halo (now (out .entry))) ⌝ }
 {
     pack(part_lists::halo(mesh, parts, owners, part, stencil, out))
 }
@@ -72,7 +73,7 @@ pub extern "C" fn jem_locals(
     stencil: &[u8],
     out: &mut [u8],
 ) -> u64
-    ensures { λ r. ⌜ (r ≡ packed (listAnswer (now (mesh .entry)) parts (now (owners .entry)) part (now (stencil .entry)) local-order (now (out .entry)))) × (now (out .exit) ≡ listOut (now (mesh .entry)) parts (now (owners .entry)) part (now (stencil .entry)) local-order (now (out .entry))) ⌝ }
+    ensures { λ r. ⌜ (r ≡ packed (listAnswer (now (mesh .entry)) parts (now (owners .entry)) part (now (stencil .entry)) Locals (now (out .entry)))) × (now (out .exit) ≡ listOut (now (mesh .entry)) parts (now (owners .entry)) part (now (stencil .entry)) Locals (now (out .entry))) ⌝ }
 {
     pack(part_lists::local_order(mesh, parts, owners, part, stencil, out))
 }
@@ -88,7 +89,7 @@ pub extern "C" fn jem_imports(
     other: u32,
     out: &mut [u8],
 ) -> u64
-    ensures { λ r. ⌜ (r ≡ packed (listAnswer (now (mesh .entry)) parts (now (owners .entry)) part (now (stencil .entry)) (imports-from other) (now (out .entry)))) × (now (out .exit) ≡ listOut (now (mesh .entry)) parts (now (owners .entry)) part (now (stencil .entry)) (imports-from other) (now (out .entry))) ⌝ }
+    ensures { λ r. ⌜ (r ≡ packed (listAnswer (now (mesh .entry)) parts (now (owners .entry)) part (now (stencil .entry)) (Imports other) (now (out .entry)))) × (now (out .exit) ≡ listOut (now (mesh .entry)) parts (now (owners .entry)) part (now (stencil .entry)) (Imports other) (now (out .entry))) ⌝ }
 {
     pack(part_lists::imports(mesh, parts, owners, part, stencil, other, out))
 }
@@ -104,7 +105,7 @@ pub extern "C" fn jem_exports(
     other: u32,
     out: &mut [u8],
 ) -> u64
-    ensures { λ r. ⌜ (r ≡ packed (listAnswer (now (mesh .entry)) parts (now (owners .entry)) part (now (stencil .entry)) (exports-to other) (now (out .entry)))) × (now (out .exit) ≡ listOut (now (mesh .entry)) parts (now (owners .entry)) part (now (stencil .entry)) (exports-to other) (now (out .entry))) ⌝ }
+    ensures { λ r. ⌜ (r ≡ packed (listAnswer (now (mesh .entry)) parts (now (owners .entry)) part (now (stencil .entry)) (Exports other) (now (out .entry)))) × (now (out .exit) ≡ listOut (now (mesh .entry)) parts (now (owners .entry)) part (now (stencil .entry)) (Exports other) (now (out .entry))) ⌝ }
 {
     pack(part_lists::exports(mesh, parts, owners, part, stencil, other, out))
 }
@@ -120,7 +121,7 @@ pub extern "C" fn jem_private(
     dimension: u32,
     out: &mut [u8],
 ) -> u64
-    ensures { λ r. ⌜ (r ≡ packed (listAnswer (now (mesh .entry)) parts (now (owners .entry)) part (now (stencil .entry)) (private-range dimension) (now (out .entry)))) × (now (out .exit) ≡ listOut (now (mesh .entry)) parts (now (owners .entry)) part (now (stencil .entry)) (private-range dimension) (now (out .entry))) ⌝ }
+    ensures { λ r. ⌜ (r ≡ packed (listAnswer (now (mesh .entry)) parts (now (owners .entry)) part (now (stencil .entry)) (Private dimension) (now (out .entry)))) × (now (out .exit) ≡ listOut (now (mesh .entry)) parts (now (owners .entry)) part (now (stencil .entry)) (Private dimension) (now (out .entry))) ⌝ }
 {
     pack(part_lists::private_range(mesh, parts, owners, part, stencil, dimension, out))
 }
@@ -136,7 +137,7 @@ pub extern "C" fn jem_exposed(
     dimension: u32,
     out: &mut [u8],
 ) -> u64
-    ensures { λ r. ⌜ (r ≡ packed (listAnswer (now (mesh .entry)) parts (now (owners .entry)) part (now (stencil .entry)) (exposed-range dimension) (now (out .entry)))) × (now (out .exit) ≡ listOut (now (mesh .entry)) parts (now (owners .entry)) part (now (stencil .entry)) (exposed-range dimension) (now (out .entry))) ⌝ }
+    ensures { λ r. ⌜ (r ≡ packed (listAnswer (now (mesh .entry)) parts (now (owners .entry)) part (now (stencil .entry)) (Exposed dimension) (now (out .entry)))) × (now (out .exit) ≡ listOut (now (mesh .entry)) parts (now (owners .entry)) part (now (stencil .entry)) (Exposed dimension) (now (out .entry))) ⌝ }
 {
     pack(part_lists::exposed_range(mesh, parts, owners, part, stencil, dimension, out))
 }
@@ -152,7 +153,7 @@ pub extern "C" fn jem_shared(
     dimension: u32,
     out: &mut [u8],
 ) -> u64
-    ensures { λ r. ⌜ (r ≡ packed (listAnswer (now (mesh .entry)) parts (now (owners .entry)) part (now (stencil .entry)) (shared-range dimension) (now (out .entry)))) × (now (out .exit) ≡ listOut (now (mesh .entry)) parts (now (owners .entry)) part (now (stencil .entry)) (shared-range dimension) (now (out .entry))) ⌝ }
+    ensures { λ r. ⌜ (r ≡ packed (listAnswer (now (mesh .entry)) parts (now (owners .entry)) part (now (stencil .entry)) (Shared dimension) (now (out .entry)))) × (now (out .exit) ≡ listOut (now (mesh .entry)) parts (now (owners .entry)) part (now (stencil .entry)) (Shared dimension) (now (out .entry))) ⌝ }
 {
     pack(part_lists::shared_range(mesh, parts, owners, part, stencil, dimension, out))
 }
@@ -168,7 +169,7 @@ pub extern "C" fn jem_copied(
     dimension: u32,
     out: &mut [u8],
 ) -> u64
-    ensures { λ r. ⌜ (r ≡ packed (listAnswer (now (mesh .entry)) parts (now (owners .entry)) part (now (stencil .entry)) (copied-range dimension) (now (out .entry)))) × (now (out .exit) ≡ listOut (now (mesh .entry)) parts (now (owners .entry)) part (now (stencil .entry)) (copied-range dimension) (now (out .entry))) ⌝ }
+    ensures { λ r. ⌜ (r ≡ packed (listAnswer (now (mesh .entry)) parts (now (owners .entry)) part (now (stencil .entry)) (Copied dimension) (now (out .entry)))) × (now (out .exit) ≡ listOut (now (mesh .entry)) parts (now (owners .entry)) part (now (stencil .entry)) (Copied dimension) (now (out .entry))) ⌝ }
 {
     pack(part_lists::copied_range(mesh, parts, owners, part, stencil, dimension, out))
 }

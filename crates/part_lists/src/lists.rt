@@ -10,6 +10,7 @@ use ranges::inner::PRIVATE;
 use ranges::inner::SHARED;
 use ranges::inner::add_range;
 use ranges::inner::classify_lowers;
+use split::Wanted;
 use split::inner::HALO;
 use split::inner::INTERIOR;
 use split::inner::MOST_CELLS;
@@ -23,39 +24,43 @@ ghost use Prim.Native.Nat.{_≤_};
 ghost use lib.ListN.{length};
 ghost use Rattle.mesh.specs.Mesh.{top};
 ghost use Rattle.walks.specs.Walking.{Ground};
-ghost use Rattle.split.specs.Lists.{splitNumber, listAnswer, listOut};
+ghost use Rattle.split.specs.Lists.{others, splitNumber, listAnswer, listOut};
 ghost use Rattle.split.specs.Classes.{Added};
 ghost use Rattle.ranges.specs.Lowers.{rangeOf};
 ghost use Rattle.word_lists.specs.Putting.{givenAnswer, givenOut};
-ghost use Rattle.part_lists.specs.Giving.{meant, Names, rowOf, chosen, namedAnswer, namedOut};
+ghost use Rattle.part_lists.specs.Giving.{otherOf, rowOf, chosen};
 
-// The lists that can be asked for. An import or export list names the other part, and a range its dimension; both stand beside it.
-pub enum Wanted {
-    Interior,
-    Halo,
-    Locals,
-    Imports,
-    Exports,
-    Private,
-    Exposed,
-    Shared,
-    Copied,
-}
-
-// The part whose row of classes tells the list: exports to j are what j imports.
-fn row_of(wanted: Wanted, i: usize, j: usize) -> usize
-    ensures { λ r. ⌜ r ≡ rowOf wanted i j ⌝ }
+// The other part that the list names, and the part i itself where it names none.
+fn other_of(wanted: Wanted, i: u32) -> u32
+    ensures { λ r. ⌜ r ≡ otherOf wanted i ⌝ }
 {
     match wanted {
         Wanted::Interior => i,
         Wanted::Halo => i,
         Wanted::Locals => i,
-        Wanted::Imports => i,
-        Wanted::Exports => j,
-        Wanted::Private => i,
-        Wanted::Exposed => i,
-        Wanted::Shared => i,
-        Wanted::Copied => i,
+        Wanted::Imports(j) => j,
+        Wanted::Exports(j) => j,
+        Wanted::Private(_) => i,
+        Wanted::Exposed(_) => i,
+        Wanted::Shared(_) => i,
+        Wanted::Copied(_) => i,
+    }
+}
+
+// The part whose row of classes tells the list: exports to j are what j imports.
+fn row_of(wanted: Wanted, i: u32) -> u32
+    ensures { λ r. ⌜ r ≡ rowOf wanted i ⌝ }
+{
+    match wanted {
+        Wanted::Interior => i,
+        Wanted::Halo => i,
+        Wanted::Locals => i,
+        Wanted::Imports(_) => i,
+        Wanted::Exports(j) => j,
+        Wanted::Private(_) => i,
+        Wanted::Exposed(_) => i,
+        Wanted::Shared(_) => i,
+        Wanted::Copied(_) => i,
     }
 }
 
@@ -90,12 +95,10 @@ fn list_words(
     class: &[u8],
     holders: &[u8],
     i: usize,
-    j: usize,
-    k: usize,
     list: &mut [u16],
 ) -> usize
-    requires { ⌜ Ground (now m) (top (now m) ∷ []) (now cell) (now prev) (now last) × (parts ≤ 16) × (i ≤ 16) × (j ≤ 16) ⌝ }
-    ensures { λ n. ⌜ Added (now (list .entry)) (now (list .exit)) 0 n (chosen wanted (now (m .entry)) parts (now (class .entry)) (now (holders .entry)) i j k) ⌝ }
+    requires { ⌜ Ground (now m) (top (now m) ∷ []) (now cell) (now prev) (now last) × (parts ≤ 16) × (i ≤ 16) × (otherOf wanted i ≤ 16) ⌝ }
+    ensures { λ n. ⌜ Added (now (list .entry)) (now (list .exit)) 0 n (chosen wanted (now (m .entry)) parts (now (class .entry)) (now (holders .entry)) i) ⌝ }
 {
     let first = first_cell(m);
     let cells = cell_count(m);
@@ -103,12 +106,52 @@ fn list_words(
         Wanted::Interior => add_class(class, first, cells, INTERIOR, list, 0),
         Wanted::Halo => add_class(class, first, cells, HALO, list, 0),
         Wanted::Locals => add_order(class, first, cells, parts, list),
-        Wanted::Imports => add_class(class, first, cells, j as u8, list, 0),
-        Wanted::Exports => add_class(class, first, cells, i as u8, list, 0),
-        Wanted::Private => range_words(m, cell, prev, last, class, holders, k, PRIVATE, list),
-        Wanted::Exposed => range_words(m, cell, prev, last, class, holders, k, EXPOSED, list),
-        Wanted::Shared => range_words(m, cell, prev, last, class, holders, k, SHARED, list),
-        Wanted::Copied => range_words(m, cell, prev, last, class, holders, k, COPIED, list),
+        Wanted::Imports(j) => add_class(class, first, cells, j as u8, list, 0),
+        Wanted::Exports(_) => add_class(class, first, cells, i as u8, list, 0),
+        Wanted::Private(k) => range_words(
+            m,
+            cell,
+            prev,
+            last,
+            class,
+            holders,
+            k as usize,
+            PRIVATE,
+            list,
+        ),
+        Wanted::Exposed(k) => range_words(
+            m,
+            cell,
+            prev,
+            last,
+            class,
+            holders,
+            k as usize,
+            EXPOSED,
+            list,
+        ),
+        Wanted::Shared(k) => range_words(
+            m,
+            cell,
+            prev,
+            last,
+            class,
+            holders,
+            k as usize,
+            SHARED,
+            list,
+        ),
+        Wanted::Copied(k) => range_words(
+            m,
+            cell,
+            prev,
+            last,
+            class,
+            holders,
+            k as usize,
+            COPIED,
+            list,
+        ),
     }
 }
 
@@ -123,8 +166,6 @@ fn list_given(
     class: &[u8],
     holders: &[u8],
     i: usize,
-    j: usize,
-    k: usize,
     list: &mut [u16],
     out: &mut [u8],
 ) -> Answer
@@ -132,26 +173,13 @@ fn list_given(
         Ground (now m) (top (now m) ∷ []) (now cell) (now prev) (now last)
         × (parts ≤ 16)
         × (i ≤ 16)
-        × (j ≤ 16)
-        × (length (chosen wanted (now m) parts (now class) (now holders) i j k) ≤ 2000)
+        × (otherOf wanted i ≤ 16)
+        × (length (chosen wanted (now m) parts (now class) (now holders) i) ≤ 2000)
         × (2000 ≤ length (now list))
         ⌝ }
-    ensures { λ r. ⌜ (r ≡ givenAnswer (chosen wanted (now (m .entry)) parts (now (class .entry)) (now (holders .entry)) i j k) (now (out .entry))) × (now (out .exit) ≡ givenOut (chosen wanted (now (m .entry)) parts (now (class .entry)) (now (holders .entry)) i j k) (now (out .entry))) ⌝ }
+    ensures { λ r. ⌜ (r ≡ givenAnswer (chosen wanted (now (m .entry)) parts (now (class .entry)) (now (holders .entry)) i) (now (out .entry))) × (now (out .exit) ≡ givenOut (chosen wanted (now (m .entry)) parts (now (class .entry)) (now (holders .entry)) i) (now (out .entry))) ⌝ }
 {
-    let n = list_words(
-        wanted,
-        m,
-        parts,
-        cell,
-        prev,
-        last,
-        class,
-        holders,
-        i,
-        j,
-        k,
-        list,
-    );
+    let n = list_words(wanted, m, parts, cell, prev, last, class, holders, i, list);
     give(list, n, out)
 }
 
@@ -163,13 +191,11 @@ fn list_passed(
     parts: u32,
     owners: &[u8],
     i: u32,
-    j: u32,
-    k: u32,
     st: &[u8],
     out: &mut [u8],
 ) -> Answer
-    requires { ⌜ splitNumber (now m) parts (now owners) (i ∷ j ∷ []) (now st) ≡ 0 ⌝ }
-    ensures { λ r. ⌜ (r ≡ namedAnswer wanted (now (m .entry)) parts (now (owners .entry)) i j k (now (st .entry)) (now (out .entry))) × (now (out .exit) ≡ namedOut wanted (now (m .entry)) parts (now (owners .entry)) i j k (now (st .entry)) (now (out .entry))) ⌝ }
+    requires { ⌜ splitNumber (now m) parts (now owners) (i ∷ others wanted) (now st) ≡ 0 ⌝ }
+    ensures { λ r. ⌜ (r ≡ listAnswer (now (m .entry)) parts (now (owners .entry)) i (now (st .entry)) wanted (now (out .entry))) × (now (out .exit) ≡ listOut (now (m .entry)) parts (now (owners .entry)) i (now (st .entry)) wanted (now (out .entry))) ⌝ }
 {
     let mut cell = [0u16; 12001];
     let mut prev = [0u16; 12001];
@@ -199,7 +225,7 @@ fn list_passed(
         &table,
         &ends,
         cell_count(m),
-        row_of(wanted, i as usize, j as usize),
+        row_of(wanted, i) as usize,
         &mut class,
     );
     list_given(
@@ -212,31 +238,26 @@ fn list_passed(
         &class,
         &holders,
         i as usize,
-        j as usize,
-        k as usize,
         &mut ends,
         out,
     )
 }
 
-// The call: it names the parts i and j and the dimension k, as far as the list wanted asks for them.
+// The call. A list that names no other part is tried as if it named its own part twice.
 pub fn list(
     wanted: Wanted,
     m: &[u8],
     parts: u32,
     owners: &[u8],
     i: u32,
-    j: u32,
-    k: u32,
     st: &[u8],
     out: &mut [u8],
 ) -> Answer
-    requires { ⌜ Names wanted i j ⌝ }
-    ensures { λ r. ⌜ (r ≡ listAnswer (now (m .entry)) parts (now (owners .entry)) i (now (st .entry)) (meant wanted j k) (now (out .entry))) × (now (out .exit) ≡ listOut (now (m .entry)) parts (now (owners .entry)) i (now (st .entry)) (meant wanted j k) (now (out .entry))) ⌝ }
+    ensures { λ r. ⌜ (r ≡ listAnswer (now (m .entry)) parts (now (owners .entry)) i (now (st .entry)) wanted (now (out .entry))) × (now (out .exit) ≡ listOut (now (m .entry)) parts (now (owners .entry)) i (now (st .entry)) wanted (now (out .entry))) ⌝ }
 {
-    let number = split_number(m, parts, owners, i, j, st);
+    let number = split_number(m, parts, owners, i, other_of(wanted, i), st);
     if number != 0 {
         return Answer::Refused(number);
     }
-    list_passed(wanted, m, parts, owners, i, j, k, st, out)
+    list_passed(wanted, m, parts, owners, i, st, out)
 }

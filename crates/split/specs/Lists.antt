@@ -13,6 +13,8 @@ use Rattle.layout.specs.Answers.{answer, ifAccepted}
 use Rattle.layout.specs.declared.Answer.{Answer}
 use Rattle.mesh.specs.Mesh.{top, cellCount, meshTests}
 use Rattle.mesh.specs.Walks.{bad10, bad13}
+use Rattle.split.specs.declared.Wanted.{Wanted}
+use Rattle.split.specs.declared.Wanted.the-variants.{Interior, Halo, Locals, Imports, Exports, Private, Exposed, Shared, Copied}
 use Rattle.split.specs.Split.{Split, splitOf, owned, held, imports, exports, interior, halo, locals, isPrivate, isExposed, isShared, isCopied, range}
 
 -- "P, the part wanted, an owner or the map's length wrong." A call may name several parts.
@@ -49,35 +51,29 @@ splitNumber m parts owners named st = firstOf (splitTests m parts owners named s
 unfoldable pub sizesNumber : Bytes → ℕ → Bytes → Bytes → ℕ
 sizesNumber m parts owners st = firstOf (sizeTests m parts owners st)
 
--- the lists of a part that can be asked for: an import or export list names the other part, a range its dimension
-pub data Wanted : Type 0 where
-  interior-cells halo-cells local-order : Wanted
-  imports-from exports-to : ℕ → Wanted
-  private-range exposed-range shared-range copied-range : ℕ → Wanted
-
--- the other part that it names
+-- the other part that a list names
 unfoldable pub others : Wanted → List ℕ
-others interior-cells = []
-others halo-cells = []
-others local-order = []
-others (imports-from j) = j ∷ []
-others (exports-to j) = j ∷ []
-others (private-range k) = []
-others (exposed-range k) = []
-others (shared-range k) = []
-others (copied-range k) = []
+others Interior = []
+others Halo = []
+others Locals = []
+others (Imports j) = j ∷ []
+others (Exports j) = j ∷ []
+others (Private k) = []
+others (Exposed k) = []
+others (Shared k) = []
+others (Copied k) = []
 
 -- the list, for part i
 unfoldable pub listOf : Bytes → Split → ℕ → Wanted → List ℕ
-listOf m S i interior-cells = interior S i
-listOf m S i halo-cells = halo S i
-listOf m S i local-order = locals S i
-listOf m S i (imports-from j) = imports S i j
-listOf m S i (exports-to j) = exports S i j
-listOf m S i (private-range k) = range m k (isPrivate m S i)
-listOf m S i (exposed-range k) = range m k (isExposed m S i)
-listOf m S i (shared-range k) = range m k (isShared m S i)
-listOf m S i (copied-range k) = range m k (isCopied m S i)
+listOf m S i Interior = interior S i
+listOf m S i Halo = halo S i
+listOf m S i Locals = locals S i
+listOf m S i (Imports j) = imports S i j
+listOf m S i (Exports j) = exports S i j
+listOf m S i (Private k) = range m k (isPrivate m S i)
+listOf m S i (Exposed k) = range m k (isExposed m S i)
+listOf m S i (Shared k) = range m k (isShared m S i)
+listOf m S i (Copied k) = range m k (isCopied m S i)
 
 -- ---- the call: mesh m, P and owners, part i, stencil st, the list wanted, output
 

@@ -20,7 +20,9 @@ use Rattle.round.specs.Rounds.{bad14, schemeOf, depthIn, oldsIn, newIn, round, 
 use Rattle.rules.specs.Rules.{weightCount, tooHeavy, bad11, weight, depthSum, weightSum, quotient, least, newDepth}
 use Rattle.rules.specs.Update.{entries, oldsAt}
 use Rattle.messages.specs.Messages.{encode, bad15, reading}
-use Rattle.split.specs.Lists.{imports-from, interior-cells, Wanted, bad8, bad9, bad12, splitTests, sizeTests, others, listOf, listWords, listTests, listNumber, listAnswer, listOut}
+use Rattle.split.specs.Lists.{bad8, bad9, bad12, splitTests, sizeTests, others, listOf, listWords, listTests, listNumber, listAnswer, listOut}
+use Rattle.split.specs.declared.Wanted.{Wanted}
+use Rattle.split.specs.declared.Wanted.the-variants.{Interior, Imports}
 use Rattle.split.specs.Split.{splitOf, owns, owned, reaches, holds, held, imports, exports, inside, interior, halo}
 use Rattle.split.specs.Split.{locals, localOf, globalOf, cellsAt, holdsLower, touches, another, isCopied, isShared, isExposed, isPrivate, range}
 use Rattle.parts.specs.Calls.{importsFrom, exportsTo, messageTo, writeTestsIn, writtenIn, takeTestsIn, takenIn, allTaken, allWritten, advanceTestsIn, newAt, advancedIn, collectTestsIn, scatter}
@@ -237,16 +239,16 @@ table =
     ∷ reached 16 (at 15 2 ∷ at 16 0 ∷ at 17 4 ∷ [])
     ∷ reached 17 (at 15 4 ∷ at 17 0 ∷ [])
     -- "Stencil 1: no imports. Stencil of length 0, 2 or 11: 10."
-    ∷ list-words (1 ∷ []) 1 (imports-from 2) []
-    ∷ list-words (1 ∷ []) 2 (imports-from 1) []
-    ∷ list-number (fiveInputs .owners) (1 ∷ []) 1 (imports-from 2) 0
-    ∷ list-number (fiveInputs .owners) [] 1 interior-cells 10
-    ∷ list-number (fiveInputs .owners) (1 ∷ 0 ∷ []) 1 interior-cells 10
-    ∷ list-number (fiveInputs .owners) (1 ∷ 0 ∷ 1 ∷ 0 ∷ 1 ∷ 0 ∷ 1 ∷ 0 ∷ 1 ∷ 0 ∷ 1 ∷ []) 1 interior-cells 10
+    ∷ list-words (1 ∷ []) 1 (Imports 2) []
+    ∷ list-words (1 ∷ []) 2 (Imports 1) []
+    ∷ list-number (fiveInputs .owners) (1 ∷ []) 1 (Imports 2) 0
+    ∷ list-number (fiveInputs .owners) [] 1 Interior 10
+    ∷ list-number (fiveInputs .owners) (1 ∷ 0 ∷ []) 1 Interior 10
+    ∷ list-number (fiveInputs .owners) (1 ∷ 0 ∷ 1 ∷ 0 ∷ 1 ∷ 0 ∷ 1 ∷ 0 ∷ 1 ∷ 0 ∷ 1 ∷ []) 1 Interior 10
     -- "73 bytes: 3. 11 bytes: 1." "Owners 1 1 1 1 1, P = 2: 9."
     ∷ mesh (take 73 five) 3
     ∷ mesh (take 11 five) 1
-    ∷ list-number (1 ∷ 1 ∷ 1 ∷ 1 ∷ 1 ∷ []) (1 ∷ 0 ∷ 1 ∷ []) 1 interior-cells 9
+    ∷ list-number (1 ∷ 1 ∷ 1 ∷ 1 ∷ 1 ∷ []) (1 ∷ 0 ∷ 1 ∷ []) 1 Interior 9
     -- "Depth 1,200,000 accepted, 1,200,001: 14."
     ∷ start-number (100 ∷ 200 ∷ 1200000 ∷ 400 ∷ 500 ∷ []) 0
     ∷ start-number (100 ∷ 200 ∷ 1200001 ∷ 400 ∷ 500 ∷ []) 14

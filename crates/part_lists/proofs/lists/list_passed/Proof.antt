@@ -1,9 +1,8 @@
 -- `part_lists::lists::list_passed` meets its contract. Assumes nothing.
 use mathlib.Core.Path.{refl, sym, _∙_}
-use Rattle.split.proofs.PassedLaws.{passed-facts}
 use Rattle.mesh.proofs.AcceptedLaws.{cells-few}
 use Rattle.ranges.proofs.LowerLaws.{alone}
-use Rattle.part_lists.proofs.CallLaws.{refused-sizes, chosen-few, given-named}
+use Rattle.part_lists.proofs.CallLaws.{facts, refused-sizes, chosen-few, given-list}
 use borrow.Author.Needs.{needs}
 use Rattle.part_lists.proofs.lists.list_passed.Statement.{statement}
 use Rattle.part_lists.proofs.lists.list_passed.Tie as tie
@@ -20,22 +19,23 @@ list-passed-spec =
     (λ c. search needs)
     (λ c. search needs)
     (λ c κs.
-    let f = passed-facts _ _ _ _ _ _ (c .before .before .before .before .before .before .before .before .before .before .before .pre) in
+    let start = c .before .before .before .before .before .before .before .before .before .before .before in
+    let f = facts _ _ _ _ _ (start .args .wanted) (start .pre) in
     (f .mesh, f .map, f .stencil, refl, refl, refl, refl, refl, refl, refl))
     (λ c.
     let after-prepare = c .before .before .before .before .before .before .before .before in
     let start = after-prepare .before .before .before .before .before .before .before .before .before .before .before .before in
-    let pre = start .pre in
-    refused-sizes _ _ _ _ _ _ _ _ _ pre _ (after-prepare .prepare .ensures .0) (c .if1 .taken))
+    refused-sizes _ _ _ _ _ (start .args .wanted) _ (start .pre) _ (after-prepare .prepare .ensures .0) (c .if1 .taken))
     (λ c. search needs)
     (λ c. search needs)
     (λ c κs. search needs)
     (λ c κs. search needs)
+    (λ c. search needs)
     (λ c. search needs)
     (λ c κs.
     let after-cell-count = c .before .before in
     let start = after-cell-count .before .before .before .before .before .before .before .before .before .before .before .before .before .before .before .before .before .before .before .before .before .before .before in
-    let few = cells-few _ _ (passed-facts _ _ _ _ _ _ (start .pre) .mesh) (after-cell-count .cell-count .ensures .0) in
+    let few = cells-few _ _ (facts _ _ _ _ _ (start .args .wanted) (start .pre) .mesh) (after-cell-count .cell-count .ensures .0) in
     (few, search needs))
     (λ c. search needs)
     (λ c. search needs)
@@ -55,12 +55,12 @@ list-passed-spec =
     let cells = after-cell-count .cell-count .ensures .0 in
     let row = after-row-of .row-of .ensures in
     let class = after-classify .classify .ensures in
-    let f = passed-facts _ _ _ _ _ _ (start .pre) in (
+    let f = facts _ _ _ _ _ (start .args .wanted) (start .pre) in (
       alone _ _ _ _ _ (told .2),
       f .few,
       f .i-in .1,
       f .j-in .1,
-      chosen-few _ _ _ _ _ _ _ _ (start .args .out .now) (start .pre) (sym (told .0) ∙ zero) _ _ _ (told .1 zero) _ cells _ _ row class,
+      chosen-few _ _ _ _ _ (start .args .wanted) (start .args .out .now) (start .pre) (sym (told .0) ∙ zero) _ _ _ (told .1 zero) _ cells _ _ row class,
       search needs,
     ))
     (λ c. search needs)
@@ -77,4 +77,4 @@ list-passed-spec =
     let cells = after-cell-count .cell-count .ensures .0 in
     let row = after-row-of .row-of .ensures in
     let class = after-classify .classify .ensures in
-    given-named _ _ _ _ _ _ _ _ _ (start .pre) (sym (told .0) ∙ zero) _ _ _ (told .1 zero) _ cells _ _ row class _ _ (after-list-given .list-given .ensures)))
+    given-list _ _ _ _ _ (start .args .wanted) _ (start .pre) (sym (told .0) ∙ zero) _ _ _ (told .1 zero) _ cells _ _ row class _ _ (after-list-given .list-given .ensures)))
