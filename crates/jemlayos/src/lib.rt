@@ -4,11 +4,11 @@ use packed::pack;
 ghost use mathlib.Core.Path.{_≡_};
 ghost use Rattle.packed.specs.Packed.{packed};
 ghost use Rattle.mesh.specs.Mesh.{checkAnswer};
-ghost use Rattle.round.specs.Rounds.{roundAnswer, roundOut};
-ghost use Rattle.split.specs.Lists.{listAnswer, listOut};
+ghost use Rattle.round.specs.Rounds.{roundInput, roundAnswer, roundOut};
+ghost use Rattle.split.specs.Lists.{splitInput, listAnswer, listOut};
 ghost use Rattle.split.specs.declared.Wanted.the-variants.{Interior, Halo, Locals, Imports, Exports, Private, Exposed, Shared, Copied};
 ghost use Rattle.parts.specs.Calls.{writeAnswer, writeState, writeOut, takeAnswer, takeState, advanceAnswer, advanceState, collectAnswer, collectOut};
-ghost use Rattle.starts.specs.Start.{sizeAnswer, startAnswer, startState};
+ghost use Rattle.starts.specs.Start.{inputs, sizeAnswer, startAnswer, startState};
 
 // How many cells the mesh has.
 #[no_mangle]
@@ -28,7 +28,9 @@ pub extern "C" fn jem_round(
     field: &[u8],
     out: &mut [u8],
 ) -> u64
-    ensures { λ r. ⌜ (r ≡ packed (roundAnswer (now (mesh .entry)) (now (stencil .entry)) kind (now (weights .entry)) (now (field .entry)) (now (out .entry)))) × (now (out .exit) ≡ roundOut (now (mesh .entry)) (now (stencil .entry)) kind (now (weights .entry)) (now (field .entry)) (now (out .entry))) ⌝ }
+    ensures { λ r.
+        let I = roundInput (now (mesh .entry)) (now (stencil .entry)) kind (now (weights .entry)) (now (field .entry)) in
+        ⌜ (r ≡ packed (roundAnswer I (now (out .entry)))) × (now (out .exit) ≡ roundOut I (now (out .entry))) ⌝ }
 {
     pack(round::undivided_round(mesh, stencil, kind, weights, field, out))
 }
@@ -43,7 +45,9 @@ pub extern "C" fn jem_interior(
     stencil: &[u8],
     out: &mut [u8],
 ) -> u64
-    ensures { λ r. ⌜ (r ≡ packed (listAnswer (now (mesh .entry)) parts (now (owners .entry)) part (now (stencil .entry)) Interior (now (out .entry)))) × (now (out .exit) ≡ listOut (now (mesh .entry)) parts (now (owners .entry)) part (now (stencil .entry)) Interior (now (out .entry))) ⌝ }
+    ensures { λ r.
+        let D = splitInput (now (mesh .entry)) parts (now (owners .entry)) (now (stencil .entry)) in
+        ⌜ (r ≡ packed (listAnswer D part Interior (now (out .entry)))) × (now (out .exit) ≡ listOut D part Interior (now (out .entry))) ⌝ }
 {
     pack(part_lists::interior(mesh, parts, owners, part, stencil, out))
 }
@@ -58,7 +62,9 @@ pub extern "C" fn jem_halo(
     stencil: &[u8],
     out: &mut [u8],
 ) -> u64
-    ensures { λ r. ⌜ (r ≡ packed (listAnswer (now (mesh .entry)) parts (now (owners .entry)) part (now (stencil .entry)) Halo (now (out .entry)))) × (now (out .exit) ≡ listOut (now (mesh .entry)) parts (now (owners .entry)) part (now (stencil .entry)) Halo (now (out .entry))) ⌝ }
+    ensures { λ r.
+        let D = splitInput (now (mesh .entry)) parts (now (owners .entry)) (now (stencil .entry)) in
+        ⌜ (r ≡ packed (listAnswer D part Halo (now (out .entry)))) × (now (out .exit) ≡ listOut D part Halo (now (out .entry))) ⌝ }
 {
     pack(part_lists::halo(mesh, parts, owners, part, stencil, out))
 }
@@ -73,7 +79,9 @@ pub extern "C" fn jem_locals(
     stencil: &[u8],
     out: &mut [u8],
 ) -> u64
-    ensures { λ r. ⌜ (r ≡ packed (listAnswer (now (mesh .entry)) parts (now (owners .entry)) part (now (stencil .entry)) Locals (now (out .entry)))) × (now (out .exit) ≡ listOut (now (mesh .entry)) parts (now (owners .entry)) part (now (stencil .entry)) Locals (now (out .entry))) ⌝ }
+    ensures { λ r.
+        let D = splitInput (now (mesh .entry)) parts (now (owners .entry)) (now (stencil .entry)) in
+        ⌜ (r ≡ packed (listAnswer D part Locals (now (out .entry)))) × (now (out .exit) ≡ listOut D part Locals (now (out .entry))) ⌝ }
 {
     pack(part_lists::local_order(mesh, parts, owners, part, stencil, out))
 }
@@ -89,7 +97,9 @@ pub extern "C" fn jem_imports(
     other: u32,
     out: &mut [u8],
 ) -> u64
-    ensures { λ r. ⌜ (r ≡ packed (listAnswer (now (mesh .entry)) parts (now (owners .entry)) part (now (stencil .entry)) (Imports other) (now (out .entry)))) × (now (out .exit) ≡ listOut (now (mesh .entry)) parts (now (owners .entry)) part (now (stencil .entry)) (Imports other) (now (out .entry))) ⌝ }
+    ensures { λ r.
+        let D = splitInput (now (mesh .entry)) parts (now (owners .entry)) (now (stencil .entry)) in
+        ⌜ (r ≡ packed (listAnswer D part (Imports other) (now (out .entry)))) × (now (out .exit) ≡ listOut D part (Imports other) (now (out .entry))) ⌝ }
 {
     pack(part_lists::imports(mesh, parts, owners, part, stencil, other, out))
 }
@@ -105,7 +115,9 @@ pub extern "C" fn jem_exports(
     other: u32,
     out: &mut [u8],
 ) -> u64
-    ensures { λ r. ⌜ (r ≡ packed (listAnswer (now (mesh .entry)) parts (now (owners .entry)) part (now (stencil .entry)) (Exports other) (now (out .entry)))) × (now (out .exit) ≡ listOut (now (mesh .entry)) parts (now (owners .entry)) part (now (stencil .entry)) (Exports other) (now (out .entry))) ⌝ }
+    ensures { λ r.
+        let D = splitInput (now (mesh .entry)) parts (now (owners .entry)) (now (stencil .entry)) in
+        ⌜ (r ≡ packed (listAnswer D part (Exports other) (now (out .entry)))) × (now (out .exit) ≡ listOut D part (Exports other) (now (out .entry))) ⌝ }
 {
     pack(part_lists::exports(mesh, parts, owners, part, stencil, other, out))
 }
@@ -121,7 +133,9 @@ pub extern "C" fn jem_private(
     dimension: u32,
     out: &mut [u8],
 ) -> u64
-    ensures { λ r. ⌜ (r ≡ packed (listAnswer (now (mesh .entry)) parts (now (owners .entry)) part (now (stencil .entry)) (Private dimension) (now (out .entry)))) × (now (out .exit) ≡ listOut (now (mesh .entry)) parts (now (owners .entry)) part (now (stencil .entry)) (Private dimension) (now (out .entry))) ⌝ }
+    ensures { λ r.
+        let D = splitInput (now (mesh .entry)) parts (now (owners .entry)) (now (stencil .entry)) in
+        ⌜ (r ≡ packed (listAnswer D part (Private dimension) (now (out .entry)))) × (now (out .exit) ≡ listOut D part (Private dimension) (now (out .entry))) ⌝ }
 {
     pack(part_lists::private_range(mesh, parts, owners, part, stencil, dimension, out))
 }
@@ -137,7 +151,9 @@ pub extern "C" fn jem_exposed(
     dimension: u32,
     out: &mut [u8],
 ) -> u64
-    ensures { λ r. ⌜ (r ≡ packed (listAnswer (now (mesh .entry)) parts (now (owners .entry)) part (now (stencil .entry)) (Exposed dimension) (now (out .entry)))) × (now (out .exit) ≡ listOut (now (mesh .entry)) parts (now (owners .entry)) part (now (stencil .entry)) (Exposed dimension) (now (out .entry))) ⌝ }
+    ensures { λ r.
+        let D = splitInput (now (mesh .entry)) parts (now (owners .entry)) (now (stencil .entry)) in
+        ⌜ (r ≡ packed (listAnswer D part (Exposed dimension) (now (out .entry)))) × (now (out .exit) ≡ listOut D part (Exposed dimension) (now (out .entry))) ⌝ }
 {
     pack(part_lists::exposed_range(mesh, parts, owners, part, stencil, dimension, out))
 }
@@ -153,7 +169,9 @@ pub extern "C" fn jem_shared(
     dimension: u32,
     out: &mut [u8],
 ) -> u64
-    ensures { λ r. ⌜ (r ≡ packed (listAnswer (now (mesh .entry)) parts (now (owners .entry)) part (now (stencil .entry)) (Shared dimension) (now (out .entry)))) × (now (out .exit) ≡ listOut (now (mesh .entry)) parts (now (owners .entry)) part (now (stencil .entry)) (Shared dimension) (now (out .entry))) ⌝ }
+    ensures { λ r.
+        let D = splitInput (now (mesh .entry)) parts (now (owners .entry)) (now (stencil .entry)) in
+        ⌜ (r ≡ packed (listAnswer D part (Shared dimension) (now (out .entry)))) × (now (out .exit) ≡ listOut D part (Shared dimension) (now (out .entry))) ⌝ }
 {
     pack(part_lists::shared_range(mesh, parts, owners, part, stencil, dimension, out))
 }
@@ -169,7 +187,9 @@ pub extern "C" fn jem_copied(
     dimension: u32,
     out: &mut [u8],
 ) -> u64
-    ensures { λ r. ⌜ (r ≡ packed (listAnswer (now (mesh .entry)) parts (now (owners .entry)) part (now (stencil .entry)) (Copied dimension) (now (out .entry)))) × (now (out .exit) ≡ listOut (now (mesh .entry)) parts (now (owners .entry)) part (now (stencil .entry)) (Copied dimension) (now (out .entry))) ⌝ }
+    ensures { λ r.
+        let D = splitInput (now (mesh .entry)) parts (now (owners .entry)) (now (stencil .entry)) in
+        ⌜ (r ≡ packed (listAnswer D part (Copied dimension) (now (out .entry)))) × (now (out .exit) ≡ listOut D part (Copied dimension) (now (out .entry))) ⌝ }
 {
     pack(part_lists::copied_range(mesh, parts, owners, part, stencil, dimension, out))
 }
@@ -183,7 +203,7 @@ pub extern "C" fn jem_state_size(
     part: u32,
     stencil: &[u8],
 ) -> u64
-    ensures { λ r. ⌜ r ≡ packed (sizeAnswer (now (mesh .entry)) parts (now (owners .entry)) part (now (stencil .entry))) ⌝ }
+    ensures { λ r. ⌜ r ≡ packed (sizeAnswer (splitInput (now (mesh .entry)) parts (now (owners .entry)) (now (stencil .entry))) part) ⌝ }
 {
     pack(starts::state_size(mesh, parts, owners, part, stencil))
 }
@@ -201,7 +221,9 @@ pub extern "C" fn jem_start(
     field: &[u8],
     state: &mut [u8],
 ) -> u64
-    ensures { λ r. ⌜ (r ≡ packed (startAnswer (now (mesh .entry)) parts (now (owners .entry)) part (now (stencil .entry)) kind (now (weights .entry)) (now (field .entry)) (now (state .entry)))) × (now (state .exit) ≡ startState (now (mesh .entry)) parts (now (owners .entry)) part (now (stencil .entry)) kind (now (weights .entry)) (now (field .entry)) (now (state .entry))) ⌝ }
+    ensures { λ r.
+        let I = inputs (now (mesh .entry)) parts (now (owners .entry)) (now (stencil .entry)) kind (now (weights .entry)) (now (field .entry)) in
+        ⌜ (r ≡ packed (startAnswer I part (now (state .entry)))) × (now (state .exit) ≡ startState I part (now (state .entry))) ⌝ }
 {
     pack(starts::start(
         mesh,

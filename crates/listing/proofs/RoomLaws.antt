@@ -22,7 +22,7 @@ use Rattle.mesh.specs.WalkLaws.{below-grows}
 use Rattle.mesh.specs.Accepted.{Accepted}
 use Rattle.split.specs.Split.{Split, splitOf, held, holds, owns, inside as inside-of, imports, exports, interior, halo, range, touches, holdsLower, another, isPrivate, isExposed, isShared, isCopied}
 use Rattle.split.specs.SplitLaws.{split-parted, split-small, sizes-fine, sizes-small, map-facts, own-count, order-length, local-held, split-reach, split-own, split-owner}
-use Rattle.split.specs.Lists.{bad8, bad12, splitTests, sizeTests, splitNumber, sizesNumber}
+use Rattle.split.specs.Lists.{bad8, bad12, splitTests, sizeTests, splitNumber, sizesNumber, splitInput}
 use Rattle.split.proofs.PassedLaws.{tests-are, passed-facts}
 use Rattle.text.specs.Listing.{ascii, digits, decimal, spaced, line, lineUnlessEmpty, dimensionText, partText, splitText, meshPiece, partsPiece, ownersPiece, stencilPiece, listingNumber, listText}
 use Rattle.text.specs.Printing.{fitting, Printed}
@@ -302,8 +302,8 @@ module _ (m : Bytes) (parts : ℕ) (owners st : Bytes) where
   number-small : piecesNumber m parts owners st < 10000
   unfolding piecesNumber
   number-small =
-      let ts : List Test = splitTests m parts owners [] st in
-      let us : List Test = sizeTests m parts owners st in
+      let ts : List Test = splitTests (splitInput m parts owners st) [] in
+      let us : List Test = sizeTests (splitInput m parts owners st) in
       omega (arith, first-small (ts ++ us) (small-append ts us (split-small m parts owners [] st) (sizes-small m parts owners st)))
 
   accepted-length : piecesNumber m parts owners st ≡ 0 → length (splitText m (splitOf m parts owners st)) ≤ 657500
@@ -314,7 +314,7 @@ module _ (m : Bytes) (parts : ℕ) (owners st : Bytes) where
     where
       both : piecesNumber m parts owners st ≡ 0 → (splitNumber m parts owners (1 ∷ 1 ∷ []) st ≡ 0) × (bad12 (splitOf m parts owners st) ≡ false)
       both z =
-          let q = split-parted m parts owners [] st (sizeTests m parts owners st) (unfold piecesNumber in z) in (
+          let q = split-parted m parts owners [] st (sizeTests (splitInput m parts owners st)) (unfold piecesNumber in z) in (
             (unfold splitNumber in ap firstOf (tests-are m parts owners st) ∙ q .0),
             sizes-fine m parts owners st (unfold sizesNumber in q .1) .0,
           )

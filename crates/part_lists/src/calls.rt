@@ -3,26 +3,32 @@ use crate::lists::list;
 use layout::Answer;
 use split::Wanted;
 ghost use mathlib.Core.Path.{_≡_};
-ghost use Rattle.split.specs.Lists.{listAnswer, listOut};
+ghost use Rattle.split.specs.Lists.{splitInput, listAnswer, listOut};
 ghost use Rattle.split.specs.declared.Wanted.the-variants.{Interior, Halo, Locals, Imports, Exports, Private, Exposed, Shared, Copied};
 
 // The interior of a part: its cells with only its own cells in their reach.
 pub fn interior(m: &[u8], parts: u32, owners: &[u8], i: u32, st: &[u8], out: &mut [u8]) -> Answer
-    ensures { λ r. ⌜ (r ≡ listAnswer (now (m .entry)) parts (now (owners .entry)) i (now (st .entry)) Interior (now (out .entry))) × (now (out .exit) ≡ listOut (now (m .entry)) parts (now (owners .entry)) i (now (st .entry)) Interior (now (out .entry))) ⌝ }
+    ensures { λ r.
+        let D = splitInput (now (m .entry)) parts (now (owners .entry)) (now (st .entry)) in
+        ⌜ (r ≡ listAnswer D i Interior (now (out .entry))) × (now (out .exit) ≡ listOut D i Interior (now (out .entry))) ⌝ }
 {
     list(Wanted::Interior, m, parts, owners, i, st, out)
 }
 
 // The halo of a part: its other cells.
 pub fn halo(m: &[u8], parts: u32, owners: &[u8], i: u32, st: &[u8], out: &mut [u8]) -> Answer
-    ensures { λ r. ⌜ (r ≡ listAnswer (now (m .entry)) parts (now (owners .entry)) i (now (st .entry)) Halo (now (out .entry))) × (now (out .exit) ≡ listOut (now (m .entry)) parts (now (owners .entry)) i (now (st .entry)) Halo (now (out .entry))) ⌝ }
+    ensures { λ r.
+        let D = splitInput (now (m .entry)) parts (now (owners .entry)) (now (st .entry)) in
+        ⌜ (r ≡ listAnswer D i Halo (now (out .entry))) × (now (out .exit) ≡ listOut D i Halo (now (out .entry))) ⌝ }
 {
     list(Wanted::Halo, m, parts, owners, i, st, out)
 }
 
 // The cells of a part in local order: local numbers count from 1 in this list.
 pub fn local_order(m: &[u8], parts: u32, owners: &[u8], i: u32, st: &[u8], out: &mut [u8]) -> Answer
-    ensures { λ r. ⌜ (r ≡ listAnswer (now (m .entry)) parts (now (owners .entry)) i (now (st .entry)) Locals (now (out .entry))) × (now (out .exit) ≡ listOut (now (m .entry)) parts (now (owners .entry)) i (now (st .entry)) Locals (now (out .entry))) ⌝ }
+    ensures { λ r.
+        let D = splitInput (now (m .entry)) parts (now (owners .entry)) (now (st .entry)) in
+        ⌜ (r ≡ listAnswer D i Locals (now (out .entry))) × (now (out .exit) ≡ listOut D i Locals (now (out .entry))) ⌝ }
 {
     list(Wanted::Locals, m, parts, owners, i, st, out)
 }
@@ -37,7 +43,9 @@ pub fn imports(
     from: u32,
     out: &mut [u8],
 ) -> Answer
-    ensures { λ r. ⌜ (r ≡ listAnswer (now (m .entry)) parts (now (owners .entry)) i (now (st .entry)) (Imports from) (now (out .entry))) × (now (out .exit) ≡ listOut (now (m .entry)) parts (now (owners .entry)) i (now (st .entry)) (Imports from) (now (out .entry))) ⌝ }
+    ensures { λ r.
+        let D = splitInput (now (m .entry)) parts (now (owners .entry)) (now (st .entry)) in
+        ⌜ (r ≡ listAnswer D i (Imports from) (now (out .entry))) × (now (out .exit) ≡ listOut D i (Imports from) (now (out .entry))) ⌝ }
 {
     list(Wanted::Imports(from), m, parts, owners, i, st, out)
 }
@@ -52,7 +60,9 @@ pub fn exports(
     to: u32,
     out: &mut [u8],
 ) -> Answer
-    ensures { λ r. ⌜ (r ≡ listAnswer (now (m .entry)) parts (now (owners .entry)) i (now (st .entry)) (Exports to) (now (out .entry))) × (now (out .exit) ≡ listOut (now (m .entry)) parts (now (owners .entry)) i (now (st .entry)) (Exports to) (now (out .entry))) ⌝ }
+    ensures { λ r.
+        let D = splitInput (now (m .entry)) parts (now (owners .entry)) (now (st .entry)) in
+        ⌜ (r ≡ listAnswer D i (Exports to) (now (out .entry))) × (now (out .exit) ≡ listOut D i (Exports to) (now (out .entry))) ⌝ }
 {
     list(Wanted::Exports(to), m, parts, owners, i, st, out)
 }
@@ -67,7 +77,9 @@ pub fn private_range(
     dimension: u32,
     out: &mut [u8],
 ) -> Answer
-    ensures { λ r. ⌜ (r ≡ listAnswer (now (m .entry)) parts (now (owners .entry)) i (now (st .entry)) (Private dimension) (now (out .entry))) × (now (out .exit) ≡ listOut (now (m .entry)) parts (now (owners .entry)) i (now (st .entry)) (Private dimension) (now (out .entry))) ⌝ }
+    ensures { λ r.
+        let D = splitInput (now (m .entry)) parts (now (owners .entry)) (now (st .entry)) in
+        ⌜ (r ≡ listAnswer D i (Private dimension) (now (out .entry))) × (now (out .exit) ≡ listOut D i (Private dimension) (now (out .entry))) ⌝ }
 {
     list(Wanted::Private(dimension), m, parts, owners, i, st, out)
 }
@@ -82,7 +94,9 @@ pub fn exposed_range(
     dimension: u32,
     out: &mut [u8],
 ) -> Answer
-    ensures { λ r. ⌜ (r ≡ listAnswer (now (m .entry)) parts (now (owners .entry)) i (now (st .entry)) (Exposed dimension) (now (out .entry))) × (now (out .exit) ≡ listOut (now (m .entry)) parts (now (owners .entry)) i (now (st .entry)) (Exposed dimension) (now (out .entry))) ⌝ }
+    ensures { λ r.
+        let D = splitInput (now (m .entry)) parts (now (owners .entry)) (now (st .entry)) in
+        ⌜ (r ≡ listAnswer D i (Exposed dimension) (now (out .entry))) × (now (out .exit) ≡ listOut D i (Exposed dimension) (now (out .entry))) ⌝ }
 {
     list(Wanted::Exposed(dimension), m, parts, owners, i, st, out)
 }
@@ -97,7 +111,9 @@ pub fn shared_range(
     dimension: u32,
     out: &mut [u8],
 ) -> Answer
-    ensures { λ r. ⌜ (r ≡ listAnswer (now (m .entry)) parts (now (owners .entry)) i (now (st .entry)) (Shared dimension) (now (out .entry))) × (now (out .exit) ≡ listOut (now (m .entry)) parts (now (owners .entry)) i (now (st .entry)) (Shared dimension) (now (out .entry))) ⌝ }
+    ensures { λ r.
+        let D = splitInput (now (m .entry)) parts (now (owners .entry)) (now (st .entry)) in
+        ⌜ (r ≡ listAnswer D i (Shared dimension) (now (out .entry))) × (now (out .exit) ≡ listOut D i (Shared dimension) (now (out .entry))) ⌝ }
 {
     list(Wanted::Shared(dimension), m, parts, owners, i, st, out)
 }
@@ -112,7 +128,9 @@ pub fn copied_range(
     dimension: u32,
     out: &mut [u8],
 ) -> Answer
-    ensures { λ r. ⌜ (r ≡ listAnswer (now (m .entry)) parts (now (owners .entry)) i (now (st .entry)) (Copied dimension) (now (out .entry))) × (now (out .exit) ≡ listOut (now (m .entry)) parts (now (owners .entry)) i (now (st .entry)) (Copied dimension) (now (out .entry))) ⌝ }
+    ensures { λ r.
+        let D = splitInput (now (m .entry)) parts (now (owners .entry)) (now (st .entry)) in
+        ⌜ (r ≡ listAnswer D i (Copied dimension) (now (out .entry))) × (now (out .exit) ≡ listOut D i (Copied dimension) (now (out .entry))) ⌝ }
 {
     list(Wanted::Copied(dimension), m, parts, owners, i, st, out)
 }

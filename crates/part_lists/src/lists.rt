@@ -24,7 +24,7 @@ ghost use Prim.Native.Nat.{_≤_};
 ghost use lib.ListN.{length};
 ghost use Rattle.mesh.specs.Mesh.{top};
 ghost use Rattle.walks.specs.Walking.{Ground};
-ghost use Rattle.split.specs.Lists.{others, splitNumber, listAnswer, listOut};
+ghost use Rattle.split.specs.Lists.{splitInput, others, splitNumber, listAnswer, listOut};
 ghost use Rattle.split.specs.Classes.{Added};
 ghost use Rattle.ranges.specs.Lowers.{rangeOf};
 ghost use Rattle.word_lists.specs.Putting.{givenAnswer, givenOut};
@@ -72,7 +72,7 @@ fn range_words(
     last: &[u16],
     class: &[u8],
     holders: &[u8],
-    k: usize,
+    k: u32,
     sort: u8,
     list: &mut [u16],
 ) -> usize
@@ -80,8 +80,8 @@ fn range_words(
     ensures { λ n. ⌜ Added (now (list .entry)) (now (list .exit)) 0 n (rangeOf (now (m .entry)) (now (class .entry)) (now (holders .entry)) k sort) ⌝ }
 {
     let mut lower = [0u8; MOST_CELLS];
-    classify_lowers(m, cell, prev, last, class, holders, k, &mut lower);
-    add_range(m, k, &lower, sort, list)
+    classify_lowers(m, cell, prev, last, class, holders, k as usize, &mut lower);
+    add_range(m, k as usize, &lower, sort, list)
 }
 
 // The words of the list, and their count, from the row of classes that tells it.
@@ -108,50 +108,10 @@ fn list_words(
         Wanted::Locals => add_order(class, first, cells, parts, list),
         Wanted::Imports(j) => add_class(class, first, cells, j as u8, list, 0),
         Wanted::Exports(_) => add_class(class, first, cells, i as u8, list, 0),
-        Wanted::Private(k) => range_words(
-            m,
-            cell,
-            prev,
-            last,
-            class,
-            holders,
-            k as usize,
-            PRIVATE,
-            list,
-        ),
-        Wanted::Exposed(k) => range_words(
-            m,
-            cell,
-            prev,
-            last,
-            class,
-            holders,
-            k as usize,
-            EXPOSED,
-            list,
-        ),
-        Wanted::Shared(k) => range_words(
-            m,
-            cell,
-            prev,
-            last,
-            class,
-            holders,
-            k as usize,
-            SHARED,
-            list,
-        ),
-        Wanted::Copied(k) => range_words(
-            m,
-            cell,
-            prev,
-            last,
-            class,
-            holders,
-            k as usize,
-            COPIED,
-            list,
-        ),
+        Wanted::Private(k) => range_words(m, cell, prev, last, class, holders, k, PRIVATE, list),
+        Wanted::Exposed(k) => range_words(m, cell, prev, last, class, holders, k, EXPOSED, list),
+        Wanted::Shared(k) => range_words(m, cell, prev, last, class, holders, k, SHARED, list),
+        Wanted::Copied(k) => range_words(m, cell, prev, last, class, holders, k, COPIED, list),
     }
 }
 
@@ -195,7 +155,9 @@ fn list_passed(
     out: &mut [u8],
 ) -> Answer
     requires { ⌜ splitNumber (now m) parts (now owners) (i ∷ others wanted) (now st) ≡ 0 ⌝ }
-    ensures { λ r. ⌜ (r ≡ listAnswer (now (m .entry)) parts (now (owners .entry)) i (now (st .entry)) wanted (now (out .entry))) × (now (out .exit) ≡ listOut (now (m .entry)) parts (now (owners .entry)) i (now (st .entry)) wanted (now (out .entry))) ⌝ }
+    ensures { λ r.
+        let D = splitInput (now (m .entry)) parts (now (owners .entry)) (now (st .entry)) in
+        ⌜ (r ≡ listAnswer D i wanted (now (out .entry))) × (now (out .exit) ≡ listOut D i wanted (now (out .entry))) ⌝ }
 {
     let mut cell = [0u16; 12001];
     let mut prev = [0u16; 12001];
@@ -253,7 +215,9 @@ pub fn list(
     st: &[u8],
     out: &mut [u8],
 ) -> Answer
-    ensures { λ r. ⌜ (r ≡ listAnswer (now (m .entry)) parts (now (owners .entry)) i (now (st .entry)) wanted (now (out .entry))) × (now (out .exit) ≡ listOut (now (m .entry)) parts (now (owners .entry)) i (now (st .entry)) wanted (now (out .entry))) ⌝ }
+    ensures { λ r.
+        let D = splitInput (now (m .entry)) parts (now (owners .entry)) (now (st .entry)) in
+        ⌜ (r ≡ listAnswer D i wanted (now (out .entry))) × (now (out .exit) ≡ listOut D i wanted (now (out .entry))) ⌝ }
 {
     let number = split_number(m, parts, owners, i, other_of(wanted, i), st);
     if number != 0 {

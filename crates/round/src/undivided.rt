@@ -24,7 +24,7 @@ ghost use Rattle.mesh.specs.Mesh.{top, meshNumber};
 ghost use Rattle.mesh.specs.Walks.{steps, bad10};
 ghost use Rattle.rules.specs.Rules.{bad11};
 ghost use Rattle.rules.specs.Kinds.{kindNumber};
-ghost use Rattle.round.specs.Rounds.{roundAnswer, roundOut};
+ghost use Rattle.round.specs.Rounds.{roundInput, roundAnswer, roundOut};
 ghost use Rattle.round.specs.Rows.{rowNew, Row, Rows};
 
 // The new depth of the cell at place j, from its row of the table.
@@ -60,7 +60,9 @@ fn round_by(
     ends: &mut [u16],
 ) -> Answer
     requires { ⌜ (meshNumber (now m) ≡ 0) × (bad10 (top (now m)) (now st) ≡ false) × (bad11 (kindNumber kind) (steps (now st)) (now v) ≡ false) × (length (now table) ≡ 32000) × (length (now ends) ≡ 2001) ⌝ }
-    ensures { λ r. ⌜ (r ≡ roundAnswer (now (m .entry)) (now (st .entry)) (kindNumber kind) (now (v .entry)) (now (f .entry)) (now (out .entry))) × (now (out .exit) ≡ roundOut (now (m .entry)) (now (st .entry)) (kindNumber kind) (now (v .entry)) (now (f .entry)) (now (out .entry))) ⌝ }
+    ensures { λ r.
+        let I = roundInput (now (m .entry)) (now (st .entry)) (kindNumber kind) (now (v .entry)) (now (f .entry)) in
+        ⌜ (r ≡ roundAnswer I (now (out .entry))) × (now (out .exit) ≡ roundOut I (now (out .entry))) ⌝ }
 {
     let t = reach_table(m, st, table, ends);
     if 8000 < t {
@@ -80,7 +82,9 @@ fn round_by(
 // The round on an accepted mesh, stencil and rule.
 fn round_on(m: &[u8], st: &[u8], kind: Kind, v: &[u8], f: &[u8], out: &mut [u8]) -> Answer
     requires { ⌜ (meshNumber (now m) ≡ 0) × (bad10 (top (now m)) (now st) ≡ false) × (bad11 (kindNumber kind) (steps (now st)) (now v) ≡ false) ⌝ }
-    ensures { λ r. ⌜ (r ≡ roundAnswer (now (m .entry)) (now (st .entry)) (kindNumber kind) (now (v .entry)) (now (f .entry)) (now (out .entry))) × (now (out .exit) ≡ roundOut (now (m .entry)) (now (st .entry)) (kindNumber kind) (now (v .entry)) (now (f .entry)) (now (out .entry))) ⌝ }
+    ensures { λ r.
+        let I = roundInput (now (m .entry)) (now (st .entry)) (kindNumber kind) (now (v .entry)) (now (f .entry)) in
+        ⌜ (r ≡ roundAnswer I (now (out .entry))) × (now (out .exit) ≡ roundOut I (now (out .entry))) ⌝ }
 {
     // the table is written even where the reaches are too many, so it stands in arrays of our own
     let mut table = [0u8; 32000];
@@ -90,7 +94,9 @@ fn round_on(m: &[u8], st: &[u8], kind: Kind, v: &[u8], f: &[u8], out: &mut [u8])
 
 // One undivided round: mesh, stencil, rule kind and weights, field. The new field stands at the front of `out`.
 pub fn undivided_round(m: &[u8], st: &[u8], kind: u32, v: &[u8], f: &[u8], out: &mut [u8]) -> Answer
-    ensures { λ r. ⌜ (r ≡ roundAnswer (now (m .entry)) (now (st .entry)) kind (now (v .entry)) (now (f .entry)) (now (out .entry))) × (now (out .exit) ≡ roundOut (now (m .entry)) (now (st .entry)) kind (now (v .entry)) (now (f .entry)) (now (out .entry))) ⌝ }
+    ensures { λ r.
+        let I = roundInput (now (m .entry)) (now (st .entry)) kind (now (v .entry)) (now (f .entry)) in
+        ⌜ (r ≡ roundAnswer I (now (out .entry))) × (now (out .exit) ≡ roundOut I (now (out .entry))) ⌝ }
 {
     let number = mesh_number(m);
     if number != 0 {

@@ -33,9 +33,9 @@ ghost use Rattle.layout.specs.Words.{bytesOf};
 ghost use Rattle.mesh.specs.Mesh.{firstCell, cellCount};
 ghost use Rattle.mesh.specs.Walks.{steps};
 ghost use Rattle.rules.specs.Rules.{bad11};
-ghost use Rattle.split.specs.Lists.{splitNumber, sizesNumber};
+ghost use Rattle.split.specs.Lists.{splitInput, splitNumber, sizesNumber};
 ghost use Rattle.split.specs.Classes.{Prepared};
-ghost use Rattle.starts.specs.Start.{sizeAnswer, startAnswer, startState};
+ghost use Rattle.starts.specs.Start.{inputs, sizeAnswer, startAnswer, startState};
 ghost use Rattle.start_lists.specs.Starting.{rowEnds, sentEnds, startWords, startDepth, Got, Sent, Fit, Cells};
 ghost use Rattle.starts.specs.Planning.{Planned};
 
@@ -171,7 +171,7 @@ fn size_from(
         × (now got ≡ replicate 19 0)
         × (now sent ≡ replicate 17 0)
         ⌝ }
-    ensures { λ r. ⌜ r ≡ sizeAnswer (now (m .entry)) parts (now (owners .entry)) i (now (st .entry)) ⌝ }
+    ensures { λ r. ⌜ r ≡ sizeAnswer (splitInput (now (m .entry)) parts (now (owners .entry)) (now (st .entry))) i ⌝ }
 {
     let p = make_plan(
         m,
@@ -193,7 +193,7 @@ fn size_from(
 // The size, where the tests up to 10 are passed. The order stands in an array of the links, which are not needed once the tables are prepared.
 fn size_passed(m: &[u8], parts: u32, owners: &[u8], i: u32, st: &[u8]) -> Answer
     requires { ⌜ splitNumber (now m) parts (now owners) (i ∷ i ∷ []) (now st) ≡ 0 ⌝ }
-    ensures { λ r. ⌜ r ≡ sizeAnswer (now (m .entry)) parts (now (owners .entry)) i (now (st .entry)) ⌝ }
+    ensures { λ r. ⌜ r ≡ sizeAnswer (splitInput (now (m .entry)) parts (now (owners .entry)) (now (st .entry))) i ⌝ }
 {
     let mut cell = [0u16; 12001];
     let mut prev = [0u16; 12001];
@@ -238,7 +238,7 @@ fn size_passed(m: &[u8], parts: u32, owners: &[u8], i: u32, st: &[u8]) -> Answer
 
 // How many bytes the state of part i needs.
 pub fn state_size(m: &[u8], parts: u32, owners: &[u8], i: u32, st: &[u8]) -> Answer
-    ensures { λ r. ⌜ r ≡ sizeAnswer (now (m .entry)) parts (now (owners .entry)) i (now (st .entry)) ⌝ }
+    ensures { λ r. ⌜ r ≡ sizeAnswer (splitInput (now (m .entry)) parts (now (owners .entry)) (now (st .entry))) i ⌝ }
 {
     let number = split_number(m, parts, owners, i, i, st);
     if number != 0 {
@@ -278,10 +278,9 @@ fn start_from(
         × (now sent ≡ replicate 17 0)
         × (length (now local) ≡ 2001)
         ⌝ }
-    ensures { λ r. ⌜
-        (r ≡ startAnswer (now (m .entry)) parts (now (owners .entry)) i (now (st .entry)) kind (now (v .entry)) (now (f .entry)) (now (b .entry)))
-        × (now (b .exit) ≡ startState (now (m .entry)) parts (now (owners .entry)) i (now (st .entry)) kind (now (v .entry)) (now (f .entry)) (now (b .entry)))
-        ⌝ }
+    ensures { λ r.
+        let I = inputs (now (m .entry)) parts (now (owners .entry)) (now (st .entry)) kind (now (v .entry)) (now (f .entry)) in
+        ⌜ (r ≡ startAnswer I i (now (b .entry))) × (now (b .exit) ≡ startState I i (now (b .entry))) ⌝ }
 {
     if bad_field(cell_count(m), f) {
         return Answer::Refused(14);
@@ -337,10 +336,9 @@ fn start_passed(
     b: &mut [u8],
 ) -> Answer
     requires { ⌜ (splitNumber (now m) parts (now owners) (i ∷ i ∷ []) (now st) ≡ 0) × (bad11 kind (steps (now st)) (now v) ≡ false) ⌝ }
-    ensures { λ r. ⌜
-        (r ≡ startAnswer (now (m .entry)) parts (now (owners .entry)) i (now (st .entry)) kind (now (v .entry)) (now (f .entry)) (now (b .entry)))
-        × (now (b .exit) ≡ startState (now (m .entry)) parts (now (owners .entry)) i (now (st .entry)) kind (now (v .entry)) (now (f .entry)) (now (b .entry)))
-        ⌝ }
+    ensures { λ r.
+        let I = inputs (now (m .entry)) parts (now (owners .entry)) (now (st .entry)) kind (now (v .entry)) (now (f .entry)) in
+        ⌜ (r ≡ startAnswer I i (now (b .entry))) × (now (b .exit) ≡ startState I i (now (b .entry))) ⌝ }
 {
     let mut cell = [0u16; 12001];
     let mut prev = [0u16; 12001];
@@ -400,10 +398,9 @@ pub fn start(
     f: &[u8],
     b: &mut [u8],
 ) -> Answer
-    ensures { λ r. ⌜
-        (r ≡ startAnswer (now (m .entry)) parts (now (owners .entry)) i (now (st .entry)) kind (now (v .entry)) (now (f .entry)) (now (b .entry)))
-        × (now (b .exit) ≡ startState (now (m .entry)) parts (now (owners .entry)) i (now (st .entry)) kind (now (v .entry)) (now (f .entry)) (now (b .entry)))
-        ⌝ }
+    ensures { λ r.
+        let I = inputs (now (m .entry)) parts (now (owners .entry)) (now (st .entry)) kind (now (v .entry)) (now (f .entry)) in
+        ⌜ (r ≡ startAnswer I i (now (b .entry))) × (now (b .exit) ≡ startState I i (now (b .entry))) ⌝ }
 {
     let number = split_number(m, parts, owners, i, i, st);
     if number != 0 {

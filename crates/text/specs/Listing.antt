@@ -15,7 +15,7 @@ use Rattle.vocabulary.specs.Tests.{firstOf}
 use Rattle.vocabulary.specs.Bytes.{Bytes, byteAt}
 use Rattle.mesh.specs.Mesh.{top, cellCount, meshLength}
 use Rattle.split.specs.Split.{Split, splitOf, interior, halo, imports, exports, range, isPrivate, isExposed, isShared, isCopied}
-use Rattle.split.specs.Lists.{splitTests, sizeTests}
+use Rattle.split.specs.Lists.{splitTests, sizeTests, splitInput}
 
 -- ---- text
 
@@ -101,7 +101,7 @@ module _ (b : Bytes) where
   -- mesh cut short is 1 or 3 by its length, a missing P is 0 and owners cut short are too few
   unfoldable pub listingNumber : ℕ
   listingNumber =
-      firstOf (splitTests meshPiece partsPiece ownersPiece [] stencilPiece ++ sizeTests meshPiece partsPiece ownersPiece stencilPiece)
+      firstOf (splitTests (splitInput meshPiece partsPiece ownersPiece stencilPiece) [] ++ sizeTests (splitInput meshPiece partsPiece ownersPiece stencilPiece))
 
   -- "On a refusal it prints `refused` and the number. Input past 65,536 bytes prints `too long`."
   unfoldable pub listText : Bytes
