@@ -4,13 +4,11 @@ use Prim.Native.Nat.{ℕ}
 use lib.ListN.{length-replicate}
 use Rattle.vocabulary.specs.ListLaws.{zeros}
 use Rattle.vocabulary.specs.TestLaws.{told-here, told-later}
-use Rattle.mesh.specs.Mesh.{meshTests}
 use borrow.Author.Needs.{needs}
 use Rattle.mesh_tests.proofs.chains.chain_number.Statement.{statement}
 use Rattle.mesh_tests.proofs.chains.chain_number.Tie as tie
 
 pub chain-number-spec : {M : Type 1} → statement M
-unfolding meshTests
 chain-number-spec =
     tie.close
     (tie.spec
