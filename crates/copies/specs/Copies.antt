@@ -59,7 +59,7 @@ pub record RightLists (m st : Bytes) (S : Split) (i : ℕ) : Type 0 where
   -- a lower element that part i holds is in one of the four ranges of its dimension; no other element is in any
   pub one-range : (k e : ℕ)
       → listsWith e (listOf m S i (Private k) ∷ listOf m S i (Exposed k) ∷ listOf m S i (Shared k) ∷ listOf m S i (Copied k) ∷ [])
-      ≡ cond (ltb k (top m) && isOf m k e && holdsLower m S i e) 1 0
+      ≡ cond (ltb k (top m) && isOf m k e && holdsLower S i e) 1 0
   -- "Local cell numbers run from 1": they go one to one with the held cells
   pub local-count : length (locals S i) ≡ length (held S i)
   pub local-held : (l : ℕ) → 1 ≤ l → l ≤ length (held S i)

@@ -241,7 +241,11 @@ pub extern "C" fn jem_start(
 // Gives the message to part `to`.
 #[no_mangle]
 pub extern "C" fn jem_write(state: &mut [u8], to: u32, out: &mut [u8]) -> u64
-    ensures { λ r. ⌜ (r ≡ packed (writeAnswer (now (state .entry)) to (now (out .entry)))) × (now (state .exit) ≡ writeState (now (state .entry)) to (now (out .entry))) × (now (out .exit) ≡ writeOut (now (state .entry)) to (now (out .entry))) ⌝ }
+    ensures { λ r. ⌜
+        (r ≡ packed (writeAnswer (now (state .entry)) to (now (out .entry))))
+        × (now (state .exit) ≡ writeState (now (state .entry)) to (now (out .entry)))
+        × (now (out .exit) ≡ writeOut (now (state .entry)) to (now (out .entry)))
+        ⌝ }
 {
     pack(writing::write(state, to, out))
 }

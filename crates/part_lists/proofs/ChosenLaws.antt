@@ -21,8 +21,8 @@ module _ (m : Bytes) (parts : ℕ) (owners st table : Bytes) (ends : List ℕ) (
 
   -- ---- all lists
 
-  sorts : (i e : ℕ) → Sorts (touches m S e i) (another m S i (touches m S e)) (another m S i (λ j. holdsLower m S j e)) (holdsLower m S i e)
-  sorts i e = sort-tells (touches m S e i) (another m S i (touches m S e)) (another m S i (λ j. holdsLower m S j e)) (holdsLower m S i e)
+  sorts : (i e : ℕ) → Sorts (touches S e i) (another S i (touches S e)) (another S i (λ j. holdsLower S j e)) (holdsLower S i e)
+  sorts i e = sort-tells (touches S e i) (another S i (touches S e)) (another S i (λ j. holdsLower S j e)) (holdsLower S i e)
 
   counted : (cells : ℕ) → cells ≡ cellCount m → (i : ℕ) (class : Bytes) → Classed owners table ends i cells class → Classed owners table ends i (cellCount m) class
   counted cells ce i class C = subst (λ n. Classed owners table ends i n class) ce C
@@ -33,8 +33,10 @@ module _ (m : Bytes) (parts : ℕ) (owners st table : Bytes) (ends : List ℕ) (
   chosen-is Interior i il ih jl jh few cells ce class C = interior-is m parts owners st table ends holders R i (firstCell m) (cellCount m) refl refl class (counted cells ce i class C)
   chosen-is Halo i il ih jl jh few cells ce class C = halo-is m parts owners st table ends holders R i (firstCell m) (cellCount m) refl refl class (counted cells ce i class C)
   chosen-is Locals i il ih jl jh few cells ce class C = order-is m parts owners st table ends holders R i (firstCell m) (cellCount m) refl refl class (counted cells ce i class C)
-  chosen-is (Imports j) i il ih jl jh few cells ce class C = imports-are m parts owners st table ends holders R i (firstCell m) (cellCount m) refl refl class (counted cells ce i class C) j jl (omega arith)
-  chosen-is (Exports j) i il ih jl jh few cells ce class C = imports-are m parts owners st table ends holders R j (firstCell m) (cellCount m) refl refl class (counted cells ce j class C) i il (omega arith)
+  chosen-is (Imports j) i il ih jl jh few cells ce class C =
+      imports-are m parts owners st table ends holders R i (firstCell m) (cellCount m) refl refl class (counted cells ce i class C) j jl (omega arith)
+  chosen-is (Exports j) i il ih jl jh few cells ce class C =
+      imports-are m parts owners st table ends holders R j (firstCell m) (cellCount m) refl refl class (counted cells ce j class C) i il (omega arith)
   chosen-is (Private k) i il ih jl jh few cells ce class C = range-is m parts owners st table ends holders R i il ih cells ce class C k 1 _ (λ e. sorts i e .0)
   chosen-is (Exposed k) i il ih jl jh few cells ce class C = range-is m parts owners st table ends holders R i il ih cells ce class C k 2 _ (λ e. sorts i e .1)
   chosen-is (Shared k) i il ih jl jh few cells ce class C = range-is m parts owners st table ends holders R i il ih cells ce class C k 3 _ (λ e. sorts i e .2)

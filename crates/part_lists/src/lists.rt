@@ -137,7 +137,9 @@ fn list_given(
         × (length (chosen wanted (now m) parts (now class) (now holders) i) ≤ 2000)
         × (2000 ≤ length (now list))
         ⌝ }
-    ensures { λ r. ⌜ (r ≡ givenAnswer (chosen wanted (now (m .entry)) parts (now (class .entry)) (now (holders .entry)) i) (now (out .entry))) × (now (out .exit) ≡ givenOut (chosen wanted (now (m .entry)) parts (now (class .entry)) (now (holders .entry)) i) (now (out .entry))) ⌝ }
+    ensures { λ r.
+        let ws = chosen wanted (now (m .entry)) parts (now (class .entry)) (now (holders .entry)) i in
+        ⌜ (r ≡ givenAnswer ws (now (out .entry))) × (now (out .exit) ≡ givenOut ws (now (out .entry))) ⌝ }
 {
     let n = list_words(wanted, m, parts, cell, prev, last, class, holders, i, list);
     give(list, n, out)

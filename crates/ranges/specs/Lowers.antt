@@ -7,10 +7,9 @@ use Prim.Native.Nat.{ℕ, _+_, _-_, _<_}
 use lib.Dec.{eqb, leb, ltb}
 use lib.ListN.{length, getD}
 use Rattle.vocabulary.specs.Bytes.{Bytes, byteAt}
-use Rattle.vocabulary.specs.Ranges.{picked}
 use Rattle.vocabulary.specs.Lists.{someOf}
-use Rattle.mesh.specs.Mesh.{top, counted, below, firstCell, cellCount}
-use Rattle.mesh.specs.Walks.{incident}
+use Rattle.mesh.specs.Mesh.{top, counted, below, firstCell}
+use Rattle.mesh.specs.Walks.{cellsAt}
 use Rattle.links.specs.Links.{trail}
 use Rattle.split.specs.Split.{range}
 use Rattle.split.specs.Classes.{heldOne, classCells}
@@ -40,7 +39,7 @@ unfoldable pub trailClass : List ℕ → List ℕ → List ℕ → ℕ → Bytes
 trailClass cell prev last first class holders e = lowerClass (trail cell prev 12001 (getD last e 0)) first class holders
 
 unfoldable pub elementClass : Bytes → Bytes → Bytes → ℕ → ℕ
-elementClass m class holders e = lowerClass (picked (firstCell m) (cellCount m) (incident m e)) (firstCell m) class holders
+elementClass m class holders e = lowerClass (cellsAt m e) (firstCell m) class holders
 
 -- the first n elements after lo have their classes in a row
 pub record Trailed (cell prev last : List ℕ) (first : ℕ) (class holders : Bytes) (lo n : ℕ) (lower : Bytes) : Type 0 where

@@ -55,7 +55,8 @@ module _ (I : Inputs) (r : Run I) where
   undivided-length : (k : ℕ) → length (undivided (schemeIn I) (I .field) k) ≡ 4 * cellCount (I .split .mesh)
   unfolding schemeOf
   undivided-length k =
-      field-length (cellCount (I .split .mesh)) (undivided (schemeIn I) (I .field) k) (undivided-good (I .split .mesh) (I .split .stencil) (I .rule .kind) (I .rule .weights) (I .field) k (inputs .field-good))
+      field-length (cellCount (I .split .mesh)) (undivided (schemeIn I) (I .field) k)
+      (undivided-good (I .split .mesh) (I .split .stencil) (I .rule .kind) (I .rule .weights) (I .field) k (inputs .field-good))
 
   gathered-whole : (k : ℕ) (G : Bytes) → Gathered I (collectsOf r) k G → G ≡ undivided (schemeIn I) (I .field) k
   gathered-whole k G v =

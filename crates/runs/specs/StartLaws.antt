@@ -111,7 +111,8 @@ module _ (I : Inputs) (R : Ready I) where
       → ownedIn (splitIn (I .split)) i + total 1 (j - 1) (λ k. length (imports (splitIn (I .split)) i k)) + 1 + t ≤ length (orderIn I i)
   import-fits i j t h k q =
       let p : 1 + (j - 1) ≡ j = omega arith in
-      let f : total 1 (j - 1) (λ k. length (imports (splitIn (I .split)) i k)) + length (imports (splitIn (I .split)) i (1 + (j - 1))) ≤ total 1 (splitIn (I .split) .parts) (λ k. length (imports (splitIn (I .split)) i k)) =
+      let f : total 1 (j - 1) (λ k. length (imports (splitIn (I .split)) i k)) + length (imports (splitIn (I .split)) i (1 + (j - 1)))
+      ≤ total 1 (splitIn (I .split) .parts) (λ k. length (imports (splitIn (I .split)) i k)) =
       total-fit 1 (λ k. length (imports (splitIn (I .split)) i k)) (splitIn (I .split) .parts) (j - 1) (omega arith) in
       let s : length (imports (splitIn (I .split)) i (1 + (j - 1))) ≡ length (imports (splitIn (I .split)) i j) = ap (λ x. length (imports (splitIn (I .split)) i x)) p in
       omega (arith, order-length (splitIn (I .split)) i)
@@ -167,7 +168,8 @@ module _ (I : Inputs) (R : Ready I) where
     pub lists-new : L .new ≡ newDepth (I .rule .kind) (I .rule .weights)
     unfolding listsIn
     lists-new =
-        ap₂ newDepth (kind-back S i order (steps (I .split .stencil)) (I .rule .kind) (I .rule .weights)) (weights-back S i order (steps (I .split .stencil)) (I .rule .kind) (I .rule .weights) (R .rule) (R .short))
+        ap₂ newDepth (kind-back S i order (steps (I .split .stencil)) (I .rule .kind) (I .rule .weights))
+        (weights-back S i order (steps (I .split .stencil)) (I .rule .kind) (I .rule .weights) (R .rule) (R .short))
 
     -- an owned cell
     owned-is : (l : ℕ) → 1 ≤ l → l ≤ L .owned → Cell S (L .global l) × (S .owner (L .global l) ≡ i)

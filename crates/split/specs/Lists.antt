@@ -83,10 +83,10 @@ listOf m S i Halo = halo S i
 listOf m S i Locals = locals S i
 listOf m S i (Imports j) = imports S i j
 listOf m S i (Exports j) = exports S i j
-listOf m S i (Private k) = range m k (isPrivate m S i)
-listOf m S i (Exposed k) = range m k (isExposed m S i)
-listOf m S i (Shared k) = range m k (isShared m S i)
-listOf m S i (Copied k) = range m k (isCopied m S i)
+listOf m S i (Private k) = range m k (isPrivate S i)
+listOf m S i (Exposed k) = range m k (isExposed S i)
+listOf m S i (Shared k) = range m k (isShared S i)
+listOf m S i (Copied k) = range m k (isCopied S i)
 
 -- ---- the call for a list of part i
 

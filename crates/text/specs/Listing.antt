@@ -50,10 +50,10 @@ module _ (m : Bytes) (S : Split) where
   -- "Each dimension has its ranges as private, exposed, shared, copied."
   unfoldable pub dimensionText : ℕ → ℕ → Bytes
   dimensionText i k =
-      line (label " private") (range m k (isPrivate m S i))
-      ++ (line (label " exposed") (range m k (isExposed m S i))
-      ++ (line (label " shared") (range m k (isShared m S i))
-      ++ line (label " copied") (range m k (isCopied m S i))))
+      line (label " private") (range m k (isPrivate S i))
+      ++ (line (label " exposed") (range m k (isExposed S i))
+      ++ (line (label " shared") (range m k (isShared S i))
+      ++ line (label " copied") (range m k (isCopied S i))))
     where
       label : String → Bytes
       label name = ascii "dim" ++ (spaced k ++ ascii name)

@@ -14,8 +14,9 @@ use Rattle.layout.specs.Answers.{answer}
 use Rattle.depths.specs.Depths.{four, numberFrom, signed, unsigned, depthFrom, numberBytes, depthBytes, inRange, rangedAt}
 use Rattle.layout.specs.Words.{word, wordAt, words, wordBytes, bytesOf}
 use Rattle.mesh.specs.Meet.{meet, stamp, unlike}
-use Rattle.mesh.specs.Mesh.{below, dimension, elementIn, nextOf, follow, records, chain, allRecords, bad1, wrongCount, bad2, meshLength, bad3, headed, bad4, wrongIn, wrongAt, bad5, leaves, unclosed, bad6, bare, bad7, meshTests, meshNumber, checkAnswer}
-use Rattle.mesh.specs.Walks.{Near, incident, steps, rightAt, bad10, stepTo, walked, stepsTo, layer, reach, bad13}
+use Rattle.mesh.specs.Mesh.{below, dimension, elementIn, nextOf, follow, records, chain, allRecords, bad1, wrongCount, bad2, meshLength, bad3}
+use Rattle.mesh.specs.Mesh.{headed, bad4, wrongIn, wrongAt, bad5, leaves, unclosed, bad6, bare, bad7, meshTests, meshNumber, checkAnswer}
+use Rattle.mesh.specs.Walks.{Near, incident, steps, rightAt, bad10, stepTo, walked, stepsTo, layer, reach, bad13, cellsAt}
 use Rattle.round.specs.Rounds.{bad14, schemeOf, depthIn, oldsIn, newIn, round, undivided, roundNumber, roundAnswer, roundOut}
 use Rattle.rules.specs.Rules.{weightCount, tooHeavy, bad11, weight, depthSum, weightSum, quotient, least, newDepth}
 use Rattle.rules.specs.Update.{entries, oldsAt}
@@ -24,13 +25,16 @@ use Rattle.split.specs.Lists.{bad8, bad9, bad12, splitTests, sizeTests, others,
 use Rattle.split.specs.declared.Wanted.{Wanted}
 use Rattle.split.specs.declared.Wanted.the-variants.{Interior, Imports}
 use Rattle.split.specs.Split.{splitOf, owns, owned, reaches, holds, held, imports, exports, inside, interior, halo}
-use Rattle.split.specs.Split.{locals, localOf, globalOf, cellsAt, holdsLower, touches, another, isCopied, isShared, isExposed, isPrivate, range}
+use Rattle.split.specs.Split.{locals, localOf, globalOf, holdsLower, touches, another, isCopied, isShared, isExposed, isPrivate, range}
 use Rattle.parts.specs.Calls.{importsFrom, exportsTo, messageTo, writeTestsIn, writtenIn, takeTestsIn, takenIn, allTaken, allWritten, advanceTestsIn, newAt, advancedIn, collectTestsIn, scatter}
-use Rattle.parts.specs.Calls.{writeNumber, message, writeAnswer, writeState, writeOut, takeNumber, takeAnswer, takeState, advanceNumber, advanceAnswer, advanceState, collectNumber, collectAnswer, collectOut}
+use Rattle.parts.specs.Calls.{writeNumber, message, writeAnswer, writeState, writeOut, takeNumber, takeAnswer}
+use Rattle.parts.specs.Calls.{takeState, advanceNumber, advanceAnswer, advanceState, collectNumber, collectAnswer, collectOut}
 use Rattle.states.specs.State.{weights, localReach, localExports, listsIn, listsOf, rises, listsTests, dynamicTests, isState, bad20}
-use Rattle.starts.specs.Start.{importEnds, exportEnds, reachEnds, reachWords, exportWords, listsLong, listsWords, stateSize, sizeNumber, sizeAnswer, firstState, startNumber, startAnswer, startState, inputs, Inputs, schemeIn}
+use Rattle.starts.specs.Start.{importEnds, exportEnds, reachEnds, reachWords, exportWords, listsLong, listsWords, stateSize}
+use Rattle.starts.specs.Start.{sizeNumber, sizeAnswer, firstState, startNumber, startAnswer, startState, inputs, Inputs, schemeIn}
 use Rattle.runs.specs.Run.{ownerIn, Gathered, collectsOf, Run, World, Collected, collect, advance, take-in, write, Call, put, more, step, run, Fair, Honest, begin, StateBound}
-use Rattle.text.specs.Listing.{ascii, digits, decimal, spaced, line, lineUnlessEmpty, dimensionText, partText, splitText, meshPiece, mapPiece, partsPiece, ownersPiece, lastPiece, stencilPiece, listingNumber, listText}
+use Rattle.text.specs.Listing.{ascii, digits, decimal, spaced, line, lineUnlessEmpty, dimensionText, partText}
+use Rattle.text.specs.Listing.{splitText, meshPiece, mapPiece, partsPiece, ownersPiece, lastPiece, stencilPiece, listingNumber, listText}
 
 -- ---- the inputs
 
