@@ -14,7 +14,7 @@ use Rattle.layout.specs.Answers.{answer}
 use Rattle.layout.specs.AnswerLaws.{refuses}
 use Rattle.layout.specs.declared.Answer.{Answer}
 use Rattle.layout.specs.declared.Answer.the-variants.{Refused}
-use Rattle.split.specs.Lists.{splitTests, sizeTests, splitNumber, sizesNumber, others, listWords, listNumber, listAnswer, listOut, splitInput}
+use Rattle.split.specs.Lists.{SplitInput, splitTests, sizeTests, splitNumber, sizesNumber, others, listWords, listNumber, listAnswer, listOut, splitInput}
 use Rattle.split.proofs.PassedLaws.{Passed, twice, passed-facts}
 use Rattle.split.specs.SplitLaws.{split-numbered, sizes-numbered}
 use Rattle.mesh.specs.Mesh.{cellCount}
@@ -26,9 +26,13 @@ use Rattle.split.specs.declared.Wanted.the-variants.{Interior, Halo, Locals, Im
 use Rattle.part_lists.proofs.ChosenLaws.{chosen-is, list-few}
 
 module _ (m : Bytes) (parts : ℕ) (owners : Bytes) (i : ℕ) (st : Bytes) (w : Wanted) where
+  -- what the call is given
+  abbrev pub D : SplitInput
+  D = splitInput m parts owners st
+
   -- ---- the tests up to 10: a list that names no other part names its own twice
 
-  named : (v : Wanted) → splitTests (splitInput m parts owners st) (i ∷ otherOf v i ∷ []) ≡ splitTests (splitInput m parts owners st) (i ∷ others v)
+  named : (v : Wanted) → splitTests D (i ∷ otherOf v i ∷ []) ≡ splitTests D (i ∷ others v)
   unfolding others
   named Interior = twice m parts owners i st
   named Halo = twice m parts owners i st
@@ -54,35 +58,35 @@ module _ (m : Bytes) (parts : ℕ) (owners : Bytes) (i : ℕ) (st : Bytes) (w : 
 
   module _ (out : Bytes) where
     abbrev ws : List ℕ
-    ws = listWords (splitInput m parts owners st) i w
+    ws = listWords D i w
 
     abbrev afterSizes : ℕ
     afterSizes = cond (eqb (sizesNumber m parts owners st) 0) (givenNumber ws out) (sizesNumber m parts owners st)
 
-    number-is : listNumber (splitInput m parts owners st) i w out
+    number-is : listNumber D i w out
         ≡ cond (eqb (splitNumber m parts owners (i ∷ others w) st) 0) afterSizes (splitNumber m parts owners (i ∷ others w) st)
     unfolding listNumber splitNumber sizesNumber givenNumber
     number-is =
-        let tests = splitTests (splitInput m parts owners st) (i ∷ others w) in
+        let tests = splitTests D (i ∷ others w) in
         firstOf-append tests _ (split-numbered m parts owners (i ∷ others w) st)
         ∙ ap (λ n. cond (eqb (firstOf tests) 0) n (firstOf tests))
-        (firstOf-append (sizeTests (splitInput m parts owners st)) (refuse 16 (ltb (length out) (2 * length ws)) ∷ []) (sizes-numbered m parts owners st))
+        (firstOf-append (sizeTests D) (refuse 16 (ltb (length out) (2 * length ws)) ∷ []) (sizes-numbered m parts owners st))
 
-    refusing : (n : ℕ) → (n ≡ 0 → ⊥) → listNumber (splitInput m parts owners st) i w out ≡ n
-        → (Refused n ≡ listAnswer (splitInput m parts owners st) i w out) × (out ≡ listOut (splitInput m parts owners st) i w out)
+    refusing : (n : ℕ) → (n ≡ 0 → ⊥) → listNumber D i w out ≡ n
+        → (Refused n ≡ listAnswer D i w out) × (out ≡ listOut D i w out)
     unfolding listAnswer listOut
-    refusing n h e = refuses (listNumber (splitInput m parts owners st) i w out) (length ws) (over out 0 (bytesOf ws)) out n e h
+    refusing n h e = refuses (listNumber D i w out) (length ws) (over out 0 (bytesOf ws)) out n e h
 
     pub refused-split : (n : ℕ) → n ≡ splitNumber m parts owners (i ∷ others w) st → (n ≡ 0 → ⊥)
-        → (Refused n ≡ listAnswer (splitInput m parts owners st) i w out) × (out ≡ listOut (splitInput m parts owners st) i w out)
+        → (Refused n ≡ listAnswer D i w out) × (out ≡ listOut D i w out)
     refused-split n e h = refusing n h (number-is ∙ ap₂ (λ b x. cond b afterSizes x) (ne-eqb _ 0 (λ z. h (e ∙ z))) (sym e))
 
     module _ (p : splitNumber m parts owners (i ∷ others w) st ≡ 0) where
-      sizes-left : listNumber (splitInput m parts owners st) i w out ≡ afterSizes
+      sizes-left : listNumber D i w out ≡ afterSizes
       sizes-left = number-is ∙ ap (λ b. cond b afterSizes (splitNumber m parts owners (i ∷ others w) st)) (eq-eqb _ 0 p)
 
       pub refused-sizes : (n : ℕ) → n ≡ sizesNumber m parts owners st → (n ≡ 0 → ⊥)
-          → (Refused n ≡ listAnswer (splitInput m parts owners st) i w out) × (out ≡ listOut (splitInput m parts owners st) i w out)
+          → (Refused n ≡ listAnswer D i w out) × (out ≡ listOut D i w out)
       refused-sizes n e h = refusing n h (sizes-left ∙ ap₂ (λ b x. cond b (givenNumber ws out) x) (ne-eqb _ 0 (λ z. h (e ∙ z))) (sym e))
 
       module _ (q : sizesNumber m parts owners st ≡ 0) (table : Bytes) (ends : List ℕ) (holders : Bytes) (R : Prepared m parts owners st table ends holders)
@@ -97,12 +101,12 @@ module _ (m : Bytes) (parts : ℕ) (owners : Bytes) (i : ℕ) (st : Bytes) (w : 
         pub chosen-few : length (chosen w m parts class holders i) ≤ 2000
         chosen-few = subst (λ (xs : List ℕ). length xs ≤ 2000) (sym words-are) (unfold listWords in list-few m parts owners st table ends holders R w i)
 
-        given : listNumber (splitInput m parts owners st) i w out ≡ givenNumber ws out
+        given : listNumber D i w out ≡ givenNumber ws out
         given = sizes-left ∙ ap (λ b. cond b (givenNumber ws out) (sizesNumber m parts owners st)) (eq-eqb _ 0 q)
 
         pub given-list : (x : Answer) (after : Bytes)
             → (x ≡ givenAnswer (chosen w m parts class holders i) out) × (after ≡ givenOut (chosen w m parts class holders i) out)
-            → (x ≡ listAnswer (splitInput m parts owners st) i w out) × (after ≡ listOut (splitInput m parts owners st) i w out)
+            → (x ≡ listAnswer D i w out) × (after ≡ listOut D i w out)
         unfolding givenAnswer givenOut listAnswer listOut
         given-list x after g = (
           g .0 ∙ ap (λ xs. answer (givenNumber xs out) (length xs)) words-are ∙ ap (λ n. answer n (length ws)) (sym given),

@@ -30,7 +30,7 @@ use Rattle.split.specs.Classes.{Classed, Prepared, classOrder}
 use Rattle.split.proofs.PassedLaws.{Passed, twice, passed-facts}
 use Rattle.cell_lists.proofs.ClassLists.{interior-is, halo-is, order-is as cells-order, locals-few}
 use Rattle.cell_lists.proofs.AddLaws.{added-fits, added-take, class-count}
-use Rattle.starts.specs.Start.{ownedIn, reachEnds, listsLong, stateSize, sizeNumber, sizeAnswer, firstState, lastTests, startNumber, startAnswer, startState, inputs}
+use Rattle.starts.specs.Start.{ownedIn, reachEnds, listsLong, stateSize, sizeNumber, sizeAnswer, firstState, lastTests, startNumber, startAnswer, startState, inputs, Inputs}
 use Rattle.word_lists.specs.Putting.{Put}
 use Rattle.start_lists.specs.Starting.{rowEnds, sentEnds, startWords, startDepth, Fit, Cells, countAt, Tallied, Got, Sent, Mapped}
 use Rattle.starts.specs.Planning.{Planned}
@@ -180,25 +180,29 @@ module _ (m : Bytes) (parts : ℕ) (owners : Bytes) (i : ℕ) (st : Bytes) where
 -- ---- start
 
 module _ (m : Bytes) (parts : ℕ) (owners : Bytes) (i : ℕ) (st : Bytes) (kind : ℕ) (v f b : Bytes) where
+  -- what the call is given
+  abbrev pub given : Inputs
+  given = inputs m parts owners st kind v f
+
   abbrev pub Answered : Answer → Bytes → Type 0
-  Answered r x = (r ≡ startAnswer (inputs m parts owners st kind v f) i b) × (x ≡ startState (inputs m parts owners st kind v f) i b)
+  Answered r x = (r ≡ startAnswer given i b) × (x ≡ startState given i b)
 
-  refused : (n : ℕ) → startNumber (inputs m parts owners st kind v f) i b ≡ n → (n ≡ 0 → ⊥) → Answered (Refused n) b
+  refused : (n : ℕ) → startNumber given i b ≡ n → (n ≡ 0 → ⊥) → Answered (Refused n) b
   unfolding startAnswer startState
-  refused = refuses (startNumber (inputs m parts owners st kind v f) i b) (stateSize (splitInput m parts owners st) i) (over b 0 (firstState (inputs m parts owners st kind v f) i)) b
+  refused = refuses (startNumber given i b) (stateSize (splitInput m parts owners st) i) (over b 0 (firstState given i)) b
 
-  done : startNumber (inputs m parts owners st kind v f) i b ≡ 0 → Answered (Done (stateSize (splitInput m parts owners st) i)) (over b 0 (firstState (inputs m parts owners st kind v f) i))
+  done : startNumber given i b ≡ 0 → Answered (Done (stateSize (splitInput m parts owners st) i)) (over b 0 (firstState given i))
   unfolding startAnswer startState
-  done = accepts (startNumber (inputs m parts owners st kind v f) i b) (stateSize (splitInput m parts owners st) i) (over b 0 (firstState (inputs m parts owners st kind v f) i)) b
+  done = accepts (startNumber given i b) (stateSize (splitInput m parts owners st) i) (over b 0 (firstState given i)) b
 
   -- the tests after 13, and those after 10
   abbrev rest : List Test
-  rest = lastTests (inputs m parts owners st kind v f) i b
+  rest = lastTests given i b
 
   abbrev later : List Test
   later = refuse 11 (bad11 kind (steps st) v) ∷ sizeTests (splitInput m parts owners st) ++ rest
 
-  number-split : (n : ℕ) → n ≡ splitNumber m parts owners (i ∷ []) st → (n ≡ 0 → ⊥) → startNumber (inputs m parts owners st kind v f) i b ≡ n
+  number-split : (n : ℕ) → n ≡ splitNumber m parts owners (i ∷ []) st → (n ≡ 0 → ⊥) → startNumber given i b ≡ n
   unfolding startNumber
   number-split n q z = split-refuses m parts owners (i ∷ []) st later (λ w. z (q ∙ w)) ∙ sym q
 
@@ -206,7 +210,7 @@ module _ (m : Bytes) (parts : ℕ) (owners : Bytes) (i : ℕ) (st : Bytes) (kind
   start-split n e z = refused n (number-split n (e ∙ number-once m parts owners i st) z) z
 
   module _ (sn : splitNumber m parts owners (i ∷ i ∷ []) st ≡ 0) where
-    in-later : startNumber (inputs m parts owners st kind v f) i b ≡ firstOf later
+    in-later : startNumber given i b ≡ firstOf later
     unfolding startNumber
     in-later = split-then m parts owners (i ∷ []) st later (sym (number-once m parts owners i st) ∙ sn)
 
@@ -215,17 +219,17 @@ module _ (m : Bytes) (parts : ℕ) (owners : Bytes) (i : ℕ) (st : Bytes) (kind
     start-11 u ue ut = refused 11 (in-later ∙ ap (λ t. cond t 11 (firstOf (sizeTests (splitInput m parts owners st) ++ rest))) (sym ue ∙ ut)) (λ z. omega (arith, z))
 
     module _ (eleven : bad11 kind (steps st) v ≡ false) where
-      in-sizes : startNumber (inputs m parts owners st kind v f) i b ≡ firstOf (sizeTests (splitInput m parts owners st) ++ rest)
+      in-sizes : startNumber given i b ≡ firstOf (sizeTests (splitInput m parts owners st) ++ rest)
       in-sizes = in-later ∙ ap (λ t. cond t 11 (firstOf (sizeTests (splitInput m parts owners st) ++ rest))) eleven
 
-      number-sizes : (n : ℕ) → n ≡ sizesNumber m parts owners st → (n ≡ 0 → ⊥) → startNumber (inputs m parts owners st kind v f) i b ≡ n
+      number-sizes : (n : ℕ) → n ≡ sizesNumber m parts owners st → (n ≡ 0 → ⊥) → startNumber given i b ≡ n
       number-sizes n e z = in-sizes ∙ sizes-refuse m parts owners st rest (λ w. z (e ∙ w)) ∙ sym e
 
       pub start-sizes : (n : ℕ) → n ≡ sizesNumber m parts owners st → (n ≡ 0 → ⊥) → Answered (Refused n) b
       start-sizes n e z = refused n (number-sizes n e z) z
 
       module _ (zn : sizesNumber m parts owners st ≡ 0) (cells : ℕ) (ce : cells ≡ cellCount m) (u : Bool) (ue : u ≡ bad14 cells f) where
-        in-rest : startNumber (inputs m parts owners st kind v f) i b ≡ firstOf rest
+        in-rest : startNumber given i b ≡ firstOf rest
         in-rest = in-sizes ∙ sizes-then m parts owners st rest zn
 
         fourteen : bad14 (cellCount m) f ≡ u
@@ -276,7 +280,7 @@ module _ (m : Bytes) (parts : ℕ) (owners : Bytes) (i : ℕ) (st : Bytes) (kind
                 (order-at m parts owners st table ends holders R i (I₂ .0) (I₂ .1) first cells fe ce order n owned (Q .order-is) (Q .held-is) (Q .owned-is) (l - 1) (omega arith)) fe
 
             state-is : bytesOf (startWords owners table ends part first count order n owned (steps st) kind v) ++
-                (replicate 34 0 ++ blocks 1 n (startDepth f first order)) ≡ firstState (inputs m parts owners st kind v f) i
+                (replicate 34 0 ++ blocks 1 n (startDepth f first order)) ≡ firstState given i
             unfolding firstState
             state-is =
                 ap₂ (λ (ws : List ℕ) (ds : Bytes). bytesOf ws ++ (replicate 34 0 ++ ds))
