@@ -21,7 +21,7 @@ pub data Example : Type 0 where
 
 -- what an entry claims
 abbrev pub Holds : Example → Type 0
-Holds (rounds kind v k ds) = undivided (schemeOf five (fiveInputs .stencil) kind v) (fiveInputs .field) k ≡ field ds
+Holds (rounds kind v k ds) = undivided (schemeOf five (fiveInputs .split .stencil) kind v) (fiveInputs .field) k ≡ field ds
 
 abbrev pub AllHold : List Example → Type 0
 AllHold [] = Unit {0}
@@ -35,8 +35,7 @@ table =
     ∷ []
 
 pub changed : AllHold table
-unfolding isIn placeOf joined someOf everyOf isUpTo picked every some listed blocks total
-    word wordAt words wordBytes bytesOf four numberFrom signed unsigned depthFrom numberBytes depthBytes
-    below dimension elementIn nextOf follow records chain incident steps stepTo walked stepsTo layer reach
-    least newDepth schemeOf depthIn oldsIn newIn round undivided five field fiveInputs
+unfolding isIn placeOf joined someOf everyOf isUpTo picked every some listed blocks total word wordAt words wordBytes bytesOf four numberFrom signed unsigned depthFrom numberBytes
+    depthBytes below dimension elementIn nextOf follow records chain incident steps stepTo walked stepsTo layer reach least newDepth schemeOf depthIn oldsIn newIn round undivided
+    five field fiveInputs
 changed = (refl, (refl, tt))

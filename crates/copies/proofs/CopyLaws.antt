@@ -16,10 +16,11 @@ use Rattle.vocabulary.specs.RangeLaws.{picked-in, picked-passes}
 use Rattle.vocabulary.specs.Tests.{firstOf}
 use Rattle.mesh.specs.Mesh.{top, counted, below, firstCell, cellCount}
 use Rattle.mesh.specs.Accepted.{Accepted}
-use Rattle.mesh.specs.Walks.{Near, incident, reach, layer, stepsTo, steps, walked, bad10}
+use Rattle.mesh.specs.Walks.{Near, incident, reach, layer, stepsTo, steps, walked, bad10, cellsAt}
 use Rattle.split.specs.Split.{Split, splitOf, owns, owned, reaches, holds, held, imports, locals, localOf, globalOf}
-use Rattle.split.specs.Split.{cellsAt, holdsLower, touches, another, isCopied, isShared, isExposed, isPrivate, range}
-use Rattle.split.specs.Lists.{splitNumber, listOf, private-range, exposed-range, shared-range, copied-range}
+use Rattle.split.specs.Split.{holdsLower, touches, another, isCopied, isShared, isExposed, isPrivate, range}
+use Rattle.split.specs.Lists.{splitNumber, listOf}
+use Rattle.split.specs.declared.Wanted.the-variants.{Private, Exposed, Shared, Copied}
 use Rattle.split.specs.SplitLaws as Laws
 use Rattle.split.specs.SplitLaws.{Cell, import-facts, import-has, order-cells, local-back, own-held, held-has, map-facts, split-reach, split-own, split-owner}
 use Rattle.split.proofs.PassedLaws.{twice, passed-facts}
@@ -130,20 +131,20 @@ module _ (m : Bytes) (parts : ℕ) (owners : Bytes) (i : ℕ) (st : Bytes) (A : 
       go false z = unfold isIn in refl
 
   -- a part holds what it touches
-  touched-held : (e : ℕ) → touches m S e i ≡ true → holdsLower m S i e ≡ true
-  unfolding touches holdsLower cellsAt
+  touched-held : (e : ℕ) → touches S e i ≡ true → holdsLower S i e ≡ true
+  unfolding touches holdsLower splitOf cellsAt
   touched-held e t =
-      let w = someOf-witness (owns S i) (cellsAt m S e) 0 t in
-      let p = picked-passes (S .first) (incident m e) (S .cells) (getD (cellsAt m S e) (w .0) 0) (record { place = w .0; place-lt = w .1; place-is = refl }) in
-      someOf-has (holds S i) (cellsAt m S e) 0 (w .0) (w .1) (own-held S (split-own m parts owners st) i (getD (cellsAt m S e) (w .0) 0) (p .0, p .1) (w .2))
+      let w = someOf-witness (owns S i) (S .around e) 0 t in
+      let p = picked-passes (S .first) (incident m e) (S .cells) (getD (S .around e) (w .0) 0) (record { place = w .0; place-lt = w .1; place-is = refl }) in
+      someOf-has (holds S i) (S .around e) 0 (w .0) (w .1) (own-held S (split-own m parts owners st) i (getD (S .around e) (w .0) 0) (p .0, p .1) (w .2))
 
   one-range : (k e : ℕ)
-      → listsWith e (listOf m S i (private-range k) ∷ listOf m S i (exposed-range k) ∷ listOf m S i (shared-range k) ∷ listOf m S i (copied-range k) ∷ [])
-      ≡ cond (ltb k (top m) && isOf m k e && holdsLower m S i e) 1 0
+      → listsWith e (listOf m S i (Private k) ∷ listOf m S i (Exposed k) ∷ listOf m S i (Shared k) ∷ listOf m S i (Copied k) ∷ [])
+      ≡ cond (ltb k (top m) && isOf m k e && holdsLower S i e) 1 0
   unfolding listsWith listOf isPrivate isExposed isShared isCopied
   one-range k e =
-      one-of-four (ltb k (top m) && isOf m k e) (touches m S e i) (another m S i (touches m S e)) (another m S i (λ j. holdsLower m S j e)) (holdsLower m S i e) (touched-held e)
-      (range-has k e (isPrivate m S i)) (range-has k e (isExposed m S i)) (range-has k e (isShared m S i)) (range-has k e (isCopied m S i))
+      one-of-four (ltb k (top m) && isOf m k e) (touches S e i) (another S i (touches S e)) (another S i (λ j. holdsLower S j e)) (holdsLower S i e) (touched-held e)
+      (range-has k e (isPrivate S i)) (range-has k e (isExposed S i)) (range-has k e (isShared S i)) (range-has k e (isCopied S i))
 
   -- ---- local numbers
 

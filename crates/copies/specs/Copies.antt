@@ -12,7 +12,8 @@ use Rattle.vocabulary.specs.Bytes.{Bytes, byteAt}
 use Rattle.mesh.specs.Mesh.{top, elements, dimension}
 use Rattle.mesh.specs.Walks.{incident, steps, walked}
 use Rattle.split.specs.Split.{Split, splitOf, held, imports, locals, localOf, globalOf, holdsLower}
-use Rattle.split.specs.Lists.{splitNumber, listOf, private-range, exposed-range, shared-range, copied-range}
+use Rattle.split.specs.Lists.{splitNumber, listOf}
+use Rattle.split.specs.declared.Wanted.the-variants.{Private, Exposed, Shared, Copied}
 
 -- e is an element of the mesh, of dimension a. "Elements have a dimension from 0 (points) to d (cells)."
 unfoldable pub isOf : Bytes → ℕ → ℕ → Bool
@@ -57,8 +58,8 @@ pub record RightLists (m st : Bytes) (S : Split) (i : ℕ) : Type 0 where
   pub import-owner : (c j : ℕ) → isIn c (imports S i j) ≡ true → (isCell m c ≡ true) × (S .owner c ≡ j)
   -- a lower element that part i holds is in one of the four ranges of its dimension; no other element is in any
   pub one-range : (k e : ℕ)
-      → listsWith e (listOf m S i (private-range k) ∷ listOf m S i (exposed-range k) ∷ listOf m S i (shared-range k) ∷ listOf m S i (copied-range k) ∷ [])
-      ≡ cond (ltb k (top m) && isOf m k e && holdsLower m S i e) 1 0
+      → listsWith e (listOf m S i (Private k) ∷ listOf m S i (Exposed k) ∷ listOf m S i (Shared k) ∷ listOf m S i (Copied k) ∷ [])
+      ≡ cond (ltb k (top m) && isOf m k e && holdsLower S i e) 1 0
   -- "Local cell numbers run from 1": they go one to one with the held cells
   pub local-count : length (locals S i) ≡ length (held S i)
   pub local-held : (l : ℕ) → 1 ≤ l → l ≤ length (held S i)

@@ -4,10 +4,11 @@ use packed::pack;
 ghost use mathlib.Core.Path.{_≡_};
 ghost use Rattle.packed.specs.Packed.{packed};
 ghost use Rattle.mesh.specs.Mesh.{checkAnswer};
-ghost use Rattle.round.specs.Rounds.{roundAnswer, roundOut};
-ghost use Rattle.split.specs.Lists.{interior-cells, halo-cells, local-order, imports-from, exports-to, private-range, exposed-range, shared-range, copied-range, listAnswer, listOut};
+ghost use Rattle.round.specs.Rounds.{roundInput, roundAnswer, roundOut};
+ghost use Rattle.split.specs.Lists.{splitInput, listAnswer, listOut};
+ghost use Rattle.split.specs.declared.Wanted.the-variants.{Interior, Halo, Locals, Imports, Exports, Private, Exposed, Shared, Copied};
 ghost use Rattle.parts.specs.Calls.{writeAnswer, writeState, writeOut, takeAnswer, takeState, advanceAnswer, advanceState, collectAnswer, collectOut};
-ghost use Rattle.starts.specs.Start.{sizeAnswer, startAnswer, startState};
+ghost use Rattle.starts.specs.Start.{inputs, sizeAnswer, startAnswer, startState};
 
 // How many cells the mesh has.
 #[no_mangle]
@@ -27,7 +28,9 @@ pub extern "C" fn jem_round(
     field: &[u8],
     out: &mut [u8],
 ) -> u64
-    ensures { λ r. ⌜ (r ≡ packed (roundAnswer (now (mesh .entry)) (now (stencil .entry)) kind (now (weights .entry)) (now (field .entry)) (now (out .entry)))) × (now (out .exit) ≡ roundOut (now (mesh .entry)) (now (stencil .entry)) kind (now (weights .entry)) (now (field .entry)) (now (out .entry))) ⌝ }
+    ensures { λ r.
+        let I = roundInput (now (mesh .entry)) (now (stencil .entry)) kind (now (weights .entry)) (now (field .entry)) in
+        ⌜ (r ≡ packed (roundAnswer I (now (out .entry)))) × (now (out .exit) ≡ roundOut I (now (out .entry))) ⌝ }
 {
     pack(round::undivided_round(mesh, stencil, kind, weights, field, out))
 }
@@ -42,7 +45,9 @@ pub extern "C" fn jem_interior(
     stencil: &[u8],
     out: &mut [u8],
 ) -> u64
-    ensures { λ r. ⌜ (r ≡ packed (listAnswer (now (mesh .entry)) parts (now (owners .entry)) part (now (stencil .entry)) interior-cells (now (out .entry)))) × (now (out .exit) ≡ listOut (now (mesh .entry)) parts (now (owners .entry)) part (now (stencil .entry)) interior-cells (now (out .entry))) ⌝ }
+    ensures { λ r.
+        let D = splitInput (now (mesh .entry)) parts (now (owners .entry)) (now (stencil .entry)) in
+        ⌜ (r ≡ packed (listAnswer D part Interior (now (out .entry)))) × (now (out .exit) ≡ listOut D part Interior (now (out .entry))) ⌝ }
 {
     pack(part_lists::interior(mesh, parts, owners, part, stencil, out))
 }
@@ -57,7 +62,9 @@ pub extern "C" fn jem_halo(
     stencil: &[u8],
     out: &mut [u8],
 ) -> u64
-    ensures { λ r. ⌜ (r ≡ packed (listAnswer (now (mesh .entry)) parts (now (owners .entry)) part (now (stencil .entry)) halo-cells (now (out .entry)))) × (now (out .exit) ≡ listOut (now (mesh .entry)) parts (now (owners .entry)) part (now (stencil .entry)) halo-cells (now (out .entry))) ⌝ }
+    ensures { λ r.
+        let D = splitInput (now (mesh .entry)) parts (now (owners .entry)) (now (stencil .entry)) in
+        ⌜ (r ≡ packed (listAnswer D part Halo (now (out .entry)))) × (now (out .exit) ≡ listOut D part Halo (now (out .entry))) ⌝ }
 {
     pack(part_lists::halo(mesh, parts, owners, part, stencil, out))
 }
@@ -72,7 +79,9 @@ pub extern "C" fn jem_locals(
     stencil: &[u8],
     out: &mut [u8],
 ) -> u64
-    ensures { λ r. ⌜ (r ≡ packed (listAnswer (now (mesh .entry)) parts (now (owners .entry)) part (now (stencil .entry)) local-order (now (out .entry)))) × (now (out .exit) ≡ listOut (now (mesh .entry)) parts (now (owners .entry)) part (now (stencil .entry)) local-order (now (out .entry))) ⌝ }
+    ensures { λ r.
+        let D = splitInput (now (mesh .entry)) parts (now (owners .entry)) (now (stencil .entry)) in
+        ⌜ (r ≡ packed (listAnswer D part Locals (now (out .entry)))) × (now (out .exit) ≡ listOut D part Locals (now (out .entry))) ⌝ }
 {
     pack(part_lists::local_order(mesh, parts, owners, part, stencil, out))
 }
@@ -88,7 +97,9 @@ pub extern "C" fn jem_imports(
     other: u32,
     out: &mut [u8],
 ) -> u64
-    ensures { λ r. ⌜ (r ≡ packed (listAnswer (now (mesh .entry)) parts (now (owners .entry)) part (now (stencil .entry)) (imports-from other) (now (out .entry)))) × (now (out .exit) ≡ listOut (now (mesh .entry)) parts (now (owners .entry)) part (now (stencil .entry)) (imports-from other) (now (out .entry))) ⌝ }
+    ensures { λ r.
+        let D = splitInput (now (mesh .entry)) parts (now (owners .entry)) (now (stencil .entry)) in
+        ⌜ (r ≡ packed (listAnswer D part (Imports other) (now (out .entry)))) × (now (out .exit) ≡ listOut D part (Imports other) (now (out .entry))) ⌝ }
 {
     pack(part_lists::imports(mesh, parts, owners, part, stencil, other, out))
 }
@@ -104,7 +115,9 @@ pub extern "C" fn jem_exports(
     other: u32,
     out: &mut [u8],
 ) -> u64
-    ensures { λ r. ⌜ (r ≡ packed (listAnswer (now (mesh .entry)) parts (now (owners .entry)) part (now (stencil .entry)) (exports-to other) (now (out .entry)))) × (now (out .exit) ≡ listOut (now (mesh .entry)) parts (now (owners .entry)) part (now (stencil .entry)) (exports-to other) (now (out .entry))) ⌝ }
+    ensures { λ r.
+        let D = splitInput (now (mesh .entry)) parts (now (owners .entry)) (now (stencil .entry)) in
+        ⌜ (r ≡ packed (listAnswer D part (Exports other) (now (out .entry)))) × (now (out .exit) ≡ listOut D part (Exports other) (now (out .entry))) ⌝ }
 {
     pack(part_lists::exports(mesh, parts, owners, part, stencil, other, out))
 }
@@ -120,7 +133,9 @@ pub extern "C" fn jem_private(
     dimension: u32,
     out: &mut [u8],
 ) -> u64
-    ensures { λ r. ⌜ (r ≡ packed (listAnswer (now (mesh .entry)) parts (now (owners .entry)) part (now (stencil .entry)) (private-range dimension) (now (out .entry)))) × (now (out .exit) ≡ listOut (now (mesh .entry)) parts (now (owners .entry)) part (now (stencil .entry)) (private-range dimension) (now (out .entry))) ⌝ }
+    ensures { λ r.
+        let D = splitInput (now (mesh .entry)) parts (now (owners .entry)) (now (stencil .entry)) in
+        ⌜ (r ≡ packed (listAnswer D part (Private dimension) (now (out .entry)))) × (now (out .exit) ≡ listOut D part (Private dimension) (now (out .entry))) ⌝ }
 {
     pack(part_lists::private_range(mesh, parts, owners, part, stencil, dimension, out))
 }
@@ -136,7 +151,9 @@ pub extern "C" fn jem_exposed(
     dimension: u32,
     out: &mut [u8],
 ) -> u64
-    ensures { λ r. ⌜ (r ≡ packed (listAnswer (now (mesh .entry)) parts (now (owners .entry)) part (now (stencil .entry)) (exposed-range dimension) (now (out .entry)))) × (now (out .exit) ≡ listOut (now (mesh .entry)) parts (now (owners .entry)) part (now (stencil .entry)) (exposed-range dimension) (now (out .entry))) ⌝ }
+    ensures { λ r.
+        let D = splitInput (now (mesh .entry)) parts (now (owners .entry)) (now (stencil .entry)) in
+        ⌜ (r ≡ packed (listAnswer D part (Exposed dimension) (now (out .entry)))) × (now (out .exit) ≡ listOut D part (Exposed dimension) (now (out .entry))) ⌝ }
 {
     pack(part_lists::exposed_range(mesh, parts, owners, part, stencil, dimension, out))
 }
@@ -152,7 +169,9 @@ pub extern "C" fn jem_shared(
     dimension: u32,
     out: &mut [u8],
 ) -> u64
-    ensures { λ r. ⌜ (r ≡ packed (listAnswer (now (mesh .entry)) parts (now (owners .entry)) part (now (stencil .entry)) (shared-range dimension) (now (out .entry)))) × (now (out .exit) ≡ listOut (now (mesh .entry)) parts (now (owners .entry)) part (now (stencil .entry)) (shared-range dimension) (now (out .entry))) ⌝ }
+    ensures { λ r.
+        let D = splitInput (now (mesh .entry)) parts (now (owners .entry)) (now (stencil .entry)) in
+        ⌜ (r ≡ packed (listAnswer D part (Shared dimension) (now (out .entry)))) × (now (out .exit) ≡ listOut D part (Shared dimension) (now (out .entry))) ⌝ }
 {
     pack(part_lists::shared_range(mesh, parts, owners, part, stencil, dimension, out))
 }
@@ -168,7 +187,9 @@ pub extern "C" fn jem_copied(
     dimension: u32,
     out: &mut [u8],
 ) -> u64
-    ensures { λ r. ⌜ (r ≡ packed (listAnswer (now (mesh .entry)) parts (now (owners .entry)) part (now (stencil .entry)) (copied-range dimension) (now (out .entry)))) × (now (out .exit) ≡ listOut (now (mesh .entry)) parts (now (owners .entry)) part (now (stencil .entry)) (copied-range dimension) (now (out .entry))) ⌝ }
+    ensures { λ r.
+        let D = splitInput (now (mesh .entry)) parts (now (owners .entry)) (now (stencil .entry)) in
+        ⌜ (r ≡ packed (listAnswer D part (Copied dimension) (now (out .entry)))) × (now (out .exit) ≡ listOut D part (Copied dimension) (now (out .entry))) ⌝ }
 {
     pack(part_lists::copied_range(mesh, parts, owners, part, stencil, dimension, out))
 }
@@ -182,7 +203,7 @@ pub extern "C" fn jem_state_size(
     part: u32,
     stencil: &[u8],
 ) -> u64
-    ensures { λ r. ⌜ r ≡ packed (sizeAnswer (now (mesh .entry)) parts (now (owners .entry)) part (now (stencil .entry))) ⌝ }
+    ensures { λ r. ⌜ r ≡ packed (sizeAnswer (splitInput (now (mesh .entry)) parts (now (owners .entry)) (now (stencil .entry))) part) ⌝ }
 {
     pack(starts::state_size(mesh, parts, owners, part, stencil))
 }
@@ -200,7 +221,9 @@ pub extern "C" fn jem_start(
     field: &[u8],
     state: &mut [u8],
 ) -> u64
-    ensures { λ r. ⌜ (r ≡ packed (startAnswer (now (mesh .entry)) parts (now (owners .entry)) part (now (stencil .entry)) kind (now (weights .entry)) (now (field .entry)) (now (state .entry)))) × (now (state .exit) ≡ startState (now (mesh .entry)) parts (now (owners .entry)) part (now (stencil .entry)) kind (now (weights .entry)) (now (field .entry)) (now (state .entry))) ⌝ }
+    ensures { λ r.
+        let I = inputs (now (mesh .entry)) parts (now (owners .entry)) (now (stencil .entry)) kind (now (weights .entry)) (now (field .entry)) in
+        ⌜ (r ≡ packed (startAnswer I part (now (state .entry)))) × (now (state .exit) ≡ startState I part (now (state .entry))) ⌝ }
 {
     pack(starts::start(
         mesh,
@@ -218,7 +241,11 @@ pub extern "C" fn jem_start(
 // Gives the message to part `to`.
 #[no_mangle]
 pub extern "C" fn jem_write(state: &mut [u8], to: u32, out: &mut [u8]) -> u64
-    ensures { λ r. ⌜ (r ≡ packed (writeAnswer (now (state .entry)) to (now (out .entry)))) × (now (state .exit) ≡ writeState (now (state .entry)) to (now (out .entry))) × (now (out .exit) ≡ writeOut (now (state .entry)) to (now (out .entry))) ⌝ }
+    ensures { λ r. ⌜
+        (r ≡ packed (writeAnswer (now (state .entry)) to (now (out .entry))))
+        × (now (state .exit) ≡ writeState (now (state .entry)) to (now (out .entry)))
+        × (now (out .exit) ≡ writeOut (now (state .entry)) to (now (out .entry)))
+        ⌝ }
 {
     pack(writing::write(state, to, out))
 }

@@ -15,7 +15,7 @@ use Rattle.vocabulary.specs.Tests.{firstOf}
 use Rattle.vocabulary.specs.TestLaws.{firstOf-append}
 use Rattle.mesh.specs.Mesh.{elements, recordCount, cellCount, meshLength}
 use Rattle.split.specs.Split.{splitOf}
-use Rattle.split.specs.Lists.{splitTests, sizeTests, splitNumber, sizesNumber}
+use Rattle.split.specs.Lists.{splitTests, sizeTests, splitNumber, sizesNumber, splitInput}
 use Rattle.split.proofs.PassedLaws.{tests-are}
 use Rattle.split.specs.SplitLaws.{split-numbered}
 use Rattle.text.specs.Listing.{ascii, line, splitText, meshPiece, mapPiece, partsPiece, ownersPiece, lastPiece, stencilPiece, listingNumber, listText}
@@ -95,8 +95,8 @@ module _ (m : Bytes) (parts : ℕ) (owners st : Bytes) where
   number-is : piecesNumber m parts owners st ≡ cond (eqb (splitNumber m parts owners (1 ∷ 1 ∷ []) st) 0) (sizesNumber m parts owners st) (splitNumber m parts owners (1 ∷ 1 ∷ []) st)
   unfolding piecesNumber splitNumber sizesNumber
   number-is =
-      firstOf-append (splitTests m parts owners [] st) (sizeTests m parts owners st) (split-numbered m parts owners [] st)
-      ∙ ap (λ ts. cond (eqb (firstOf ts) 0) (firstOf (sizeTests m parts owners st)) (firstOf ts)) (sym (tests-are m parts owners st))
+      firstOf-append (splitTests (splitInput m parts owners st) []) (sizeTests (splitInput m parts owners st)) (split-numbered m parts owners [] st)
+      ∙ ap (λ ts. cond (eqb (firstOf ts) 0) (firstOf (sizeTests (splitInput m parts owners st))) (firstOf ts)) (sym (tests-are m parts owners st))
 
   module _ (a z : Bytes) (t : ℕ) where
     refused : (n : ℕ) → (n ≡ 0 → ⊥) → piecesNumber m parts owners st ≡ n → Printed a z 0 t (line b-refused (n ∷ [])) → Printed a z 0 t (piecesText m parts owners st)

@@ -22,7 +22,7 @@ use Rattle.mesh.specs.WalkLaws.{below-grows}
 use Rattle.mesh.specs.Accepted.{Accepted}
 use Rattle.split.specs.Split.{Split, splitOf, held, holds, owns, inside as inside-of, imports, exports, interior, halo, range, touches, holdsLower, another, isPrivate, isExposed, isShared, isCopied}
 use Rattle.split.specs.SplitLaws.{split-parted, split-small, sizes-fine, sizes-small, map-facts, own-count, order-length, local-held, split-reach, split-own, split-owner}
-use Rattle.split.specs.Lists.{bad8, bad12, splitTests, sizeTests, splitNumber, sizesNumber}
+use Rattle.split.specs.Lists.{bad8, bad12, splitTests, sizeTests, splitNumber, sizesNumber, splitInput}
 use Rattle.split.proofs.PassedLaws.{tests-are, passed-facts}
 use Rattle.text.specs.Listing.{ascii, digits, decimal, spaced, line, lineUnlessEmpty, dimensionText, partText, splitText, meshPiece, partsPiece, ownersPiece, stencilPiece, listingNumber, listText}
 use Rattle.text.specs.Printing.{fitting, Printed}
@@ -195,9 +195,9 @@ module _ (m : Bytes) (parts : ℕ) (owners st : Bytes) (A : Accepted m) (right :
     range-small p =
         subst (All (λ v. v < 10000)) (sym (range-picked p)) (picked-all (below m k + 1) p (λ v. v < 10000) (counted m k) (λ x l e. omega (arith, inside)))
 
-    one-sort : (e : ℕ) → ones (isPrivate m S i e) + ones (isExposed m S i e) + ones (isShared m S i e) + ones (isCopied m S i e) ≤ 1
+    one-sort : (e : ℕ) → ones (isPrivate S i e) + ones (isExposed S i e) + ones (isShared S i e) + ones (isCopied S i e) ≤ 1
     unfolding isPrivate isExposed isShared isCopied
-    one-sort e = go (touches m S e i) (another m S i (touches m S e)) (another m S i (λ j. holdsLower m S j e)) (holdsLower m S i e)
+    one-sort e = go (touches S e i) (another S i (touches S e)) (another S i (λ j. holdsLower S j e)) (holdsLower S i e)
       where
         go : (t a o l : Bool) → ones (t && not a && not o) + ones (t && not a && o) + ones (t && a) + ones (l && not t) ≤ 1
         go true true true true = omega arith
@@ -211,10 +211,10 @@ module _ (m : Bytes) (parts : ℕ) (owners st : Bytes) (A : Accepted m) (right :
         go false a o true = omega arith
         go false a o false = omega arith
 
-    ranges-few : length (range m k (isPrivate m S i)) + length (range m k (isExposed m S i)) + length (range m k (isShared m S i)) + length (range m k (isCopied m S i)) ≤ counted m k
+    ranges-few : length (range m k (isPrivate S i)) + length (range m k (isExposed S i)) + length (range m k (isShared S i)) + length (range m k (isCopied S i)) ≤ counted m k
     ranges-few =
-        rw (range-picked (isPrivate m S i), range-picked (isExposed m S i), range-picked (isShared m S i), range-picked (isCopied m S i))
-        (four-few (below m k + 1) (isPrivate m S i) (isExposed m S i) (isShared m S i) (isCopied m S i) one-sort (counted m k))
+        rw (range-picked (isPrivate S i), range-picked (isExposed S i), range-picked (isShared S i), range-picked (isCopied S i))
+        (four-few (below m k + 1) (isPrivate S i) (isExposed S i) (isShared S i) (isCopied S i) one-sort (counted m k))
 
     range-length : (name : Bytes) → length name ≤ 8 → (p : ℕ → Bool) → length (line (ascii "dim" ++ (spaced k ++ name)) (range m k p)) ≤ 17 + 5 * length (range m k p)
     unfolding ascii
@@ -230,18 +230,18 @@ module _ (m : Bytes) (parts : ℕ) (owners st : Bytes) (A : Accepted m) (right :
     dimension-length : length (dimensionText m S i k) ≤ 68 + 5 * counted m k
     unfolding dimensionText ascii
     dimension-length =
-        let p = line (ascii "dim" ++ (spaced k ++ ascii " private")) (range m k (isPrivate m S i)) in
-        let e = line (ascii "dim" ++ (spaced k ++ ascii " exposed")) (range m k (isExposed m S i)) in
-        let s = line (ascii "dim" ++ (spaced k ++ ascii " shared")) (range m k (isShared m S i)) in
-        let c = line (ascii "dim" ++ (spaced k ++ ascii " copied")) (range m k (isCopied m S i)) in
+        let p = line (ascii "dim" ++ (spaced k ++ ascii " private")) (range m k (isPrivate S i)) in
+        let e = line (ascii "dim" ++ (spaced k ++ ascii " exposed")) (range m k (isExposed S i)) in
+        let s = line (ascii "dim" ++ (spaced k ++ ascii " shared")) (range m k (isShared S i)) in
+        let c = line (ascii "dim" ++ (spaced k ++ ascii " copied")) (range m k (isCopied S i)) in
         omega (
           arith,
           four p e s c,
           ranges-few,
-          range-length (ascii " private") (omega arith) (isPrivate m S i),
-          range-length (ascii " exposed") (omega arith) (isExposed m S i),
-          range-length (ascii " shared") (omega arith) (isShared m S i),
-          range-length (ascii " copied") (omega arith) (isCopied m S i),
+          range-length (ascii " private") (omega arith) (isPrivate S i),
+          range-length (ascii " exposed") (omega arith) (isExposed S i),
+          range-length (ascii " shared") (omega arith) (isShared S i),
+          range-length (ascii " copied") (omega arith) (isCopied S i),
         )
 
   dimensions-length : (i : ℕ) → length (blocks 0 (top m) (dimensionText m S i)) ≤ 10204
@@ -302,8 +302,8 @@ module _ (m : Bytes) (parts : ℕ) (owners st : Bytes) where
   number-small : piecesNumber m parts owners st < 10000
   unfolding piecesNumber
   number-small =
-      let ts : List Test = splitTests m parts owners [] st in
-      let us : List Test = sizeTests m parts owners st in
+      let ts : List Test = splitTests (splitInput m parts owners st) [] in
+      let us : List Test = sizeTests (splitInput m parts owners st) in
       omega (arith, first-small (ts ++ us) (small-append ts us (split-small m parts owners [] st) (sizes-small m parts owners st)))
 
   accepted-length : piecesNumber m parts owners st ≡ 0 → length (splitText m (splitOf m parts owners st)) ≤ 657500
@@ -314,7 +314,7 @@ module _ (m : Bytes) (parts : ℕ) (owners st : Bytes) where
     where
       both : piecesNumber m parts owners st ≡ 0 → (splitNumber m parts owners (1 ∷ 1 ∷ []) st ≡ 0) × (bad12 (splitOf m parts owners st) ≡ false)
       both z =
-          let q = split-parted m parts owners [] st (sizeTests m parts owners st) (unfold piecesNumber in z) in (
+          let q = split-parted m parts owners [] st (sizeTests (splitInput m parts owners st)) (unfold piecesNumber in z) in (
             (unfold splitNumber in ap firstOf (tests-are m parts owners st) ∙ q .0),
             sizes-fine m parts owners st (unfold sizesNumber in q .1) .0,
           )

@@ -8,7 +8,7 @@ use lib.ListN.{length, take, drop}
 use Rattle.vocabulary.specs.Bytes.{Bytes, byteAt}
 use Rattle.vocabulary.specs.Tests.{firstOf}
 use Rattle.split.specs.Split.{splitOf}
-use Rattle.split.specs.Lists.{splitTests, sizeTests}
+use Rattle.split.specs.Lists.{splitTests, sizeTests, splitInput}
 use Rattle.text.specs.Listing.{ascii, line, splitText}
 use Rattle.text.specs.Printing.{Printed}
 
@@ -25,7 +25,7 @@ pub record Listed (before after : Bytes) (t : ℕ) (text : Bytes) : Type 0 where
 -- ---- the input, piece by piece: as the code goes through it. No public contract rests on what follows.
 
 unfoldable pub piecesNumber : Bytes → ℕ → Bytes → Bytes → ℕ
-piecesNumber m parts owners st = firstOf (splitTests m parts owners [] st ++ sizeTests m parts owners st)
+piecesNumber m parts owners st = firstOf (splitTests (splitInput m parts owners st) [] ++ sizeTests (splitInput m parts owners st))
 
 unfoldable pub piecesText : Bytes → ℕ → Bytes → Bytes → Bytes
 piecesText m parts owners st =

@@ -13,6 +13,10 @@ use Rattle.mesh.specs.Mesh.{counted, below, firstCell, cellCount, chain}
 unfoldable pub incident : Bytes → ℕ → ℕ → Bool
 incident m e f = isIn e (chain m f) || isIn f (chain m e)
 
+-- the cells incident to an element, rising
+unfoldable pub cellsAt : Bytes → ℕ → List ℕ
+cellsAt m e = picked (firstCell m) (cellCount m) (incident m e)
+
 -- ---- stencils
 
 -- n, where the stencil is a0, .., an

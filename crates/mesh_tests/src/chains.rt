@@ -8,7 +8,7 @@ ghost use Prim.Native.Nat.{_≤_};
 ghost use lib.ListN.{length, drop};
 ghost use Rattle.vocabulary.specs.Lists.{Zeros};
 ghost use Rattle.vocabulary.specs.Tests.{firstOf};
-ghost use Rattle.mesh.specs.Mesh.{meshTests};
+ghost use Rattle.mesh.specs.Mesh.{chainTests};
 ghost use Rattle.mesh.specs.Meet.{Sizes};
 
 // The number of the first of them that refuses the mesh, and 0 where none does. Test 4 writes the chains down for the others, in lent space.
@@ -21,7 +21,7 @@ pub fn chain_number(
     ends: &mut [u16],
 ) -> u32
     requires { ⌜ Sizes (now m) d n r × (12000 ≤ length (now items)) × Zeros 2001 (now ends) ⌝ }
-    ensures { λ k. ⌜ k ≡ firstOf (drop 3 (meshTests (now (m .entry)))) ⌝ }
+    ensures { λ k. ⌜ k ≡ firstOf (chainTests (now (m .entry))) ⌝ }
 {
     if bad4(m, d, n, r, items, ends) {
         return 4;

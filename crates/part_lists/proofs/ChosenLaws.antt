@@ -9,9 +9,9 @@ use Rattle.mesh.specs.Mesh.{firstCell, cellCount}
 use Rattle.split.specs.Split.{Split, splitOf, imports, exports, interior, halo, holdsLower, touches, another, isCopied, isShared, isExposed, isPrivate}
 use Rattle.split.specs.Lists.{listOf}
 use Rattle.split.specs.Classes.{Classed, Prepared}
-use Rattle.part_lists.specs.Giving.{meant, rowOf, cellWords, chosen}
-use Rattle.part_lists.specs.declared.lists.Wanted.{Wanted}
-use Rattle.part_lists.specs.declared.lists.Wanted.the-variants.{Interior, Halo, Locals, Imports, Exports, Private, Exposed, Shared, Copied}
+use Rattle.part_lists.specs.Giving.{otherOf, rowOf, cellWords, chosen}
+use Rattle.split.specs.declared.Wanted.{Wanted}
+use Rattle.split.specs.declared.Wanted.the-variants.{Interior, Halo, Locals, Imports, Exports, Private, Exposed, Shared, Copied}
 use Rattle.cell_lists.proofs.ClassLists.{interior-is, halo-is, imports-are, order-is, picked-few, locals-few}
 use Rattle.ranges.proofs.LowerLaws.{Sorts, sort-tells, range-is, range-few}
 
@@ -21,38 +21,37 @@ module _ (m : Bytes) (parts : ℕ) (owners st table : Bytes) (ends : List ℕ) (
 
   -- ---- all lists
 
-  sorts : (i e : ℕ) → Sorts (touches m S e i) (another m S i (touches m S e)) (another m S i (λ j. holdsLower m S j e)) (holdsLower m S i e)
-  sorts i e = sort-tells (touches m S e i) (another m S i (touches m S e)) (another m S i (λ j. holdsLower m S j e)) (holdsLower m S i e)
+  sorts : (i e : ℕ) → Sorts (touches S e i) (another S i (touches S e)) (another S i (λ j. holdsLower S j e)) (holdsLower S i e)
+  sorts i e = sort-tells (touches S e i) (another S i (touches S e)) (another S i (λ j. holdsLower S j e)) (holdsLower S i e)
 
   counted : (cells : ℕ) → cells ≡ cellCount m → (i : ℕ) (class : Bytes) → Classed owners table ends i cells class → Classed owners table ends i (cellCount m) class
   counted cells ce i class C = subst (λ n. Classed owners table ends i n class) ce C
 
-  pub chosen-is : (w : Wanted) (i j k : ℕ) → 1 ≤ i → i ≤ parts → 1 ≤ j → j ≤ parts → parts ≤ 16 → (cells : ℕ) → cells ≡ cellCount m → (class : Bytes) → Classed owners table ends
-      (rowOf w i j) cells class
-      → chosen w m parts class holders i j k ≡ listOf m S i (meant w j k)
+  pub chosen-is : (w : Wanted) (i : ℕ) → 1 ≤ i → i ≤ parts → 1 ≤ otherOf w i → otherOf w i ≤ parts → parts ≤ 16 → (cells : ℕ) → cells ≡ cellCount m → (class : Bytes)
+      → Classed owners table ends (rowOf w i) cells class → chosen w m parts class holders i ≡ listOf m S i w
   unfolding chosen cellWords listOf exports isPrivate isExposed isShared isCopied
-  chosen-is Interior i j k il ih jl jh few cells ce class C = interior-is m parts owners st table ends holders R i (firstCell m) (cellCount m) refl refl class (counted cells ce i class C)
-  chosen-is Halo i j k il ih jl jh few cells ce class C = halo-is m parts owners st table ends holders R i (firstCell m) (cellCount m) refl refl class (counted cells ce i class C)
-  chosen-is Locals i j k il ih jl jh few cells ce class C = order-is m parts owners st table ends holders R i (firstCell m) (cellCount m) refl refl class (counted cells ce i class C)
-  chosen-is Imports i j k il ih jl jh few cells ce class C = imports-are m parts owners st table ends holders R i (firstCell m) (cellCount m) refl refl class
-      (counted cells ce i class C) j jl (omega arith)
-  chosen-is Exports i j k il ih jl jh few cells ce class C = imports-are m parts owners st table ends holders R j (firstCell m) (cellCount m) refl refl class
-      (counted cells ce j class C) i il (omega arith)
-  chosen-is Private i j k il ih jl jh few cells ce class C = range-is m parts owners st table ends holders R i il ih cells ce class C k 1 _ (λ e. sorts i e .0)
-  chosen-is Exposed i j k il ih jl jh few cells ce class C = range-is m parts owners st table ends holders R i il ih cells ce class C k 2 _ (λ e. sorts i e .1)
-  chosen-is Shared i j k il ih jl jh few cells ce class C = range-is m parts owners st table ends holders R i il ih cells ce class C k 3 _ (λ e. sorts i e .2)
-  chosen-is Copied i j k il ih jl jh few cells ce class C = range-is m parts owners st table ends holders R i il ih cells ce class C k 4 _ (λ e. sorts i e .3)
+  chosen-is Interior i il ih jl jh few cells ce class C = interior-is m parts owners st table ends holders R i (firstCell m) (cellCount m) refl refl class (counted cells ce i class C)
+  chosen-is Halo i il ih jl jh few cells ce class C = halo-is m parts owners st table ends holders R i (firstCell m) (cellCount m) refl refl class (counted cells ce i class C)
+  chosen-is Locals i il ih jl jh few cells ce class C = order-is m parts owners st table ends holders R i (firstCell m) (cellCount m) refl refl class (counted cells ce i class C)
+  chosen-is (Imports j) i il ih jl jh few cells ce class C =
+      imports-are m parts owners st table ends holders R i (firstCell m) (cellCount m) refl refl class (counted cells ce i class C) j jl (omega arith)
+  chosen-is (Exports j) i il ih jl jh few cells ce class C =
+      imports-are m parts owners st table ends holders R j (firstCell m) (cellCount m) refl refl class (counted cells ce j class C) i il (omega arith)
+  chosen-is (Private k) i il ih jl jh few cells ce class C = range-is m parts owners st table ends holders R i il ih cells ce class C k 1 _ (λ e. sorts i e .0)
+  chosen-is (Exposed k) i il ih jl jh few cells ce class C = range-is m parts owners st table ends holders R i il ih cells ce class C k 2 _ (λ e. sorts i e .1)
+  chosen-is (Shared k) i il ih jl jh few cells ce class C = range-is m parts owners st table ends holders R i il ih cells ce class C k 3 _ (λ e. sorts i e .2)
+  chosen-is (Copied k) i il ih jl jh few cells ce class C = range-is m parts owners st table ends holders R i il ih cells ce class C k 4 _ (λ e. sorts i e .3)
 
   -- ---- how long they are
 
-  pub list-few : (w : Wanted) (i j k : ℕ) → length (listOf m S i (meant w j k)) ≤ 2000
+  pub list-few : (w : Wanted) (i : ℕ) → length (listOf m S i w) ≤ 2000
   unfolding listOf interior halo imports exports
-  list-few Interior i j k = picked-few m parts owners st table ends holders R _
-  list-few Halo i j k = picked-few m parts owners st table ends holders R _
-  list-few Locals i j k = locals-few m parts owners st table ends holders R i
-  list-few Imports i j k = picked-few m parts owners st table ends holders R _
-  list-few Exports i j k = picked-few m parts owners st table ends holders R _
-  list-few Private i j k = range-few m parts owners st table ends holders R k _
-  list-few Exposed i j k = range-few m parts owners st table ends holders R k _
-  list-few Shared i j k = range-few m parts owners st table ends holders R k _
-  list-few Copied i j k = range-few m parts owners st table ends holders R k _
+  list-few Interior i = picked-few m parts owners st table ends holders R _
+  list-few Halo i = picked-few m parts owners st table ends holders R _
+  list-few Locals i = locals-few m parts owners st table ends holders R i
+  list-few (Imports j) i = picked-few m parts owners st table ends holders R _
+  list-few (Exports j) i = picked-few m parts owners st table ends holders R _
+  list-few (Private k) i = range-few m parts owners st table ends holders R k _
+  list-few (Exposed k) i = range-few m parts owners st table ends holders R k _
+  list-few (Shared k) i = range-few m parts owners st table ends holders R k _
+  list-few (Copied k) i = range-few m parts owners st table ends holders R k _

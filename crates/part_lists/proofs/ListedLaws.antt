@@ -1,8 +1,8 @@
 -- Which list each kind wanted is. Assumes nothing.
-use mathlib.Core.Path.{_≡_, refl, sym, ap, _∙_, subst}
+use mathlib.Core.Path.{_≡_, sym, ap, ap₂, _∙_, subst}
 use mathlib.Core.Bool.{cond}
 use mathlib.Core.List.{List, []}
-use Prim.Native.Nat.{ℕ}
+use Prim.Native.Nat.{ℕ, _≤_}
 use lib.Dec.{eqb}
 use borrow.Author.Tests.{eq-eqb, ne-eqb}
 use Rattle.vocabulary.specs.Bytes.{Bytes}
@@ -11,35 +11,41 @@ use Rattle.split.specs.Classes.{classCells, classOrder, Added}
 use Rattle.cell_lists.proofs.AddLaws.{add-none}
 use Rattle.ranges.specs.Lowers.{rangeOf, rowRange, Lowered}
 use Rattle.ranges.proofs.LowerLaws.{range-told}
-use Rattle.part_lists.specs.Giving.{sortOf, cellWords, chosen}
-use Rattle.part_lists.specs.declared.lists.Wanted.{Wanted}
+use Rattle.part_lists.specs.Giving.{otherOf, sortOf, dimensionOf, cellWords, chosen}
+use Rattle.split.specs.declared.Wanted.{Wanted}
+use Rattle.split.specs.declared.Wanted.the-variants.{Imports}
 
 -- what was added for the list u is that of w, where w is u
-module _ (w u : Wanted) (m : Bytes) (parts : ℕ) (class : Bytes) (i j : ℕ) (a : List ℕ) (e : w ≡ u) where
-  pub chose-none : cellWords u m parts class i j ≡ [] → Added a a 0 0 (cellWords w m parts class i j)
+module _ (w u : Wanted) (m : Bytes) (parts : ℕ) (class : Bytes) (i : ℕ) (a : List ℕ) (e : w ≡ u) where
+  pub chose-none : cellWords u m parts class i ≡ [] → Added a a 0 0 (cellWords w m parts class i)
   chose-none q = rw (e, q) (add-none a 0)
 
   -- the code has read the first cell and the count of cells
   module _ (b : List ℕ) (n first cells : ℕ) (fe : first ≡ firstCell m) (ce : cells ≡ cellCount m) where
     pub chose-cells : (s : ℕ) → Added a b 0 n (classCells class first cells s)
-        → cellWords u m parts class i j ≡ classCells class (firstCell m) (cellCount m) s → Added a b 0 n (cellWords w m parts class i j)
+        → cellWords u m parts class i ≡ classCells class (firstCell m) (cellCount m) s → Added a b 0 n (cellWords w m parts class i)
     chose-cells s X q = rw (e, q, sym fe, sym ce) X
 
     pub chose-order : Added a b 0 n (classOrder class first cells parts)
-        → cellWords u m parts class i j ≡ classOrder class (firstCell m) (cellCount m) parts → Added a b 0 n (cellWords w m parts class i j)
+        → cellWords u m parts class i ≡ classOrder class (firstCell m) (cellCount m) parts → Added a b 0 n (cellWords w m parts class i)
     chose-order X q = rw (e, q, sym fe, sym ce) X
 
 -- what was added is the list that is chosen, of cells or a range
-module _ (w : Wanted) (m : Bytes) (parts : ℕ) (class holders : Bytes) (i j k : ℕ) (a b : List ℕ) (n s : ℕ) (e : s ≡ sortOf w) where
-  pub added-cells : s ≡ 0 → Added a b 0 n (cellWords w m parts class i j) → Added a b 0 n (chosen w m parts class holders i j k)
+module _ (w : Wanted) (m : Bytes) (parts : ℕ) (class holders : Bytes) (i : ℕ) (a b : List ℕ) (n s : ℕ) (e : s ≡ sortOf w) where
+  pub added-cells : s ≡ 0 → Added a b 0 n (cellWords w m parts class i) → Added a b 0 n (chosen w m parts class holders i)
   unfolding chosen
   added-cells z =
-      subst (Added a b 0 n) (sym (ap (λ x. cond x (cellWords w m parts class i j) (rangeOf m class holders k (sortOf w))) (eq-eqb (sortOf w) 0 (sym e ∙ z))))
+      subst (Added a b 0 n) (sym (ap (λ x. cond x (cellWords w m parts class i) (rangeOf m class holders (dimensionOf w) (sortOf w))) (eq-eqb (sortOf w) 0 (sym e ∙ z))))
 
-  pub added-range : (s ≡ 0 → ⊥) → (lower : Bytes) → Lowered m class holders k lower → Added a b 0 n (rowRange m k lower s) → Added a b 0 n (chosen w m parts class holders i j k)
+  pub added-range : (s ≡ 0 → ⊥) → (k : ℕ) → k ≡ dimensionOf w → (lower : Bytes) → Lowered m class holders k lower → Added a b 0 n (rowRange m k lower s)
+      → Added a b 0 n (chosen w m parts class holders i)
   unfolding chosen
-  added-range z lower L X =
+  added-range z k ke lower L X =
       subst (Added a b 0 n)
-      (ap (rangeOf m class holders k) e
-      ∙ sym (ap (λ x. cond x (cellWords w m parts class i j) (rangeOf m class holders k (sortOf w))) (ne-eqb (sortOf w) 0 (λ q. z (e ∙ q)))))
+      (ap₂ (rangeOf m class holders) ke e
+      ∙ sym (ap (λ x. cond x (cellWords w m parts class i) (rangeOf m class holders (dimensionOf w) (sortOf w))) (ne-eqb (sortOf w) 0 (λ q. z (e ∙ q)))))
       (range-told m class holders k s lower a b n L X)
+
+-- the part that imports are from
+pub other-few : (w : Wanted) (i j : ℕ) → otherOf w i ≤ 16 → w ≡ Imports j → j ≤ 16
+other-few w i j few e = subst (λ x. otherOf x i ≤ 16) e few

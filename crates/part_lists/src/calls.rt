@@ -1,29 +1,36 @@
 // The public calls. Each writes a list of part `i` as words, and answers their count or its refusal.
-use crate::lists::Wanted;
 use crate::lists::list;
 use layout::Answer;
+use split::Wanted;
 ghost use mathlib.Core.Path.{_≡_};
-ghost use Rattle.split.specs.Lists.{listAnswer, listOut, interior-cells, halo-cells, local-order, imports-from, exports-to, private-range, exposed-range, shared-range, copied-range};
+ghost use Rattle.split.specs.Lists.{splitInput, listAnswer, listOut};
+ghost use Rattle.split.specs.declared.Wanted.the-variants.{Interior, Halo, Locals, Imports, Exports, Private, Exposed, Shared, Copied};
 
 // The interior of a part: its cells with only its own cells in their reach.
 pub fn interior(m: &[u8], parts: u32, owners: &[u8], i: u32, st: &[u8], out: &mut [u8]) -> Answer
-    ensures { λ r. ⌜ (r ≡ listAnswer (now (m .entry)) parts (now (owners .entry)) i (now (st .entry)) interior-cells (now (out .entry))) × (now (out .exit) ≡ listOut (now (m .entry)) parts (now (owners .entry)) i (now (st .entry)) interior-cells (now (out .entry))) ⌝ }
+    ensures { λ r.
+        let D = splitInput (now (m .entry)) parts (now (owners .entry)) (now (st .entry)) in
+        ⌜ (r ≡ listAnswer D i Interior (now (out .entry))) × (now (out .exit) ≡ listOut D i Interior (now (out .entry))) ⌝ }
 {
-    list(Wanted::Interior, m, parts, owners, i, i, 0, st, out)
+    list(Wanted::Interior, m, parts, owners, i, st, out)
 }
 
 // The halo of a part: its other cells.
 pub fn halo(m: &[u8], parts: u32, owners: &[u8], i: u32, st: &[u8], out: &mut [u8]) -> Answer
-    ensures { λ r. ⌜ (r ≡ listAnswer (now (m .entry)) parts (now (owners .entry)) i (now (st .entry)) halo-cells (now (out .entry))) × (now (out .exit) ≡ listOut (now (m .entry)) parts (now (owners .entry)) i (now (st .entry)) halo-cells (now (out .entry))) ⌝ }
+    ensures { λ r.
+        let D = splitInput (now (m .entry)) parts (now (owners .entry)) (now (st .entry)) in
+        ⌜ (r ≡ listAnswer D i Halo (now (out .entry))) × (now (out .exit) ≡ listOut D i Halo (now (out .entry))) ⌝ }
 {
-    list(Wanted::Halo, m, parts, owners, i, i, 0, st, out)
+    list(Wanted::Halo, m, parts, owners, i, st, out)
 }
 
 // The cells of a part in local order: local numbers count from 1 in this list.
 pub fn local_order(m: &[u8], parts: u32, owners: &[u8], i: u32, st: &[u8], out: &mut [u8]) -> Answer
-    ensures { λ r. ⌜ (r ≡ listAnswer (now (m .entry)) parts (now (owners .entry)) i (now (st .entry)) local-order (now (out .entry))) × (now (out .exit) ≡ listOut (now (m .entry)) parts (now (owners .entry)) i (now (st .entry)) local-order (now (out .entry))) ⌝ }
+    ensures { λ r.
+        let D = splitInput (now (m .entry)) parts (now (owners .entry)) (now (st .entry)) in
+        ⌜ (r ≡ listAnswer D i Locals (now (out .entry))) × (now (out .exit) ≡ listOut D i Locals (now (out .entry))) ⌝ }
 {
-    list(Wanted::Locals, m, parts, owners, i, i, 0, st, out)
+    list(Wanted::Locals, m, parts, owners, i, st, out)
 }
 
 // What a part imports from another.
@@ -36,9 +43,11 @@ pub fn imports(
     from: u32,
     out: &mut [u8],
 ) -> Answer
-    ensures { λ r. ⌜ (r ≡ listAnswer (now (m .entry)) parts (now (owners .entry)) i (now (st .entry)) (imports-from from) (now (out .entry))) × (now (out .exit) ≡ listOut (now (m .entry)) parts (now (owners .entry)) i (now (st .entry)) (imports-from from) (now (out .entry))) ⌝ }
+    ensures { λ r.
+        let D = splitInput (now (m .entry)) parts (now (owners .entry)) (now (st .entry)) in
+        ⌜ (r ≡ listAnswer D i (Imports from) (now (out .entry))) × (now (out .exit) ≡ listOut D i (Imports from) (now (out .entry))) ⌝ }
 {
-    list(Wanted::Imports, m, parts, owners, i, from, 0, st, out)
+    list(Wanted::Imports(from), m, parts, owners, i, st, out)
 }
 
 // What a part exports to another: what that one imports from it.
@@ -51,9 +60,11 @@ pub fn exports(
     to: u32,
     out: &mut [u8],
 ) -> Answer
-    ensures { λ r. ⌜ (r ≡ listAnswer (now (m .entry)) parts (now (owners .entry)) i (now (st .entry)) (exports-to to) (now (out .entry))) × (now (out .exit) ≡ listOut (now (m .entry)) parts (now (owners .entry)) i (now (st .entry)) (exports-to to) (now (out .entry))) ⌝ }
+    ensures { λ r.
+        let D = splitInput (now (m .entry)) parts (now (owners .entry)) (now (st .entry)) in
+        ⌜ (r ≡ listAnswer D i (Exports to) (now (out .entry))) × (now (out .exit) ≡ listOut D i (Exports to) (now (out .entry))) ⌝ }
 {
-    list(Wanted::Exports, m, parts, owners, i, to, 0, st, out)
+    list(Wanted::Exports(to), m, parts, owners, i, st, out)
 }
 
 // The lower elements of a dimension that no other part holds,
@@ -66,9 +77,11 @@ pub fn private_range(
     dimension: u32,
     out: &mut [u8],
 ) -> Answer
-    ensures { λ r. ⌜ (r ≡ listAnswer (now (m .entry)) parts (now (owners .entry)) i (now (st .entry)) (private-range dimension) (now (out .entry))) × (now (out .exit) ≡ listOut (now (m .entry)) parts (now (owners .entry)) i (now (st .entry)) (private-range dimension) (now (out .entry))) ⌝ }
+    ensures { λ r.
+        let D = splitInput (now (m .entry)) parts (now (owners .entry)) (now (st .entry)) in
+        ⌜ (r ≡ listAnswer D i (Private dimension) (now (out .entry))) × (now (out .exit) ≡ listOut D i (Private dimension) (now (out .entry))) ⌝ }
 {
-    list(Wanted::Private, m, parts, owners, i, i, dimension, st, out)
+    list(Wanted::Private(dimension), m, parts, owners, i, st, out)
 }
 
 // those that touch no other part, though another holds them,
@@ -81,9 +94,11 @@ pub fn exposed_range(
     dimension: u32,
     out: &mut [u8],
 ) -> Answer
-    ensures { λ r. ⌜ (r ≡ listAnswer (now (m .entry)) parts (now (owners .entry)) i (now (st .entry)) (exposed-range dimension) (now (out .entry))) × (now (out .exit) ≡ listOut (now (m .entry)) parts (now (owners .entry)) i (now (st .entry)) (exposed-range dimension) (now (out .entry))) ⌝ }
+    ensures { λ r.
+        let D = splitInput (now (m .entry)) parts (now (owners .entry)) (now (st .entry)) in
+        ⌜ (r ≡ listAnswer D i (Exposed dimension) (now (out .entry))) × (now (out .exit) ≡ listOut D i (Exposed dimension) (now (out .entry))) ⌝ }
 {
-    list(Wanted::Exposed, m, parts, owners, i, i, dimension, st, out)
+    list(Wanted::Exposed(dimension), m, parts, owners, i, st, out)
 }
 
 // those that touch another part, too,
@@ -96,9 +111,11 @@ pub fn shared_range(
     dimension: u32,
     out: &mut [u8],
 ) -> Answer
-    ensures { λ r. ⌜ (r ≡ listAnswer (now (m .entry)) parts (now (owners .entry)) i (now (st .entry)) (shared-range dimension) (now (out .entry))) × (now (out .exit) ≡ listOut (now (m .entry)) parts (now (owners .entry)) i (now (st .entry)) (shared-range dimension) (now (out .entry))) ⌝ }
+    ensures { λ r.
+        let D = splitInput (now (m .entry)) parts (now (owners .entry)) (now (st .entry)) in
+        ⌜ (r ≡ listAnswer D i (Shared dimension) (now (out .entry))) × (now (out .exit) ≡ listOut D i (Shared dimension) (now (out .entry))) ⌝ }
 {
-    list(Wanted::Shared, m, parts, owners, i, i, dimension, st, out)
+    list(Wanted::Shared(dimension), m, parts, owners, i, st, out)
 }
 
 // and those that it holds and that do not touch it.
@@ -111,7 +128,9 @@ pub fn copied_range(
     dimension: u32,
     out: &mut [u8],
 ) -> Answer
-    ensures { λ r. ⌜ (r ≡ listAnswer (now (m .entry)) parts (now (owners .entry)) i (now (st .entry)) (copied-range dimension) (now (out .entry))) × (now (out .exit) ≡ listOut (now (m .entry)) parts (now (owners .entry)) i (now (st .entry)) (copied-range dimension) (now (out .entry))) ⌝ }
+    ensures { λ r.
+        let D = splitInput (now (m .entry)) parts (now (owners .entry)) (now (st .entry)) in
+        ⌜ (r ≡ listAnswer D i (Copied dimension) (now (out .entry))) × (now (out .exit) ≡ listOut D i (Copied dimension) (now (out .entry))) ⌝ }
 {
-    list(Wanted::Copied, m, parts, owners, i, i, dimension, st, out)
+    list(Wanted::Copied(dimension), m, parts, owners, i, st, out)
 }

@@ -10,6 +10,7 @@ use ranges::inner::PRIVATE;
 use ranges::inner::SHARED;
 use ranges::inner::add_range;
 use ranges::inner::classify_lowers;
+use split::Wanted;
 use split::inner::HALO;
 use split::inner::INTERIOR;
 use split::inner::MOST_CELLS;
@@ -20,37 +21,41 @@ use word_lists::inner::give;
 ghost use mathlib.Core.Path.{_≡_};
 ghost use Prim.Native.Nat.{_≤_};
 ghost use Rattle.mesh.specs.Accepted.{Accepted};
-ghost use Rattle.split.specs.Lists.{listAnswer, listOut};
+ghost use Rattle.split.specs.Lists.{splitInput, listAnswer, listOut};
 ghost use Rattle.split.specs.Classes.{Added};
-ghost use Rattle.part_lists.specs.Giving.{meant, Names, rowOf, sortOf, cellWords};
+ghost use Rattle.part_lists.specs.Giving.{otherOf, rowOf, sortOf, dimensionOf, cellWords};
 
-// The lists that can be asked for. An import or export list names the other part, and a range its dimension; both stand beside it.
-pub enum Wanted {
-    Interior,
-    Halo,
-    Locals,
-    Imports,
-    Exports,
-    Private,
-    Exposed,
-    Shared,
-    Copied,
-}
-
-// The part whose row of classes tells the list: exports to j are what j imports.
-fn row_of(wanted: Wanted, i: usize, j: usize) -> usize
-    ensures { λ r. ⌜ r ≡ rowOf wanted i j ⌝ }
+// The other part that the list names, and the part i itself where it names none.
+fn other_of(wanted: Wanted, i: u32) -> u32
+    ensures { λ r. ⌜ r ≡ otherOf wanted i ⌝ }
 {
     match wanted {
         Wanted::Interior => i,
         Wanted::Halo => i,
         Wanted::Locals => i,
-        Wanted::Imports => i,
-        Wanted::Exports => j,
-        Wanted::Private => i,
-        Wanted::Exposed => i,
-        Wanted::Shared => i,
-        Wanted::Copied => i,
+        Wanted::Imports(j) => j,
+        Wanted::Exports(j) => j,
+        Wanted::Private(_) => i,
+        Wanted::Exposed(_) => i,
+        Wanted::Shared(_) => i,
+        Wanted::Copied(_) => i,
+    }
+}
+
+// The part whose row of classes tells the list: exports to j are what j imports.
+fn row_of(wanted: Wanted, i: u32) -> u32
+    ensures { λ r. ⌜ r ≡ rowOf wanted i ⌝ }
+{
+    match wanted {
+        Wanted::Interior => i,
+        Wanted::Halo => i,
+        Wanted::Locals => i,
+        Wanted::Imports(_) => i,
+        Wanted::Exports(j) => j,
+        Wanted::Private(_) => i,
+        Wanted::Exposed(_) => i,
+        Wanted::Shared(_) => i,
+        Wanted::Copied(_) => i,
     }
 }
 
@@ -62,12 +67,29 @@ fn sort_of(wanted: Wanted) -> u8
         Wanted::Interior => 0,
         Wanted::Halo => 0,
         Wanted::Locals => 0,
-        Wanted::Imports => 0,
-        Wanted::Exports => 0,
-        Wanted::Private => PRIVATE,
-        Wanted::Exposed => EXPOSED,
-        Wanted::Shared => SHARED,
-        Wanted::Copied => COPIED,
+        Wanted::Imports(_) => 0,
+        Wanted::Exports(_) => 0,
+        Wanted::Private(_) => PRIVATE,
+        Wanted::Exposed(_) => EXPOSED,
+        Wanted::Shared(_) => SHARED,
+        Wanted::Copied(_) => COPIED,
+    }
+}
+
+// The dimension of a range, and 0 for a list of cells.
+fn dimension_of(wanted: Wanted) -> u32
+    ensures { λ r. ⌜ r ≡ dimensionOf wanted ⌝ }
+{
+    match wanted {
+        Wanted::Interior => 0,
+        Wanted::Halo => 0,
+        Wanted::Locals => 0,
+        Wanted::Imports(_) => 0,
+        Wanted::Exports(_) => 0,
+        Wanted::Private(k) => k,
+        Wanted::Exposed(k) => k,
+        Wanted::Shared(k) => k,
+        Wanted::Copied(k) => k,
     }
 }
 
@@ -78,11 +100,10 @@ fn cell_words(
     parts: usize,
     class: &[u8],
     i: usize,
-    j: usize,
     list: &mut [u16],
 ) -> usize
-    requires { ⌜ Accepted (now m) × (parts ≤ 16) × (i ≤ 16) × (j ≤ 16) ⌝ }
-    ensures { λ n. ⌜ Added (now (list .entry)) (now (list .exit)) 0 n (cellWords wanted (now (m .entry)) parts (now (class .entry)) i j) ⌝ }
+    requires { ⌜ Accepted (now m) × (parts ≤ 16) × (i ≤ 16) × (otherOf wanted i ≤ 16) ⌝ }
+    ensures { λ n. ⌜ Added (now (list .entry)) (now (list .exit)) 0 n (cellWords wanted (now (m .entry)) parts (now (class .entry)) i) ⌝ }
 {
     let first = first_cell(m);
     let cells = cell_count(m);
@@ -90,34 +111,42 @@ fn cell_words(
         Wanted::Interior => add_class(class, first, cells, INTERIOR, list, 0),
         Wanted::Halo => add_class(class, first, cells, HALO, list, 0),
         Wanted::Locals => add_order(class, first, cells, parts, list),
-        Wanted::Imports => add_class(class, first, cells, j as u8, list, 0),
-        Wanted::Exports => add_class(class, first, cells, i as u8, list, 0),
-        Wanted::Private => 0,
-        Wanted::Exposed => 0,
-        Wanted::Shared => 0,
-        Wanted::Copied => 0,
+        Wanted::Imports(j) => add_class(class, first, cells, j as u8, list, 0),
+        Wanted::Exports(_) => add_class(class, first, cells, i as u8, list, 0),
+        Wanted::Private(_) => 0,
+        Wanted::Exposed(_) => 0,
+        Wanted::Shared(_) => 0,
+        Wanted::Copied(_) => 0,
     }
 }
 
-// The call: it names the parts i and j and the dimension k, as far as the list wanted asks for them. The mesh is tested in arrays that hold the links
-// and the ends of the reaches afterwards. Once the row of classes is made those ends are not needed, and the list is made in their array.
+// The call. A list that names no other part is tried as if it named its own part twice. The mesh is tested in arrays that hold the links and the
+// ends of the reaches afterwards. Once the row of classes is made those ends are not needed, and the list is made in their array.
 pub fn list(
     wanted: Wanted,
     m: &[u8],
     parts: u32,
     owners: &[u8],
     i: u32,
-    j: u32,
-    k: u32,
     st: &[u8],
     out: &mut [u8],
 ) -> Answer
-    requires { ⌜ Names wanted i j ⌝ }
-    ensures { λ r. ⌜ (r ≡ listAnswer (now (m .entry)) parts (now (owners .entry)) i (now (st .entry)) (meant wanted j k) (now (out .entry))) × (now (out .exit) ≡ listOut (now (m .entry)) parts (now (owners .entry)) i (now (st .entry)) (meant wanted j k) (now (out .entry))) ⌝ }
+    ensures { λ r.
+        let D = splitInput (now (m .entry)) parts (now (owners .entry)) (now (st .entry)) in
+        ⌜ (r ≡ listAnswer D i wanted (now (out .entry))) × (now (out .exit) ≡ listOut D i wanted (now (out .entry))) ⌝ }
 {
     let mut cell = [0u16; 12001];
     let mut ends = [0u16; 2001];
-    let number = split_number(m, parts, owners, i, j, st, &mut cell, &mut ends);
+    let number = split_number(
+        m,
+        parts,
+        owners,
+        i,
+        other_of(wanted, i),
+        st,
+        &mut cell,
+        &mut ends,
+    );
     if number != 0 {
         return Answer::Refused(number);
     }
@@ -147,33 +176,17 @@ pub fn list(
         &table,
         &ends,
         cell_count(m),
-        row_of(wanted, i as usize, j as usize),
+        row_of(wanted, i) as usize,
         &mut class,
     );
     let sort = sort_of(wanted);
     if sort == 0 {
-        let n = cell_words(
-            wanted,
-            m,
-            parts as usize,
-            &class,
-            i as usize,
-            j as usize,
-            &mut ends,
-        );
+        let n = cell_words(wanted, m, parts as usize, &class, i as usize, &mut ends);
         return give(&ends, n, out);
     }
+    let k = dimension_of(wanted) as usize;
     let mut lower = [0u8; MOST_CELLS];
-    classify_lowers(
-        m,
-        &cell,
-        &prev,
-        &last,
-        &class,
-        &holders,
-        k as usize,
-        &mut lower,
-    );
-    let n = add_range(m, k as usize, &lower, sort, &mut ends);
+    classify_lowers(m, &cell, &prev, &last, &class, &holders, k, &mut lower);
+    let n = add_range(m, k, &lower, sort, &mut ends);
     give(&ends, n, out)
 }

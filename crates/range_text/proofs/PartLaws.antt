@@ -176,8 +176,8 @@ module _ (m : Bytes) (parts : ℕ) (owners st table : Bytes) (ends : List ℕ) (
       blocks-cong 1 (λ j. lineUnlessEmpty (ascii "export" ++ spaced j) (partCells owners table ends j first cells i)) (λ j. lineUnlessEmpty (ascii "export" ++ spaced j) (imports S j i)) parts
       (λ j h. ap (lineUnlessEmpty (ascii "export" ++ spaced (1 + j))) (part-imports m parts owners st table ends holders R i (1 + j) first cells fe ce low (omega arith)))
 
-  sorts : (e : ℕ) → Sorts (touches m S e i) (another m S i (touches m S e)) (another m S i (λ j. holdsLower m S j e)) (holdsLower m S i e)
-  sorts e = sort-tells (touches m S e i) (another m S i (touches m S e)) (another m S i (λ j. holdsLower m S j e)) (holdsLower m S i e)
+  sorts : (e : ℕ) → Sorts (touches S e i) (another S i (touches S e)) (another S i (λ j. holdsLower S j e)) (holdsLower S i e)
+  sorts e = sort-tells (touches S e i) (another S i (touches S e)) (another S i (λ j. holdsLower S j e)) (holdsLower S i e)
 
   dimension-is : (k : ℕ) → dimensionLines m class holders k ≡ dimensionText m S i k
   unfolding dimensionLines dimensionText rangeLine isPrivate isExposed isShared isCopied

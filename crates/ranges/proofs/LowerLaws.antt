@@ -16,7 +16,7 @@ use Rattle.vocabulary.specs.RangeLaws.{at-last, picked-cong, some-cong, some-sw
 use Rattle.vocabulary.specs.Lists.{isIn, someOf, All}
 use Rattle.vocabulary.specs.ListLaws.{or-nothing, and-true, and-intro, same-test, All-map, All-getD, someOf-has, someOf-witness, someOf-cong, someOf-and, cond-has}
 use Rattle.mesh.specs.Mesh.{top, counted, below, firstCell, cellCount}
-use Rattle.mesh.specs.Walks.{incident, rightAt, bad10, stepTo}
+use Rattle.mesh.specs.Walks.{incident, rightAt, bad10, stepTo, cellsAt}
 use Rattle.mesh.specs.Accepted.{Accepted}
 use Rattle.mesh.specs.WalkLaws.{below-grows}
 use Rattle.links.specs.Links.{trail}
@@ -24,13 +24,15 @@ use Rattle.visits.specs.Visits.{up}
 use Rattle.walks.specs.Walking.{Ground, stepped}
 use Rattle.walks.proofs.StepLaws.{someOf-like, up-told}
 use Rattle.mesh.proofs.DimensionLaws.{below-next}
-use Rattle.split.specs.Split.{range, Split, splitOf, ownerAt, owns, holds, held, inside, cellsAt, holdsLower, touches, another}
+use Rattle.split.specs.Split.{range, Split, splitOf, ownerAt, owns, holds, held, inside, holdsLower, touches, another}
 use Rattle.split.specs.SplitLaws.{map-facts}
 use Rattle.split.specs.Classes.{classIn, holderCount, heldOne, Classed, Prepared, ofClass, classCells}
 use Rattle.split.specs.Classes.{Added}
 use Rattle.split.proofs.HoldLaws.{class-zero}
 use Rattle.cell_lists.proofs.AddLaws.{add-none}
 use Rattle.cell_lists.proofs.ClassLists.{class-at}
+use Rattle.ranges.specs.declared.inner.Side.{Side}
+use Rattle.ranges.specs.declared.inner.Side.the-variants.{Mine, Anothers, Held, HeldByAnother}
 use Rattle.ranges.specs.Lowers.{sideAt, someSide, lowerClass, trailClass, elementClass, Trailed, Lowered, rangeOf, rowRange}
 
 -- the stencil (d), which is always right: the chains turned round do not depend on the stencil
@@ -68,7 +70,10 @@ trailed-end cell prev last first class holders lo q n lower g h T = at-last (λ 
 module _ (m : Bytes) (cell prev last : List ℕ) (G : Ground m (top m ∷ []) cell prev last) where
   -- the cells on a lower element's trail are those incident to it
   trail-told : (e z : ℕ) → 1 ≤ e → e ≤ below m (top m) → isIn z (trail cell prev 12001 (getD last e 0)) ≡ isIn z (picked (firstCell m) (cellCount m) (incident m e))
-  trail-told e z low high = turned ∙ stepping ∙ ap (isIn z) (picked-cong (firstCell m) (λ x. someOf (e ∷ []) (λ y. incident m y x)) (incident m e) (cellCount m) (λ k h. unfold someOf in or-nothing (incident m e (firstCell m + k))))
+  trail-told e z low high =
+      turned
+      ∙ stepping
+      ∙ ap (isIn z) (picked-cong (firstCell m) (λ x. someOf (e ∷ []) (λ y. incident m y x)) (incident m e) (cellCount m) (λ k h. unfold someOf in or-nothing (incident m e (firstCell m + k))))
     where
       turned : isIn z (trail cell prev 12001 (getD last e 0)) ≡ isIn z (blocks 0 1 (up cell prev last (e ∷ [])))
       turned = unfold blocks up in refl
@@ -80,12 +85,13 @@ module _ (m : Bytes) (cell prev last : List ℕ) (G : Ground m (top m ∷ []) ce
 
   module _ (first : ℕ) (fe : first ≡ firstCell m) (class holders : Bytes) where
     class-like : (e : ℕ) → 1 ≤ e → e ≤ below m (top m) → trailClass cell prev last first class holders e ≡ elementClass m class holders e
-    unfolding trailClass elementClass lowerClass
-    class-like e low high = λ x. cond (side 0 x) (cond (side 1 x) 3 (cond (side 3 x) 2 1)) (cond (side 2 x) 4 0)
+    unfolding trailClass elementClass lowerClass cellsAt
+    class-like e low high = λ x. cond (side Mine x) (cond (side Anothers x) 3 (cond (side HeldByAnother x) 2 1)) (cond (side Held x) 4 0)
       where
-        side : (k : ℕ) → someSide (trail cell prev 12001 (getD last e 0)) first k class holders ≡ someSide (picked (firstCell m) (cellCount m) (incident m e)) (firstCell m) k class holders
+        side : (k : Side) → someSide (trail cell prev 12001 (getD last e 0)) first k class holders ≡ someSide (picked (firstCell m) (cellCount m) (incident m e)) (firstCell m) k class holders
         side k =
-            unfold someSide in someOf-like (trail cell prev 12001 (getD last e 0)) (picked (firstCell m) (cellCount m) (incident m e)) (λ y. sideAt k class holders (y - first)) (λ z. trail-told e z low high)
+            unfold someSide in someOf-like (trail cell prev 12001 (getD last e 0)) (picked (firstCell m) (cellCount m) (incident m e))
+            (λ y. sideAt k class holders (y - first)) (λ z. trail-told e z low high)
             ∙ ap (λ f. someOf (picked (firstCell m) (cellCount m) (incident m e)) (λ y. sideAt k class holders (y - f))) fe
 
     pub lowered : (k d lo n : ℕ) (lower : Bytes) → d ≡ top m → k < d → lo ≡ below m k → n ≡ counted m k → Trailed cell prev last first class holders lo n lower → Lowered m class holders k lower
@@ -102,7 +108,8 @@ lowered-none m class holders k d lower e h l = record { room = l; each = λ q a 
 
 pub range-fits : (m : Bytes) (d k lo n : ℕ) → Accepted m → d ≡ top m → k < d → lo ≡ below m k → n ≡ counted m k → (lo + n < 65535) × (n ≤ 2000)
 range-fits m d k lo n A e h loe ne =
-    (omega (arith, below-next m k, below-grows m (k + 1) 4 (omega (arith, A .sizes .d-high)), A .sizes .n-high), omega (arith, below-next m k, below-grows m (k + 1) 4 (omega (arith, A .sizes .d-high)), A .sizes .n-high))
+    let grows = below-grows m (k + 1) 4 (omega (arith, A .sizes .d-high)) in
+    (omega (arith, below-next m k, grows, A .sizes .n-high), omega (arith, below-next m k, grows, A .sizes .n-high))
 
 -- ---- a range by its row
 
@@ -122,9 +129,11 @@ unfolding rowRange rangeOf range classCells ofClass
 row-range m class holders k sort lower L = go (ltb k (top m)) refl
   where
     go : (b : Bool) → ltb k (top m) ≡ b
-        → cond b (blocks 0 (counted m k) (λ q. cond (eqb (byteAt lower q) sort) ((below m k + 1 + q) ∷ []) [])) [] ≡ cond b (picked (below m k + 1) (counted m k) (λ e. eqb (elementClass m class holders e) sort)) []
+        → cond b (blocks 0 (counted m k) (λ q. cond (eqb (byteAt lower q) sort) ((below m k + 1 + q) ∷ []) [])) []
+        ≡ cond b (picked (below m k + 1) (counted m k) (λ e. eqb (elementClass m class holders e) sort)) []
     go true e =
-        blocks-cong 0 (λ q. cond (eqb (byteAt lower q) sort) ((below m k + 1 + q) ∷ []) []) (λ q. cond (eqb (elementClass m class holders (below m k + 1 + q)) sort) ((below m k + 1 + q) ∷ []) []) (counted m k)
+        blocks-cong 0 (λ q. cond (eqb (byteAt lower q) sort) ((below m k + 1 + q) ∷ []) [])
+        (λ q. cond (eqb (elementClass m class holders (below m k + 1 + q)) sort) ((below m k + 1 + q) ∷ []) []) (counted m k)
         (λ q h. ap (λ x. cond (eqb x sort) ((below m k + 1 + (0 + q)) ∷ []) []) (L .each (0 + q) (ltb-true k (top m) e) (omega arith)))
         ∙ blocks-picked (below m k + 1) (counted m k) (λ e. eqb (elementClass m class holders e) sort)
     go false e = refl
@@ -172,7 +181,9 @@ another-counts p i n low high = ap (ltb (cond (p i) 1 0)) whole ∙ above ∙ ap
     whole = total-cong 1 (λ j. cond (p j) 1 0) (λ j. f j + g j) n (λ k h. halves (eqb i (1 + k)) (p (1 + k))) ∙ total-add 1 n f g ∙ ap (λ x. x + total 1 n g) one
 
     above : ltb (cond (p i) 1 0) (cond (p i) 1 0 + total 1 n g) ≡ ltb 0 (total 1 n g)
-    above = same-test _ _ (λ e. let h = ltb-true (cond (p i) 1 0) (cond (p i) 1 0 + total 1 n g) e in lt-ltb 0 (total 1 n g) (omega arith)) (λ e. let h = ltb-true 0 (total 1 n g) e in lt-ltb (cond (p i) 1 0) (cond (p i) 1 0 + total 1 n g) (omega arith))
+    above =
+        same-test _ _ (λ e. let h = ltb-true (cond (p i) 1 0) (cond (p i) 1 0 + total 1 n g) e in lt-ltb 0 (total 1 n g) (omega arith))
+        (λ e. let h = ltb-true 0 (total 1 n g) e in lt-ltb (cond (p i) 1 0) (cond (p i) 1 0 + total 1 n g) (omega arith))
 
 -- ---- a range is that of the definitions
 
@@ -203,7 +214,7 @@ module _ (m : Bytes) (parts : ℕ) (owners st table : Bytes) (ends : List ℕ) (
   own-is y = refl
 
   -- the cells at an element are cells
-  at-cells : (e : ℕ) → All (λ y. (firstCell m ≤ y) × (y < firstCell m + cellCount m)) (cellsAt m S e)
+  at-cells : (e : ℕ) → All (λ y. (firstCell m ≤ y) × (y < firstCell m + cellCount m)) (S .around e)
   unfolding cellsAt splitOf
   at-cells e = picked-all (firstCell m) (incident m e) (λ y. (firstCell m ≤ y) × (y < firstCell m + cellCount m)) (cellCount m) (λ k h t. (omega arith, omega arith))
 
@@ -263,58 +274,61 @@ module _ (m : Bytes) (parts : ℕ) (owners st table : Bytes) (ends : List ℕ) (
     -- the same for the cells at an element
     module _ (e : ℕ) where
       -- by a test of the definitions
-      by : (p q : ℕ → Bool) → ((y : ℕ) → firstCell m ≤ y → y < firstCell m + cellCount m → p (y - firstCell m) ≡ q y) → someOf (cellsAt m S e) (λ y. p (y - firstCell m)) ≡ someOf (cellsAt m S e) q
-      by p q f = someOf-cong (λ y. p (y - firstCell m)) q (cellsAt m S e) (All-map (cellsAt m S e) (λ y w. f y (w .0) (w .1)) (at-cells e))
+      by : (p q : ℕ → Bool) → ((y : ℕ) → firstCell m ≤ y → y < firstCell m + cellCount m → p (y - firstCell m) ≡ q y) → someOf (S .around e) (λ y. p (y - firstCell m)) ≡ someOf (S .around e) q
+      by p q f = someOf-cong (λ y. p (y - firstCell m)) q (S .around e) (All-map (S .around e) (λ y w. f y (w .0) (w .1)) (at-cells e))
 
-      mine : someSide (cellsAt m S e) (firstCell m) 0 class holders ≡ touches m S e i
+      mine : someSide (S .around e) (firstCell m) Mine class holders ≡ touches S e i
       unfolding someSide sideAt touches
       mine = by (λ q. leb 17 (byteAt class q)) (owns S i) mine-told
 
-      held-here : someSide (cellsAt m S e) (firstCell m) 2 class holders ≡ holdsLower m S i e
+      held-here : someSide (S .around e) (firstCell m) Held class holders ≡ holdsLower S i e
       unfolding someSide sideAt holdsLower
       held-here = by (λ q. not (eqb (byteAt class q) 0)) (holds S i) held-told
 
-      anothers : someSide (cellsAt m S e) (firstCell m) 1 class holders ≡ another m S i (touches m S e)
+      anothers : someSide (S .around e) (firstCell m) Anothers class holders ≡ another S i (touches S e)
       unfolding someSide sideAt another touches owns splitOf
       anothers = by (λ q. ltb (byteAt class q) 17) (λ y. not (eqb (S .owner y) i)) other-told ∙ same-test _ _ left right
         where
-          left : someOf (cellsAt m S e) (λ y. not (eqb (S .owner y) i)) ≡ true → some 1 parts (λ j. not (eqb i j) && someOf (cellsAt m S e) (λ y. eqb (S .owner y) j)) ≡ true
+          left : someOf (S .around e) (λ y. not (eqb (S .owner y) i)) ≡ true → some 1 parts (λ j. not (eqb i j) && someOf (S .around e) (λ y. eqb (S .owner y) j)) ≡ true
           left t =
-              let w = someOf-witness (λ y. not (eqb (S .owner y) i)) (cellsAt m S e) 0 t in
-              let c = All-getD (λ y. (firstCell m ≤ y) × (y < firstCell m + cellCount m)) (cellsAt m S e) (w .0) 0 (at-cells e) (w .1) in
-              let o = map-facts m parts owners [] (R .map) .owner-in (getD (cellsAt m S e) (w .0) 0 - firstCell m) (omega (arith, c .0, c .1)) in
-              let n = eqb-false (S .owner (getD (cellsAt m S e) (w .0) 0)) i (not-true (eqb (S .owner (getD (cellsAt m S e) (w .0) 0)) i) (w .2)) in
-              some-in 1 (λ j. not (eqb i j) && someOf (cellsAt m S e) (λ y. eqb (S .owner y) j)) parts (S .owner (getD (cellsAt m S e) (w .0) 0)) (omega (arith, o .0, own-is (getD (cellsAt m S e) (w .0) 0))) (omega (arith, o .1, own-is (getD (cellsAt m S e) (w .0) 0)))
-              (and-intro (not (eqb i (S .owner (getD (cellsAt m S e) (w .0) 0)))) (someOf (cellsAt m S e) (λ y. eqb (S .owner y) (S .owner (getD (cellsAt m S e) (w .0) 0)))) (ap not (ne-eqb i (S .owner (getD (cellsAt m S e) (w .0) 0)) (λ z. n (sym z))))
-              (someOf-has (λ y. eqb (S .owner y) (S .owner (getD (cellsAt m S e) (w .0) 0))) (cellsAt m S e) 0 (w .0) (w .1) (eq-eqb (S .owner (getD (cellsAt m S e) (w .0) 0)) (S .owner (getD (cellsAt m S e) (w .0) 0)) refl)))
+              let w = someOf-witness (λ y. not (eqb (S .owner y) i)) (S .around e) 0 t in
+              let x = getD (S .around e) (w .0) 0 in
+              let c = All-getD (λ y. (firstCell m ≤ y) × (y < firstCell m + cellCount m)) (S .around e) (w .0) 0 (at-cells e) (w .1) in
+              let o = map-facts m parts owners [] (R .map) .owner-in (x - firstCell m) (omega (arith, c .0, c .1)) in
+              let n = eqb-false (S .owner x) i (not-true (eqb (S .owner x) i) (w .2)) in
+              some-in 1 (λ j. not (eqb i j) && someOf (S .around e) (λ y. eqb (S .owner y) j)) parts (S .owner x)
+              (omega (arith, o .0, own-is x)) (omega (arith, o .1, own-is x))
+              (and-intro (not (eqb i (S .owner x))) (someOf (S .around e) (λ y. eqb (S .owner y) (S .owner x))) (ap not (ne-eqb i (S .owner x) (λ z. n (sym z))))
+              (someOf-has (λ y. eqb (S .owner y) (S .owner x)) (S .around e) 0 (w .0) (w .1) (eq-eqb (S .owner x) (S .owner x) refl)))
 
-          right : some 1 parts (λ j. not (eqb i j) && someOf (cellsAt m S e) (λ y. eqb (S .owner y) j)) ≡ true → someOf (cellsAt m S e) (λ y. not (eqb (S .owner y) i)) ≡ true
+          right : some 1 parts (λ j. not (eqb i j) && someOf (S .around e) (λ y. eqb (S .owner y) j)) ≡ true → someOf (S .around e) (λ y. not (eqb (S .owner y) i)) ≡ true
           right t =
-              let w = some-witness 1 (λ j. not (eqb i j) && someOf (cellsAt m S e) (λ y. eqb (S .owner y) j)) parts t in
-              let u = and-true (not (eqb i (1 + w .0))) (someOf (cellsAt m S e) (λ y. eqb (S .owner y) (1 + w .0))) (w .2) in
-              let v = someOf-witness (λ y. eqb (S .owner y) (1 + w .0)) (cellsAt m S e) 0 (u .1) in
-              someOf-has (λ y. not (eqb (S .owner y) i)) (cellsAt m S e) 0 (v .0) (v .1)
-              (ap not (ne-eqb (S .owner (getD (cellsAt m S e) (v .0) 0)) i (λ z. eqb-false i (1 + w .0) (not-true (eqb i (1 + w .0)) (u .0)) (sym z ∙ eqb-true (S .owner (getD (cellsAt m S e) (v .0) 0)) (1 + w .0) (v .2)))))
+              let w = some-witness 1 (λ j. not (eqb i j) && someOf (S .around e) (λ y. eqb (S .owner y) j)) parts t in
+              let u = and-true (not (eqb i (1 + w .0))) (someOf (S .around e) (λ y. eqb (S .owner y) (1 + w .0))) (w .2) in
+              let v = someOf-witness (λ y. eqb (S .owner y) (1 + w .0)) (S .around e) 0 (u .1) in
+              let x = getD (S .around e) (v .0) 0 in
+              someOf-has (λ y. not (eqb (S .owner y) i)) (S .around e) 0 (v .0) (v .1)
+              (ap not (ne-eqb (S .owner x) i (λ z. eqb-false i (1 + w .0) (not-true (eqb i (1 + w .0)) (u .0)) (sym z ∙ eqb-true (S .owner x) (1 + w .0) (v .2)))))
 
-      held-others : someSide (cellsAt m S e) (firstCell m) 3 class holders ≡ another m S i (λ j. holdsLower m S j e)
+      held-others : someSide (S .around e) (firstCell m) HeldByAnother class holders ≡ another S i (λ j. holdsLower S j e)
       unfolding someSide sideAt another holdsLower splitOf
       held-others =
           by (λ q. ltb (heldOne class q) (byteAt holders q)) (λ y. some 1 parts (λ j. not (eqb i j) && holds S j y)) elsewhere-told
-          ∙ sym (some-swap 1 parts (cellsAt m S e) (λ j y. not (eqb i j) && holds S j y))
-          ∙ some-cong 1 (λ j. someOf (cellsAt m S e) (λ y. not (eqb i j) && holds S j y)) (λ j. not (eqb i j) && someOf (cellsAt m S e) (holds S j)) parts
-          (λ k h. someOf-and (not (eqb i (1 + k))) (holds S (1 + k)) (cellsAt m S e))
+          ∙ sym (some-swap 1 parts (S .around e) (λ j y. not (eqb i j) && holds S j y))
+          ∙ some-cong 1 (λ j. someOf (S .around e) (λ y. not (eqb i j) && holds S j y)) (λ j. not (eqb i j) && someOf (S .around e) (holds S j)) parts
+          (λ k h. someOf-and (not (eqb i (1 + k))) (holds S (1 + k)) (S .around e))
 
       -- the class, by the definitions
       element-is : elementClass m class holders e
-          ≡ cond (touches m S e i) (cond (another m S i (touches m S e)) 3 (cond (another m S i (λ j. holdsLower m S j e)) 2 1)) (cond (holdsLower m S i e) 4 0)
+          ≡ cond (touches S e i) (cond (another S i (touches S e)) 3 (cond (another S i (λ j. holdsLower S j e)) 2 1)) (cond (holdsLower S i e) 4 0)
       element-is = start ∙ (unfold lowerClass in λ x. cond (mine x) (cond (anothers x) 3 (cond (held-others x) 2 1)) (cond (held-here x) 4 0))
         where
-          start : elementClass m class holders e ≡ lowerClass (cellsAt m S e) (firstCell m) class holders
+          start : elementClass m class holders e ≡ lowerClass (S .around e) (firstCell m) class holders
           start = unfold elementClass cellsAt splitOf in refl
 
     -- a range, by a test of the definitions that tells its class
     pub range-is : (k sort : ℕ) (p : ℕ → Bool)
-        → ((e : ℕ) → eqb (cond (touches m S e i) (cond (another m S i (touches m S e)) 3 (cond (another m S i (λ j. holdsLower m S j e)) 2 1)) (cond (holdsLower m S i e) 4 0)) sort ≡ p e)
+        → ((e : ℕ) → eqb (cond (touches S e i) (cond (another S i (touches S e)) 3 (cond (another S i (λ j. holdsLower S j e)) 2 1)) (cond (holdsLower S i e) 4 0)) sort ≡ p e)
         → rangeOf m class holders k sort ≡ range m k p
     unfolding rangeOf range
     range-is k sort p f =

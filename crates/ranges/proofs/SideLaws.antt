@@ -2,7 +2,7 @@
 use mathlib.Core.Path.{_≡_, refl, sym, ap, ap₂, _∙_}
 use mathlib.Core.Bool.{Bool, true, false, not, _||_, cond}
 use mathlib.Core.List.{List}
-use Prim.Native.Nat.{ℕ, zero, suc, _+_, _-_, _≤_, _<_}
+use Prim.Native.Nat.{ℕ, suc, _+_, _-_, _≤_, _<_}
 use native.Mathlib.Omega.{arith}
 use lib.Dec.{eqb, leb, ltb}
 use borrow.Author.Tests.{eq-eqb, ne-eqb}
@@ -12,6 +12,8 @@ use Rattle.vocabulary.specs.Lists.{someOf}
 use Rattle.links.specs.Links.{trail}
 use Rattle.links.proofs.TrailLaws.{trail-end, trail-more}
 use Rattle.split.specs.Classes.{heldOne}
+use Rattle.ranges.specs.declared.inner.Side.{Side}
+use Rattle.ranges.specs.declared.inner.Side.the-variants.{Mine, Anothers, Held, HeldByAnother}
 use Rattle.ranges.specs.Lowers.{sideAt, someSide, lowerClass, trailClass}
 
 -- ---- one cell
@@ -25,33 +27,29 @@ module _ (class : Bytes) (q x : ℕ) (e : x ≡ byteAt class q) where
   unfolding heldOne
   one-held h = sym (ap (λ b. cond b 0 1) (ne-eqb (byteAt class q) 0 (λ z. h (e ∙ z))))
 
-module _ (class holders : Bytes) (q side x : ℕ) where
-  pub side-mine : side ≡ 0 → x ≡ byteAt class q → leb 17 x ≡ sideAt side class holders q
+module _ (class holders : Bytes) (q : ℕ) (side : Side) (x : ℕ) where
+  pub side-mine : side ≡ Mine → x ≡ byteAt class q → leb 17 x ≡ sideAt side class holders q
   unfolding sideAt
   side-mine s e = rw s (ap (leb 17) e)
 
-  pub side-anothers : side ≡ 1 → x ≡ byteAt class q → ltb x 17 ≡ sideAt side class holders q
+  pub side-anothers : side ≡ Anothers → x ≡ byteAt class q → ltb x 17 ≡ sideAt side class holders q
   unfolding sideAt
   side-anothers s e = rw s (ap (λ y. ltb y 17) e)
 
-  pub side-held : side ≡ 2 → x ≡ byteAt class q → not (eqb x 0) ≡ sideAt side class holders q
+  pub side-held : side ≡ Held → x ≡ byteAt class q → not (eqb x 0) ≡ sideAt side class holders q
   unfolding sideAt
   side-held s e = rw s (ap (λ y. not (eqb y 0)) e)
 
-pub side-elsewhere : (class holders : Bytes) (q side x y : ℕ) → (side ≡ 0 → ⊥) → (side ≡ 1 → ⊥) → (side ≡ 2 → ⊥) → x ≡ heldOne class q → y ≡ byteAt holders q
-    → ltb x y ≡ sideAt side class holders q
-unfolding sideAt
-side-elsewhere class holders q zero x y a b c e f = absurd (a refl)
-side-elsewhere class holders q (suc zero) x y a b c e f = absurd (b refl)
-side-elsewhere class holders q (suc (suc zero)) x y a b c e f = absurd (c refl)
-side-elsewhere class holders q (suc (suc (suc n))) x y a b c e f = ap₂ ltb e f
+  pub side-elsewhere : (y : ℕ) → side ≡ HeldByAnother → x ≡ heldOne class q → y ≡ byteAt holders q → ltb x y ≡ sideAt side class holders q
+  unfolding sideAt
+  side-elsewhere y s e f = rw s (ap₂ ltb e f)
 
 pub place-low : (first y : ℕ) → y < first → 0 ≡ y - first
 place-low first y h = omega arith
 
 -- ---- a trail
 
-module _ (cell prev : List ℕ) (first side : ℕ) (class holders : Bytes) where
+module _ (cell prev : List ℕ) (first : ℕ) (side : Side) (class holders : Bytes) where
   -- the rest of the trail tells what the whole does
   pub record Rest (t k s : ℕ) : Type 0 where
     pub same : someSide (trail cell prev (12001 - k) s) first side class holders ≡ someSide (trail cell prev 12001 t) first side class holders
@@ -102,21 +100,21 @@ module _ (cell prev : List ℕ) (first side : ℕ) (class holders : Bytes) where
 -- ---- classes, by the last answer y
 
 module _ (y : Bool) (cell prev last : List ℕ) (first : ℕ) (class holders : Bytes) (e t : ℕ) (te : t ≡ getD last e 0) (a : Bool)
-    (ae : a ≡ someSide (trail cell prev 12001 t) first 0 class holders) (b : Bool) where
-  abbrev told : ℕ → Bool
+    (ae : a ≡ someSide (trail cell prev 12001 t) first Mine class holders) (b : Bool) where
+  abbrev told : Side → Bool
   told side = someSide (trail cell prev 12001 t) first side class holders
 
-  sort-is : trailClass cell prev last first class holders e ≡ cond (told 0) (cond (told 1) 3 (cond (told 3) 2 1)) (cond (told 2) 4 0)
+  sort-is : trailClass cell prev last first class holders e ≡ cond (told Mine) (cond (told Anothers) 3 (cond (told HeldByAnother) 2 1)) (cond (told Held) 4 0)
   unfolding trailClass lowerClass
   sort-is = ap (λ u. lowerClass (trail cell prev 12001 u) first class holders) (sym te)
 
-  pub is-shared : a ≡ true → b ≡ someSide (trail cell prev 12001 t) first 1 class holders → b ≡ true → 3 ≡ trailClass cell prev last first class holders e
-  is-shared at be bt = sym (sort-is ∙ ap₂ (λ x z. cond x (cond z 3 (cond (told 3) 2 1)) (cond (told 2) 4 0)) (sym ae ∙ at) (sym be ∙ bt))
+  pub is-shared : a ≡ true → b ≡ someSide (trail cell prev 12001 t) first Anothers class holders → b ≡ true → 3 ≡ trailClass cell prev last first class holders e
+  is-shared at be bt = sym (sort-is ∙ ap₂ (λ x z. cond x (cond z 3 (cond (told HeldByAnother) 2 1)) (cond (told Held) 4 0)) (sym ae ∙ at) (sym be ∙ bt))
 
-  pub is-alone : (c : Bool) → a ≡ true → b ≡ someSide (trail cell prev 12001 t) first 1 class holders → b ≡ false → c ≡ someSide (trail cell prev 12001 t) first 3 class holders
+  pub is-alone : (c : Bool) → a ≡ true → b ≡ someSide (trail cell prev 12001 t) first Anothers class holders → b ≡ false → c ≡ someSide (trail cell prev 12001 t) first HeldByAnother class holders
       → c ≡ y → cond y 2 1 ≡ trailClass cell prev last first class holders e
   is-alone c at be bf ce ct =
-      sym (sort-is ∙ ap₂ (λ x z. cond x (cond z 3 (cond (told 3) 2 1)) (cond (told 2) 4 0)) (sym ae ∙ at) (sym be ∙ bf) ∙ ap (λ x. cond x 2 1) (sym ce ∙ ct))
+      sym (sort-is ∙ ap₂ (λ x z. cond x (cond z 3 (cond (told HeldByAnother) 2 1)) (cond (told Held) 4 0)) (sym ae ∙ at) (sym be ∙ bf) ∙ ap (λ x. cond x 2 1) (sym ce ∙ ct))
 
-  pub is-theirs : a ≡ false → b ≡ someSide (trail cell prev 12001 t) first 2 class holders → b ≡ y → cond y 4 0 ≡ trailClass cell prev last first class holders e
-  is-theirs af be bt = sym (sort-is ∙ ap₂ (λ x z. cond x (cond (told 1) 3 (cond (told 3) 2 1)) (cond z 4 0)) (sym ae ∙ af) (sym be ∙ bt))
+  pub is-theirs : a ≡ false → b ≡ someSide (trail cell prev 12001 t) first Held class holders → b ≡ y → cond y 4 0 ≡ trailClass cell prev last first class holders e
+  is-theirs af be bt = sym (sort-is ∙ ap₂ (λ x z. cond x (cond (told Anothers) 3 (cond (told HeldByAnother) 2 1)) (cond z 4 0)) (sym ae ∙ af) (sym be ∙ bt))

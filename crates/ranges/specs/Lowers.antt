@@ -3,43 +3,43 @@
 use mathlib.Core.Path.{_≡_}
 use mathlib.Core.Bool.{Bool, not, cond}
 use mathlib.Core.List.{List, []}
-use Prim.Native.Nat.{ℕ, zero, suc, _+_, _-_, _<_}
+use Prim.Native.Nat.{ℕ, _+_, _-_, _<_}
 use lib.Dec.{eqb, leb, ltb}
 use lib.ListN.{length, getD}
 use Rattle.vocabulary.specs.Bytes.{Bytes, byteAt}
-use Rattle.vocabulary.specs.Ranges.{picked}
 use Rattle.vocabulary.specs.Lists.{someOf}
-use Rattle.mesh.specs.Mesh.{top, counted, below, firstCell, cellCount}
-use Rattle.mesh.specs.Walks.{incident}
+use Rattle.mesh.specs.Mesh.{top, counted, below, firstCell}
+use Rattle.mesh.specs.Walks.{cellsAt}
 use Rattle.links.specs.Links.{trail}
 use Rattle.split.specs.Split.{range}
 use Rattle.split.specs.Classes.{heldOne, classCells}
+use Rattle.ranges.specs.declared.inner.Side.{Side}
+use Rattle.ranges.specs.declared.inner.Side.the-variants.{Mine, Anothers, Held, HeldByAnother}
 
--- the four things that a part asks of the cells at an element, for the cell at place q: whether it owns it, another part owns it, it holds it,
--- and another part holds it
-unfoldable pub sideAt : ℕ → Bytes → Bytes → ℕ → Bool
-sideAt zero class holders q = leb 17 (byteAt class q)
-sideAt (suc zero) class holders q = ltb (byteAt class q) 17
-sideAt (suc (suc zero)) class holders q = not (eqb (byteAt class q) 0)
-sideAt (suc (suc (suc n))) class holders q = ltb (heldOne class q) (byteAt holders q)
+-- the four things that a part asks of the cells at an element, for the cell at place q
+unfoldable pub sideAt : Side → Bytes → Bytes → ℕ → Bool
+sideAt Mine class holders q = leb 17 (byteAt class q)
+sideAt Anothers class holders q = ltb (byteAt class q) 17
+sideAt Held class holders q = not (eqb (byteAt class q) 0)
+sideAt HeldByAnother class holders q = ltb (heldOne class q) (byteAt holders q)
 
 -- one of some cells passes
-unfoldable pub someSide : List ℕ → ℕ → ℕ → Bytes → Bytes → Bool
+unfoldable pub someSide : List ℕ → ℕ → Side → Bytes → Bytes → Bool
 someSide cells first side class holders = someOf cells (λ y. sideAt side class holders (y - first))
 
 -- what the part makes of an element at these cells: 1 is private, 2 exposed, 3 shared, 4 copied, and 0 not held
 unfoldable pub lowerClass : List ℕ → ℕ → Bytes → Bytes → ℕ
 lowerClass cells first class holders =
-    cond (someSide cells first 0 class holders)
-    (cond (someSide cells first 1 class holders) 3 (cond (someSide cells first 3 class holders) 2 1))
-    (cond (someSide cells first 2 class holders) 4 0)
+    cond (someSide cells first Mine class holders)
+    (cond (someSide cells first Anothers class holders) 3 (cond (someSide cells first HeldByAnother class holders) 2 1))
+    (cond (someSide cells first Held class holders) 4 0)
 
 -- by the cells on an element's trail, or by those incident to it
 unfoldable pub trailClass : List ℕ → List ℕ → List ℕ → ℕ → Bytes → Bytes → ℕ → ℕ
 trailClass cell prev last first class holders e = lowerClass (trail cell prev 12001 (getD last e 0)) first class holders
 
 unfoldable pub elementClass : Bytes → Bytes → Bytes → ℕ → ℕ
-elementClass m class holders e = lowerClass (picked (firstCell m) (cellCount m) (incident m e)) (firstCell m) class holders
+elementClass m class holders e = lowerClass (cellsAt m e) (firstCell m) class holders
 
 -- the first n elements after lo have their classes in a row
 pub record Trailed (cell prev last : List ℕ) (first : ℕ) (class holders : Bytes) (lo n : ℕ) (lower : Bytes) : Type 0 where

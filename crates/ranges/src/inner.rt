@@ -30,14 +30,13 @@ pub const COPIED: u8 = 4;
 // The least class of an owned cell: interior, and halo is the next.
 const OWNED: u8 = 17;
 
-// What is asked of a cell at an element: `side`.
-const MINE: usize = 0;
-
-const ANOTHERS: usize = 1;
-
-const HELD: usize = 2;
-
-const HELD_BY_ANOTHER: usize = 3;
+// What is asked of a cell at an element: whether the part owns it, another part does, the part holds it, another part does.
+enum Side {
+    Mine,
+    Anothers,
+    Held,
+    HeldByAnother,
+}
 
 // The most entries that the chains of all cells have, and one more.
 const ENTRIES: usize = 12001;
@@ -50,14 +49,14 @@ fn held_one(class: &[u8], q: usize) -> u8
 }
 
 // The cell at place q.
-fn has_side(side: usize, class: &[u8], holders: &[u8], q: usize) -> bool
+fn has_side(side: Side, class: &[u8], holders: &[u8], q: usize) -> bool
     ensures { λ b. ⌜ b ≡ sideAt side (now (class .entry)) (now (holders .entry)) q ⌝ }
 {
     match side {
-        MINE => OWNED <= byte_at(class, q),
-        ANOTHERS => byte_at(class, q) < OWNED,
-        HELD => byte_at(class, q) != 0,
-        _ => held_one(class, q) < byte_at(holders, q),
+        Side::Mine => OWNED <= byte_at(class, q),
+        Side::Anothers => byte_at(class, q) < OWNED,
+        Side::Held => byte_at(class, q) != 0,
+        Side::HeldByAnother => held_one(class, q) < byte_at(holders, q),
     }
 }
 
@@ -74,7 +73,7 @@ fn some_cell(
     prev: &[u16],
     t: usize,
     first: usize,
-    side: usize,
+    side: Side,
     class: &[u8],
     holders: &[u8],
 ) -> bool
@@ -107,16 +106,16 @@ fn lower_class(
     ensures { λ s. ⌜ s ≡ trailClass (now (cell .entry)) (now (prev .entry)) (now (last .entry)) first (now (class .entry)) (now (holders .entry)) e ⌝ }
 {
     let t = number_at(last, e) as usize;
-    if some_cell(cell, prev, t, first, MINE, class, holders) {
-        if some_cell(cell, prev, t, first, ANOTHERS, class, holders) {
+    if some_cell(cell, prev, t, first, Side::Mine, class, holders) {
+        if some_cell(cell, prev, t, first, Side::Anothers, class, holders) {
             return SHARED;
         }
-        if some_cell(cell, prev, t, first, HELD_BY_ANOTHER, class, holders) {
+        if some_cell(cell, prev, t, first, Side::HeldByAnother, class, holders) {
             return EXPOSED;
         }
         return PRIVATE;
     }
-    if some_cell(cell, prev, t, first, HELD, class, holders) {
+    if some_cell(cell, prev, t, first, Side::Held, class, holders) {
         return COPIED;
     }
     0

@@ -11,26 +11,26 @@ use Rattle.vocabulary.specs.Tests.{Test, firstOf}
 use Rattle.vocabulary.specs.TestLaws.{holdsOf, passed-by, none-holds}
 use Rattle.mesh.specs.Mesh.{cellCount, meshNumber}
 use Rattle.mesh.specs.MeshLaws.{mesh-parted, mesh-then}
-use Rattle.round.specs.Rounds.{schemeOf, round, undivided, bad14, laterTests, roundTests, roundNumber, roundOut}
+use Rattle.round.specs.Rounds.{schemeOf, round, undivided, bad14, laterTests, roundNumber, roundOut, roundInput}
 use Rattle.round.specs.RoundLaws.{undivided-good, field-length}
 
 -- the fields that k calls with the buffer `out` leave
 unfoldable pub calls : Bytes → Bytes → ℕ → Bytes → Bytes → Bytes → ℕ → Bytes
 calls m st kind v f out zero = f
-calls m st kind v f out (suc k) = roundOut m st kind v (calls m st kind v f out k) out
+calls m st kind v f out (suc k) = roundOut (roundInput m st kind v (calls m st kind v f out k)) out
 
 module _ (m st : Bytes) (kind : ℕ) (v out : Bytes) where
   -- the tests after those of the mesh
   abbrev later : Bytes → List Test
-  later g = laterTests m st kind v g out
+  later g = laterTests (roundInput m st kind v g) out
 
-  round-done : (g : Bytes) → roundNumber m st kind v g out ≡ 0 → roundOut m st kind v g out ≡ over out 0 (round (schemeOf m st kind v) g)
+  round-done : (g : Bytes) → roundNumber (roundInput m st kind v g) out ≡ 0 → roundOut (roundInput m st kind v g) out ≡ over out 0 (round (schemeOf m st kind v) g)
   unfolding roundOut
   round-done g e = simp e
 
-  module _ (f : Bytes) (room : length out ≡ 4 * cellCount m) (first : roundNumber m st kind v f out ≡ 0) where
+  module _ (f : Bytes) (room : length out ≡ 4 * cellCount m) (first : roundNumber (roundInput m st kind v f) out ≡ 0) where
     halves : (meshNumber m ≡ 0) × (firstOf (later f) ≡ 0)
-    unfolding roundNumber roundTests
+    unfolding roundNumber
     halves = mesh-parted m (later f) first
 
     later-passed : (n : ℕ) → holdsOf n (later f) ≡ false
@@ -41,8 +41,8 @@ module _ (m st : Bytes) (kind : ℕ) (v out : Bytes) where
     field-kept k = undivided-good m st kind v f k (later-passed 14)
 
     -- no test but 14 looks at the field, so every one of the calls is accepted
-    pub accepted-again : (k : ℕ) → roundNumber m st kind v (undivided (schemeOf m st kind v) f k) out ≡ 0
-    unfolding roundNumber roundTests
+    pub accepted-again : (k : ℕ) → roundNumber (roundInput m st kind v (undivided (schemeOf m st kind v) f k)) out ≡ 0
+    unfolding roundNumber
     accepted-again k =
         let g : Bytes = undivided (schemeOf m st kind v) f k in
         mesh-then m (later g) (halves .0)
@@ -56,6 +56,6 @@ module _ (m st : Bytes) (kind : ℕ) (v out : Bytes) where
     unfolding calls undivided
     calls-undivided zero = refl
     calls-undivided (suc k) =
-        ap (λ g. roundOut m st kind v g out) (calls-undivided k)
+        ap (λ g. roundOut (roundInput m st kind v g) out) (calls-undivided k)
         ∙ round-done (undivided (schemeOf m st kind v) f k) (accepted-again k)
         ∙ over-whole out (round (schemeOf m st kind v) (undivided (schemeOf m st kind v) f k)) (round-length k)

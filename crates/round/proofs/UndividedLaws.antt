@@ -37,7 +37,7 @@ use Rattle.rules.specs.declared.Rule.the-variants.{Known, Unknown}
 use Rattle.rules.proofs.KindLaws.{known-number}
 use Rattle.rules.proofs.Refusals.{known-rule, unknown-rule}
 use Rattle.rules.specs.RuleLaws.{new-length}
-use Rattle.round.specs.Rounds.{Scheme, schemeOf, depthIn, newIn, round, bad14, roundTests, roundNumber, roundAnswer, roundOut}
+use Rattle.round.specs.Rounds.{RoundInput, Scheme, schemeOf, depthIn, newIn, round, bad14, roundNumber, roundAnswer, roundOut, roundInput}
 use Rattle.round.specs.RoundLaws.{field-length, field-ranged, placed, olds-placed}
 use Rattle.rules.specs.Update.{entryAt, entries, oldsAt, Ready}
 use Rattle.rules.specs.UpdateLaws.{ready-from}
@@ -153,53 +153,57 @@ unfolding steps
 rule-good kind st v b q t = sym q ∙ t
 
 module _ (m st : Bytes) (kind : ℕ) (v f out : Bytes) where
+  -- what the call is given
+  abbrev pub given : RoundInput
+  given = roundInput m st kind v f
+
   -- what the call leaves where it answers r and out is x
   abbrev pub Answered : Answer → Bytes → Type 0
-  Answered r x = (r ≡ roundAnswer m st kind v f out) × (x ≡ roundOut m st kind v f out)
+  Answered r x = (r ≡ roundAnswer given out) × (x ≡ roundOut given out)
 
-  refused : (n : ℕ) → roundNumber m st kind v f out ≡ n → (n ≡ 0 → ⊥) → Answered (Refused n) out
+  refused : (n : ℕ) → roundNumber given out ≡ n → (n ≡ 0 → ⊥) → Answered (Refused n) out
   unfolding roundAnswer roundOut
-  refused = refuses (roundNumber m st kind v f out) (cellCount m) (over out 0 (round (schemeOf m st kind v) f)) out
+  refused = refuses (roundNumber given out) (cellCount m) (over out 0 (round (schemeOf m st kind v) f)) out
 
-  done : roundNumber m st kind v f out ≡ 0 → Answered (Done (cellCount m)) (over out 0 (round (schemeOf m st kind v) f))
+  done : roundNumber given out ≡ 0 → Answered (Done (cellCount m)) (over out 0 (round (schemeOf m st kind v) f))
   unfolding roundAnswer roundOut
-  done = accepts (roundNumber m st kind v f out) (cellCount m) (over out 0 (round (schemeOf m st kind v) f)) out
+  done = accepts (roundNumber given out) (cellCount m) (over out 0 (round (schemeOf m st kind v) f)) out
 
   -- the call goes on by the kind that the number stands for
   pub told-kind : (r : Rule) (k : Kind) → r ≡ ruleOf kind → r ≡ Known k → (a : Answer) (x : Bytes)
-      → (a ≡ roundAnswer m st (kindNumber k) v f out) × (x ≡ roundOut m st (kindNumber k) v f out) → Answered a x
+      → (a ≡ roundAnswer (roundInput m st (kindNumber k) v f) out) × (x ≡ roundOut (roundInput m st (kindNumber k) v f) out) → Answered a x
   told-kind r k e q a x g =
       let n : kindNumber k ≡ kind = sym (known-number kind k (sym e ∙ q)) in
-      (g .0 ∙ ap (λ i. roundAnswer m st i v f out) n, g .1 ∙ ap (λ i. roundOut m st i v f out) n)
+      (g .0 ∙ ap (λ i. roundAnswer (roundInput m st i v f) out) n, g .1 ∙ ap (λ i. roundOut (roundInput m st i v f) out) n)
 
   -- tests after those of an accepted mesh
   module _ (mesh : meshNumber m ≡ 0) where
-    number-10 : bad10 (top m) st ≡ true → roundNumber m st kind v f out ≡ 10
-    unfolding roundNumber roundTests
+    number-10 : bad10 (top m) st ≡ true → roundNumber given out ≡ 10
+    unfolding roundNumber
     number-10 a = mesh-then m _ mesh ∙ simp a
 
     module _ (ten : bad10 (top m) st ≡ false) where
-      number-11 : bad11 kind (steps st) v ≡ true → roundNumber m st kind v f out ≡ 11
-      unfolding roundNumber roundTests
+      number-11 : bad11 kind (steps st) v ≡ true → roundNumber given out ≡ 11
+      unfolding roundNumber
       number-11 a = mesh-then m _ mesh ∙ simp (ten, a)
 
       module _ (eleven : bad11 kind (steps st) v ≡ false) where
-        number-13 : bad13 m st ≡ true → roundNumber m st kind v f out ≡ 13
-        unfolding roundNumber roundTests
+        number-13 : bad13 m st ≡ true → roundNumber given out ≡ 13
+        unfolding roundNumber
         number-13 a = mesh-then m _ mesh ∙ simp (ten, eleven, a)
 
         module _ (thirteen : bad13 m st ≡ false) where
-          number-14 : bad14 (cellCount m) f ≡ true → roundNumber m st kind v f out ≡ 14
-          unfolding roundNumber roundTests
+          number-14 : bad14 (cellCount m) f ≡ true → roundNumber given out ≡ 14
+          unfolding roundNumber
           number-14 a = mesh-then m _ mesh ∙ simp (ten, eleven, thirteen, a)
 
           module _ (fourteen : bad14 (cellCount m) f ≡ false) where
-            number-last : (x : Bool) → ltb (length out) (4 * cellCount m) ≡ x → roundNumber m st kind v f out ≡ cond x 16 0
-            unfolding roundNumber roundTests
+            number-last : (x : Bool) → ltb (length out) (4 * cellCount m) ≡ x → roundNumber given out ≡ cond x 16 0
+            unfolding roundNumber
             number-last x a = mesh-then m _ mesh ∙ simp (ten, eleven, thirteen, fourteen, a)
 
-  number-mesh : (n : ℕ) → n ≡ meshNumber m → (n ≡ 0 → ⊥) → roundNumber m st kind v f out ≡ n
-  unfolding roundNumber roundTests
+  number-mesh : (n : ℕ) → n ≡ meshNumber m → (n ≡ 0 → ⊥) → roundNumber given out ≡ n
+  unfolding roundNumber
   number-mesh n e z = mesh-refuses m _ (λ q. z (e ∙ q)) ∙ sym e
 
   pub told-mesh : (n : ℕ) → n ≡ meshNumber m → (n ≡ 0 → ⊥) → Answered (Refused n) out

@@ -12,7 +12,7 @@ use Rattle.layout.specs.Answers.{answer, ifAccepted}
 use Rattle.layout.specs.declared.Answer.{Answer}
 use Rattle.mesh.specs.Mesh.{top, firstCell, cellCount, meshTests}
 use Rattle.mesh.specs.Walks.{Near, reach, steps, bad10, bad13}
-use Rattle.rules.specs.Rules.{Old, newDepth, bad11}
+use Rattle.rules.specs.Rules.{RuleInput, Old, newDepth, bad11}
 
 -- ---- fields: "A field is four bytes a cell", in rising number of the cells
 
@@ -60,28 +60,34 @@ unfoldable pub undivided : Scheme → Bytes → ℕ → Bytes
 undivided S f zero = f
 undivided S f (suc k) = round S (undivided S f k)
 
--- ---- the call: mesh m, stencil st, rule kind and weights v, field f, output
+-- ---- the call, and what it is given
+pub record RoundInput : Type 0 where
+  pub mesh : Bytes
+  pub stencil : Bytes
+  pub rule : RuleInput
+  pub field : Bytes
 
--- what it tries after the mesh
-abbrev pub laterTests : Bytes → Bytes → ℕ → Bytes → Bytes → Bytes → List Test
-laterTests m st kind v f out =
-    refuse 10 (bad10 (top m) st)
-    ∷ refuse 11 (bad11 kind (steps st) v)
-    ∷ refuse 13 (bad13 m st)
-    ∷ refuse 14 (bad14 (cellCount m) f)
-    ∷ refuse 16 (ltb (length out) (4 * cellCount m))
-    ∷ []
+abbrev pub roundInput : Bytes → Bytes → ℕ → Bytes → Bytes → RoundInput
+roundInput m st kind v f = record { mesh = m; stencil = st; rule = record { kind = kind; weights = v }; field = f }
 
-unfoldable pub roundTests : Bytes → Bytes → ℕ → Bytes → Bytes → Bytes → List Test
-roundTests m st kind v f out = meshTests m ++ laterTests m st kind v f out
+module _ (I : RoundInput) (out : Bytes) where
+  -- what it tries after the mesh
+  abbrev pub laterTests : List Test
+  laterTests =
+      refuse 10 (bad10 (top (I .mesh)) (I .stencil))
+      ∷ refuse 11 (bad11 (I .rule .kind) (steps (I .stencil)) (I .rule .weights))
+      ∷ refuse 13 (bad13 (I .mesh) (I .stencil))
+      ∷ refuse 14 (bad14 (cellCount (I .mesh)) (I .field))
+      ∷ refuse 16 (ltb (length out) (4 * cellCount (I .mesh)))
+      ∷ []
 
-unfoldable pub roundNumber : Bytes → Bytes → ℕ → Bytes → Bytes → Bytes → ℕ
-roundNumber m st kind v f out = firstOf (roundTests m st kind v f out)
+  unfoldable pub roundNumber : ℕ
+  roundNumber = firstOf (meshTests (I .mesh) ++ laterTests)
 
--- it gives the count of depths
-unfoldable pub roundAnswer : Bytes → Bytes → ℕ → Bytes → Bytes → Bytes → Answer
-roundAnswer m st kind v f out = answer (roundNumber m st kind v f out) (cellCount m)
+  -- it gives the count of depths
+  unfoldable pub roundAnswer : Answer
+  roundAnswer = answer roundNumber (cellCount (I .mesh))
 
--- what it leaves in the output: "Bytes past the need stay."
-unfoldable pub roundOut : Bytes → Bytes → ℕ → Bytes → Bytes → Bytes → Bytes
-roundOut m st kind v f out = ifAccepted (roundNumber m st kind v f out) (over out 0 (round (schemeOf m st kind v) f)) out
+  -- what it leaves in the output: "Bytes past the need stay."
+  unfoldable pub roundOut : Bytes
+  roundOut = ifAccepted roundNumber (over out 0 (round (schemeOf (I .mesh) (I .stencil) (I .rule .kind) (I .rule .weights)) (I .field))) out

@@ -24,7 +24,7 @@ ghost use Rattle.mesh.specs.Mesh.{top, meshNumber};
 ghost use Rattle.mesh.specs.Walks.{steps, bad10};
 ghost use Rattle.rules.specs.Rules.{bad11};
 ghost use Rattle.rules.specs.Kinds.{kindNumber};
-ghost use Rattle.round.specs.Rounds.{roundAnswer, roundOut};
+ghost use Rattle.round.specs.Rounds.{roundInput, roundAnswer, roundOut};
 ghost use Rattle.round.specs.Rows.{rowNew, Row, Rows};
 
 // The new depth of the cell at place j, from its row of the table.
@@ -61,7 +61,9 @@ fn round_on(
 ) -> Answer
     requires { ⌜ (meshNumber (now m) ≡ 0) × (bad10 (top (now m)) (now st) ≡ false) × (bad11 (kindNumber kind) (steps (now st)) (now v) ≡ false)
         × (length (now cell) ≡ 12001) × (length (now ends) ≡ 2001) ⌝ }
-    ensures { λ r. ⌜ (r ≡ roundAnswer (now (m .entry)) (now (st .entry)) (kindNumber kind) (now (v .entry)) (now (f .entry)) (now (out .entry))) × (now (out .exit) ≡ roundOut (now (m .entry)) (now (st .entry)) (kindNumber kind) (now (v .entry)) (now (f .entry)) (now (out .entry))) ⌝ }
+    ensures { λ r.
+        let I = roundInput (now (m .entry)) (now (st .entry)) (kindNumber kind) (now (v .entry)) (now (f .entry)) in
+        ⌜ (r ≡ roundAnswer I (now (out .entry))) × (now (out .exit) ≡ roundOut I (now (out .entry))) ⌝ }
 {
     // the table is written even where the reaches are too many, so it stands in an array of our own
     let mut table = [0u8; 32000];
@@ -83,7 +85,9 @@ fn round_on(
 // One undivided round: mesh, stencil, rule kind and weights, field. The new field stands at the front of `out`. The mesh is tested in arrays that the
 // reaches are found in afterwards.
 pub fn undivided_round(m: &[u8], st: &[u8], kind: u32, v: &[u8], f: &[u8], out: &mut [u8]) -> Answer
-    ensures { λ r. ⌜ (r ≡ roundAnswer (now (m .entry)) (now (st .entry)) kind (now (v .entry)) (now (f .entry)) (now (out .entry))) × (now (out .exit) ≡ roundOut (now (m .entry)) (now (st .entry)) kind (now (v .entry)) (now (f .entry)) (now (out .entry))) ⌝ }
+    ensures { λ r.
+        let I = roundInput (now (m .entry)) (now (st .entry)) kind (now (v .entry)) (now (f .entry)) in
+        ⌜ (r ≡ roundAnswer I (now (out .entry))) × (now (out .exit) ≡ roundOut I (now (out .entry))) ⌝ }
 {
     let mut cell = [0u16; 12001];
     let mut ends = [0u16; 2001];

@@ -13,6 +13,11 @@ use Rattle.vocabulary.specs.Bytes.{Bytes}
 use Rattle.layout.specs.Words.{wordAt}
 use Rattle.depths.specs.Depths.{depthOf, depthBytes}
 
+-- a rule as a call is given it: its kind, and its weights as words
+pub record RuleInput : Type 0 where
+  pub kind : ℕ
+  pub weights : Bytes
+
 -- how many weights a rule of this kind has under a stencil of n steps: "Mean has weights v0, .., v(n/2)"; "Weights are empty for kinds 0
 -- and 2."
 unfoldable pub weightCount : ℕ → ℕ → ℕ

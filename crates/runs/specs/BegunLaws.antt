@@ -29,14 +29,15 @@ use Rattle.split.specs.SplitLaws.{Cell, split-own, order-cells, own-is, own-num
 use Rattle.states.specs.State.{LocalNear, fineEntry, partNumber, stepCount, ruleKind, weights, firstOfMesh, cellsOfMesh, importEnd, ownedCount, heldCount, exportEnd, exportCount, globalAt}
 use Rattle.states.specs.State.{reachEnd, reachCount, entryAt, exportAt, localReach, listsLength, rises, listsTests, dynamicTests, isState, roundAt, takenPlace, writtenPlace, stateLength, depthPlace}
 use Rattle.states.specs.StateLaws.{rises-intro, isStateAt, state-at}
-use Rattle.starts.specs.Start.{ownedIn, reachOf, importEnds, exportEnds, reachEnds, exportWords, listsLong}
+use Rattle.starts.specs.Start.{ownedIn, reachOf, importEnds, exportEnds, reachEnds, exportWords, listsLong, Inputs, startNumber, startState}
 use Rattle.runs.specs.FormLaws.{front-length, part-back, steps-back, kind-back, first-back, cells-back, weights-back, import-back, export-back, owned-back, global-back}
 use Rattle.runs.specs.FormLaws.{held-back, ends-back, count-back, entry-back, reach-back, export-word, exports-length}
-use Rattle.runs.specs.Run.{Inputs, mapIn, splitIn, startNumberIn, startStateIn, StatesKept}
+use Rattle.runs.specs.Run.{StatesKept}
 use Rattle.runs.specs.RunLaws.{Part}
 use Rattle.runs.specs.StartLaws.{Ready, started-facts, frontIn, reach-inside, owner-inside, order-full}
 use Rattle.runs.specs.StartLaws.{stateOf, state-dynamic, state-front, state-length, state-flag, state-round, state-depth, start-is}
 use Rattle.runs.specs.KeptLaws.{Fine, local-ranged, write-kept, take-kept, advance-kept}
+use Rattle.split.specs.Lists.{splitIn}
 
 -- an accepted mesh has few cells
 cells-few : (m : Bytes) → bad1 m ≡ false → bad2 m ≡ false → cellCount m ≤ 2000
@@ -57,21 +58,21 @@ ownEntry l e = eqb (e .local) l && eqb (e .layer) 0
 ends-rise : (n own : ℕ) (e c : ℕ → ℕ) → ((j : ℕ) → j ≤ n → e j ≡ own + total 1 j c) → rises n e ≡ true
 ends-rise n own e c f = rises-intro n e (λ j h. omega (arith, f j (omega arith), f (j + 1) (omega arith), total-turn 1 c j))
 
-module _ (I : Inputs) (R : Ready I) (i : ℕ) (part : Part (I .parts) i) where
+module _ (I : Inputs) (R : Ready I) (i : ℕ) (part : Part (I .split .parts) i) where
   abbrev S : Split
-  S = splitIn I
+  S = splitIn (I .split)
 
   abbrev order : List ℕ
-  order = locals (splitIn I) i
+  order = locals (splitIn (I .split)) i
 
   abbrev n : ℕ
-  n = steps (I .stencil)
+  n = steps (I .split .stencil)
 
   abbrev v : Bytes
-  v = I .weights
+  v = I .rule .weights
 
   abbrev k : ℕ
-  k = I .kind
+  k = I .rule .kind
 
   abbrev st : Bytes
   st = frontIn I i
@@ -87,9 +88,9 @@ module _ (I : Inputs) (R : Ready I) (i : ℕ) (part : Part (I .parts) i) where
   order-few =
       omega (
         arith,
-        local-held S (reach-inside I R) (owner-inside I R) (split-own (I .mesh) (I .parts) (mapIn I) (I .stencil)) i,
-        picked-length-le (firstCell (I .mesh)) (holds S i) (cellCount (I .mesh)),
-        cells-few (I .mesh) (mesh-sized (I .mesh) (R .mesh-good) .0) (mesh-sized (I .mesh) (R .mesh-good) .1),
+        local-held S (reach-inside I R) (owner-inside I R) (split-own (I .split .mesh) (I .split .parts) (I .split .owners) (I .split .stencil)) i,
+        picked-length-le (firstCell (I .split .mesh)) (holds S i) (cellCount (I .split .mesh)),
+        cells-few (I .split .mesh) (mesh-sized (I .split .mesh) (R .mesh-good) .0) (mesh-sized (I .split .mesh) (R .mesh-good) .1),
       )
 
   import-rises : rises 16 (importEnd st) ≡ true
@@ -139,7 +140,7 @@ module _ (I : Inputs) (R : Ready I) (i : ℕ) (part : Part (I .parts) i) where
 
     near-layers : All (λ e. (e .layer % 2 ≡ 0) × (e .layer ≤ n)) near
     unfolding splitOf
-    near-layers = reach-layers (I .mesh) (I .stencil) (globalOf order l) (R .stencil-good)
+    near-layers = reach-layers (I .split .mesh) (I .split .stencil) (globalOf order l) (R .stencil-good)
 
     near-fine : (t : ℕ) → t < length near → fineEntry (heldCount st) (stepCount st) (toLocalOf (getD near t (record { cell = 0; layer = 0 }))) ≡ true
     near-fine t lt =
@@ -162,7 +163,7 @@ module _ (I : Inputs) (R : Ready I) (i : ℕ) (part : Part (I .parts) i) where
         let d : Near = record { cell = 0; layer = 0 } in
         let c : ℕ = globalOf order l in
         let o = own-is S i l h q in
-        let t = reach-own (I .mesh) (I .stencil) (globalOf order l) (o .0 .0) (o .0 .1) in
+        let t = reach-own (I .split .mesh) (I .split .stencil) (globalOf order l) (o .0 .0) (o .0 .1) in
         let e : getD (map toLocalOf near) (t .0) (toLocalOf d) ≡ toLocalOf (record { cell = globalOf order l; layer = 0 }) =
         getD-map-any toLocalOf near (t .0) d (toLocalOf d) (t .1) ∙ ap toLocalOf (t .2) in
         rw (reach-back S i order n k v (order-full I R i) l h q)
@@ -213,10 +214,10 @@ module _ (I : Inputs) (R : Ready I) (i : ℕ) (part : Part (I .parts) i) where
   lists-fine : allOf (listsTests st) ≡ true
   unfolding listsTests
   lists-fine =
-      let even : stepCount st % 2 ≡ 0 = ap (λ x. x % 2) (steps-back S i order n k v) ∙ steps-even (top (I .mesh)) (I .stencil) (R .stencil-good) in
+      let even : stepCount st % 2 ≡ 0 = ap (λ x. x % 2) (steps-back S i order n k v) ∙ steps-even (top (I .split .mesh)) (I .split .stencil) (R .stencil-good) in
       let rule : bad11 (ruleKind st) (stepCount st) (weights st) ≡ false =
       ap₂ (λ x y. bad11 x y (weights st)) (kind-back S i order n k v) (steps-back S i order n k v)
-      ∙ ap (bad11 (I .kind) n) (weights-back S i order n k v (R .rule) (R .short))
+      ∙ ap (bad11 (I .rule .kind) n) (weights-back S i order n k v (R .rule) (R .short))
       ∙ R .rule in
       let few : heldCount st ≤ 2000 = omega (arith, held-is, order-few) in
       let short : stepCount st ≤ 8 = omega (arith, steps-back S i order n k v, R .short) in
@@ -268,7 +269,7 @@ module _ (I : Inputs) (R : Ready I) (i : ℕ) (part : Part (I .parts) i) where
     unfolding depthIn schemeOf
     state-fine l h q =
         subst Fine (sym (state-depth I i tail l h (omega (arith, held-is))))
-        (rw depth-four (field-depth (cellCount (I .mesh)) (I .field) (R .field-good) (globalOf order l - firstCell (I .mesh))))
+        (rw depth-four (field-depth (cellCount (I .split .mesh)) (I .field) (R .field-good) (globalOf order l - firstCell (I .split .mesh))))
 
     changes-fine : allOf (dynamicTests b (length st) (heldCount st)) ≡ true
     unfolding dynamicTests
@@ -297,7 +298,7 @@ module _ (I : Inputs) (R : Ready I) (i : ℕ) (part : Part (I .parts) i) where
         changes-fine)
 
 -- an accepted start leaves a state
-pub start-kept : (I : Inputs) (i : ℕ) (buffer : Bytes) → startNumberIn I i buffer ≡ 0 → isState (startStateIn I i buffer) ≡ true
+pub start-kept : (I : Inputs) (i : ℕ) (buffer : Bytes) → startNumber I i buffer ≡ 0 → isState (startState I i buffer) ≡ true
 start-kept I i buffer e = let f = started-facts I i buffer e in rw (start-is I i buffer e) (begun I (f .inputs) i (f .part) _)
 
 -- "Start and accepted calls always leave one."

@@ -8,7 +8,7 @@ use Rattle.vocabulary.specs.Bytes.{Bytes}
 use Rattle.vocabulary.specs.Ranges.{total}
 use Rattle.mesh.specs.Mesh.{cellCount}
 use Rattle.split.specs.Split.{Split, splitOf, exports, ownerAt}
-use Rattle.split.specs.Lists.{sizeTests}
+use Rattle.split.specs.Lists.{splitIn, sizeTests}
 use Rattle.split.specs.SplitLaws.{split-parted, split-fine, map-facts, split-reach, split-own, split-owner, order-length, local-held, export-total}
 use Rattle.starts.specs.Start.{reachEnds, exportEnds, listsLong, stateSize, sizeNumber}
 use Rattle.runs.specs.Run.{StateBound}
@@ -21,9 +21,13 @@ exports-few m owners st parts i few f = export-total (splitOf m parts owners st)
 
 pub state-bound : StateBound
 unfolding StateBound sizeNumber stateSize listsLong reachEnds exportEnds
-state-bound m owners st parts i e =
-    let S : Split = splitOf m parts owners st in
-    let a = split-parted m parts owners (i ∷ []) st (sizeTests m parts owners st) e in
+state-bound D i e =
+    let m : Bytes = D .mesh in
+    let parts : ℕ = D .parts in
+    let owners : Bytes = D .owners in
+    let st : Bytes = D .stencil in
+    let S : Split = splitIn D in
+    let a = split-parted m parts owners (i ∷ []) st (sizeTests D) e in
     let b = map-facts m parts owners (i ∷ []) (split-fine m parts owners (i ∷ []) st (a .0) .map) in
     omega (
       arith,

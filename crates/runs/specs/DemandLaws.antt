@@ -17,8 +17,8 @@ use Rattle.mesh.specs.Mesh.{cellCount}
 use Rattle.round.specs.Rounds.{schemeOf, undivided}
 use Rattle.round.specs.RoundLaws.{field-length, undivided-good}
 use Rattle.states.specs.State.{isState}
-use Rattle.starts.specs.Start.{firstState}
-use Rattle.runs.specs.Run.{Inputs, schemeIn, startNumberIn, startStateIn, begin, Run, collectsOf, Right, Gathered, RunTheorem}
+use Rattle.starts.specs.Start.{firstState, Inputs, schemeIn, startNumber, startState}
+use Rattle.runs.specs.Run.{begin, Run, collectsOf, Right, Gathered, RunTheorem}
 use Rattle.runs.specs.WorldLaws.{Holds, Inv, run-inv}
 use Rattle.runs.specs.StartLaws.{Ready, started-facts, frontIn, start-is, begin-good, parted}
 
@@ -34,14 +34,14 @@ module _ (I : Inputs) (r : Run I) where
   -- every state begins right, and a number that is no part has none
   begin-holds : (i : ℕ) → Holds I (frontIn I) i 0 (begin I (r .buffers) .states i)
   unfolding begin
-  begin-holds i = go (isUpTo (I .parts) i) refl
+  begin-holds i = go (isUpTo (I .split .parts) i) refl
     where
-      go : (t : Bool) → isUpTo (I .parts) i ≡ t → Holds I (frontIn I) i 0 (cond t (startStateIn I i (r .buffers i)) [])
+      go : (t : Bool) → isUpTo (I .split .parts) i ≡ t → Holds I (frontIn I) i 0 (cond t (startState I i (r .buffers i)) [])
       go true e = λ s.
-          let p = upTo-true (I .parts) i e in
-          let n : startNumberIn I i (r .buffers i) ≡ 0 = r .started i (p .0) (p .1) in (
+          let p = upTo-true (I .split .parts) i e in
+          let n : startNumber I i (r .buffers i) ≡ 0 = r .started i (p .0) (p .1) in (
             p,
-            rw (start-is I i (r .buffers i) n) (begin-good I i inputs (drop (length (firstState (I .mesh) (I .parts) (I .owners) i (I .stencil) (I .kind) (I .weights) (I .field))) (r .buffers i))),
+            rw (start-is I i (r .buffers i) n) (begin-good I i inputs (drop (length (firstState I i)) (r .buffers i))),
           )
       go false e = λ s. absurd (false≢true (sym none-state ∙ s))
 
@@ -52,14 +52,15 @@ module _ (I : Inputs) (r : Run I) where
   collects-right : All (Right I) (collectsOf r)
   collects-right = run-inv I (frontIn I) (parted I inputs) (begin I (r .buffers)) (r .calls) (r .honest) begin-inv .gave
 
-  undivided-length : (k : ℕ) → length (undivided (schemeIn I) (I .field) k) ≡ 4 * cellCount (I .mesh)
+  undivided-length : (k : ℕ) → length (undivided (schemeIn I) (I .field) k) ≡ 4 * cellCount (I .split .mesh)
   unfolding schemeOf
   undivided-length k =
-      field-length (cellCount (I .mesh)) (undivided (schemeIn I) (I .field) k) (undivided-good (I .mesh) (I .stencil) (I .kind) (I .weights) (I .field) k (inputs .field-good))
+      field-length (cellCount (I .split .mesh)) (undivided (schemeIn I) (I .field) k)
+      (undivided-good (I .split .mesh) (I .split .stencil) (I .rule .kind) (I .rule .weights) (I .field) k (inputs .field-good))
 
   gathered-whole : (k : ℕ) (G : Bytes) → Gathered I (collectsOf r) k G → G ≡ undivided (schemeIn I) (I .field) k
   gathered-whole k G v =
-      fours-same (cellCount (I .mesh)) G (undivided (schemeIn I) (I .field) k) (v .long) (undivided-length k)
+      fours-same (cellCount (I .split .mesh)) G (undivided (schemeIn I) (I .field) k) (v .long) (undivided-length k)
       (λ c h.
       let e = v .collected c h in
       let q : Right I (e .0) = mem-all (Right I) (collectsOf r) (e .1) collects-right in
@@ -69,7 +70,7 @@ pub run-theorem : RunTheorem
 run-theorem = record {
   each-collect = collects-right;
   whole-field = gathered-whole;
-  two-runs = λ I J mesh stencil kind weights r s k G H g h.
+  two-runs = λ I J mesh stencil rule r s k G H g h.
       let p = gathered-whole I r k G g in
       let q = gathered-whole J s k H h in
       (λ e. sym p ∙ e ∙ q, λ e. p ∙ e ∙ sym q);

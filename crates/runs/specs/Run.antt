@@ -11,12 +11,13 @@ use Rattle.vocabulary.specs.Lists.{All}
 use Rattle.vocabulary.specs.Bytes.{Bytes, byteAt}
 use Rattle.depths.specs.Depths.{four}
 use Rattle.mesh.specs.Mesh.{cellCount}
-use Rattle.round.specs.Rounds.{Scheme, schemeOf, undivided}
+use Rattle.round.specs.Rounds.{undivided}
 use Rattle.messages.specs.Messages.{read, reading}
-use Rattle.split.specs.Split.{Split, splitOf, ownerAt, owned, held, exports, locals, globalOf}
+use Rattle.split.specs.Split.{Split, ownerAt, owned, held, exports, locals, globalOf}
 use Rattle.states.specs.State.{isState}
 use Rattle.parts.specs.Calls.{writeNumber, sentMessage, message, writeState, writeOut, takeNumber, takeState, advanceNumber, advanceState, collectNumber, collectOut}
-use Rattle.starts.specs.Start.{startNumber, startState, sizeNumber, stateSize}
+use Rattle.split.specs.Lists.{SplitInput, splitIn}
+use Rattle.starts.specs.Start.{Inputs, schemeIn, startNumber, startState, sizeNumber, stateSize}
 
 -- "Each call is on one part, and gets that part's state". The first number is the part; a write is lent an output, a take is handed any bytes,
 -- a collect names a round and is lent a field.
@@ -94,40 +95,14 @@ unfoldable pub Honest : World → List Call → Type 0
 Honest w [] = Unit {0}
 Honest w (c ∷ cs) = Fair w c × Honest (step w c) cs
 
--- what every part of a run is started from, but for its number
-pub record Inputs : Type 0 where
-  pub mesh : Bytes
-  pub parts : ℕ
-  pub owners : Bytes
-  pub stencil : Bytes
-  pub kind : ℕ
-  pub weights : Bytes
-  pub field : Bytes
-
-abbrev pub schemeIn : Inputs → Scheme
-schemeIn I = schemeOf (I .mesh) (I .stencil) (I .kind) (I .weights)
-
--- of these inputs: the part map, the owner of the cell of index k, from 0, and the split into parts
-abbrev pub mapIn : Inputs → Bytes
-mapIn I = I .owners
-
 abbrev pub ownerIn : Inputs → ℕ → ℕ
-ownerIn I k = ownerAt (mapIn I) k
-
-abbrev pub splitIn : Inputs → Split
-splitIn I = splitOf (I .mesh) (I .parts) (mapIn I) (I .stencil)
-
-unfoldable pub startNumberIn : Inputs → ℕ → Bytes → ℕ
-startNumberIn I i buffer = startNumber (I .mesh) (I .parts) (I .owners) i (I .stencil) (I .kind) (I .weights) (I .field) buffer
-
-unfoldable pub startStateIn : Inputs → ℕ → Bytes → Bytes
-startStateIn I i buffer = startState (I .mesh) (I .parts) (I .owners) i (I .stencil) (I .kind) (I .weights) (I .field) buffer
+ownerIn I k = ownerAt (I .split .owners) k
 
 -- "Each state is at first as its part's one accepted start left it" in the buffer it was lent. A start reads no other part's state, so all of them
 -- may come first as well as "just before that part's first call". A number that is no part has no state.
 unfoldable pub begin : Inputs → (ℕ → Bytes) → World
 begin I buffers = record {
-  states = λ i. cond (isUpTo (I .parts) i) (startStateIn I i (buffers i)) [];
+  states = λ i. cond (isUpTo (I .split .parts) i) (startState I i (buffers i)) [];
   made = λ i. 0;
   sent = [];
   given = [];
@@ -135,9 +110,9 @@ begin I buffers = record {
 
 -- a run: all parts started, of which there is one at least, and an honest list of calls
 pub record Run (I : Inputs) : Type 0 where
-  pub some-part : 1 ≤ I .parts
+  pub some-part : 1 ≤ I .split .parts
   pub buffers : ℕ → Bytes
-  pub started : (i : ℕ) → 1 ≤ i → i ≤ I .parts → startNumberIn I i (buffers i) ≡ 0
+  pub started : (i : ℕ) → 1 ≤ i → i ≤ I .split .parts → startNumber I i (buffers i) ≡ 0
   pub calls : List Call
   pub honest : Honest (begin I buffers) calls
 
@@ -151,15 +126,15 @@ collectsOf {I} r = run (begin I (r .buffers)) (r .calls) .given
 pub record Right (I : Inputs) (g : Collected) : Type 0 where
   pub rounds : g .round ≡ g .made
   pub long : length (g .field) ≡ length (g .before)
-  pub owned : (c : ℕ) → c < cellCount (I .mesh) → ownerIn I c ≡ g .part
+  pub owned : (c : ℕ) → c < cellCount (I .split .mesh) → ownerIn I c ≡ g .part
       → four (g .field) (4 * c) ≡ four (undivided (schemeIn I) (I .field) (g .round)) (4 * c)
-  pub others : (x : ℕ) → (x / 4 < cellCount (I .mesh) → ownerIn I (x / 4) ≡ g .part → ⊥) → byteAt (g .field) x ≡ byteAt (g .before) x
+  pub others : (x : ℕ) → (x / 4 < cellCount (I .split .mesh) → ownerIn I (x / 4) ≡ g .part → ⊥) → byteAt (g .field) x ≡ byteAt (g .before) x
 
 -- "Its gathered field after k rounds is what all parts collect at round k: at each cell, what an accepted collect of its owner gave, whichever
 -- one if it was repeated."
 pub record Gathered (I : Inputs) (gs : List Collected) (k : ℕ) (G : Bytes) : Type 0 where
-  pub long : length G ≡ 4 * cellCount (I .mesh)
-  pub collected : (c : ℕ) → c < cellCount (I .mesh)
+  pub long : length G ≡ 4 * cellCount (I .split .mesh)
+  pub collected : (c : ℕ) → c < cellCount (I .split .mesh)
       → (g : Collected) × List·Memᴰ g gs × (g .part ≡ ownerIn I c) × (g .round ≡ k) × (four G (4 * c) ≡ four (g .field) (4 * c))
 
 -- any order of calls on the boards gives the field that one undivided computation gives: each accepted collect is right; a gathered field is
@@ -168,14 +143,14 @@ pub record Gathered (I : Inputs) (gs : List Collected) (k : ℕ) (G : Bytes) : T
 pub record RunTheorem : Type 0 where
   pub each-collect : (I : Inputs) (r : Run I) → All (Right I) (collectsOf r)
   pub whole-field : (I : Inputs) (r : Run I) (k : ℕ) (G : Bytes) → Gathered I (collectsOf r) k G → G ≡ undivided (schemeIn I) (I .field) k
-  pub two-runs : (I J : Inputs) → I .mesh ≡ J .mesh → I .stencil ≡ J .stencil → I .kind ≡ J .kind → I .weights ≡ J .weights
+  pub two-runs : (I J : Inputs) → I .split .mesh ≡ J .split .mesh → I .split .stencil ≡ J .split .stencil → I .rule ≡ J .rule
       → (r : Run I) (s : Run J) (k : ℕ) (G H : Bytes) → Gathered I (collectsOf r) k G → Gathered J (collectsOf s) k H
       → (G ≡ H) ↔ (undivided (schemeIn I) (I .field) k ≡ undivided (schemeIn J) (J .field) k)
 
 -- ---- 20: "Start and accepted calls always leave one." A refused call leaves the state as it was.
 
 pub record StatesKept : Type 0 where
-  pub started : (I : Inputs) (i : ℕ) (buffer : Bytes) → startNumberIn I i buffer ≡ 0 → isState (startStateIn I i buffer) ≡ true
+  pub started : (I : Inputs) (i : ℕ) (buffer : Bytes) → startNumber I i buffer ≡ 0 → isState (startState I i buffer) ≡ true
   pub written : (b out : Bytes) (j : ℕ) → isState b ≡ true → isState (writeState b j out) ≡ true
   pub taken : (b x : Bytes) → isState b ≡ true → isState (takeState b x) ≡ true
   pub advanced : (b : Bytes) → isState b ≡ true → isState (advanceState b) ≡ true
@@ -183,10 +158,9 @@ pub record StatesKept : Type 0 where
 -- "A state needs at most 200 + 40 × (held cells + reach sizes of owned cells + export entries) bytes"
 unfoldable pub StateBound : Type 0
 StateBound =
-    (m owners st : Bytes) (parts i : ℕ) → sizeNumber m parts owners i st ≡ 0
-    → let S : Split = splitOf m parts owners st in
-    stateSize m parts owners i st
-    ≤ 200 + 40 * (length (held S i) + total 1 (length (owned S i)) (λ l. length (S .reach (globalOf (locals S i) l))) + total 1 parts (λ j. length (exports S i j)))
+    (D : SplitInput) (i : ℕ) → sizeNumber D i ≡ 0 → let S : Split = splitIn D in
+    stateSize D i
+    ≤ 200 + 40 * (length (held S i) + total 1 (length (owned S i)) (λ l. length (S .reach (globalOf (locals S i) l))) + total 1 (D .parts) (λ j. length (exports S i j)))
 
 -- ---- demand 2: "A message written is read back as the same depths, and no other bytes are read as that message."
 

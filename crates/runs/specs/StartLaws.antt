@@ -28,46 +28,46 @@ use Rattle.mesh.specs.WalkLaws.{steps-few}
 use Rattle.rules.specs.Rules.{newDepth, bad11}
 use Rattle.round.specs.Rounds.{schemeOf, depthIn, undivided, bad14}
 use Rattle.split.specs.Split.{Split, splitOf, owned, imports, exports, locals, localOf, globalOf}
-use Rattle.split.specs.Lists.{sizeTests}
+use Rattle.split.specs.Lists.{sizeTests, splitIn}
 use Rattle.split.specs.SplitLaws.{split-parted, split-fine, sizes-parted, map-facts, split-reach, split-owner, Cell, order-length, own-is, own-has}
 use Rattle.split.specs.SplitLaws.{own-local, local-back, own-first, import-own, import-at, local-cases, reach-held, import-total, ownCells, own-count}
 use Rattle.states.specs.State.{LocalNear, Lists, listsIn, dynamic, roundAt, takenPlace, depthPlace, stateLength}
-use Rattle.starts.specs.Start.{ownedIn, importEnds, listsRegions, stateSize, firstState, lastTests, startTests, startNumber, startState}
+use Rattle.starts.specs.Start.{ownedIn, importEnds, listsRegions, stateSize, firstState, lastTests, startNumber, startState, Inputs, schemeIn}
 use Rattle.runs.specs.FormLaws.{front, words-length, front-length, part-back, kind-back, first-back, cells-back, owned-back, held-back, global-back, import-back, reach-back}
 use Rattle.runs.specs.FormLaws.{exports-back, weights-back}
-use Rattle.runs.specs.Run.{Inputs, schemeIn, mapIn, ownerIn, splitIn, startNumberIn, startStateIn}
+use Rattle.runs.specs.Run.{ownerIn}
 use Rattle.runs.specs.RunLaws.{Part, Parted, Block, Good, globally}
 use Rattle.runs.specs.WorldLaws.{ownerOf}
 
 -- ---- what an accepted start says of its inputs
 
 pub record Ready (I : Inputs) : Type 0 where
-  pub mesh-good : meshNumber (I .mesh) ≡ 0
-  pub few-parts : I .parts ≤ 16
-  pub owners-in : (k : ℕ) → k < cellCount (I .mesh) → (1 ≤ ownerIn I k) × (ownerIn I k ≤ I .parts)
-  pub stencil-good : bad10 (top (I .mesh)) (I .stencil) ≡ false
-  pub short : steps (I .stencil) ≤ 8
-  pub rule : bad11 (I .kind) (steps (I .stencil)) (I .weights) ≡ false
-  pub field-good : bad14 (cellCount (I .mesh)) (I .field) ≡ false
+  pub mesh-good : meshNumber (I .split .mesh) ≡ 0
+  pub few-parts : I .split .parts ≤ 16
+  pub owners-in : (k : ℕ) → k < cellCount (I .split .mesh) → (1 ≤ ownerIn I k) × (ownerIn I k ≤ I .split .parts)
+  pub stencil-good : bad10 (top (I .split .mesh)) (I .split .stencil) ≡ false
+  pub short : steps (I .split .stencil) ≤ 8
+  pub rule : bad11 (I .rule .kind) (steps (I .split .stencil)) (I .rule .weights) ≡ false
+  pub field-good : bad14 (cellCount (I .split .mesh)) (I .field) ≡ false
 
 pub record Begun (I : Inputs) (i : ℕ) (buffer : Bytes) : Type 0 where
   pub inputs : Ready I
-  pub part : Part (I .parts) i
-  pub room : stateSize (I .mesh) (I .parts) (I .owners) i (I .stencil) ≤ length buffer
+  pub part : Part (I .split .parts) i
+  pub room : stateSize (I .split) i ≤ length buffer
 
-pub started-facts : (I : Inputs) (i : ℕ) (buffer : Bytes) → startNumberIn I i buffer ≡ 0 → Begun I i buffer
-unfolding startNumberIn startNumber startTests
+pub started-facts : (I : Inputs) (i : ℕ) (buffer : Bytes) → startNumber I i buffer ≡ 0 → Begun I i buffer
+unfolding startNumber
 started-facts I i buffer e =
-    let m : Bytes = I .mesh in
-    let st : Bytes = I .stencil in
-    let last : List Test = lastTests m (I .parts) (I .owners) i st (I .kind) (I .weights) (I .field) buffer in
-    let later : List Test = sizeTests m (I .parts) (I .owners) st ++ last in
-    let eleven : Test = refuse 11 (bad11 (I .kind) (steps st) (I .weights)) in
-    let p = split-parted m (I .parts) (I .owners) (i ∷ []) st (eleven ∷ later) e in
+    let m : Bytes = I .split .mesh in
+    let st : Bytes = I .split .stencil in
+    let last : List Test = lastTests I i buffer in
+    let later : List Test = sizeTests (I .split) ++ last in
+    let eleven : Test = refuse 11 (bad11 (I .rule .kind) (steps st) (I .rule .weights)) in
+    let p = split-parted m (I .split .parts) (I .split .owners) (i ∷ []) st (eleven ∷ later) e in
     let q = passed-append (eleven ∷ []) later tt (p .1) in
-    let z = sizes-parted m (I .parts) (I .owners) st last (q .1) in
-    let a = split-fine m (I .parts) (I .owners) (i ∷ []) st (p .0) in
-    let b = map-facts m (I .parts) (I .owners) (i ∷ []) (a .map) in
+    let z = sizes-parted m (I .split .parts) (I .split .owners) st last (q .1) in
+    let a = split-fine m (I .split .parts) (I .split .owners) (i ∷ []) st (p .0) in
+    let b = map-facts m (I .split .parts) (I .split .owners) (i ∷ []) (a .map) in
     record {
       inputs = record {
         mesh-good = a .mesh;
@@ -85,71 +85,72 @@ started-facts I i buffer e =
 -- ---- the lists of all parts are as a run needs them
 
 abbrev pub orderIn : Inputs → ℕ → List ℕ
-orderIn I i = locals (splitIn I) i
+orderIn I i = locals (splitIn (I .split)) i
 
 -- the bytes of the lists of part i
 abbrev pub frontIn : Inputs → ℕ → Bytes
-frontIn I i = front (splitIn I) i (locals (splitIn I) i) (steps (I .stencil)) (I .kind) (I .weights)
+frontIn I i = front (splitIn (I .split)) i (locals (splitIn (I .split)) i) (steps (I .split .stencil)) (I .rule .kind) (I .rule .weights)
 
 module _ (I : Inputs) (R : Ready I) where
-  pub reach-inside : (c : ℕ) → Cell (splitIn I) c → All (λ e. Cell (splitIn I) (e .cell)) (splitIn I .reach c)
-  reach-inside = split-reach (I .mesh) (I .parts) (mapIn I) (I .stencil)
+  pub reach-inside : (c : ℕ) → Cell (splitIn (I .split)) c → All (λ e. Cell (splitIn (I .split)) (e .cell)) (splitIn (I .split) .reach c)
+  reach-inside = split-reach (I .split .mesh) (I .split .parts) (I .split .owners) (I .split .stencil)
 
-  pub owner-inside : (c : ℕ) → Cell (splitIn I) c → (1 ≤ splitIn I .owner c) × (splitIn I .owner c ≤ splitIn I .parts)
-  owner-inside = split-owner (I .mesh) (I .parts) (mapIn I) (I .stencil) (R .owners-in)
+  pub owner-inside : (c : ℕ) → Cell (splitIn (I .split)) c → (1 ≤ splitIn (I .split) .owner c) × (splitIn (I .split) .owner c ≤ splitIn (I .split) .parts)
+  owner-inside = split-owner (I .split .mesh) (I .split .parts) (I .split .owners) (I .split .stencil) (R .owners-in)
 
-  split-few : splitIn I .parts ≤ 16
+  split-few : splitIn (I .split) .parts ≤ 16
   unfolding splitOf
   split-few = R .few-parts
 
   -- the table of imports ends with all held cells
-  pub order-full : (i : ℕ) → importEnds (splitIn I) i (orderIn I i) 16 ≡ length (orderIn I i)
+  pub order-full : (i : ℕ) → importEnds (splitIn (I .split)) i (orderIn I i) 16 ≡ length (orderIn I i)
   unfolding importEnds
   order-full i =
-      ap (λ n. ownedIn (splitIn I) i + n) (import-total (splitIn I) reach-inside owner-inside i split-few) ∙ sym (order-length (splitIn I) i)
+      ap (λ n. ownedIn (splitIn (I .split)) i + n) (import-total (splitIn (I .split)) reach-inside owner-inside i split-few) ∙ sym (order-length (splitIn (I .split)) i)
 
-  import-fits : (i j t : ℕ) → 1 ≤ j → j ≤ splitIn I .parts → t < length (imports (splitIn I) i j)
-      → ownedIn (splitIn I) i + total 1 (j - 1) (λ k. length (imports (splitIn I) i k)) + 1 + t ≤ length (orderIn I i)
+  import-fits : (i j t : ℕ) → 1 ≤ j → j ≤ splitIn (I .split) .parts → t < length (imports (splitIn (I .split)) i j)
+      → ownedIn (splitIn (I .split)) i + total 1 (j - 1) (λ k. length (imports (splitIn (I .split)) i k)) + 1 + t ≤ length (orderIn I i)
   import-fits i j t h k q =
       let p : 1 + (j - 1) ≡ j = omega arith in
-      let f : total 1 (j - 1) (λ k. length (imports (splitIn I) i k)) + length (imports (splitIn I) i (1 + (j - 1))) ≤ total 1 (splitIn I .parts) (λ k. length (imports (splitIn I) i k)) =
-      total-fit 1 (λ k. length (imports (splitIn I) i k)) (splitIn I .parts) (j - 1) (omega arith) in
-      let s : length (imports (splitIn I) i (1 + (j - 1))) ≡ length (imports (splitIn I) i j) = ap (λ x. length (imports (splitIn I) i x)) p in
-      omega (arith, order-length (splitIn I) i)
+      let f : total 1 (j - 1) (λ k. length (imports (splitIn (I .split)) i k)) + length (imports (splitIn (I .split)) i (1 + (j - 1)))
+      ≤ total 1 (splitIn (I .split) .parts) (λ k. length (imports (splitIn (I .split)) i k)) =
+      total-fit 1 (λ k. length (imports (splitIn (I .split)) i k)) (splitIn (I .split) .parts) (j - 1) (omega arith) in
+      let s : length (imports (splitIn (I .split)) i (1 + (j - 1))) ≡ length (imports (splitIn (I .split)) i j) = ap (λ x. length (imports (splitIn (I .split)) i x)) p in
+      omega (arith, order-length (splitIn (I .split)) i)
 
   module _ (i : ℕ) where
     abbrev S : Split
-    S = splitIn I
+    S = splitIn (I .split)
 
     abbrev order : List ℕ
-    order = locals (splitIn I) i
+    order = locals (splitIn (I .split)) i
 
     abbrev L : Lists
     L = listsIn (frontIn I i)
 
     pub lists-owned : L .owned ≡ ownedIn S i
     unfolding listsIn
-    lists-owned = owned-back S i order (steps (I .stencil)) (I .kind) (I .weights)
+    lists-owned = owned-back S i order (steps (I .split .stencil)) (I .rule .kind) (I .rule .weights)
 
     pub lists-held : L .held ≡ length order
     unfolding listsIn
-    lists-held = held-back S i order (steps (I .stencil)) (I .kind) (I .weights) (order-full i)
+    lists-held = held-back S i order (steps (I .split .stencil)) (I .rule .kind) (I .rule .weights) (order-full i)
 
     owned-held : ownedIn S i ≤ length order
     owned-held = omega (arith, order-length S i)
 
     pub lists-global : (l : ℕ) → 1 ≤ l → l ≤ length order → L .global l ≡ globalOf order l
     unfolding listsIn
-    lists-global l h k = global-back S i order (steps (I .stencil)) (I .kind) (I .weights) l h k
+    lists-global l h k = global-back S i order (steps (I .split .stencil)) (I .rule .kind) (I .rule .weights) l h k
 
     pub lists-reach : (l : ℕ) → 1 ≤ l → l ≤ ownedIn S i
         → L .reach l ≡ map (λ e. record { local = localOf order (e .cell); layer = e .layer }) (S .reach (globalOf order l))
     unfolding listsIn
-    lists-reach l h k = reach-back S i order (steps (I .stencil)) (I .kind) (I .weights) (order-full i) l h k
+    lists-reach l h k = reach-back S i order (steps (I .split .stencil)) (I .rule .kind) (I .rule .weights) (order-full i) l h k
 
     pub lists-before : (j : ℕ) → 1 ≤ j → j ≤ 16 → L .before j ≡ ownedIn S i + total 1 (j - 1) (λ k. length (imports S i k))
     unfolding listsIn importEnds
-    lists-before j h k = import-back S i order (steps (I .stencil)) (I .kind) (I .weights) (j - 1) (omega arith)
+    lists-before j h k = import-back S i order (steps (I .split .stencil)) (I .rule .kind) (I .rule .weights) (j - 1) (omega arith)
 
     pub lists-imported : (j : ℕ) → 1 ≤ j → j ≤ 16 → L .imported j ≡ length (imports S i j)
     unfolding listsIn importEnds
@@ -157,18 +158,19 @@ module _ (I : Inputs) (R : Ready I) where
         let t : total 1 j (λ k. length (imports S i k)) ≡ total 1 (j - 1) (λ k. length (imports S i k)) + length (imports S i j) = total-last (λ k. length (imports S i k)) j h in
         omega (
           arith,
-          import-back S i order (steps (I .stencil)) (I .kind) (I .weights) (j - 1) (omega arith),
-          import-back S i order (steps (I .stencil)) (I .kind) (I .weights) j k,
+          import-back S i order (steps (I .split .stencil)) (I .rule .kind) (I .rule .weights) (j - 1) (omega arith),
+          import-back S i order (steps (I .split .stencil)) (I .rule .kind) (I .rule .weights) j k,
         )
 
     pub lists-exports : (j : ℕ) → 1 ≤ j → j ≤ 16 → L .exports j ≡ map (localOf order) (exports S i j)
     unfolding listsIn
-    lists-exports j h k = exports-back S i order (steps (I .stencil)) (I .kind) (I .weights) (order-full i) j h k
+    lists-exports j h k = exports-back S i order (steps (I .split .stencil)) (I .rule .kind) (I .rule .weights) (order-full i) j h k
 
-    pub lists-new : L .new ≡ newDepth (I .kind) (I .weights)
+    pub lists-new : L .new ≡ newDepth (I .rule .kind) (I .rule .weights)
     unfolding listsIn
     lists-new =
-        ap₂ newDepth (kind-back S i order (steps (I .stencil)) (I .kind) (I .weights)) (weights-back S i order (steps (I .stencil)) (I .kind) (I .weights) (R .rule) (R .short))
+        ap₂ newDepth (kind-back S i order (steps (I .split .stencil)) (I .rule .kind) (I .rule .weights))
+        (weights-back S i order (steps (I .split .stencil)) (I .rule .kind) (I .rule .weights) (R .rule) (R .short))
 
     -- an owned cell
     owned-is : (l : ℕ) → 1 ≤ l → l ≤ L .owned → Cell S (L .global l) × (S .owner (L .global l) ≡ i)
@@ -239,7 +241,7 @@ module _ (I : Inputs) (R : Ready I) where
         (All-map (exports S i j) (λ c a. (local-least c, omega (arith, own-local S i c a .0, lists-owned))) (import-own S j i)))
 
     -- the t-th cell imported from j is the t-th that j exports here
-    lists-import : (j t : ℕ) → 1 ≤ j → j ≤ I .parts → t < L .imported j → L .global (L .before j + 1 + t) ≡ getD (imports S i j) t 0
+    lists-import : (j t : ℕ) → 1 ≤ j → j ≤ I .split .parts → t < L .imported j → L .global (L .before j + 1 + t) ≡ getD (imports S i j) t 0
     unfolding splitOf
     lists-import j t h k l =
         let few : j ≤ 16 = omega (arith, R .few-parts) in
@@ -250,25 +252,25 @@ module _ (I : Inputs) (R : Ready I) where
         ∙ lists-global n (omega arith) (import-fits i j t h k q)
         ∙ import-at S i j t h k q
 
-  pub parted : Parted (schemeIn I) (ownerOf I) (I .parts) (λ i. listsIn (frontIn I i))
+  pub parted : Parted (schemeIn I) (ownerOf I) (I .split .parts) (λ i. listsIn (frontIn I i))
   unfolding schemeOf splitOf
   parted = record {
-    part-is = λ i p. unfold listsIn in (part-back (splitIn I) i (orderIn I i) (steps (I .stencil)) (I .kind) (I .weights));
-    first-is = λ i p. unfold listsIn in (first-back (splitIn I) i (orderIn I i) (steps (I .stencil)) (I .kind) (I .weights));
-    cells-are = λ i p. unfold listsIn in (cells-back (splitIn I) i (orderIn I i) (steps (I .stencil)) (I .kind) (I .weights));
+    part-is = λ i p. unfold listsIn in (part-back (splitIn (I .split)) i (orderIn I i) (steps (I .split .stencil)) (I .rule .kind) (I .rule .weights));
+    first-is = λ i p. unfold listsIn in (first-back (splitIn (I .split)) i (orderIn I i) (steps (I .split .stencil)) (I .rule .kind) (I .rule .weights));
+    cells-are = λ i p. unfold listsIn in (cells-back (splitIn (I .split)) i (orderIn I i) (steps (I .split .stencil)) (I .rule .kind) (I .rule .weights));
     new-is = λ i p. lists-new i;
     owned-cell = λ i p l h k. owned-is i l h k .0;
     owned-owner = λ i p l h k. owned-is i l h k .1;
     holder = λ i p c h e.
-        let a = own-has (splitIn I) i c h e in
-        let q : a .place + 1 ≤ ownedIn (splitIn I) i = omega (arith, a .place-lt, own-count (splitIn I) i) in
+        let a = own-has (splitIn (I .split)) i c h e in
+        let q : a .place + 1 ≤ ownedIn (splitIn (I .split)) i = omega (arith, a .place-lt, own-count (splitIn (I .split)) i) in
         let z : a .place + 1 - 1 ≡ a .place = omega arith in (
           a .place + 1,
           omega arith,
           omega (arith, lists-owned i),
           lists-global i (a .place + 1) (omega arith) (omega (arith, owned-held i))
-              ∙ own-first (splitIn I) i (a .place + 1) (omega arith) q
-              ∙ ap (λ n. getD (ownCells (splitIn I) i) n 0) z
+              ∙ own-first (splitIn (I .split)) i (a .place + 1) (omega arith) q
+              ∙ ap (λ n. getD (ownCells (splitIn (I .split)) i) n 0) z
               ∙ a .place-is,
         );
     near-held = λ i p. lists-near-held i;
@@ -278,10 +280,10 @@ module _ (I : Inputs) (R : Ready I) where
     agree = λ i j t p q l.
         let few : j ≤ 16 = omega (arith, q .1, R .few-parts) in
         let one : i ≤ 16 = omega (arith, p .1, R .few-parts) in
-        let lt : t < length (imports (splitIn I) i j) = omega (arith, lists-imported i j (q .0) few) in
-        let c : ℕ = getD (imports (splitIn I) i j) t 0 in
-        let a = All-getD (λ c. At c (ownCells (splitIn I) j)) (imports (splitIn I) i j) t 0 (import-own (splitIn I) i j) lt in
-        let b = own-local (splitIn I) j (getD (imports (splitIn I) i j) t 0) a in
+        let lt : t < length (imports (splitIn (I .split)) i j) = omega (arith, lists-imported i j (q .0) few) in
+        let c : ℕ = getD (imports (splitIn (I .split)) i j) t 0 in
+        let a = All-getD (λ c. At c (ownCells (splitIn (I .split)) j)) (imports (splitIn (I .split)) i j) t 0 (import-own (splitIn (I .split)) i j) lt in
+        let b = own-local (splitIn (I .split)) j (getD (imports (splitIn (I .split)) i j) t 0) a in
         lists-import i j t (q .0) (q .1) l
         ∙ sym (ap (listsIn (frontIn I j) .global) (lists-export-at j i t (p .0) one lt)
         ∙ lists-global j (localOf (orderIn I j) c) (local-least j c) (omega (arith, b .0, owned-held j))
@@ -328,10 +330,10 @@ module _ (I : Inputs) (i : ℕ) where
     pub state-dynamic : dynamic stateOf ≡ length (frontIn I i)
     unfolding listsRegions joined
     state-dynamic =
-        let ws : List ℕ = joined (listsRegions (splitIn I) i (orderIn I i) (steps (I .stencil)) (I .kind) (I .weights)) in
+        let ws : List ℕ = joined (listsRegions (splitIn (I .split)) i (orderIn I i) (steps (I .split .stencil)) (I .rule .kind) (I .rule .weights)) in
         ap (λ n. 2 * n)
-        (wordAt-first ws behind 0 (omega (arith, words-length (splitIn I) i (orderIn I i) (steps (I .stencil)) (I .kind) (I .weights))))
-        ∙ sym (front-length (splitIn I) i (orderIn I i) (steps (I .stencil)) (I .kind) (I .weights))
+        (wordAt-first ws behind 0 (omega (arith, words-length (splitIn (I .split)) i (orderIn I i) (steps (I .split .stencil)) (I .rule .kind) (I .rule .weights))))
+        ∙ sym (front-length (splitIn (I .split)) i (orderIn I i) (steps (I .split .stencil)) (I .rule .kind) (I .rule .weights))
 
     pub state-front : take (length (frontIn I i)) stateOf ≡ frontIn I i
     state-front = take-append-seam (frontIn I i) behind
@@ -370,11 +372,11 @@ module _ (I : Inputs) (i : ℕ) where
         ∙ ap depthOfLocal p
 
   -- start leaves it, and after it the rest of the buffer
-  pub start-is : (buffer : Bytes) → startNumberIn I i buffer ≡ 0
-      → startStateIn I i buffer ≡ stateOf (drop (length (firstState (I .mesh) (I .parts) (I .owners) i (I .stencil) (I .kind) (I .weights) (I .field))) buffer)
-  unfolding startStateIn startState startNumberIn firstState
+  pub start-is : (buffer : Bytes) → startNumber I i buffer ≡ 0
+      → startState I i buffer ≡ stateOf (drop (length (firstState I i)) buffer)
+  unfolding startState startNumber firstState
   start-is buffer e =
-      let first : Bytes = firstState (I .mesh) (I .parts) (I .owners) i (I .stencil) (I .kind) (I .weights) (I .field) in
+      let first : Bytes = firstState I i in
       ap (λ t. cond t (over buffer 0 first) buffer) (eq-eqb _ 0 e)
       ∙ over-front buffer first
       ∙ simp append-assoc
@@ -386,7 +388,7 @@ module _ (I : Inputs) (i : ℕ) where
     front-is = state-front tail;
     round-is = state-round tail;
     owned = λ l h k.
-        let q : l ≤ length (orderIn I i) = omega (arith, lists-owned I R i, order-length (splitIn I) i) in
+        let q : l ≤ length (orderIn I i) = omega (arith, lists-owned I R i, order-length (splitIn (I .split)) i) in
         state-depth tail l h q ∙ ap (depthIn (schemeIn I) (I .field)) (sym (lists-global I R i l h q));
     took = λ j t h k e p.
         let z : takenPlace (length (frontIn I i)) j ≡ length (frontIn I i) + (2 + (j - 1)) = omega arith in

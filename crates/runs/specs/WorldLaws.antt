@@ -27,10 +27,11 @@ use Rattle.messages.specs.Messages.{fromIn, roundIn}
 use Rattle.states.specs.State.{Lists, listsIn, listsOf, dynamic, isState, bad20}
 use Rattle.states.specs.StateLaws.{isStateAt, state-at, whole-is}
 use Rattle.parts.specs.Calls.{exportsTo, messageTo, writeTestsIn, writtenIn, takeTestsIn, takenIn, advanceTestsIn, advancedIn, collectTestsIn, collectedIn, writeNumber, message, writeState, writeOut, takeNumber, takeState, advanceNumber, advanceState, collectNumber, collectOut}
-use Rattle.runs.specs.Run.{Call, write, take-in, advance, collect, World, put, more, step, run, Fair, Honest, Inputs, schemeIn, ownerIn, Right}
+use Rattle.runs.specs.Run.{Call, write, take-in, advance, collect, World, put, more, step, run, Fair, Honest, ownerIn, Right}
 use Rattle.parts.specs.CallLaws.{Room, room-of, taken-facts}
 use Rattle.parts.specs.EffectLaws.{advance-taken, collect-length, collect-owned, collect-others}
 use Rattle.runs.specs.RunLaws.{Part, Parted, Undivided, Good, RightMessage, write-good, write-right, take-good, advance-good}
+use Rattle.starts.specs.Start.{Inputs, schemeIn}
 
 -- the owner of a cell by its global number
 abbrev pub ownerOf : Inputs → ℕ → ℕ
@@ -38,7 +39,7 @@ ownerOf I c = ownerIn I (c - schemeIn I .first)
 
 pub new-is-four : (I : Inputs) (own : Bytes) (os : List Old) → length own ≡ 4 → length (schemeIn I .new own os) ≡ 4
 unfolding schemeOf
-new-is-four I own os h = new-length (I .kind) (I .weights) own os h
+new-is-four I own os h = new-length (I .rule .kind) (I .rule .weights) own os h
 
 -- ---- one more state, one more in a list
 
@@ -100,11 +101,11 @@ module _ (I : Inputs) (front : ℕ → Bytes) where
 
   -- a message that a run may hand on
   abbrev Sound : Bytes → Type 0
-  Sound x = RightMessage (schemeIn I) (I .field) (I .parts) listsAt x
+  Sound x = RightMessage (schemeIn I) (I .field) (I .split .parts) listsAt x
 
   -- what a state holds, if it is one
   abbrev pub Holds : ℕ → ℕ → Bytes → Type 0
-  Holds i rd b = isState b ≡ true → Part (I .parts) i × GoodAt i rd b
+  Holds i rd b = isState b ≡ true → Part (I .split .parts) i × GoodAt i rd b
 
   pub record Inv (w : World) : Type 0 where
     pub good : (i : ℕ) → Holds i (w .made i) (w .states i)
@@ -129,7 +130,7 @@ module _ (I : Inputs) (front : ℕ → Bytes) where
       subst₂ (λ n st. isStateAt st n b ≡ true) (g .place-is) (ap (λ n. take n b) (g .place-is) ∙ g .front-is) (sym (state-at b) ∙ s) in
       room-of (front i) (length (front i)) b (whole-is (front i) (length (front i)) b e)
 
-  module _ (S : Parted (schemeIn I) (ownerOf I) (I .parts) listsAt) where
+  module _ (S : Parted (schemeIn I) (ownerOf I) (I .split .parts) listsAt) where
     -- ---- write
 
     write-holds : (i rd : ℕ) (b : Bytes) (j : ℕ) (out : Bytes) → Holds i rd b → Holds i rd (writeState b j out)
@@ -155,7 +156,7 @@ module _ (I : Inputs) (front : ℕ → Bytes) where
         let u = write-part b j out n in
         subst Sound (sym (written-is b j out n))
         (turn (λ L d. Sound (messageTo L d b j)) i rd b (g .1)
-        (write-right (schemeIn I) (I .field) (ownerOf I) (I .parts) listsAt S i (g .0) (front i) (length (front i)) rd b j (u .0) (u .1) (g .1)))
+        (write-right (schemeIn I) (I .field) (ownerOf I) (I .split .parts) listsAt S i (g .0) (front i) (length (front i)) rd b j (u .0) (u .1) (g .1)))
 
     -- ---- take
 
@@ -196,13 +197,13 @@ module _ (I : Inputs) (front : ℕ → Bytes) where
             let t = advance-taken (listsAt i) (length (front i)) b (back (λ L d. firstOf (advanceTestsIn L d b) ≡ 0) i rd b (g .1) n) in (
               g .0,
               turn (λ L d. GoodAt i (suc rd) (advancedIn L d b)) i rd b (g .1)
-                  (advance-good (schemeIn I) (I .field) (new-is-four I) (ownerOf I) (I .parts) listsAt S i (g .0) (front i) (length (front i)) rd b (room i rd b s (g .1)) (g .1) t),
+                  (advance-good (schemeIn I) (I .field) (new-is-four I) (ownerOf I) (I .split .parts) listsAt S i (g .0) (front i) (length (front i)) rd b (room i rd b s (g .1)) (g .1) t),
             )
         go false e = h
 
     -- ---- collect
 
-    module _ (i rd : ℕ) (b : Bytes) (part : Part (I .parts) i) (g : GoodAt i rd b)
+    module _ (i rd : ℕ) (b : Bytes) (part : Part (I .split .parts) i) (g : GoodAt i rd b)
         (k : ℕ) (f : Bytes) (e : firstOf (collectTestsIn (listsAt i) (length (front i)) b k f) ≡ 0) where
       abbrev L : Lists
       L = listsIn (front i)
@@ -226,14 +227,14 @@ module _ (I : Inputs) (front : ℕ → Bytes) where
       mine : (l : ℕ) → 1 ≤ l → l ≤ listsAt i .owned → ownerIn I (listsAt i .global l - listsAt i .first) ≡ i
       mine l h q = ap (λ n. ownerIn I (listsAt i .global l - n)) (S .first-is i part) ∙ S .owned-owner i part l h q
 
-      apart : (x : ℕ) → (x / 4 < cellCount (I .mesh) → ownerIn I (x / 4) ≡ i → ⊥) → (l : ℕ) → 1 ≤ l → l ≤ listsAt i .owned
+      apart : (x : ℕ) → (x / 4 < cellCount (I .split .mesh) → ownerIn I (x / 4) ≡ i → ⊥) → (l : ℕ) → 1 ≤ l → l ≤ listsAt i .owned
           → Place (4 * (listsAt i .global l - listsAt i .first)) 4 x
           → (x < 4 * (listsAt i .global l - listsAt i .first)) ⊎ (4 * (listsAt i .global l - listsAt i .first) + 4 ≤ x)
       unfolding schemeOf
       apart x n l h q (below j) = inl j
       apart x n l h q (inside t j p) =
           let c : x / 4 ≡ listsAt i .global l - listsAt i .first = omega arith in
-          absurd (n (subst (λ y. y < cellCount (I .mesh)) (sym c) (index l h q)) (ap (λ y. ownerIn I y) c ∙ mine l h q))
+          absurd (n (subst (λ y. y < cellCount (I .split .mesh)) (sym c) (index l h q)) (ap (λ y. ownerIn I y) c ∙ mine l h q))
       apart x n l h q (above j) = inr j
 
       collect-right : Right I (record { part = i; round = k; made = rd; before = f; field = collectedIn (listsAt i) (length (front i)) b (listsAt i .owned) f })

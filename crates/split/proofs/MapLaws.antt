@@ -18,7 +18,7 @@ use Rattle.mesh.specs.Mesh.{top, firstCell, cellCount, meshNumber}
 use Rattle.mesh.specs.MeshLaws.{mesh-then, mesh-refuses}
 use Rattle.mesh.specs.Walks.{bad10}
 use Rattle.split.specs.Split.{splitOf, ownerAt, owns, owned}
-use Rattle.split.specs.Lists.{bad8, bad9, mapTests, splitTests, splitNumber}
+use Rattle.split.specs.Lists.{bad8, bad9, mapTests, splitTests, splitNumber, splitInput}
 use Rattle.split.specs.Classes.{ownerRight, ownsAt}
 
 pub part-told : (parts i : ℕ) → 1 ≤ i → leb i parts ≡ isUpTo parts i
@@ -134,9 +134,9 @@ module _ (m : Bytes) (parts : ℕ) (owners : Bytes) (i j : ℕ) (st : Bytes) (n 
   split-mesh h = ne ∙ sym (mesh-refuses m _ (λ z. h (ne ∙ z)))
 
   module _ (z : n ≡ 0) where
-    later : splitNumber m parts owners (i ∷ j ∷ []) st ≡ firstOf (mapTests m parts owners (i ∷ j ∷ []) st)
+    later : splitNumber m parts owners (i ∷ j ∷ []) st ≡ firstOf (mapTests (splitInput m parts owners st) (i ∷ j ∷ []))
     unfolding splitNumber splitTests
-    later = mesh-then m (mapTests m parts owners (i ∷ j ∷ []) st) (sym ne ∙ z)
+    later = mesh-then m (mapTests (splitInput m parts owners st) (i ∷ j ∷ [])) (sym ne ∙ z)
 
     eighth : bad8 m parts owners (i ∷ j ∷ []) ≡ true → 8 ≡ splitNumber m parts owners (i ∷ j ∷ []) st
     eighth e = sym (later ∙ ap (λ t. cond t 8 (cond (bad9 (splitOf m parts owners st)) 9 (cond (bad10 (top m) st) 10 0))) e)

@@ -17,10 +17,10 @@ use Rattle.mesh.specs.Accepted.{Accepted}
 use Rattle.mesh.proofs.AcceptedLaws.{accepted-mesh}
 use Rattle.split.specs.Split.{splitOf}
 use Rattle.split.specs.SplitLaws.{split-fine, map-facts}
-use Rattle.split.specs.Lists.{bad8, bad9, splitTests, splitNumber}
+use Rattle.split.specs.Lists.{bad8, bad9, splitTests, splitNumber, splitInput}
 
 -- to name a part twice is to name it once
-pub twice : (m : Bytes) (parts : ℕ) (owners : Bytes) (i : ℕ) (st : Bytes) → splitTests m parts owners (i ∷ i ∷ []) st ≡ splitTests m parts owners (i ∷ []) st
+pub twice : (m : Bytes) (parts : ℕ) (owners : Bytes) (i : ℕ) (st : Bytes) → splitTests (splitInput m parts owners st) (i ∷ i ∷ []) ≡ splitTests (splitInput m parts owners st) (i ∷ [])
 unfolding splitTests bad8 everyOf
 twice m parts owners i st =
     ap (λ b. meshTests m ++ (refuse 8 (not (isUpTo 16 parts) || not b || not (eqb (length owners) (cellCount m)) || not (everyOf owners (isUpTo parts)))
@@ -40,7 +40,7 @@ module _ (m : Bytes) (parts : ℕ) (owners st : Bytes) where
       go true e = ap (λ y. not (y && (y && true))) (upTo-intro parts 1 (omega arith) (upTo-true 16 parts e .0))
       go false e = refl
 
-  pub tests-are : splitTests m parts owners (1 ∷ 1 ∷ []) st ≡ splitTests m parts owners [] st
+  pub tests-are : splitTests (splitInput m parts owners st) (1 ∷ 1 ∷ []) ≡ splitTests (splitInput m parts owners st) []
   unfolding splitTests
   tests-are = ap (λ b. meshTests m ++ (refuse 8 b ∷ refuse 9 (bad9 (splitOf m parts owners st)) ∷ refuse 10 (bad10 (top m) st) ∷ [])) first-part
 

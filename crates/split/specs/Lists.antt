@@ -13,6 +13,8 @@ use Rattle.layout.specs.Answers.{answer, ifAccepted}
 use Rattle.layout.specs.declared.Answer.{Answer}
 use Rattle.mesh.specs.Mesh.{top, cellCount, meshTests}
 use Rattle.mesh.specs.Walks.{bad10, bad13}
+use Rattle.split.specs.declared.Wanted.{Wanted}
+use Rattle.split.specs.declared.Wanted.the-variants.{Interior, Halo, Locals, Imports, Exports, Private, Exposed, Shared, Copied}
 use Rattle.split.specs.Split.{Split, splitOf, owned, held, imports, exports, interior, halo, locals, isPrivate, isExposed, isShared, isCopied, range}
 
 -- "P, the part wanted, an owner or the map's length wrong." A call may name several parts.
@@ -31,67 +33,69 @@ bad9 S = some 1 (S .parts) (λ i. eqb (length (owned S i)) 0)
 unfoldable pub bad12 : Split → Bool
 bad12 S = ltb 4096 (total 1 (S .parts) (λ i. length (held S i)))
 
--- what a call that is given a part map, the numbers of some parts and a stencil tries after the mesh
-abbrev pub mapTests : Bytes → ℕ → Bytes → List ℕ → Bytes → List Test
-mapTests m parts owners named st = refuse 8 (bad8 m parts owners named) ∷ refuse 9 (bad9 (splitOf m parts owners st)) ∷ refuse 10 (bad10 (top m) st) ∷ []
+-- what a mesh is split by: the mesh itself, P and the owners of a part map, and a stencil
+pub record SplitInput : Type 0 where
+  pub mesh : Bytes
+  pub parts : ℕ
+  pub owners : Bytes
+  pub stencil : Bytes
 
--- what a call that is given a mesh as well tries first, and what it tries after 11
-unfoldable pub splitTests : Bytes → ℕ → Bytes → List ℕ → Bytes → List Test
-splitTests m parts owners named st = meshTests m ++ mapTests m parts owners named st
+abbrev pub splitInput : Bytes → ℕ → Bytes → Bytes → SplitInput
+splitInput m parts owners st = record { mesh = m; parts = parts; owners = owners; stencil = st }
 
-unfoldable pub sizeTests : Bytes → ℕ → Bytes → Bytes → List Test
-sizeTests m parts owners st = refuse 12 (bad12 (splitOf m parts owners st)) ∷ refuse 13 (bad13 m st) ∷ []
+abbrev pub splitIn : SplitInput → Split
+splitIn D = splitOf (D .mesh) (D .parts) (D .owners) (D .stencil)
+
+-- what a call that is given these and the numbers of some parts tries after the mesh
+abbrev pub mapTests : SplitInput → List ℕ → List Test
+mapTests D named = refuse 8 (bad8 (D .mesh) (D .parts) (D .owners) named) ∷ refuse 9 (bad9 (splitIn D)) ∷ refuse 10 (bad10 (top (D .mesh)) (D .stencil)) ∷ []
+
+-- what it tries first, and what it tries after 11
+unfoldable pub splitTests : SplitInput → List ℕ → List Test
+splitTests D named = meshTests (D .mesh) ++ mapTests D named
+
+unfoldable pub sizeTests : SplitInput → List Test
+sizeTests D = refuse 12 (bad12 (splitIn D)) ∷ refuse 13 (bad13 (D .mesh) (D .stencil)) ∷ []
 
 -- the numbers of the two, apart
 unfoldable pub splitNumber : Bytes → ℕ → Bytes → List ℕ → Bytes → ℕ
-splitNumber m parts owners named st = firstOf (splitTests m parts owners named st)
+splitNumber m parts owners named st = firstOf (splitTests (splitInput m parts owners st) named)
 
 unfoldable pub sizesNumber : Bytes → ℕ → Bytes → Bytes → ℕ
-sizesNumber m parts owners st = firstOf (sizeTests m parts owners st)
+sizesNumber m parts owners st = firstOf (sizeTests (splitInput m parts owners st))
 
--- the lists of a part that can be asked for: an import or export list names the other part, a range its dimension
-pub data Wanted : Type 0 where
-  interior-cells halo-cells local-order : Wanted
-  imports-from exports-to : ℕ → Wanted
-  private-range exposed-range shared-range copied-range : ℕ → Wanted
-
--- the other part that it names
+-- the other part that a list names
 unfoldable pub others : Wanted → List ℕ
-others interior-cells = []
-others halo-cells = []
-others local-order = []
-others (imports-from j) = j ∷ []
-others (exports-to j) = j ∷ []
-others (private-range k) = []
-others (exposed-range k) = []
-others (shared-range k) = []
-others (copied-range k) = []
+others Interior = []
+others Halo = []
+others Locals = []
+others (Imports j) = j ∷ []
+others (Exports j) = j ∷ []
+others (Private k) = []
+others (Exposed k) = []
+others (Shared k) = []
+others (Copied k) = []
 
 -- the list, for part i
 unfoldable pub listOf : Bytes → Split → ℕ → Wanted → List ℕ
-listOf m S i interior-cells = interior S i
-listOf m S i halo-cells = halo S i
-listOf m S i local-order = locals S i
-listOf m S i (imports-from j) = imports S i j
-listOf m S i (exports-to j) = exports S i j
-listOf m S i (private-range k) = range m k (isPrivate m S i)
-listOf m S i (exposed-range k) = range m k (isExposed m S i)
-listOf m S i (shared-range k) = range m k (isShared m S i)
-listOf m S i (copied-range k) = range m k (isCopied m S i)
+listOf m S i Interior = interior S i
+listOf m S i Halo = halo S i
+listOf m S i Locals = locals S i
+listOf m S i (Imports j) = imports S i j
+listOf m S i (Exports j) = exports S i j
+listOf m S i (Private k) = range m k (isPrivate S i)
+listOf m S i (Exposed k) = range m k (isExposed S i)
+listOf m S i (Shared k) = range m k (isShared S i)
+listOf m S i (Copied k) = range m k (isCopied S i)
 
--- ---- the call: mesh m, P and owners, part i, stencil st, the list wanted, output
+-- ---- the call for a list of part i
 
-module _ (m : Bytes) (parts : ℕ) (owners : Bytes) (i : ℕ) (st : Bytes) (w : Wanted) where
+module _ (D : SplitInput) (i : ℕ) (w : Wanted) where
   unfoldable pub listWords : List ℕ
-  listWords = listOf m (splitOf m parts owners st) i w
-
-  unfoldable pub listTests : Bytes → List Test
-  listTests out =
-      splitTests m parts owners (i ∷ others w) st
-      ++ (sizeTests m parts owners st ++ (refuse 16 (ltb (length out) (2 * length listWords)) ∷ []))
+  listWords = listOf (D .mesh) (splitIn D) i w
 
   unfoldable pub listNumber : Bytes → ℕ
-  listNumber out = firstOf (listTests out)
+  listNumber out = firstOf (splitTests D (i ∷ others w) ++ (sizeTests D ++ (refuse 16 (ltb (length out) (2 * length listWords)) ∷ [])))
 
   -- it gives the count of words
   unfoldable pub listAnswer : Bytes → Answer

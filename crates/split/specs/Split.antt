@@ -8,14 +8,15 @@ use Rattle.vocabulary.specs.Ranges.{picked, some, blocks}
 use Rattle.vocabulary.specs.Lists.{placeOf, someOf, everyOf}
 use Rattle.vocabulary.specs.Bytes.{Bytes, byteAt}
 use Rattle.mesh.specs.Mesh.{top, counted, below, firstCell, cellCount}
-use Rattle.mesh.specs.Walks.{Near, incident, reach}
+use Rattle.mesh.specs.Walks.{Near, reach, cellsAt}
 
 -- what a mesh, a part map and a stencil come to, as far as the lists of the parts go by them: cells from `first` on, the reach and the owner
--- of each, and P
+-- of each, the cells around an element, and P
 pub record Split : Type 0 where
   pub first : ℕ
   pub cells : ℕ
   pub reach : ℕ → List Near
+  pub around : ℕ → List ℕ
   pub owner : ℕ → ℕ
   pub parts : ℕ
 
@@ -29,6 +30,7 @@ splitOf m parts owners st = record {
   first = firstCell m;
   cells = cellCount m;
   reach = reach m st;
+  around = cellsAt m;
   owner = λ c. ownerAt owners (c - firstCell m);
   parts = parts;
 }
@@ -84,18 +86,14 @@ globalOf order l = getD order (l - 1) 0
 
 -- ---- lower elements
 
-module _ (m : Bytes) (S : Split) where
-  -- the cells incident to an element
-  unfoldable pub cellsAt : ℕ → List ℕ
-  cellsAt e = picked (S .first) (S .cells) (incident m e)
-
+module _ (S : Split) where
   -- "A part also holds every lower element incident to a held cell."
   unfoldable pub holdsLower : ℕ → ℕ → Bool
-  holdsLower i e = someOf (cellsAt e) (holds S i)
+  holdsLower i e = someOf (S .around e) (holds S i)
 
   -- "Such an element touches the parts that own a cell incident to it."
   unfoldable pub touches : ℕ → ℕ → Bool
-  touches e i = someOf (cellsAt e) (owns S i)
+  touches e i = someOf (S .around e) (owns S i)
 
   -- some part but i passes
   unfoldable pub another : ℕ → (ℕ → Bool) → Bool

@@ -24,7 +24,7 @@ use Rattle.mesh.specs.MeshLaws.{mesh-numbered, mesh-small, mesh-parted}
 use Rattle.mesh.specs.Walks.{bad10, bad13, reach}
 use Rattle.mesh.specs.WalkLaws.{reach-in, reach-own}
 use Rattle.split.specs.Split.{Split, splitOf, ownerAt, owns, owned, reaches, holds, held, imports, exports, inside, interior, halo, locals, localOf, globalOf}
-use Rattle.split.specs.Lists.{bad8, bad9, bad12, mapTests, splitTests, sizeTests, splitNumber, sizesNumber}
+use Rattle.split.specs.Lists.{bad8, bad9, bad12, mapTests, splitTests, sizeTests, splitNumber, sizesNumber, splitInput}
 
 -- ---- the tests of a mesh, a part map and a stencil, so that no other crate opens their lists
 
@@ -36,60 +36,60 @@ pub record Fine (m : Bytes) (parts : ℕ) (owners : Bytes) (named : List ℕ) (s
   pub stencil : bad10 (top m) st ≡ false
 
 module _ (m : Bytes) (parts : ℕ) (owners : Bytes) (named : List ℕ) (st : Bytes) where
-  pub split-numbered : T (numbered (splitTests m parts owners named st))
+  pub split-numbered : T (numbered (splitTests (splitInput m parts owners st) named))
   unfolding splitTests
-  split-numbered = numbered-append (meshTests m) (mapTests m parts owners named st) (mesh-numbered m) tt
+  split-numbered = numbered-append (meshTests m) (mapTests (splitInput m parts owners st) named) (mesh-numbered m) tt
 
-  pub split-small : small (splitTests m parts owners named st) ≡ true
+  pub split-small : small (splitTests (splitInput m parts owners st) named) ≡ true
   unfolding splitTests
-  split-small = small-append (meshTests m) (mapTests m parts owners named st) (mesh-small m) refl
+  split-small = small-append (meshTests m) (mapTests (splitInput m parts owners st) named) (mesh-small m) refl
 
   pub split-fine : splitNumber m parts owners named st ≡ 0 → Fine m parts owners named st
   unfolding splitNumber splitTests
   split-fine e =
-      let ts : List Test = mapTests m parts owners named st in
+      let ts : List Test = mapTests (splitInput m parts owners st) named in
       let p = mesh-parted m ts e in
       record { mesh = p .0; map = passed-by 8 ts tt (p .1); shares = passed-by 9 ts tt (p .1); stencil = passed-by 10 ts tt (p .1) }
 
   -- tests that come after them
   module _ (us : List Test) where
-    pub split-parted : firstOf (splitTests m parts owners named st ++ us) ≡ 0 → (splitNumber m parts owners named st ≡ 0) × (firstOf us ≡ 0)
+    pub split-parted : firstOf (splitTests (splitInput m parts owners st) named ++ us) ≡ 0 → (splitNumber m parts owners named st ≡ 0) × (firstOf us ≡ 0)
     unfolding splitNumber
-    split-parted e = passed-append (splitTests m parts owners named st) us split-numbered e
+    split-parted e = passed-append (splitTests (splitInput m parts owners st) named) us split-numbered e
 
-    pub split-then : splitNumber m parts owners named st ≡ 0 → firstOf (splitTests m parts owners named st ++ us) ≡ firstOf us
+    pub split-then : splitNumber m parts owners named st ≡ 0 → firstOf (splitTests (splitInput m parts owners st) named ++ us) ≡ firstOf us
     unfolding splitNumber
-    split-then e = firstOf-after (splitTests m parts owners named st) us split-numbered e
+    split-then e = firstOf-after (splitTests (splitInput m parts owners st) named) us split-numbered e
 
-    pub split-refuses : splitNumber m parts owners named st ≢ 0 → firstOf (splitTests m parts owners named st ++ us) ≡ splitNumber m parts owners named st
+    pub split-refuses : splitNumber m parts owners named st ≢ 0 → firstOf (splitTests (splitInput m parts owners st) named ++ us) ≡ splitNumber m parts owners named st
     unfolding splitNumber
-    split-refuses n = firstOf-left (splitTests m parts owners named st) us n
+    split-refuses n = firstOf-left (splitTests (splitInput m parts owners st) named) us n
 
 module _ (m : Bytes) (parts : ℕ) (owners st : Bytes) where
-  pub sizes-numbered : T (numbered (sizeTests m parts owners st))
+  pub sizes-numbered : T (numbered (sizeTests (splitInput m parts owners st)))
   unfolding sizeTests
   sizes-numbered = tt
 
-  pub sizes-small : small (sizeTests m parts owners st) ≡ true
+  pub sizes-small : small (sizeTests (splitInput m parts owners st)) ≡ true
   unfolding sizeTests
   sizes-small = refl
 
   pub sizes-fine : sizesNumber m parts owners st ≡ 0 → (bad12 (splitOf m parts owners st) ≡ false) × (bad13 m st ≡ false)
   unfolding sizesNumber sizeTests
-  sizes-fine e = (passed-by 12 (sizeTests m parts owners st) tt e, passed-by 13 (sizeTests m parts owners st) tt e)
+  sizes-fine e = (passed-by 12 (sizeTests (splitInput m parts owners st)) tt e, passed-by 13 (sizeTests (splitInput m parts owners st)) tt e)
 
   module _ (us : List Test) where
-    pub sizes-parted : firstOf (sizeTests m parts owners st ++ us) ≡ 0 → (sizesNumber m parts owners st ≡ 0) × (firstOf us ≡ 0)
+    pub sizes-parted : firstOf (sizeTests (splitInput m parts owners st) ++ us) ≡ 0 → (sizesNumber m parts owners st ≡ 0) × (firstOf us ≡ 0)
     unfolding sizesNumber
-    sizes-parted e = passed-append (sizeTests m parts owners st) us sizes-numbered e
+    sizes-parted e = passed-append (sizeTests (splitInput m parts owners st)) us sizes-numbered e
 
-    pub sizes-then : sizesNumber m parts owners st ≡ 0 → firstOf (sizeTests m parts owners st ++ us) ≡ firstOf us
+    pub sizes-then : sizesNumber m parts owners st ≡ 0 → firstOf (sizeTests (splitInput m parts owners st) ++ us) ≡ firstOf us
     unfolding sizesNumber
-    sizes-then e = firstOf-after (sizeTests m parts owners st) us sizes-numbered e
+    sizes-then e = firstOf-after (sizeTests (splitInput m parts owners st)) us sizes-numbered e
 
-    pub sizes-refuse : sizesNumber m parts owners st ≢ 0 → firstOf (sizeTests m parts owners st ++ us) ≡ sizesNumber m parts owners st
+    pub sizes-refuse : sizesNumber m parts owners st ≢ 0 → firstOf (sizeTests (splitInput m parts owners st) ++ us) ≡ sizesNumber m parts owners st
     unfolding sizesNumber
-    sizes-refuse n = firstOf-left (sizeTests m parts owners st) us n
+    sizes-refuse n = firstOf-left (sizeTests (splitInput m parts owners st)) us n
 
 -- ---- a split whose reaches stay among the cells and whose cells belong to its parts
 

@@ -10,3 +10,16 @@ mod units;
 pub use maps::bad_map;
 pub use maps::bad_shares;
 pub use maps::is_part;
+
+// The lists of a part that can be asked for: an import or export list names the other part, a range its dimension.
+pub enum Wanted {
+    Interior,
+    Halo,
+    Locals,
+    Imports(u32),
+    Exports(u32),
+    Private(u32),
+    Exposed(u32),
+    Shared(u32),
+    Copied(u32),
+}

@@ -26,12 +26,12 @@ use Rattle.rules.specs.Rules.{bad11}
 use Rattle.round.specs.Rounds.{schemeOf, depthIn, bad14}
 use Rattle.split.specs.Split.{splitOf, interior, halo, locals, globalOf}
 use Rattle.split.specs.SplitLaws.{own-count, split-then, split-refuses, sizes-fine, sizes-then, sizes-refuse, map-facts}
-use Rattle.split.specs.Lists.{bad12, sizeTests, splitNumber, sizesNumber}
+use Rattle.split.specs.Lists.{bad12, sizeTests, splitNumber, sizesNumber, splitInput}
 use Rattle.split.specs.Classes.{ownsAt, holderCount, classAt, Classed, Prepared}
 use Rattle.split.proofs.HoldLaws.{exports-told}
 use Rattle.split.proofs.PassedLaws.{Passed, twice, passed-facts}
 use Rattle.cell_lists.proofs.ClassLists.{row-cells, interior-is, halo-is, order-is as cells-order, locals-few}
-use Rattle.starts.specs.Start.{ownedIn, exportEnds, reachEnds, listsLong, stateSize, sizeNumber, sizeAnswer, firstState, lastTests, startTests, startNumber, startAnswer, startState}
+use Rattle.starts.specs.Start.{ownedIn, exportEnds, reachEnds, listsLong, stateSize, sizeNumber, sizeAnswer, firstState, lastTests, startNumber, startAnswer, startState, inputs, Inputs}
 use Rattle.word_lists.specs.Putting.{Put}
 use Rattle.states.specs.State.{exportsWord, depthsPlace, stateLength}
 use Rattle.start_lists.specs.Starting.{rowEnds, sentEnds, startWords, startDepth, Fit, Cells, Mapped, exportedAt, exportCount, partOrder, partOwned, Fitting, Drawn}
@@ -182,19 +182,19 @@ module _ (m : Bytes) (parts : ℕ) (owners : Bytes) (i : ℕ) (st : Bytes) where
 
   -- ---- state size
 
-  pub size-split : (n : ℕ) → n ≡ splitNumber m parts owners (i ∷ i ∷ []) st → (n ≡ 0 → ⊥) → Refused n ≡ sizeAnswer m parts owners i st
+  pub size-split : (n : ℕ) → n ≡ splitNumber m parts owners (i ∷ i ∷ []) st → (n ≡ 0 → ⊥) → Refused n ≡ sizeAnswer (splitInput m parts owners st) i
   unfolding sizeAnswer sizeNumber
   size-split n e z =
       let q : n ≡ splitNumber m parts owners (i ∷ []) st = e ∙ number-once in
-      answer-refused n (stateSize m parts owners i st) z
-      ∙ ap (λ k. answer k (stateSize m parts owners i st)) (q ∙ sym (split-refuses m parts owners (i ∷ []) st (sizeTests m parts owners st) (λ w. z (q ∙ w))))
+      answer-refused n (stateSize (splitInput m parts owners st) i) z
+      ∙ ap (λ k. answer k (stateSize (splitInput m parts owners st) i)) (q ∙ sym (split-refuses m parts owners (i ∷ []) st (sizeTests (splitInput m parts owners st)) (λ w. z (q ∙ w))))
 
   module _ (sn : splitNumber m parts owners (i ∷ i ∷ []) st ≡ 0) where
-    pub size-sizes : (n : ℕ) → n ≡ sizesNumber m parts owners st → (n ≡ 0 → ⊥) → Refused n ≡ sizeAnswer m parts owners i st
+    pub size-sizes : (n : ℕ) → n ≡ sizesNumber m parts owners st → (n ≡ 0 → ⊥) → Refused n ≡ sizeAnswer (splitInput m parts owners st) i
     unfolding sizeAnswer sizeNumber sizesNumber
     size-sizes n e z =
-        answer-refused n (stateSize m parts owners i st) z
-        ∙ ap (λ k. answer k (stateSize m parts owners i st)) (e ∙ sym (split-then m parts owners (i ∷ []) st (sizeTests m parts owners st) (sym number-once ∙ sn)))
+        answer-refused n (stateSize (splitInput m parts owners st) i) z
+        ∙ ap (λ k. answer k (stateSize (splitInput m parts owners st) i)) (e ∙ sym (split-then m parts owners (i ∷ []) st (sizeTests (splitInput m parts owners st)) (sym number-once ∙ sn)))
 
     module _ (zn : sizesNumber m parts owners st ≡ 0) (table : Bytes) (ends : List ℕ) (holders : Bytes) (R : Prepared m parts owners st table ends holders) (order : List ℕ) (n owned long : ℕ)
         (Q : Planned m parts owners i st table ends order n owned long) where
@@ -214,66 +214,70 @@ module _ (m : Bytes) (parts : ℕ) (owners : Bytes) (i : ℕ) (st : Bytes) where
             sent-ends m parts owners st table ends holders R i (I .0) (I .1) (firstCell m) (cellCount m) refl refl 16 (omega arith),
           )
 
-      size-is : stateLength (2 * long) n ≡ stateSize m parts owners i st
+      size-is : stateLength (2 * long) n ≡ stateSize (splitInput m parts owners st) i
       unfolding stateSize
       size-is = omega (arith, long-is, Q .held-is)
 
-      pub size-done : Done (stateLength (2 * long) n) ≡ sizeAnswer m parts owners i st
+      pub size-done : Done (stateLength (2 * long) n) ≡ sizeAnswer (splitInput m parts owners st) i
       unfolding sizeAnswer sizeNumber sizesNumber
       size-done =
           ap Done size-is
-          ∙ answer-done _ (stateSize m parts owners i st)
-          (split-then m parts owners (i ∷ []) st (sizeTests m parts owners st) (sym number-once ∙ sn) ∙ zn)
+          ∙ answer-done _ (stateSize (splitInput m parts owners st) i)
+          (split-then m parts owners (i ∷ []) st (sizeTests (splitInput m parts owners st)) (sym number-once ∙ sn) ∙ zn)
 
 -- ---- start
 
 module _ (m : Bytes) (parts : ℕ) (owners : Bytes) (i : ℕ) (st : Bytes) (kind : ℕ) (v f b : Bytes) where
+  -- what the call is given
+  abbrev pub given : Inputs
+  given = inputs m parts owners st kind v f
+
   abbrev pub Answered : Answer → Bytes → Type 0
-  Answered r x = (r ≡ startAnswer m parts owners i st kind v f b) × (x ≡ startState m parts owners i st kind v f b)
+  Answered r x = (r ≡ startAnswer given i b) × (x ≡ startState given i b)
 
-  refused : (n : ℕ) → startNumber m parts owners i st kind v f b ≡ n → (n ≡ 0 → ⊥) → Answered (Refused n) b
+  refused : (n : ℕ) → startNumber given i b ≡ n → (n ≡ 0 → ⊥) → Answered (Refused n) b
   unfolding startAnswer startState
-  refused = refuses (startNumber m parts owners i st kind v f b) (stateSize m parts owners i st) (over b 0 (firstState m parts owners i st kind v f)) b
+  refused = refuses (startNumber given i b) (stateSize (splitInput m parts owners st) i) (over b 0 (firstState given i)) b
 
-  done : startNumber m parts owners i st kind v f b ≡ 0 → Answered (Done (stateSize m parts owners i st)) (over b 0 (firstState m parts owners i st kind v f))
+  done : startNumber given i b ≡ 0 → Answered (Done (stateSize (splitInput m parts owners st) i)) (over b 0 (firstState given i))
   unfolding startAnswer startState
-  done = accepts (startNumber m parts owners i st kind v f b) (stateSize m parts owners i st) (over b 0 (firstState m parts owners i st kind v f)) b
+  done = accepts (startNumber given i b) (stateSize (splitInput m parts owners st) i) (over b 0 (firstState given i)) b
 
   -- the tests after 13, and those after 10
   abbrev rest : List Test
-  rest = lastTests m parts owners i st kind v f b
+  rest = lastTests given i b
 
   abbrev later : List Test
-  later = refuse 11 (bad11 kind (steps st) v) ∷ sizeTests m parts owners st ++ rest
+  later = refuse 11 (bad11 kind (steps st) v) ∷ sizeTests (splitInput m parts owners st) ++ rest
 
-  number-split : (n : ℕ) → n ≡ splitNumber m parts owners (i ∷ []) st → (n ≡ 0 → ⊥) → startNumber m parts owners i st kind v f b ≡ n
-  unfolding startNumber startTests
+  number-split : (n : ℕ) → n ≡ splitNumber m parts owners (i ∷ []) st → (n ≡ 0 → ⊥) → startNumber given i b ≡ n
+  unfolding startNumber
   number-split n q z = split-refuses m parts owners (i ∷ []) st later (λ w. z (q ∙ w)) ∙ sym q
 
   pub start-split : (n : ℕ) → n ≡ splitNumber m parts owners (i ∷ i ∷ []) st → (n ≡ 0 → ⊥) → Answered (Refused n) b
   start-split n e z = refused n (number-split n (e ∙ number-once m parts owners i st) z) z
 
   module _ (sn : splitNumber m parts owners (i ∷ i ∷ []) st ≡ 0) where
-    in-later : startNumber m parts owners i st kind v f b ≡ firstOf later
-    unfolding startNumber startTests
+    in-later : startNumber given i b ≡ firstOf later
+    unfolding startNumber
     in-later = split-then m parts owners (i ∷ []) st later (sym (number-once m parts owners i st) ∙ sn)
 
     pub start-11 : (u : Bool) → u ≡ bad11 kind (length st - 1) v → u ≡ true → Answered (Refused 11) b
     unfolding steps
-    start-11 u ue ut = refused 11 (in-later ∙ ap (λ t. cond t 11 (firstOf (sizeTests m parts owners st ++ rest))) (sym ue ∙ ut)) (λ z. omega (arith, z))
+    start-11 u ue ut = refused 11 (in-later ∙ ap (λ t. cond t 11 (firstOf (sizeTests (splitInput m parts owners st) ++ rest))) (sym ue ∙ ut)) (λ z. omega (arith, z))
 
     module _ (eleven : bad11 kind (steps st) v ≡ false) where
-      in-sizes : startNumber m parts owners i st kind v f b ≡ firstOf (sizeTests m parts owners st ++ rest)
-      in-sizes = in-later ∙ ap (λ t. cond t 11 (firstOf (sizeTests m parts owners st ++ rest))) eleven
+      in-sizes : startNumber given i b ≡ firstOf (sizeTests (splitInput m parts owners st) ++ rest)
+      in-sizes = in-later ∙ ap (λ t. cond t 11 (firstOf (sizeTests (splitInput m parts owners st) ++ rest))) eleven
 
-      number-sizes : (n : ℕ) → n ≡ sizesNumber m parts owners st → (n ≡ 0 → ⊥) → startNumber m parts owners i st kind v f b ≡ n
+      number-sizes : (n : ℕ) → n ≡ sizesNumber m parts owners st → (n ≡ 0 → ⊥) → startNumber given i b ≡ n
       number-sizes n e z = in-sizes ∙ sizes-refuse m parts owners st rest (λ w. z (e ∙ w)) ∙ sym e
 
       pub start-sizes : (n : ℕ) → n ≡ sizesNumber m parts owners st → (n ≡ 0 → ⊥) → Answered (Refused n) b
       start-sizes n e z = refused n (number-sizes n e z) z
 
       module _ (zn : sizesNumber m parts owners st ≡ 0) (cells : ℕ) (ce : cells ≡ cellCount m) (u : Bool) (ue : u ≡ bad14 cells f) where
-        in-rest : startNumber m parts owners i st kind v f b ≡ firstOf rest
+        in-rest : startNumber given i b ≡ firstOf rest
         in-rest = in-sizes ∙ sizes-then m parts owners st rest zn
 
         fourteen : bad14 (cellCount m) f ≡ u
@@ -284,14 +288,14 @@ module _ (m : Bytes) (parts : ℕ) (owners : Bytes) (i : ℕ) (st : Bytes) (kind
 
         module _ (uf : u ≡ false) (table : Bytes) (ends : List ℕ) (holders : Bytes) (R : Prepared m parts owners st table ends holders) (order : List ℕ) (n owned long : ℕ)
             (Q : Planned m parts owners i st table ends order n owned long) where
-          size : stateLength (2 * long) n ≡ stateSize m parts owners i st
+          size : stateLength (2 * long) n ≡ stateSize (splitInput m parts owners st) i
           size = size-is m parts owners i st sn zn table ends holders R order n owned long Q
 
           I₂ : (1 ≤ i) × (i ≤ 16)
           I₂ = passed-facts m parts owners i i st sn .i-in
 
           pub start-16 : length b < stateLength (2 * long) n → Answered (Refused 16) b
-          start-16 h = refused 16 (in-rest ∙ simp (fourteen, uf, lt-ltb (length b) (stateSize m parts owners i st) (omega (arith, size)))) (λ z. omega (arith, z))
+          start-16 h = refused 16 (in-rest ∙ simp (fourteen, uf, lt-ltb (length b) (stateSize (splitInput m parts owners st) i) (omega (arith, size)))) (λ z. omega (arith, z))
 
           -- by the plan's own numbers
           module _ (part first count : ℕ) (pe : part ≡ i) (fe : first ≡ firstCell m) (ke : count ≡ cellCount m) where
@@ -318,7 +322,7 @@ module _ (m : Bytes) (parts : ℕ) (owners : Bytes) (i : ℕ) (st : Bytes) (kind
                 (order-at m parts owners st table ends holders R i (I₂ .0) (I₂ .1) first cells fe ce order n owned (Q .order-is) (Q .held-is) (Q .owned-is) (l - 1) (omega arith)) fe
 
             state-is : bytesOf (startWords owners table ends part first count order n owned (steps st) kind v) ++
-                (replicate (depthsPlace 0) 0 ++ blocks 1 n (startDepth f first order)) ≡ firstState m parts owners i st kind v f
+                (replicate (depthsPlace 0) 0 ++ blocks 1 n (startDepth f first order)) ≡ firstState given i
             unfolding firstState wordBytes
             state-is =
                 ap₂ (λ (ws : List ℕ) (ds : Bytes). bytesOf ws ++ (replicate (depthsPlace 0) 0 ++ ds))
@@ -333,5 +337,5 @@ module _ (m : Bytes) (parts : ℕ) (owners : Bytes) (i : ℕ) (st : Bytes) (kind
                 → Answered (Done (stateLength (2 * long) n)) y
             unfolding steps
             start-done h y e =
-                let a = done (in-rest ∙ simp (fourteen, uf, le-ltb (length b) (stateSize m parts owners i st) (omega (arith, size)))) in
+                let a = done (in-rest ∙ simp (fourteen, uf, le-ltb (length b) (stateSize (splitInput m parts owners st) i) (omega (arith, size)))) in
                 (ap Done size ∙ a .0, e ∙ ap (over b 0) state-is ∙ a .1)

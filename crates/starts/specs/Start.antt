@@ -14,10 +14,10 @@ use Rattle.layout.specs.Answers.{answer, ifAccepted}
 use Rattle.layout.specs.declared.Answer.{Answer}
 use Rattle.mesh.specs.Mesh.{cellCount}
 use Rattle.mesh.specs.Walks.{Near, steps}
-use Rattle.rules.specs.Rules.{bad11}
-use Rattle.round.specs.Rounds.{schemeOf, depthIn, bad14}
-use Rattle.split.specs.Split.{Split, splitOf, owned, imports, exports, locals, localOf, globalOf}
-use Rattle.split.specs.Lists.{splitTests, sizeTests}
+use Rattle.rules.specs.Rules.{RuleInput, bad11}
+use Rattle.round.specs.Rounds.{Scheme, schemeOf, depthIn, bad14}
+use Rattle.split.specs.Split.{Split, owned, imports, exports, locals, localOf, globalOf}
+use Rattle.split.specs.Lists.{SplitInput, splitInput, splitIn, splitTests, sizeTests}
 use Rattle.states.specs.State.{stateLength, exportsWord}
 
 -- ---- the lists of a part as the words of its state
@@ -68,45 +68,58 @@ module _ (S : Split) (i : ℕ) (order : List ℕ) where
       ∷ blocks 1 16 exportWords
       ∷ []
 
--- ---- the calls: mesh m, P and owners, part i, stencil st, and for start rule kind and weights v, field f, state
+-- ---- the calls for part i
 
-module _ (m : Bytes) (parts : ℕ) (owners : Bytes) (i : ℕ) (st : Bytes) where
+module _ (D : SplitInput) (i : ℕ) where
   abbrev pub orderOf : List ℕ
-  orderOf = locals (splitOf m parts owners st) i
+  orderOf = locals (splitIn D) i
 
   -- the bytes that start needs
   unfoldable pub stateSize : ℕ
-  stateSize = stateLength (2 * listsLong (splitOf m parts owners st) i orderOf) (length orderOf)
+  stateSize = stateLength (2 * listsLong (splitIn D) i orderOf) (length orderOf)
 
   unfoldable pub sizeNumber : ℕ
-  sizeNumber = firstOf (splitTests m parts owners (i ∷ []) st ++ sizeTests m parts owners st)
+  sizeNumber = firstOf (splitTests D (i ∷ []) ++ sizeTests D)
 
   unfoldable pub sizeAnswer : Answer
   sizeAnswer = answer sizeNumber stateSize
 
-  module _ (kind : ℕ) (v f : Bytes) where
-    -- the state of the part at round 0: "nothing is taken and nothing written"
-    unfoldable pub firstState : Bytes
-    firstState =
-        let round : Bytes = wordBytes 0 in
-        let taken : Bytes = replicate 16 0 in
-        let written : Bytes = replicate 16 0 in
-        let depths : Bytes = blocks 1 (length orderOf) (λ l. depthIn (schemeOf m st kind v) f (globalOf orderOf l)) in
-        bytesOf (joined (listsRegions (splitOf m parts owners st) i orderOf (steps st) kind v)) ++ (round ++ (taken ++ (written ++ depths)))
+-- what every part of a run is started from, but for its number
+pub record Inputs : Type 0 where
+  pub split : SplitInput
+  pub rule : RuleInput
+  pub field : Bytes
 
-    -- what start tries after 13
-    abbrev pub lastTests : Bytes → List Test
-    lastTests state = refuse 14 (bad14 (cellCount m) f) ∷ refuse 16 (ltb (length state) stateSize) ∷ []
+abbrev pub inputs : Bytes → ℕ → Bytes → Bytes → ℕ → Bytes → Bytes → Inputs
+inputs m parts owners st kind v f = record { split = splitInput m parts owners st; rule = record { kind = kind; weights = v }; field = f }
 
-    unfoldable pub startTests : Bytes → List Test
-    startTests state = splitTests m parts owners (i ∷ []) st ++ (refuse 11 (bad11 kind (steps st) v) ∷ sizeTests m parts owners st ++ lastTests state)
+abbrev pub schemeIn : Inputs → Scheme
+schemeIn I = schemeOf (I .split .mesh) (I .split .stencil) (I .rule .kind) (I .rule .weights)
 
-    unfoldable pub startNumber : Bytes → ℕ
-    startNumber state = firstOf (startTests state)
+module _ (I : Inputs) (i : ℕ) where
+  -- the state of the part at round 0: "nothing is taken and nothing written"
+  unfoldable pub firstState : Bytes
+  firstState =
+      let order : List ℕ = orderOf (I .split) i in
+      let lists : List ℕ = joined (listsRegions (splitIn (I .split)) i order (steps (I .split .stencil)) (I .rule .kind) (I .rule .weights)) in
+      let round : Bytes = wordBytes 0 in
+      let taken : Bytes = replicate 16 0 in
+      let written : Bytes = replicate 16 0 in
+      let depths : Bytes = blocks 1 (length order) (λ l. depthIn (schemeIn I) (I .field) (globalOf order l)) in
+      bytesOf lists ++ (round ++ (taken ++ (written ++ depths)))
 
-    -- it gives the length of the state
-    unfoldable pub startAnswer : Bytes → Answer
-    startAnswer state = answer (startNumber state) stateSize
+  -- what start tries after 13
+  abbrev pub lastTests : Bytes → List Test
+  lastTests state = refuse 14 (bad14 (cellCount (I .split .mesh)) (I .field)) ∷ refuse 16 (ltb (length state) (stateSize (I .split) i)) ∷ []
 
-    unfoldable pub startState : Bytes → Bytes
-    startState state = ifAccepted (startNumber state) (over state 0 firstState) state
+  unfoldable pub startNumber : Bytes → ℕ
+  startNumber state =
+      let eleven : Test = refuse 11 (bad11 (I .rule .kind) (steps (I .split .stencil)) (I .rule .weights)) in
+      firstOf (splitTests (I .split) (i ∷ []) ++ (eleven ∷ sizeTests (I .split) ++ lastTests state))
+
+  -- it gives the length of the state
+  unfoldable pub startAnswer : Bytes → Answer
+  startAnswer state = answer (startNumber state) (stateSize (I .split) i)
+
+  unfoldable pub startState : Bytes → Bytes
+  startState state = ifAccepted (startNumber state) (over state 0 firstState) state

@@ -27,7 +27,8 @@ ghost use Rattle.vocabulary.specs.Bytes.{over};
 ghost use Rattle.vocabulary.specs.Ranges.{blocks};
 ghost use Rattle.mesh.specs.Mesh.{firstCell, cellCount};
 ghost use Rattle.states.specs.State.{stateLength, depthsPlace};
-ghost use Rattle.starts.specs.Start.{sizeAnswer, startAnswer, startState};
+ghost use Rattle.starts.specs.Start.{inputs, sizeAnswer, startAnswer, startState};
+ghost use Rattle.split.specs.Lists.{splitInput};
 ghost use Rattle.start_lists.specs.Starting.{startDepth, Cells};
 
 // Writes what stands behind the lists at round 0: the round, the flags, and the depths of the held cells.
@@ -61,7 +62,7 @@ fn asked_of(m: &[u8], parts: u32, i: u32) -> Asked
 // How many bytes the state of part i needs. The mesh is tested in arrays that hold the links and the ends of the reaches afterwards. Once the tables are
 // prepared the links are not needed: the order stands in one of their arrays.
 pub fn state_size(m: &[u8], parts: u32, owners: &[u8], i: u32, st: &[u8]) -> Answer
-    ensures { λ r. ⌜ r ≡ sizeAnswer (now (m .entry)) parts (now (owners .entry)) i (now (st .entry)) ⌝ }
+    ensures { λ r. ⌜ r ≡ sizeAnswer (splitInput (now (m .entry)) parts (now (owners .entry)) (now (st .entry))) i ⌝ }
 {
     let mut cell = [0u16; 12001];
     let mut ends = [0u16; 2001];
@@ -118,10 +119,9 @@ pub fn start(
     f: &[u8],
     b: &mut [u8],
 ) -> Answer
-    ensures { λ r. ⌜
-        (r ≡ startAnswer (now (m .entry)) parts (now (owners .entry)) i (now (st .entry)) kind (now (v .entry)) (now (f .entry)) (now (b .entry)))
-        × (now (b .exit) ≡ startState (now (m .entry)) parts (now (owners .entry)) i (now (st .entry)) kind (now (v .entry)) (now (f .entry)) (now (b .entry)))
-        ⌝ }
+    ensures { λ r.
+        let I = inputs (now (m .entry)) parts (now (owners .entry)) (now (st .entry)) kind (now (v .entry)) (now (f .entry)) in
+        ⌜ (r ≡ startAnswer I i (now (b .entry))) × (now (b .exit) ≡ startState I i (now (b .entry))) ⌝ }
 {
     let mut cell = [0u16; 12001];
     let mut ends = [0u16; 2001];

@@ -15,7 +15,7 @@ use Rattle.vocabulary.specs.Tests.{firstOf}
 use Rattle.vocabulary.specs.Bytes.{Bytes, byteAt}
 use Rattle.mesh.specs.Mesh.{top, cellCount, meshLength}
 use Rattle.split.specs.Split.{Split, splitOf, interior, halo, imports, exports, range, isPrivate, isExposed, isShared, isCopied}
-use Rattle.split.specs.Lists.{splitTests, sizeTests}
+use Rattle.split.specs.Lists.{splitTests, sizeTests, splitInput}
 
 -- ---- text
 
@@ -50,10 +50,10 @@ module _ (m : Bytes) (S : Split) where
   -- "Each dimension has its ranges as private, exposed, shared, copied."
   unfoldable pub dimensionText : ℕ → ℕ → Bytes
   dimensionText i k =
-      line (label " private") (range m k (isPrivate m S i))
-      ++ (line (label " exposed") (range m k (isExposed m S i))
-      ++ (line (label " shared") (range m k (isShared m S i))
-      ++ line (label " copied") (range m k (isCopied m S i))))
+      line (label " private") (range m k (isPrivate S i))
+      ++ (line (label " exposed") (range m k (isExposed S i))
+      ++ (line (label " shared") (range m k (isShared S i))
+      ++ line (label " copied") (range m k (isCopied S i))))
     where
       label : String → Bytes
       label name = ascii "dim" ++ (spaced k ++ ascii name)
@@ -101,7 +101,7 @@ module _ (b : Bytes) where
   -- mesh cut short is 1 or 3 by its length, a missing P is 0 and owners cut short are too few
   unfoldable pub listingNumber : ℕ
   listingNumber =
-      firstOf (splitTests meshPiece partsPiece ownersPiece [] stencilPiece ++ sizeTests meshPiece partsPiece ownersPiece stencilPiece)
+      firstOf (splitTests (splitInput meshPiece partsPiece ownersPiece stencilPiece) [] ++ sizeTests (splitInput meshPiece partsPiece ownersPiece stencilPiece))
 
   -- "On a refusal it prints `refused` and the number. Input past 65,536 bytes prints `too long`."
   unfoldable pub listText : Bytes

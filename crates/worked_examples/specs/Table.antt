@@ -14,22 +14,27 @@ use Rattle.layout.specs.Answers.{answer}
 use Rattle.depths.specs.Depths.{four, numberFrom, signed, unsigned, depthFrom, numberBytes, depthBytes, inRange, rangedAt}
 use Rattle.layout.specs.Words.{word, wordAt, words, wordBytes, bytesOf}
 use Rattle.mesh.specs.Meet.{meet, stamp, unlike}
-use Rattle.mesh.specs.Mesh.{below, dimension, elementIn, nextOf, follow, records, chain, allRecords, bad1, wrongCount, bad2, meshLength, bad3, headed, bad4, wrongIn, wrongAt, bad5, leaves, unclosed, bad6, bare, bad7, meshTests, meshNumber, checkAnswer}
-use Rattle.mesh.specs.Walks.{Near, incident, steps, rightAt, bad10, stepTo, walked, stepsTo, layer, reach, bad13}
-use Rattle.round.specs.Rounds.{bad14, schemeOf, depthIn, oldsIn, newIn, round, undivided, roundTests, roundNumber, roundAnswer, roundOut}
+use Rattle.mesh.specs.Mesh.{below, dimension, elementIn, nextOf, follow, records, chain, allRecords, bad1, wrongCount, bad2, meshLength, bad3}
+use Rattle.mesh.specs.Mesh.{headed, bad4, wrongIn, wrongAt, bad5, leaves, unclosed, bad6, bare, bad7, meshTests, meshNumber, checkAnswer}
+use Rattle.mesh.specs.Walks.{Near, incident, steps, rightAt, bad10, stepTo, walked, stepsTo, layer, reach, bad13, cellsAt}
+use Rattle.round.specs.Rounds.{bad14, schemeOf, depthIn, oldsIn, newIn, round, undivided, roundNumber, roundAnswer, roundOut}
 use Rattle.rules.specs.Rules.{weightCount, tooHeavy, bad11, weight, depthSum, weightSum, quotient, least, newDepth}
 use Rattle.rules.specs.Update.{entries, oldsAt}
 use Rattle.messages.specs.Messages.{encode, bad15, reading}
-use Rattle.split.specs.Lists.{imports-from, interior-cells, Wanted, bad8, bad9, bad12, splitTests, sizeTests, others, listOf, listWords, listTests, listNumber, listAnswer, listOut}
+use Rattle.split.specs.Lists.{bad8, bad9, bad12, splitTests, sizeTests, others, listOf, listWords, listNumber, listAnswer, listOut, splitInput}
+use Rattle.split.specs.declared.Wanted.{Wanted}
+use Rattle.split.specs.declared.Wanted.the-variants.{Interior, Imports}
 use Rattle.split.specs.Split.{splitOf, owns, owned, reaches, holds, held, imports, exports, inside, interior, halo}
-use Rattle.split.specs.Split.{locals, localOf, globalOf, cellsAt, holdsLower, touches, another, isCopied, isShared, isExposed, isPrivate, range}
+use Rattle.split.specs.Split.{locals, localOf, globalOf, holdsLower, touches, another, isCopied, isShared, isExposed, isPrivate, range}
 use Rattle.parts.specs.Calls.{importsFrom, exportsTo, messageTo, writeTestsIn, writtenIn, takeTestsIn, takenIn, allTaken, allWritten, advanceTestsIn, newAt, advancedIn, collectTestsIn, scatter}
-use Rattle.parts.specs.Calls.{writeNumber, message, writeAnswer, writeState, writeOut, takeNumber, takeAnswer, takeState, advanceNumber, advanceAnswer, advanceState, collectNumber, collectAnswer, collectOut}
+use Rattle.parts.specs.Calls.{writeNumber, message, writeAnswer, writeState, writeOut, takeNumber, takeAnswer}
+use Rattle.parts.specs.Calls.{takeState, advanceNumber, advanceAnswer, advanceState, collectNumber, collectAnswer, collectOut}
 use Rattle.states.specs.State.{weights, localReach, localExports, listsIn, listsOf, rises, listsTests, dynamicTests, isState, bad20}
-use Rattle.starts.specs.Start.{importEnds, exportEnds, reachEnds, reachWords, exportWords, listsLong, listsRegions, stateSize, sizeNumber, sizeAnswer}
-use Rattle.starts.specs.Start.{firstState, startTests, startNumber, startAnswer, startState}
-use Rattle.runs.specs.Run.{ownerIn, Gathered, schemeIn, collectsOf, Run, Inputs, World, Collected, collect, advance, take-in, write, Call, put, more, step, run, Fair, Honest, startNumberIn, startStateIn, begin, StateBound}
-use Rattle.text.specs.Listing.{ascii, digits, decimal, spaced, line, lineUnlessEmpty, dimensionText, partText, splitText, meshPiece, mapPiece, partsPiece, ownersPiece, lastPiece, stencilPiece, listingNumber, listText}
+use Rattle.starts.specs.Start.{importEnds, exportEnds, reachEnds, reachWords, exportWords, listsLong, listsRegions, stateSize, sizeNumber, sizeAnswer, inputs, Inputs, schemeIn}
+use Rattle.starts.specs.Start.{firstState, startNumber, startAnswer, startState}
+use Rattle.runs.specs.Run.{ownerIn, Gathered, collectsOf, Run, World, Collected, collect, advance, take-in, write, Call, put, more, step, run, Fair, Honest, begin, StateBound}
+use Rattle.text.specs.Listing.{ascii, digits, decimal, spaced, line, lineUnlessEmpty, dimensionText, partText}
+use Rattle.text.specs.Listing.{splitText, meshPiece, mapPiece, partsPiece, ownersPiece, lastPiece, stencilPiece, listingNumber, listText}
 
 -- ---- the inputs
 
@@ -77,12 +82,8 @@ listInput = five ++ (2 ∷ 1 ∷ 1 ∷ 1 ∷ 2 ∷ 2 ∷ 3 ∷ 1 ∷ 0 ∷ 1 ∷
 -- "Mean, weights 2 1, from 100 200 300 400 500"
 unfoldable pub fiveInputs : Inputs
 fiveInputs = record {
-  mesh = five;
-  parts = 2;
-  owners = 1 ∷ 1 ∷ 1 ∷ 2 ∷ 2 ∷ [];
-  stencil = 1 ∷ 0 ∷ 1 ∷ [];
-  kind = 1;
-  weights = bytesOf (2 ∷ 1 ∷ []);
+  split = splitInput five 2 (1 ∷ 1 ∷ 1 ∷ 2 ∷ 2 ∷ []) (1 ∷ 0 ∷ 1 ∷ []);
+  rule = record { kind = 1; weights = bytesOf (2 ∷ 1 ∷ []) };
   field = field (100 ∷ 200 ∷ 300 ∷ 400 ∷ 500 ∷ []);
 }
 
@@ -147,11 +148,11 @@ numbers w (c ∷ cs) = numberAt w c ∷ numbers (step w c) cs
 
 -- the call of a list of the five cells, for P = 2
 abbrev listCall : Bytes → Bytes → ℕ → Wanted → ℕ
-listCall owners st i w = listNumber five 2 owners i st w (replicate 40 0)
+listCall owners st i w = listNumber (splitInput five 2 owners st) i w (replicate 40 0)
 
 -- the start of part 1 of the five cells from another field
 abbrev startCall : List ℕ → ℕ
-startCall ds = startNumber five 2 (fiveInputs .owners) 1 (fiveInputs .stencil) 1 (fiveInputs .weights) (field ds) (buffers 1)
+startCall ds = startNumber (inputs five 2 (fiveInputs .split .owners) (fiveInputs .split .stencil) 1 (fiveInputs .rule .weights) (field ds)) 1 (buffers 1)
 
 -- an accepted collect of the run, into a field of zeros
 abbrev collected : ℕ → ℕ → List ℕ → Collected
@@ -205,7 +206,7 @@ Holds (long b n) = length b ≡ n
 Holds (mesh b n) = meshNumber b ≡ n
 Holds (listing b t) = listText b ≡ ascii t
 Holds (list-number owners st i w n) = listCall owners st i w ≡ n
-Holds (list-words st i w ws) = listWords five 2 (fiveInputs .owners) i st w ≡ ws
+Holds (list-words st i w ws) = listWords (splitInput five 2 (fiveInputs .split .owners) st) i w ≡ ws
 Holds (reached c r) = reach triangles (2 ∷ 1 ∷ 2 ∷ 0 ∷ 2 ∷ []) c ≡ r
 Holds (rounds k ds) = undivided (schemeIn fiveInputs) (fiveInputs .field) k ≡ field ds
 Holds (divided s w q) = quotient s w ≡ q
@@ -213,7 +214,7 @@ Holds (start-number ds n) = startCall ds ≡ n
 Holds (first-message i j b) = message (begin fiveInputs buffers .states i) j ≡ b
 Holds (answers ns) = numbers (begin fiveInputs buffers) calls ≡ ns
 Holds (collects gs) = run (begin fiveInputs buffers) calls .given ≡ gs
-Holds (begins i) = startNumberIn fiveInputs i (buffers i) ≡ 0
+Holds (begins i) = startNumber fiveInputs i (buffers i) ≡ 0
 Holds fair = Honest (begin fiveInputs buffers) calls
 
 abbrev pub AllHold : List Example → Type 0
@@ -238,16 +239,16 @@ table =
     ∷ reached 16 (at 15 2 ∷ at 16 0 ∷ at 17 4 ∷ [])
     ∷ reached 17 (at 15 4 ∷ at 17 0 ∷ [])
     -- "Stencil 1: no imports. Stencil of length 0, 2 or 11: 10."
-    ∷ list-words (1 ∷ []) 1 (imports-from 2) []
-    ∷ list-words (1 ∷ []) 2 (imports-from 1) []
-    ∷ list-number (fiveInputs .owners) (1 ∷ []) 1 (imports-from 2) 0
-    ∷ list-number (fiveInputs .owners) [] 1 interior-cells 10
-    ∷ list-number (fiveInputs .owners) (1 ∷ 0 ∷ []) 1 interior-cells 10
-    ∷ list-number (fiveInputs .owners) (1 ∷ 0 ∷ 1 ∷ 0 ∷ 1 ∷ 0 ∷ 1 ∷ 0 ∷ 1 ∷ 0 ∷ 1 ∷ []) 1 interior-cells 10
+    ∷ list-words (1 ∷ []) 1 (Imports 2) []
+    ∷ list-words (1 ∷ []) 2 (Imports 1) []
+    ∷ list-number (fiveInputs .split .owners) (1 ∷ []) 1 (Imports 2) 0
+    ∷ list-number (fiveInputs .split .owners) [] 1 Interior 10
+    ∷ list-number (fiveInputs .split .owners) (1 ∷ 0 ∷ []) 1 Interior 10
+    ∷ list-number (fiveInputs .split .owners) (1 ∷ 0 ∷ 1 ∷ 0 ∷ 1 ∷ 0 ∷ 1 ∷ 0 ∷ 1 ∷ 0 ∷ 1 ∷ []) 1 Interior 10
     -- "73 bytes: 3. 11 bytes: 1." "Owners 1 1 1 1 1, P = 2: 9."
     ∷ mesh (take 73 five) 3
     ∷ mesh (take 11 five) 1
-    ∷ list-number (1 ∷ 1 ∷ 1 ∷ 1 ∷ 1 ∷ []) (1 ∷ 0 ∷ 1 ∷ []) 1 interior-cells 9
+    ∷ list-number (1 ∷ 1 ∷ 1 ∷ 1 ∷ 1 ∷ []) (1 ∷ 0 ∷ 1 ∷ []) 1 Interior 9
     -- "Depth 1,200,000 accepted, 1,200,001: 14."
     ∷ start-number (100 ∷ 200 ∷ 1200000 ∷ 400 ∷ 500 ∷ []) 0
     ∷ start-number (100 ∷ 200 ∷ 1200001 ∷ 400 ∷ 500 ∷ []) 14
@@ -261,7 +262,17 @@ table =
     ∷ []
 
 pub worked : AllHold table
-unfolding over isIn placeOf joined repeats someOf everyOf isUpTo picked every some listed blocks total answer four numberFrom signed unsigned depthFrom numberBytes depthBytes inRange rangedAt word wordAt words wordBytes bytesOf meet stamp unlike below dimension elementIn nextOf follow records chain allRecords bad1 wrongCount bad2 meshLength bad3 headed bad4 wrongIn wrongAt bad5 leaves unclosed bad6 bare bad7 meshTests meshNumber checkAnswer incident steps rightAt bad10 stepTo walked stepsTo layer reach bad13 bad14 schemeOf depthIn oldsIn newIn round undivided roundTests roundNumber roundAnswer roundOut weightCount tooHeavy bad11 weight depthSum weightSum quotient least newDepth entries oldsAt encode bad15 reading bad8 bad9 bad12 splitTests sizeTests others listOf listWords listTests listNumber listAnswer listOut splitOf owns owned reaches holds held imports exports inside interior halo locals localOf globalOf cellsAt holdsLower touches another isCopied isShared isExposed isPrivate range importsFrom exportsTo messageTo writeTestsIn writtenIn takeTestsIn takenIn allTaken allWritten advanceTestsIn newAt advancedIn collectTestsIn scatter writeNumber message writeAnswer writeState writeOut takeNumber takeAnswer takeState advanceNumber advanceAnswer advanceState collectNumber collectAnswer collectOut put more step run Fair Honest startNumberIn startStateIn begin StateBound importEnds exportEnds reachEnds reachWords exportWords listsLong listsRegions stateSize sizeNumber sizeAnswer firstState startTests startNumber startAnswer startState weights localReach localExports listsIn listsOf rises listsTests dynamicTests isState bad20 ascii digits decimal spaced line lineUnlessEmpty dimensionText partText splitText meshPiece mapPiece partsPiece ownersPiece lastPiece stencilPiece listingNumber listText buffers calls field five fiveInputs listInput numberAt numbers triangles
+unfolding over isIn placeOf joined repeats someOf everyOf isUpTo picked every some listed blocks total answer four numberFrom signed unsigned depthFrom numberBytes depthBytes
+    inRange rangedAt word wordAt words wordBytes bytesOf meet stamp unlike below dimension elementIn nextOf follow records chain allRecords bad1 wrongCount bad2 meshLength bad3
+    headed bad4 wrongIn wrongAt bad5 leaves unclosed bad6 bare bad7 meshTests meshNumber checkAnswer incident steps rightAt bad10 stepTo walked stepsTo layer reach bad13 bad14
+    schemeOf depthIn oldsIn newIn round undivided roundNumber roundAnswer roundOut weightCount tooHeavy bad11 weight depthSum weightSum quotient least newDepth entries oldsAt
+    encode bad15 reading bad8 bad9 bad12 splitTests sizeTests others listOf listWords listNumber listAnswer listOut splitOf owns owned reaches holds held imports exports inside
+    interior halo locals localOf globalOf cellsAt holdsLower touches another isCopied isShared isExposed isPrivate range importsFrom exportsTo messageTo writeTestsIn writtenIn
+    takeTestsIn takenIn allTaken allWritten advanceTestsIn newAt advancedIn collectTestsIn scatter writeNumber message writeAnswer writeState writeOut takeNumber takeAnswer
+    takeState advanceNumber advanceAnswer advanceState collectNumber collectAnswer collectOut put more step run Fair Honest startNumber startState begin StateBound importEnds
+    exportEnds reachEnds reachWords exportWords listsLong listsRegions stateSize sizeNumber sizeAnswer firstState startAnswer weights localReach localExports listsIn listsOf rises
+    listsTests dynamicTests isState bad20 ascii digits decimal spaced line lineUnlessEmpty dimensionText partText splitText meshPiece mapPiece partsPiece ownersPiece lastPiece
+    stencilPiece listingNumber listText buffers calls field five fiveInputs listInput numberAt numbers triangles
 worked = (refl, (refl, (refl, (refl, (refl, (refl, (refl, (refl, (refl, (refl, (refl, (refl, (refl, (refl, (refl, (refl, (refl, (refl, (refl, (refl, (refl, (refl, (refl, (refl, (refl, (honest, (refl, tt)))))))))))))))))))))))))))
   where
     honest : Honest (begin fiveInputs buffers) calls
@@ -303,13 +314,18 @@ worked = (refl, (refl, (refl, (refl, (refl, (refl, (refl, (refl, (refl, (refl, (
 -- ---- the run is one of those that demand 3 is about, and it gathers a field
 
 abbrev results : Holds (begins 1) × Holds (begins 2) × Holds fair × Holds (collects allCollected)
-results = (worked .1 .1 .1 .1 .1 .1 .1 .1 .1 .1 .1 .1 .1 .1 .1 .1 .1 .1 .1 .1 .1 .1 .1 .0, worked .1 .1 .1 .1 .1 .1 .1 .1 .1 .1 .1 .1 .1 .1 .1 .1 .1 .1 .1 .1 .1 .1 .1 .1 .0, worked .1 .1 .1 .1 .1 .1 .1 .1 .1 .1 .1 .1 .1 .1 .1 .1 .1 .1 .1 .1 .1 .1 .1 .1 .1 .0, worked .1 .1 .1 .1 .1 .1 .1 .1 .1 .1 .1 .1 .1 .1 .1 .1 .1 .1 .1 .1 .1 .1 .1 .1 .1 .1 .0)
+results = (
+  worked .1 .1 .1 .1 .1 .1 .1 .1 .1 .1 .1 .1 .1 .1 .1 .1 .1 .1 .1 .1 .1 .1 .1 .0,
+  worked .1 .1 .1 .1 .1 .1 .1 .1 .1 .1 .1 .1 .1 .1 .1 .1 .1 .1 .1 .1 .1 .1 .1 .1 .0,
+  worked .1 .1 .1 .1 .1 .1 .1 .1 .1 .1 .1 .1 .1 .1 .1 .1 .1 .1 .1 .1 .1 .1 .1 .1 .1 .0,
+  worked .1 .1 .1 .1 .1 .1 .1 .1 .1 .1 .1 .1 .1 .1 .1 .1 .1 .1 .1 .1 .1 .1 .1 .1 .1 .1 .0,
+)
 
 pub twoRounds : Run fiveInputs
 unfolding fiveInputs
 twoRounds = record { some-part = omega arith; buffers = buffers; started = started; calls = calls; honest = results .2 }
   where
-    started : (i : ℕ) → 1 ≤ i → i ≤ 2 → startNumberIn fiveInputs i (buffers i) ≡ 0
+    started : (i : ℕ) → 1 ≤ i → i ≤ 2 → startNumber fiveInputs i (buffers i) ≡ 0
     started zero h k = let z : ⊥ = omega arith in absurd z
     started (suc zero) h k = results .0
     started (suc (suc zero)) h k = results .1

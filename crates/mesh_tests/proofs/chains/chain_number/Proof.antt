@@ -1,13 +1,11 @@
 -- `mesh_tests::chains::chain_number` meets its contract. Assumes nothing.
 use mathlib.Core.Path.{sym, _∙_}
 use Rattle.vocabulary.specs.TestLaws.{told-here, told-later}
-use Rattle.mesh.specs.Mesh.{meshTests}
 use borrow.Author.Needs.{needs}
 use Rattle.mesh_tests.proofs.chains.chain_number.Statement.{statement}
 use Rattle.mesh_tests.proofs.chains.chain_number.Tie as tie
 
 pub chain-number-spec : {M : Type 1} → statement M
-unfolding meshTests
 chain-number-spec =
     tie.close
     (tie.spec

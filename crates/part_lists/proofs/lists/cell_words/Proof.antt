@@ -1,6 +1,7 @@
 -- `part_lists::lists::cell_words` meets its contract. Assumes nothing.
+use native.Mathlib.Omega.{arith}
 use Rattle.part_lists.specs.Giving.{cellWords}
-use Rattle.part_lists.proofs.ListedLaws.{chose-none, chose-cells, chose-order}
+use Rattle.part_lists.proofs.ListedLaws.{chose-none, chose-cells, chose-order, other-few}
 use Rattle.mesh.proofs.AcceptedLaws.{cells-few, cells-fit}
 use borrow.Author.Needs.{needs}
 use Rattle.part_lists.proofs.lists.cell_words.Statement.{statement}
@@ -20,7 +21,9 @@ cell-words-spec =
     (λ c. search needs)
     (λ c κs. (search cells-fit, search cells-few, search needs))
     (λ c. search needs)
-    (λ c. search needs)
+    (λ c.
+    let start = c .before .before .before .before .before .before .before .before in
+    record { fits = omega (arith, other-few (start .args .wanted) (start .args .i) _ (start .pre .3) (c .before .wanted .given .1)) })
     (λ c κs. (search cells-fit, search needs))
     (λ c. search needs)
     (λ c. search needs)
