@@ -5,12 +5,12 @@ use mathlib.Core.List.{List, [], _∷_}
 use Prim.Native.Nat.{ℕ}
 use Rattle.vocabulary.specs.Bytes.{Bytes}
 use Rattle.vocabulary.specs.Lists.{isIn, placeOf, joined, someOf, everyOf}
-use Rattle.vocabulary.specs.Ranges.{isUpTo, picked, every, some, listed, blocks, total}
+use Rattle.vocabulary.specs.Intervals.{isUpTo, picked, every, some, listed, blocks, total}
 use Rattle.layout.specs.Words.{word, wordAt, words, wordBytes, bytesOf}
 use Rattle.depths.specs.Depths.{four, numberFrom, signed, unsigned, depthFrom, numberBytes, depthBytes}
 use Rattle.mesh.specs.Mesh.{below, dimension, elementIn, nextOf, follow, records, chain}
 use Rattle.mesh.specs.Walks.{incident, steps, stepTo, walked, stepsTo, layer, reach}
-use Rattle.rules.specs.Rules.{least, newDepth}
+use Rattle.round_rule.specs.Rules.{least, newDepth}
 use Rattle.round.specs.Rounds.{schemeOf, depthIn, oldsIn, newIn, round, undivided}
 use Rattle.worked_examples.specs.Table.{five, field, fiveInputs}
 

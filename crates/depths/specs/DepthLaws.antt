@@ -13,8 +13,8 @@ use lib.Seq.{getD-append-add, getD-set-other, getD-take, getD-drop, length-take-
 use borrow.Author.Tests.{lt-ltb, le-ltb, leb-true, le-leb}
 use Rattle.vocabulary.specs.Bytes.{Bytes, byteAt, over}
 use Rattle.vocabulary.specs.Lists.{All, joined}
-use Rattle.vocabulary.specs.Ranges.{every, listed, blocks}
-use Rattle.vocabulary.specs.RangeLaws.{every-at, rows-length, rows-at, blocks-turn, joined-listed}
+use Rattle.vocabulary.specs.Intervals.{every, listed, blocks}
+use Rattle.vocabulary.specs.IntervalLaws.{every-at, rows-length, rows-at, blocks-turn, joined-listed}
 use Rattle.vocabulary.specs.ByteLaws.{over-in, over-before, over-after, over-more}
 use Rattle.layout.specs.Words.{word}
 use Rattle.layout.specs.WordLaws.{word-same}

@@ -6,7 +6,7 @@ ghost use mathlib.Core.Path.{_≡_};
 ghost use Prim.Native.Nat.{ℕ, _+_, _*_, _<_, _≤_};
 ghost use lib.ListN.{length};
 ghost use Rattle.vocabulary.specs.Bytes.{over};
-ghost use Rattle.vocabulary.specs.Ranges.{every};
+ghost use Rattle.vocabulary.specs.Intervals.{every};
 ghost use Rattle.depths.specs.Depths.{numberFrom, numberBytes, signed, unsigned, depthFrom, depthBytes, rangedAt};
 
 // The four bytes from `o` on as a number, high byte first.

@@ -1,21 +1,21 @@
 // The calls under the names that C and Rust link: a slice is a pointer and a length, and each answers its refusal's number times 2^32 plus its
 // count.
-use packed::pack;
+use c_answer::pack;
 ghost use mathlib.Core.Path.{_≡_};
-ghost use Rattle.packed.specs.Packed.{packed};
+ghost use Rattle.c_answer.specs.Packed.{packed};
 ghost use Rattle.mesh.specs.Mesh.{checkAnswer};
 ghost use Rattle.round.specs.Rounds.{roundInput, roundAnswer, roundOut};
 ghost use Rattle.split.specs.Lists.{splitInput, listAnswer, listOut};
 ghost use Rattle.split.specs.declared.Wanted.the-variants.{Interior, Halo, Locals, Imports, Exports, Private, Exposed, Shared, Copied};
-ghost use Rattle.parts.specs.Calls.{writeAnswer, writeState, writeOut, takeAnswer, takeState, advanceAnswer, advanceState, collectAnswer, collectOut};
-ghost use Rattle.starts.specs.Start.{inputs, sizeAnswer, startAnswer, startState};
+ghost use Rattle.part_calls.specs.Calls.{writeAnswer, writeState, writeOut, takeAnswer, takeState, advanceAnswer, advanceState, collectAnswer, collectOut};
+ghost use Rattle.part_start.specs.Start.{inputs, sizeAnswer, startAnswer, startState};
 
 // How many cells the mesh has.
 #[no_mangle]
 pub extern "C" fn jem_check_mesh(mesh: &[u8]) -> u64
     ensures { λ r. ⌜ r ≡ packed (checkAnswer (now (mesh .entry))) ⌝ }
 {
-    pack(mesh_tests::check_mesh(mesh))
+    pack(mesh_valid::check_mesh(mesh))
 }
 
 // One undivided round: the new field at the front of `out`.
@@ -49,7 +49,7 @@ pub extern "C" fn jem_interior(
         let D = splitInput (now (mesh .entry)) parts (now (owners .entry)) (now (stencil .entry)) in
         ⌜ (r ≡ packed (listAnswer D part Interior (now (out .entry)))) × (now (out .exit) ≡ listOut D part Interior (now (out .entry))) ⌝ }
 {
-    pack(part_lists::interior(mesh, parts, owners, part, stencil, out))
+    pack(split_lists::interior(mesh, parts, owners, part, stencil, out))
 }
 
 // The halo cells of a part.
@@ -66,7 +66,7 @@ pub extern "C" fn jem_halo(
         let D = splitInput (now (mesh .entry)) parts (now (owners .entry)) (now (stencil .entry)) in
         ⌜ (r ≡ packed (listAnswer D part Halo (now (out .entry)))) × (now (out .exit) ≡ listOut D part Halo (now (out .entry))) ⌝ }
 {
-    pack(part_lists::halo(mesh, parts, owners, part, stencil, out))
+    pack(split_lists::halo(mesh, parts, owners, part, stencil, out))
 }
 
 // The cells that a part holds, in local order.
@@ -83,7 +83,7 @@ pub extern "C" fn jem_locals(
         let D = splitInput (now (mesh .entry)) parts (now (owners .entry)) (now (stencil .entry)) in
         ⌜ (r ≡ packed (listAnswer D part Locals (now (out .entry)))) × (now (out .exit) ≡ listOut D part Locals (now (out .entry))) ⌝ }
 {
-    pack(part_lists::local_order(mesh, parts, owners, part, stencil, out))
+    pack(split_lists::local_order(mesh, parts, owners, part, stencil, out))
 }
 
 // The cells that a part imports from another.
@@ -101,7 +101,7 @@ pub extern "C" fn jem_imports(
         let D = splitInput (now (mesh .entry)) parts (now (owners .entry)) (now (stencil .entry)) in
         ⌜ (r ≡ packed (listAnswer D part (Imports other) (now (out .entry)))) × (now (out .exit) ≡ listOut D part (Imports other) (now (out .entry))) ⌝ }
 {
-    pack(part_lists::imports(mesh, parts, owners, part, stencil, other, out))
+    pack(split_lists::imports(mesh, parts, owners, part, stencil, other, out))
 }
 
 // The cells that a part exports to another.
@@ -119,7 +119,7 @@ pub extern "C" fn jem_exports(
         let D = splitInput (now (mesh .entry)) parts (now (owners .entry)) (now (stencil .entry)) in
         ⌜ (r ≡ packed (listAnswer D part (Exports other) (now (out .entry)))) × (now (out .exit) ≡ listOut D part (Exports other) (now (out .entry))) ⌝ }
 {
-    pack(part_lists::exports(mesh, parts, owners, part, stencil, other, out))
+    pack(split_lists::exports(mesh, parts, owners, part, stencil, other, out))
 }
 
 // The private elements of a dimension.
@@ -137,7 +137,7 @@ pub extern "C" fn jem_private(
         let D = splitInput (now (mesh .entry)) parts (now (owners .entry)) (now (stencil .entry)) in
         ⌜ (r ≡ packed (listAnswer D part (Private dimension) (now (out .entry)))) × (now (out .exit) ≡ listOut D part (Private dimension) (now (out .entry))) ⌝ }
 {
-    pack(part_lists::private_range(mesh, parts, owners, part, stencil, dimension, out))
+    pack(split_lists::private_range(mesh, parts, owners, part, stencil, dimension, out))
 }
 
 // The exposed elements of a dimension.
@@ -155,7 +155,7 @@ pub extern "C" fn jem_exposed(
         let D = splitInput (now (mesh .entry)) parts (now (owners .entry)) (now (stencil .entry)) in
         ⌜ (r ≡ packed (listAnswer D part (Exposed dimension) (now (out .entry)))) × (now (out .exit) ≡ listOut D part (Exposed dimension) (now (out .entry))) ⌝ }
 {
-    pack(part_lists::exposed_range(mesh, parts, owners, part, stencil, dimension, out))
+    pack(split_lists::exposed_range(mesh, parts, owners, part, stencil, dimension, out))
 }
 
 // The shared elements of a dimension.
@@ -173,7 +173,7 @@ pub extern "C" fn jem_shared(
         let D = splitInput (now (mesh .entry)) parts (now (owners .entry)) (now (stencil .entry)) in
         ⌜ (r ≡ packed (listAnswer D part (Shared dimension) (now (out .entry)))) × (now (out .exit) ≡ listOut D part (Shared dimension) (now (out .entry))) ⌝ }
 {
-    pack(part_lists::shared_range(mesh, parts, owners, part, stencil, dimension, out))
+    pack(split_lists::shared_range(mesh, parts, owners, part, stencil, dimension, out))
 }
 
 // The copied elements of a dimension.
@@ -191,7 +191,7 @@ pub extern "C" fn jem_copied(
         let D = splitInput (now (mesh .entry)) parts (now (owners .entry)) (now (stencil .entry)) in
         ⌜ (r ≡ packed (listAnswer D part (Copied dimension) (now (out .entry)))) × (now (out .exit) ≡ listOut D part (Copied dimension) (now (out .entry))) ⌝ }
 {
-    pack(part_lists::copied_range(mesh, parts, owners, part, stencil, dimension, out))
+    pack(split_lists::copied_range(mesh, parts, owners, part, stencil, dimension, out))
 }
 
 // How many bytes the state of a part needs.
@@ -205,7 +205,7 @@ pub extern "C" fn jem_state_size(
 ) -> u64
     ensures { λ r. ⌜ r ≡ packed (sizeAnswer (splitInput (now (mesh .entry)) parts (now (owners .entry)) (now (stencil .entry))) part) ⌝ }
 {
-    pack(starts::state_size(mesh, parts, owners, part, stencil))
+    pack(part_start::state_size(mesh, parts, owners, part, stencil))
 }
 
 // Makes the state of a part at round 0.
@@ -225,7 +225,7 @@ pub extern "C" fn jem_start(
         let I = inputs (now (mesh .entry)) parts (now (owners .entry)) (now (stencil .entry)) kind (now (weights .entry)) (now (field .entry)) in
         ⌜ (r ≡ packed (startAnswer I part (now (state .entry)))) × (now (state .exit) ≡ startState I part (now (state .entry))) ⌝ }
 {
-    pack(starts::start(
+    pack(part_start::start(
         mesh,
         parts,
         owners,
@@ -247,7 +247,7 @@ pub extern "C" fn jem_write(state: &mut [u8], to: u32, out: &mut [u8]) -> u64
         × (now (out .exit) ≡ writeOut (now (state .entry)) to (now (out .entry)))
         ⌝ }
 {
-    pack(writing::write(state, to, out))
+    pack(part_write::write(state, to, out))
 }
 
 // Takes one message.
@@ -255,7 +255,7 @@ pub extern "C" fn jem_write(state: &mut [u8], to: u32, out: &mut [u8]) -> u64
 pub extern "C" fn jem_take(state: &mut [u8], message: &[u8]) -> u64
     ensures { λ r. ⌜ (r ≡ packed (takeAnswer (now (state .entry)) (now (message .entry)))) × (now (state .exit) ≡ takeState (now (state .entry)) (now (message .entry))) ⌝ }
 {
-    pack(taking::take(state, message))
+    pack(part_take::take(state, message))
 }
 
 // Makes one round of the owned cells.
@@ -263,7 +263,7 @@ pub extern "C" fn jem_take(state: &mut [u8], message: &[u8]) -> u64
 pub extern "C" fn jem_advance(state: &mut [u8]) -> u64
     ensures { λ r. ⌜ (r ≡ packed (advanceAnswer (now (state .entry)))) × (now (state .exit) ≡ advanceState (now (state .entry))) ⌝ }
 {
-    pack(advancing::advance(state))
+    pack(part_advance::advance(state))
 }
 
 // Puts the owned depths into a field.
@@ -271,5 +271,5 @@ pub extern "C" fn jem_advance(state: &mut [u8]) -> u64
 pub extern "C" fn jem_collect(state: &[u8], round: u32, field: &mut [u8]) -> u64
     ensures { λ r. ⌜ (r ≡ packed (collectAnswer (now (state .entry)) round (now (field .entry)))) × (now (field .exit) ≡ collectOut (now (state .entry)) round (now (field .entry))) ⌝ }
 {
-    pack(collecting::collect(state, round, field))
+    pack(part_collect::collect(state, round, field))
 }

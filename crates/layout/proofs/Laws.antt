@@ -10,7 +10,7 @@ use Rattle.vocabulary.specs.Bytes.{Bytes, byteAt, over}
 use Rattle.vocabulary.specs.ByteLaws.{byte-past, over-none, over-one, over-byte}
 use Rattle.layout.specs.Words.{word, wordAt, wordBytes}
 use Rattle.layout.specs.WordLaws.{wordAt-none}
-use Rattle.vocabulary.specs.RangeLaws.{at-last}
+use Rattle.vocabulary.specs.IntervalLaws.{at-last}
 
 -- ---- words
 

@@ -11,9 +11,9 @@ use lib.Seq.{getD-append-add, getD-set-other, ext-getD}
 use borrow.Author.Tests.{ltb-true, ltb-false}
 use Rattle.vocabulary.specs.Bytes.{Bytes, byteAt, over}
 use Rattle.vocabulary.specs.Lists.{All}
-use Rattle.vocabulary.specs.Ranges.{listed, blocks}
+use Rattle.vocabulary.specs.Intervals.{listed, blocks}
 use Rattle.vocabulary.specs.ListLaws.{All-getD}
-use Rattle.vocabulary.specs.RangeLaws.{listed-length, listed-at, listed-back}
+use Rattle.vocabulary.specs.IntervalLaws.{listed-length, listed-at, listed-back}
 use Rattle.vocabulary.specs.ByteLaws.{byte-past, over-in, over-before, over-after}
 use Rattle.layout.specs.Words.{word, wordAt, words, wordBytes, bytesOf}
 

@@ -2,7 +2,7 @@
 use mathlib.Core.List.{List, [], _∷_}
 use Prim.Native.Nat.{ℕ, _+_, _*_, _/_, _%_}
 use Rattle.vocabulary.specs.Bytes.{Bytes, byteAt}
-use Rattle.vocabulary.specs.Ranges.{listed}
+use Rattle.vocabulary.specs.Intervals.{listed}
 
 -- the word whose high byte stands at o; a byte past the end counts 0
 unfoldable pub word : Bytes → ℕ → ℕ

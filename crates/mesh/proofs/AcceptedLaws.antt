@@ -8,8 +8,8 @@ use lib.Dec.{ltb, leb}
 use lib.ListN.{length}
 use borrow.Author.Tests.{ltb-false, leb-true, eqb-true, not-false}
 use Rattle.vocabulary.specs.Bytes.{Bytes}
-use Rattle.vocabulary.specs.Ranges.{isUpTo, some}
-use Rattle.vocabulary.specs.RangeLaws.{some-at, some-witness, blocks-each, blocks-all}
+use Rattle.vocabulary.specs.Intervals.{isUpTo, some}
+use Rattle.vocabulary.specs.IntervalLaws.{some-at, some-witness, blocks-each, blocks-all}
 use Rattle.vocabulary.specs.Lists.{isIn, repeats, someOf, All}
 use Rattle.vocabulary.specs.ListLaws.{or-false, and-true, All-map, All-split, All-both, All-getD, someOf-false, isIn-at, once-few, repeats-parts}
 use Rattle.vocabulary.specs.TestLaws.{holdsOf, passed-by}

@@ -9,8 +9,8 @@ use lib.Dec.{eqb, ltb, leb}
 use lib.ListN.{length, length-append}
 use borrow.Author.Tests.{ltb-true, ltb-false, lt-ltb, le-ltb, le-leb, lt-leb, eqb-true, eqb-false}
 use Rattle.vocabulary.specs.Bytes.{Bytes}
-use Rattle.vocabulary.specs.Ranges.{isUpTo, picked}
-use Rattle.vocabulary.specs.RangeLaws.{picked-length-le}
+use Rattle.vocabulary.specs.Intervals.{isUpTo, picked}
+use Rattle.vocabulary.specs.IntervalLaws.{picked-length-le}
 use Rattle.mesh.specs.WalkLaws.{below-grows}
 use Rattle.mesh.specs.Mesh.{top, counted, below, elements, dimension, wrongIn}
 use Rattle.mesh.proofs.MeetLaws.{outside}

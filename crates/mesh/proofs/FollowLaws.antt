@@ -7,7 +7,7 @@ use native.Mathlib.Omega.{arith}
 use lib.Dec.{eqb, ltb}
 use borrow.Author.Tests.{lt-ltb, eq-eqb, ne-eqb, eqb-false}
 use Rattle.vocabulary.specs.Bytes.{Bytes}
-use Rattle.vocabulary.specs.Ranges.{some}
+use Rattle.vocabulary.specs.Intervals.{some}
 use Rattle.vocabulary.specs.Lists.{All}
 use Rattle.vocabulary.specs.ScanLaws.{some-stop-from, some-turn-from}
 use Rattle.mesh.specs.Mesh.{nextOf, headOf, follow, headed}

@@ -8,7 +8,7 @@ use lib.Dec.{eqb, leb}
 use lib.ListN.{length, getD, set, length-set, replicate}
 use lib.Seq.{getD-set-same, getD-set-other}
 use borrow.Author.Tests.{leb-true, eqb-true, eqb-false, eq-eqb, ne-eqb}
-use Rattle.vocabulary.specs.Ranges.{isUpTo}
+use Rattle.vocabulary.specs.Intervals.{isUpTo}
 use Rattle.vocabulary.specs.Lists.{isIn, repeats, someOf}
 use Rattle.vocabulary.specs.ListLaws.{eqb-swap, and-true, or-right, zeros}
 use Rattle.mesh.specs.Meet.{Met, met, meet, Under}

@@ -5,8 +5,8 @@ use Prim.Native.Nat.{ℕ, zero, suc, _+_, _-_, _≤_, _<_}
 use native.Mathlib.Omega.{arith}
 use lib.Dec.{eqb, ltb}
 use lib.ListN.{length}
-use Rattle.vocabulary.specs.Ranges.{some}
-use Rattle.vocabulary.specs.RangeLaws.{some-at}
+use Rattle.vocabulary.specs.Intervals.{some}
+use Rattle.vocabulary.specs.IntervalLaws.{some-at}
 use borrow.Author.Tests.{ltb-false, le-leb, lt-leb, eqb-false, ne-eqb}
 use Rattle.vocabulary.specs.Bytes.{Bytes}
 use Rattle.vocabulary.specs.ListLaws.{or-false}

@@ -6,7 +6,7 @@ use mathlib.Core.Path.{_≡_}
 use Prim.Native.Nat.{ℕ, _+_, _≤_, _<_}
 use lib.Dec.{eqb}
 use lib.ListN.{length, getD, set}
-use Rattle.vocabulary.specs.Ranges.{isUpTo}
+use Rattle.vocabulary.specs.Intervals.{isUpTo}
 use Rattle.vocabulary.specs.Bytes.{Bytes}
 use Rattle.mesh.specs.Mesh.{top, below, elements, recordCount}
 

@@ -7,7 +7,7 @@ use mathlib.Core.List.{List, [], _∷_, map}
 use Prim.Native.Nat.{ℕ, zero, suc, _+_, _*_}
 use lib.Dec.{eqb, ltb, leb}
 use lib.ListN.{length}
-use Rattle.vocabulary.specs.Ranges.{picked, some, blocks}
+use Rattle.vocabulary.specs.Intervals.{picked, some, blocks}
 use Rattle.vocabulary.specs.Lists.{isIn, repeats, someOf}
 use Rattle.vocabulary.specs.Tests.{Test, refuse, firstOf}
 use Rattle.vocabulary.specs.Bytes.{Bytes}

@@ -12,8 +12,8 @@ use borrow.Author.Tests.{eqb-true, eq-eqb, ne-eqb, ltb-true, ltb-false, lt-ltb, 
 use Rattle.vocabulary.specs.Bytes.{Bytes, byteAt}
 use Rattle.vocabulary.specs.Lists.{isIn, someOf, All}
 use Rattle.vocabulary.specs.ListLaws.{or-left, or-false, isIn-at, At, All-of-map, getD-map-any, map-map, map-id}
-use Rattle.vocabulary.specs.Ranges.{picked, every}
-use Rattle.vocabulary.specs.RangeLaws.{Rises, last-or, every-in, picked-passes, picked-all, picked-at, picked-in, picked-rises}
+use Rattle.vocabulary.specs.Intervals.{picked, every}
+use Rattle.vocabulary.specs.IntervalLaws.{Rises, last-or, every-in, picked-passes, picked-all, picked-at, picked-in, picked-rises}
 use Rattle.mesh.specs.Mesh.{top, counted, below, firstCell, cellCount}
 use Rattle.mesh.specs.Walks.{Near, incident, reach, layer, steps, rightAt, bad10, stepTo, stepsTo, walked}
 

@@ -4,7 +4,7 @@ use mathlib.Core.List.{List, [], _∷_, map}
 use Prim.Native.Nat.{ℕ, zero, suc, _+_, _-_, _%_}
 use lib.Dec.{eqb, ltb}
 use lib.ListN.{length, getD}
-use Rattle.vocabulary.specs.Ranges.{picked, every, total}
+use Rattle.vocabulary.specs.Intervals.{picked, every, total}
 use Rattle.vocabulary.specs.Lists.{isIn, someOf}
 use Rattle.vocabulary.specs.Bytes.{Bytes, byteAt}
 use Rattle.mesh.specs.Mesh.{counted, below, firstCell, cellCount, chain}
@@ -21,19 +21,19 @@ cellsAt m e = picked (firstCell m) (cellCount m) (incident m e)
 
 -- n, where the stencil is a0, .., an
 unfoldable pub steps : Bytes → ℕ
-steps st = length st - 1
+steps stencil = length stencil - 1
 
 -- place k is right: d at every even place and less than d at every odd place
 unfoldable pub rightAt : ℕ → Bytes → ℕ → Bool
-rightAt d st k = cond (eqb (k % 2) 0) (eqb (byteAt st k) d) (ltb (byteAt st k) d)
+rightAt d stencil k = cond (eqb (k % 2) 0) (eqb (byteAt stencil k) d) (ltb (byteAt stencil k) d)
 
 -- "A stencil is bytes a0, .., an, with n even, n at most 8, d at every even place and less than d at every odd place." A number for d
 -- and the stencil: 10.
 unfoldable pub bad10 : ℕ → Bytes → Bool
-bad10 d st =
-    not (eqb (length st % 2) 1)
-    || ltb 9 (length st)
-    || not (every 0 (length st) (rightAt d st))
+bad10 d stencil =
+    not (eqb (length stencil % 2) 1)
+    || ltb 9 (length stencil)
+    || not (every 0 (length stencil) (rightAt d stencil))
 
 -- ---- walks
 
@@ -44,16 +44,16 @@ stepTo m a es = picked (below m a + 1) (counted m a) (λ x. someOf es (λ e. inc
 -- where the walks of k steps from cell c end, rising. "A walk of k steps goes from a cell through incident elements of dimensions a1, ..,
 -- ak; a walk of k steps is a walk of k−1 steps and one step more. It may return to an element it has visited": nothing is removed.
 unfoldable pub walked : Bytes → Bytes → ℕ → ℕ → List ℕ
-walked m st c zero = c ∷ []
-walked m st c (suc k) = stepTo m (byteAt st (suc k)) (walked m st c k)
+walked m stencil c zero = c ∷ []
+walked m stencil c (suc k) = stepTo m (byteAt stencil (suc k)) (walked m stencil c k)
 
 -- the numbers of steps, from 0 to n, by which cell x is walked to from cell c, rising
 unfoldable pub stepsTo : Bytes → Bytes → ℕ → ℕ → List ℕ
-stepsTo m st c x = picked 0 (steps st + 1) (λ k. isIn x (walked m st c k))
+stepsTo m stencil c x = picked 0 (steps stencil + 1) (λ k. isIn x (walked m stencil c k))
 
 -- "The layer of a cell is the least k by which it is walked to."
 unfoldable pub layer : Bytes → Bytes → ℕ → ℕ → ℕ
-layer m st c x = getD (stepsTo m st c x) 0 0
+layer m stencil c x = getD (stepsTo m stencil c x) 0 0
 
 -- a cell of a reach, with its layer
 pub record Near : Type 0 where
@@ -62,10 +62,10 @@ pub record Near : Type 0 where
 
 -- "The reach of a cell is every cell walked to for some k from 0 to n", rising.
 unfoldable pub reach : Bytes → Bytes → ℕ → List Near
-reach m st c =
-    map (λ x. record { cell = x; layer = layer m st c x })
-    (picked (firstCell m) (cellCount m) (λ x. ltb 0 (length (stepsTo m st c x))))
+reach m stencil c =
+    map (λ x. record { cell = x; layer = layer m stencil c x })
+    (picked (firstCell m) (cellCount m) (λ x. ltb 0 (length (stepsTo m stencil c x))))
 
 -- "Sizes of all cells' reaches together above 8,000."
 unfoldable pub bad13 : Bytes → Bytes → Bool
-bad13 m st = ltb 8000 (total (firstCell m) (cellCount m) (λ c. length (reach m st c)))
+bad13 m stencil = ltb 8000 (total (firstCell m) (cellCount m) (λ c. length (reach m stencil c)))

@@ -8,8 +8,8 @@ use lib.Dec.{eqb, ltb}
 use lib.ListN.{length-set, length, getD, set, replicate}
 use lib.Seq.{getD-set-same, getD-set-other, set-out}
 use borrow.Author.Tests.{ltb-true, ltb-false, eqb-true, eqb-false}
-use Rattle.vocabulary.specs.Ranges.{isUpTo, some}
-use Rattle.vocabulary.specs.RangeLaws.{some-in, some-at, some-none, some-witness}
+use Rattle.vocabulary.specs.Intervals.{isUpTo, some}
+use Rattle.vocabulary.specs.IntervalLaws.{some-in, some-at, some-none, some-witness}
 use Rattle.vocabulary.specs.ScanLaws.{some-stop-from, some-turn-from, some-end-from}
 use Rattle.vocabulary.specs.Lists.{repeats, someOf}
 use Rattle.vocabulary.specs.ListLaws.{someOf-cong, All-intro, zeros}

@@ -9,15 +9,15 @@ use lib.ListN.{length, getD, set, take, drop, length-append, length-map, length-
 use lib.Seq.{sets, sets-eq, length-sets, take-at, getD-set-same, getD-set-other}
 use borrow.Author.Tests.{le-leb, lt-leb, eq-eqb, ne-eqb, eqb-true, eqb-false}
 use Rattle.vocabulary.specs.Bytes.{Bytes}
-use Rattle.vocabulary.specs.Ranges.{isUpTo, some, blocks}
-use Rattle.vocabulary.specs.RangeLaws.{blocks-turn, blocks-split, blocks-length, total-cong}
+use Rattle.vocabulary.specs.Intervals.{isUpTo, some, blocks}
+use Rattle.vocabulary.specs.IntervalLaws.{blocks-turn, blocks-split, blocks-length, total-cong}
 use Rattle.vocabulary.specs.Lists.{repeats, someOf, Zeros}
 use Rattle.vocabulary.specs.ListLaws.{and-right, not-both}
 use Rattle.mesh.specs.Mesh.{counted, below, elements, nextOf, headOf, elementIn, follow, records, chain, allRecords, headed}
 use Rattle.mesh.specs.Meet.{Met, met, meet, Sizes}
 use Rattle.mesh.proofs.MeetLaws.{meet-on, meet-stays}
 use Rattle.mesh.proofs.FollowLaws.{chain-ended, chain-spent, chain-more}
-use Rattle.mesh_chains.specs.Written.{Noted, noted, note, chains, Wrote, Written}
+use Rattle.mesh_chains.specs.Written.{ChainNotes, noted, note, chains, Wrote, Written}
 use Rattle.mesh_chains.proofs.RecordLaws.{records-positive, unmarked, meeting-told, met-few, records-told}
 
 -- ---- the loop over a chain: w is what noting the whole chain gives
@@ -25,7 +25,7 @@ use Rattle.mesh_chains.proofs.RecordLaws.{records-positive, unmarked, m
 pub note-begin : (m : Bytes) (r n h t : ℕ) (s items : List ℕ) → n ≡ t + r + 1 → note m r s t items (follow m (n - t) h) ≡ note m r s t items (follow m (r + 1) h)
 note-begin m r n h t s items e = let q : n - t ≡ r + 1 = omega arith in rw q
 
-module _ (m : Bytes) (r n t i : ℕ) (s items : List ℕ) (w : Noted) (inv : note m r s t items (follow m (n - t) i) ≡ w) where
+module _ (m : Bytes) (r n t i : ℕ) (s items : List ℕ) (w : ChainNotes) (inv : note m r s t items (follow m (n - t) i) ≡ w) where
   pub note-done : i < 1 → noted false s t items ≡ w
   unfolding note
   note-done z = rw (chain-ended m n t i z) at inv
@@ -43,7 +43,7 @@ module _ (m : Bytes) (r n t i : ℕ) (s items : List ℕ) (w : Noted) (inv : not
     note-above a = simp (and-right (leb 1 i) (leb i r) (lt-leb i r a), note) at opened
 
     module _ (b : i ≤ r) where
-      inside : elim (eqb (getD s i 0) 1) as (λ _. Noted) [
+      inside : elim (eqb (getD s i 0) 1) as (λ _. ChainNotes) [
         | true ↦ noted true s t items
         | false ↦ note m r (set s i 1) (t + 1) (set items t (elementIn m i)) (follow m (n - (t + 1)) (nextOf m i))
       ] ≡ w
@@ -59,10 +59,10 @@ module _ (m : Bytes) (r n t i : ℕ) (s items : List ℕ) (w : Noted) (inv : not
 
 -- ---- noting is meeting, and writing down
 
-abbrev metOf : Noted → Met
+abbrev metOf : ChainNotes → Met
 metOf (noted b s t items) = met b s
 
-abbrev amiss : Noted → Bool
+abbrev amiss : ChainNotes → Bool
 amiss (noted b s t items) = b
 
 note-meets : (m : Bytes) (r : ℕ) (s : List ℕ) (t : ℕ) (items xs : List ℕ) → metOf (note m r s t items xs) ≡ meet 1 r s xs
@@ -71,8 +71,8 @@ note-meets m r s t items [] = refl
 note-meets m r s t items (i ∷ is) = go (isUpTo r i) (eqb (getD s i 0) 1) (note-meets m r (set s i 1) (t + 1) (set items t (elementIn m i)) is)
   where
     go : (b c : Bool) → metOf (note m r (set s i 1) (t + 1) (set items t (elementIn m i)) is) ≡ meet 1 r (set s i 1) is
-        → metOf (elim b as (λ _. Noted) [
-          | true ↦ elim c as (λ _. Noted) [ true ↦ noted true s t items | false ↦ note m r (set s i 1) (t + 1) (set items t (elementIn m i)) is ]
+        → metOf (elim b as (λ _. ChainNotes) [
+          | true ↦ elim c as (λ _. ChainNotes) [ true ↦ noted true s t items | false ↦ note m r (set s i 1) (t + 1) (set items t (elementIn m i)) is ]
           | false ↦ noted true s t items
         ])
         ≡ elim b as (λ _. Met) [ true ↦ elim c as (λ _. Met) [ true ↦ met true s | false ↦ meet 1 r (set s i 1) is ] | false ↦ met true s ]
@@ -86,17 +86,17 @@ note-writes : (m : Bytes) (r : ℕ) (s : List ℕ) (t : ℕ) (items xs s′ : Li
 unfolding note
 note-writes m r s t items [] s′ t′ items′ e = (ap place e ∙ (let q : t ≡ t + 0 = omega arith in q), ap list e)
   where
-    place : Noted → ℕ
+    place : ChainNotes → ℕ
     place (noted b s t items) = t
 
-    list : Noted → List ℕ
+    list : ChainNotes → List ℕ
     list (noted b s t items) = items
 note-writes m r s t items (i ∷ is) s′ t′ items′ e =
     go (isUpTo r i) (eqb (getD s i 0) 1) e (λ q. note-writes m r (set s i 1) (t + 1) (set items t (elementIn m i)) is s′ t′ items′ q)
   where
     go : (b c : Bool)
-        → noted false s′ t′ items′ ≡ elim b as (λ _. Noted) [
-          | true ↦ elim c as (λ _. Noted) [ true ↦ noted true s t items | false ↦ note m r (set s i 1) (t + 1) (set items t (elementIn m i)) is ]
+        → noted false s′ t′ items′ ≡ elim b as (λ _. ChainNotes) [
+          | true ↦ elim c as (λ _. ChainNotes) [ true ↦ noted true s t items | false ↦ note m r (set s i 1) (t + 1) (set items t (elementIn m i)) is ]
           | false ↦ noted true s t items
         ]
         → (noted false s′ t′ items′ ≡ note m r (set s i 1) (t + 1) (set items t (elementIn m i)) is

@@ -8,8 +8,8 @@ use lib.Dec.{ltb, leb}
 use lib.ListN.{length, replicate, length-replicate}
 use borrow.Author.Tests.{le-leb, lt-leb, ltb-true, ltb-false}
 use Rattle.vocabulary.specs.Bytes.{Bytes}
-use Rattle.vocabulary.specs.Ranges.{isUpTo, some, blocks}
-use Rattle.vocabulary.specs.RangeLaws.{blocks-all}
+use Rattle.vocabulary.specs.Intervals.{isUpTo, some, blocks}
+use Rattle.vocabulary.specs.IntervalLaws.{blocks-all}
 use Rattle.vocabulary.specs.Lists.{repeats, someOf, All}
 use Rattle.vocabulary.specs.ListLaws.{or-false, someOf-cong, someOf-false, All-map, All-both, once-few, zeros-at}
 use Rattle.mesh.specs.Mesh.{counted, recordCount, records, allRecords, headed, bad4}

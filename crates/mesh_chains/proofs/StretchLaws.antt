@@ -8,8 +8,8 @@ use lib.Dec.{eqb, leb}
 use lib.ListN.{length, getD, set, take, drop, length-append, take-append-drop}
 use lib.Seq.{drop-cons, drop-append-seam, take-append-seam}
 use borrow.Author.Tests.{le-leb, lt-leb, eq-eqb, ne-eqb}
-use Rattle.vocabulary.specs.Ranges.{isUpTo, blocks}
-use Rattle.vocabulary.specs.RangeLaws.{blocks-split, blocks-inner}
+use Rattle.vocabulary.specs.Intervals.{isUpTo, blocks}
+use Rattle.vocabulary.specs.IntervalLaws.{blocks-split, blocks-inner}
 use Rattle.vocabulary.specs.ListLaws.{and-right}
 use Rattle.mesh.specs.Mesh.{elements, chain}
 use Rattle.mesh.specs.Meet.{Met, met, meet}

@@ -7,16 +7,16 @@ use Prim.Native.Nat.{ℕ, _+_, _-_, _≤_}
 use lib.Dec.{eqb}
 use lib.ListN.{length, getD, set, take, drop}
 use Rattle.vocabulary.specs.Bytes.{Bytes}
-use Rattle.vocabulary.specs.Ranges.{isUpTo, blocks}
+use Rattle.vocabulary.specs.Intervals.{isUpTo, blocks}
 use Rattle.mesh.specs.Mesh.{top, elements, recordCount, elementIn, chain, bad4}
 use Rattle.mesh.specs.Meet.{Sizes}
 
 -- whether something was amiss, the marks of the records, the place after the last element that was written down, and the elements
-pub data Noted : Type 0 where
-  noted : Bool → List ℕ → ℕ → List ℕ → Noted
+pub data ChainNotes : Type 0 where
+  noted : Bool → List ℕ → ℕ → List ℕ → ChainNotes
 
 -- meets each record of the list, up to the first that is not from 1 to r or is marked: marks it in s, and writes its element down from place t on
-unfoldable pub note : Bytes → ℕ → List ℕ → ℕ → List ℕ → List ℕ → Noted
+unfoldable pub note : Bytes → ℕ → List ℕ → ℕ → List ℕ → List ℕ → ChainNotes
 note m r s t items [] = noted false s t items
 note m r s t items (i ∷ is) =
     elim (isUpTo r i) [

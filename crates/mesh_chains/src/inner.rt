@@ -9,11 +9,11 @@ ghost use mathlib.Core.Bool.{false, _||_};
 ghost use Prim.Native.Nat.{ℕ, _+_, _<_, _≤_};
 ghost use lib.Dec.{ltb};
 ghost use lib.ListN.{length, getD};
-ghost use Rattle.vocabulary.specs.Ranges.{some};
+ghost use Rattle.vocabulary.specs.Intervals.{some};
 ghost use Rattle.vocabulary.specs.Lists.{repeats, someOf, Zeros};
 ghost use Rattle.mesh.specs.Mesh.{top, counted, below, elements, follow, allRecords, headed, wrongAt, bad4, bad5};
 ghost use Rattle.mesh.specs.Meet.{Met, meet, Sizes, Under};
-ghost use Rattle.mesh_chains.specs.Written.{Noted, note, stretch, Wrote, Written};
+ghost use Rattle.mesh_chains.specs.Written.{ChainNotes, note, stretch, Wrote, Written};
 
 // The most records that a mesh may have. The chains that test 4 accepts have no more elements together.
 pub const MOST_RECORDS: usize = 12000;
@@ -54,7 +54,7 @@ fn write_chain(
     items: &mut [u16],
 ) -> Followed
     requires { ⌜ (n ≡ elements (now m)) × (n ≤ 2000) × (r ≤ 12000) × (h < 65536) × (from ≤ 12000) ⌝ }
-    ensures { λ f. ⌜ Noted.noted (f .amiss) (now (seen .exit)) (f .end) (now (items .exit))
+    ensures { λ f. ⌜ ChainNotes.noted (f .amiss) (now (seen .exit)) (f .end) (now (items .exit))
         ≡ note (now (m .entry)) r (now (seen .entry)) from (now (items .entry)) (follow (now (m .entry)) (r + 1) h) ⌝ }
 {
     let mut i = h;

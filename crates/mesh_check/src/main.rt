@@ -4,7 +4,7 @@ use layout::Answer;
 fn main() {
     let mut buffer = [0u8; 65536];
     let n = io::read_full(0, &mut buffer);
-    let answer = mesh_tests::check_mesh(&buffer[..n]);
+    let answer = mesh_valid::check_mesh(&buffer[..n]);
     match answer {
         Answer::Done(cells) => {
             io::write_all(1, b"cells ");

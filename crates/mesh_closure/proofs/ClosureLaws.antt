@@ -8,8 +8,8 @@ use lib.Dec.{eqb, ltb}
 use lib.ListN.{length, getD, set, replicate, length-set}
 use lib.Seq.{getD-set-same, getD-set-other, getD-take}
 use borrow.Author.Tests.{eqb-true, eqb-false, eq-eqb, ne-eqb, ltb-true, ltb-false}
-use Rattle.vocabulary.specs.Ranges.{some, blocks}
-use Rattle.vocabulary.specs.RangeLaws.{some-none, blocks-all, blocks-inner, isIn-blocks}
+use Rattle.vocabulary.specs.Intervals.{some, blocks}
+use Rattle.vocabulary.specs.IntervalLaws.{some-none, blocks-all, blocks-inner, isIn-blocks}
 use Rattle.vocabulary.specs.ScanLaws.{some-stop-from, some-turn-from, some-end-from}
 use Rattle.vocabulary.specs.Lists.{isIn, someOf, All}
 use Rattle.vocabulary.specs.ListLaws.{or-nothing, someOf-cong, someOf-none, All-map, All-intro, All-getD}
@@ -22,7 +22,7 @@ use Rattle.mesh.proofs.AcceptedLaws.{bare-point, lower-chain}
 use Rattle.mesh_chains.specs.Written.{stretch, chains, Written}
 use Rattle.mesh_chains.proofs.StretchLaws.{end-in, rows-are, row-is}
 use Rattle.mesh_chains.proofs.ElementLaws.{set-under}
-use Rattle.mesh_closure.specs.Rows.{leavesBy, Named, Rows}
+use Rattle.mesh_closure.specs.Rows.{leavesBy, Named, ChainRows}
 
 -- ---- all marks of a list
 
@@ -92,7 +92,7 @@ module _ (m items ends : List ℕ) (W : Written m items ends) (five : bad5 m ≡
     high = λ t l. omega (arith, item e t h l .1, W .sizes .n-high);
   }
 
-  pub rows-here : (n e to : ℕ) → n ≡ elements m → e < 1 + n → to ≡ getD ends e 0 → Rows items ends to
+  pub rows-here : (n e to : ℕ) → n ≡ elements m → e < 1 + n → to ≡ getD ends e 0 → ChainRows items ends to
   rows-here n e to ne h te = rw te (record { names = named e (omega arith); long = W .wrote .ends-long; row = λ t l. named (getD items t 0) (item e t (omega arith) l .1) })
 
   pub elements-few : (n : ℕ) → n ≡ elements m → n ≤ 2000

@@ -11,7 +11,7 @@ use Rattle.vocabulary.specs.Lists.{someOf}
 use Rattle.mesh.specs.Meet.{stamp, unlike}
 use Rattle.mesh_chains.specs.Written.{stretch}
 use Rattle.mesh_chains.proofs.StretchLaws.{stretch-none, stretch-more}
-use Rattle.mesh_closure.specs.Rows.{leavesBy, Named, Rows}
+use Rattle.mesh_closure.specs.Rows.{leavesBy, Named, ChainRows}
 
 -- ---- the item at a place
 
@@ -23,7 +23,7 @@ module _ (items : List ℕ) (to t : ℕ) (N : Named items to) (h : t < to) where
   item-small g e = omega (arith, N .high t h)
 
 -- its chain
-module _ (items ends : List ℕ) (to t : ℕ) (R : Rows items ends to) (h : t < to) where
+module _ (items ends : List ℕ) (to t : ℕ) (R : ChainRows items ends to) (h : t < to) where
   pub row-there : t < length items
   row-there = item-there items to t (R .names) h
 
@@ -63,7 +63,7 @@ module _ (p : ℕ → Bool) (t to : ℕ) (items : List ℕ) (w : Bool) (inv : so
   unfolding someOf
   try-done h = rw (stretch-none items t to h) at inv
 
-  module _ (ends : List ℕ) (R : Rows items ends to) (h : t < to) (g : ℕ) (e : g ≡ getD items t 0) (b : Bool) (f : b ≡ p g) where
+  module _ (ends : List ℕ) (R : ChainRows items ends to) (h : t < to) (g : ℕ) (e : g ≡ getD items t 0) (b : Bool) (f : b ≡ p g) where
     tried : b || someOf (stretch items (t + 1) to) p ≡ w
     unfolding someOf
     tried = rw (f, e) (rw (stretch-more items t to h (R .names .there)) at inv)

@@ -20,7 +20,7 @@ pub record Named (items : List ℕ) (to : ℕ) : Type 0 where
   pub high : (t : ℕ) → t < to → getD items t 0 < 2001
 
 -- their chains stand in items too
-pub record Rows (items ends : List ℕ) (to : ℕ) : Type 0 where
+pub record ChainRows (items ends : List ℕ) (to : ℕ) : Type 0 where
   pub names : Named items to
   pub long : length ends ≡ 2001
   pub row : (t : ℕ) → t < to → Named items (getD ends (getD items t 0) 0)

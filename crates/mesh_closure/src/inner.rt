@@ -10,7 +10,7 @@ ghost use Rattle.vocabulary.specs.Lists.{someOf};
 ghost use Rattle.mesh.specs.Mesh.{top, elements, bad5, bad6, bad7};
 ghost use Rattle.mesh.specs.Meet.{stamp, unlike};
 ghost use Rattle.mesh_chains.specs.Written.{stretch, Written};
-ghost use Rattle.mesh_closure.specs.Rows.{leavesBy, Named, Rows};
+ghost use Rattle.mesh_closure.specs.Rows.{leavesBy, Named, ChainRows};
 
 // Marks the items from place `from` up to `to`.
 fn stamp_items(items: &[u16], from: usize, to: usize, v: u16, marks: &mut [u16; NUMBERS])
@@ -56,7 +56,7 @@ fn any_leaves(
     v: u16,
     marks: &[u16; NUMBERS],
 ) -> bool
-    requires { ⌜ Rows (now items) (now ends) to ⌝ }
+    requires { ⌜ ChainRows (now items) (now ends) to ⌝ }
     ensures { λ b. ⌜ b ≡ someOf (stretch (now (items .entry)) from to) (leavesBy (now (items .entry)) (now (ends .entry)) v (now (marks .entry))) ⌝ }
 {
     for t in from..to {
@@ -77,7 +77,7 @@ fn unclosed_items(
     v: u16,
     marks: &mut [u16; NUMBERS],
 ) -> bool
-    requires { ⌜ Rows (now items) (now ends) to ⌝ }
+    requires { ⌜ ChainRows (now items) (now ends) to ⌝ }
     ensures { λ b. ⌜ (now (marks .exit) ≡ stamp v (now (marks .entry)) (stretch (now (items .entry)) from to))
         × (b ≡ someOf (stretch (now (items .entry)) from to) (leavesBy (now (items .entry)) (now (ends .entry)) v (now (marks .exit)))) ⌝ }
 {

@@ -7,12 +7,12 @@ use native.Mathlib.Omega.{arith}
 use lib.ListN.{length}
 use borrow.Author.Tests.{lt-ltb, le-ltb, eq-eqb, ne-eqb}
 use Rattle.vocabulary.specs.Bytes.{Bytes, over}
-use Rattle.vocabulary.specs.Ranges.{every}
+use Rattle.vocabulary.specs.Intervals.{every}
 use Rattle.vocabulary.specs.ByteLaws.{over-more}
 use Rattle.layout.specs.Words.{wordAt, wordBytes, bytesOf}
 use Rattle.depths.specs.Depths.{rangedAt}
 use Rattle.messages.specs.Messages.{headSize, messageSize, bad15, reading}
-use Rattle.messages.specs.Heads.{meant}
+use Rattle.messages.specs.Heads.{meantReading}
 use Rattle.messages.specs.declared.Reading.the-variants.{Message, Refused}
 
 -- ---- 15
@@ -34,13 +34,13 @@ module _ (b : Bytes) where
 -- ---- the answer
 
 module _ (b : Bytes) (t : Bool) (r : t ≡ bad15 b) where
-  pub not-read : t ≡ true → meant b (Refused 15) ≡ reading b
-  unfolding meant reading
+  pub not-read : t ≡ true → meantReading b (Refused 15) ≡ reading b
+  unfolding meantReading reading
   not-read e = simp (sym r, e)
 
   pub is-read : (f g k n : ℕ) → t ≡ false → f ≡ wordAt b 0 → g ≡ wordAt b 1 → k ≡ wordAt b 2 → n ≡ wordAt b 3
-      → meant b (Message (record { from = f; to = g; round = k; count = n })) ≡ reading b
-  unfolding meant reading
+      → meantReading b (Message (record { from = f; to = g; round = k; count = n })) ≡ reading b
+  unfolding meantReading reading
   is-read f g k n e p q s u = simp (sym r, e, sym p, sym q, sym s, sym u)
 
 -- ---- the four words of a head

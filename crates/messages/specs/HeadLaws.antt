@@ -4,13 +4,13 @@ use mathlib.Core.Bool.{Bool, true, false, cond, true≢false}
 use Prim.Native.Nat.{ℕ, _+_, _*_}
 use lib.ListN.{length}
 use Rattle.vocabulary.specs.Bytes.{Bytes}
-use Rattle.vocabulary.specs.Ranges.{listed}
-use Rattle.vocabulary.specs.RangeLaws.{listed-length}
+use Rattle.vocabulary.specs.Intervals.{listed}
+use Rattle.vocabulary.specs.IntervalLaws.{listed-length}
 use Rattle.depths.specs.Depths.{four}
 use Rattle.messages.specs.Messages.{depthStart, fromIn, toIn, roundIn, countIn, bad15, read, refused, reading}
 use Rattle.messages.specs.Messages as paper
 use Rattle.messages.specs.MessageLaws.{messageIn, isRead, held, numbered}
-use Rattle.messages.specs.Heads.{meant}
+use Rattle.messages.specs.Heads.{meantReading}
 use Rattle.messages.specs.declared.Head.{Head}
 use Rattle.messages.specs.declared.Reading.the-variants.{Message, Refused}
 
@@ -25,9 +25,9 @@ module _ (b : Bytes) where
   }
 
   -- the count is the number of depths, so it follows, too
-  pub message-told : (h : Head) → meant b (Message h) ≡ reading b
+  pub message-told : (h : Head) → meantReading b (Message h) ≡ reading b
       → (bad15 b ≡ false) × (h .from ≡ fromIn b) × (h .to ≡ toIn b) × (h .round ≡ roundIn b) × (h .count ≡ countIn b)
-  unfolding meant reading
+  unfolding meantReading reading
   message-told h e = go (bad15 b) refl e
     where
       go : (t : Bool) → bad15 b ≡ t → read (within h) ≡ cond t (refused 15) (read (messageIn b))
@@ -43,8 +43,8 @@ module _ (b : Bytes) where
             sym (listed-length 0 (λ t. four b (depthStart t)) (h .count)) ∙ depths ∙ listed-length 0 (λ t. four b (depthStart t)) (countIn b),
           )
 
-  pub refusal-told : (n : ℕ) → meant b (Refused n) ≡ reading b → (bad15 b ≡ true) × (n ≡ 15)
-  unfolding meant reading
+  pub refusal-told : (n : ℕ) → meantReading b (Refused n) ≡ reading b → (bad15 b ≡ true) × (n ≡ 15)
+  unfolding meantReading reading
   refusal-told n e = go (bad15 b) refl e
     where
       go : (t : Bool) → bad15 b ≡ t → refused n ≡ cond t (refused 15) (read (messageIn b)) → (bad15 b ≡ true) × (n ≡ 15)

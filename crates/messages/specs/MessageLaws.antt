@@ -12,9 +12,9 @@ use borrow.Author.Tests.{le-ltb, ltb-false, eq-eqb, eqb-true, not-false}
 use Rattle.vocabulary.specs.Bytes.{Bytes, over}
 use Rattle.vocabulary.specs.ByteLaws.{over-more}
 use Rattle.vocabulary.specs.Lists.{All, joined}
-use Rattle.vocabulary.specs.Ranges.{every, listed}
+use Rattle.vocabulary.specs.Intervals.{every, listed}
 use Rattle.vocabulary.specs.ListLaws.{All-getD, All-map, All-append, All-split, joined-all, or-false}
-use Rattle.vocabulary.specs.RangeLaws.{every-intro, listed-length, listed-back}
+use Rattle.vocabulary.specs.IntervalLaws.{every-intro, listed-length, listed-back}
 use Rattle.layout.specs.Words.{wordAt, words, bytesOf}
 use Rattle.layout.specs.WordLaws.{word-same, wordAt-first, length-bytesOf, bytesOf-bytes, bytesOf-words, words-same}
 use Rattle.depths.specs.Depths.{four, depthOf, inRange, rangedAt}

@@ -6,7 +6,7 @@ use mathlib.Core.List.{List, [], _∷_, _++_}
 use Prim.Native.Nat.{ℕ, _+_, _*_}
 use lib.Dec.{eqb, ltb}
 use lib.ListN.{length, drop}
-use Rattle.vocabulary.specs.Ranges.{every, listed}
+use Rattle.vocabulary.specs.Intervals.{every, listed}
 use Rattle.vocabulary.specs.Lists.{joined}
 use Rattle.vocabulary.specs.Bytes.{Bytes}
 use Rattle.layout.specs.Words.{wordAt, bytesOf}

@@ -9,7 +9,7 @@ ghost use Rattle.layout.specs.Words.{bytesOf};
 ghost use Rattle.messages.specs.Messages.{headSize};
 
 // Stores the four words of a message; the depths go behind them.
-pub fn write_head(out: &mut [u8], from: usize, to: usize, round: usize, count: usize)
+pub fn write_header(out: &mut [u8], from: usize, to: usize, round: usize, count: usize)
     requires { ⌜ (headSize ≤ length (now out)) × (from < 65536) × (to < 65536) × (round < 65536) × (count < 65536) ⌝ }
     ensures { λ _. ⌜ now (out .exit) ≡ over (now (out .entry)) 0 (bytesOf (from ∷ to ∷ round ∷ count ∷ [])) ⌝ }
 {

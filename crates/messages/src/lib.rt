@@ -5,7 +5,7 @@ use depths::inner::depths_in_range;
 use layout::word_at;
 ghost use mathlib.Core.Path.{_≡_};
 ghost use Rattle.messages.specs.Messages.{bad15, reading};
-ghost use Rattle.messages.specs.Heads.{numberOf, meant};
+ghost use Rattle.messages.specs.Heads.{readingNumber, meantReading};
 
 // The bytes of the four words before the depths.
 pub const HEAD_SIZE: usize = 8;
@@ -40,7 +40,7 @@ fn bad_message(b: &[u8]) -> bool
 
 // Reads a message out of any bytes.
 pub fn read(b: &[u8]) -> Reading
-    ensures { λ r. ⌜ meant (now (b .entry)) r ≡ reading (now (b .entry)) ⌝ }
+    ensures { λ r. ⌜ meantReading (now (b .entry)) r ≡ reading (now (b .entry)) ⌝ }
 {
     if bad_message(b) {
         return Reading::Refused(15);
@@ -55,7 +55,7 @@ pub fn read(b: &[u8]) -> Reading
 
 // The number of a refusal, and 0 of a message: for the `else` of a caller who takes the message by `let`.
 pub fn refusal_of(r: Reading) -> u32
-    ensures { λ n. ⌜ n ≡ numberOf r ⌝ }
+    ensures { λ n. ⌜ n ≡ readingNumber r ⌝ }
 {
     match r {
         Reading::Message(_) => 0,

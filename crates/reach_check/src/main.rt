@@ -6,9 +6,9 @@ use layout::word_at;
 use mesh::inner::cell_count;
 use mesh::inner::first_cell;
 use mesh::inner::top_of;
-use mesh_tests::mesh_number;
-use reaches::inner::reach_table;
-use stencils::bad_stencil;
+use mesh_valid::mesh_number;
+use walk_reach_table::inner::reach_table;
+use walk_stencil::bad_stencil;
 ghost use mathlib.Core.Path.{_≡_};
 ghost use Prim.Native.Nat.{_<_};
 ghost use mathlib.Core.Bool.{false};
@@ -52,13 +52,13 @@ fn print_rows(first: usize, cells: usize, table: &[u8], ends: &[u16])
     }
 }
 
-fn print_reaches(m: &[u8], st: &[u8])
-    requires { ⌜ Accepted (now m) × (bad10 (top (now m)) (now st) ≡ false) ⌝ }
+fn print_reaches(m: &[u8], stencil: &[u8])
+    requires { ⌜ Accepted (now m) × (bad10 (top (now m)) (now stencil) ≡ false) ⌝ }
 {
     let mut cell = [0u16; 12001];
     let mut table = [0u8; 32000];
     let mut ends = [0u16; 2001];
-    let t = reach_table(m, st, &mut cell, &mut table, &mut ends);
+    let t = reach_table(m, stencil, &mut cell, &mut table, &mut ends);
     if 8000 < t {
         refuse(13);
     } else {
@@ -66,14 +66,14 @@ fn print_reaches(m: &[u8], st: &[u8])
     }
 }
 
-fn answer(st: &[u8], m: &[u8]) {
+fn answer(stencil: &[u8], m: &[u8]) {
     let number = mesh_number(m);
     if number != 0 {
         refuse(number);
-    } else if bad_stencil(top_of(m), st) {
+    } else if bad_stencil(top_of(m), stencil) {
         refuse(10);
     } else {
-        print_reaches(m, st);
+        print_reaches(m, stencil);
     }
 }
 

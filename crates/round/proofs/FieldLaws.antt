@@ -6,7 +6,7 @@ use native.Mathlib.Omega.{arith}
 use lib.ListN.{length}
 use borrow.Author.Tests.{eq-eqb, ne-eqb}
 use Rattle.vocabulary.specs.Bytes.{Bytes}
-use Rattle.vocabulary.specs.Ranges.{every}
+use Rattle.vocabulary.specs.Intervals.{every}
 use Rattle.depths.specs.Depths.{rangedAt}
 use Rattle.round.specs.Rounds.{bad14}
 

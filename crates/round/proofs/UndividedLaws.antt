@@ -15,8 +15,8 @@ use lib.ListN.{length, getD, length-map}
 use borrow.Author.Tests.{lt-ltb, le-ltb}
 use Rattle.vocabulary.specs.Bytes.{Bytes, over}
 use Rattle.vocabulary.specs.ListLaws.{All-getD, getD-map-any}
-use Rattle.vocabulary.specs.Ranges.{listed, blocks}
-use Rattle.vocabulary.specs.RangeLaws.{listed-back, blocks-moved}
+use Rattle.vocabulary.specs.Intervals.{listed, blocks}
+use Rattle.vocabulary.specs.IntervalLaws.{listed-back, blocks-moved}
 use Rattle.depths.specs.Depths.{four, depthBytes}
 use Rattle.depths.specs.DepthLaws.{length-four, fours-store}
 use Rattle.layout.specs.AnswerLaws.{refuses, accepts}
@@ -26,32 +26,32 @@ use Rattle.mesh.specs.Mesh.{top, firstCell, cellCount, meshNumber}
 use Rattle.mesh.specs.MeshLaws.{mesh-then, mesh-refuses}
 use Rattle.mesh.specs.Walks.{Near, reach, steps, bad10, bad13}
 use Rattle.mesh.specs.WalkLaws.{reach-in, reach-own, reach-layers}
-use Rattle.reaches.specs.Tables.{Tabled}
-use Rattle.reaches.proofs.SizeLaws.{table-refused}
-use Rattle.reaches.proofs.EntryLaws.{row-fits, row-size, row-cell, row-layer, table-length}
-use Rattle.rules.specs.Rules.{newDepth, bad11}
-use Rattle.rules.specs.Kinds.{kindNumber, ruleOf}
-use Rattle.rules.specs.declared.Kind.{Kind}
-use Rattle.rules.specs.declared.Rule.{Rule}
-use Rattle.rules.specs.declared.Rule.the-variants.{Known, Unknown}
-use Rattle.rules.proofs.KindLaws.{known-number}
-use Rattle.rules.proofs.Refusals.{known-rule, unknown-rule}
-use Rattle.rules.specs.RuleLaws.{new-length}
+use Rattle.walk_reach_table.specs.Tables.{Tabled}
+use Rattle.walk_reach_table.proofs.SizeLaws.{table-refused}
+use Rattle.walk_reach_table.proofs.EntryLaws.{row-fits, row-size, row-cell, row-layer, table-length}
+use Rattle.round_rule.specs.Rules.{newDepth, bad11}
+use Rattle.round_rule.specs.Kinds.{kindNumber, ruleOf}
+use Rattle.round_rule.specs.declared.Kind.{Kind}
+use Rattle.round_rule.specs.declared.Rule.{Rule}
+use Rattle.round_rule.specs.declared.Rule.the-variants.{Known, Unknown}
+use Rattle.round_rule.proofs.KindLaws.{known-number}
+use Rattle.round_rule.proofs.Refusals.{known-rule, unknown-rule}
+use Rattle.round_rule.specs.RuleLaws.{new-length}
 use Rattle.round.specs.Rounds.{RoundInput, Scheme, schemeOf, depthIn, newIn, round, bad14, roundNumber, roundAnswer, roundOut, roundInput}
 use Rattle.round.specs.RoundLaws.{field-length, field-ranged, placed, olds-placed}
-use Rattle.rules.specs.Update.{entryAt, entries, oldsAt, Ready}
-use Rattle.rules.specs.UpdateLaws.{ready-from}
+use Rattle.round_rule.specs.Update.{tableEntry, tableEntries, oldsAt, UpdateReady}
+use Rattle.round_rule.specs.UpdateLaws.{ready-from}
 use Rattle.round.specs.Rows.{rowNew, Row, Rows}
-use Rattle.rules.proofs.Registers.{depth-held}
+use Rattle.round_rule.proofs.Registers.{depth-held}
 
 -- ---- one row
 
 module _ (kind : ℕ) (v table : Bytes) (ends : List ℕ) (f : Bytes) (j from to : ℕ) (fe : from ≡ getD ends j 0) (te : to ≡ getD ends (j + 1) 0) where
-  pub row-ready : Row kind v table ends f j → Ready kind v table (4 * from) (to - from) f 0 j
+  pub row-ready : Row kind v table ends f j → UpdateReady kind v table (4 * from) (to - from) f 0 j
   row-ready r = rw (fe, te) (r .ready)
 
   -- z is what the update gave, in its register
-  pub row-returned : (z : ℤ) → mag z < 2147483648 → depthBytes z ≡ newDepth kind v (four f (0 + 4 * j)) (oldsAt f 0 (entries table (4 * from) (to - from)))
+  pub row-returned : (z : ℤ) → mag z < 2147483648 → depthBytes z ≡ newDepth kind v (four f (0 + 4 * j)) (oldsAt f 0 (tableEntries table (4 * from) (to - from)))
       → depthBytes (toZ w32 (ofZ w32 z)) ≡ rowNew kind v table ends f j
   unfolding rowNew
   row-returned z h e = ap depthBytes (depth-held z z h refl) ∙ rw (fe, te) at e
@@ -83,22 +83,22 @@ module _ (m st : Bytes) (kind : ℕ) (v f before table : Bytes) (ends : List ℕ
     size = omega (arith, row-size m st before table ends r made few room j h)
 
     entry-is : (t : ℕ) → t < length (reach m st (firstCell m + j))
-        → entryAt table (4 * getD ends j 0) t ≡ placed (firstCell m) (getD (reach m st (firstCell m + j)) t (record { cell = 0; layer = 0 }))
+        → tableEntry table (4 * getD ends j 0) t ≡ placed (firstCell m) (getD (reach m st (firstCell m + j)) t (record { cell = 0; layer = 0 }))
     entry-is t k =
         ap₂ (λ a b. record { cell = a; layer = b })
         (row-cell m st before table ends r made few room j t (record { cell = 0; layer = 0 }) h k)
         (row-layer m st before table ends r made few room j t (record { cell = 0; layer = 0 }) h k)
 
-    row-entries : entries table (4 * getD ends j 0) (getD ends (j + 1) 0 - getD ends j 0) ≡ map (placed (firstCell m)) (reach m st (firstCell m + j))
-    unfolding entries
+    row-entries : tableEntries table (4 * getD ends j 0) (getD ends (j + 1) 0 - getD ends j 0) ≡ map (placed (firstCell m)) (reach m st (firstCell m + j))
+    unfolding tableEntries
     row-entries =
         let es : List Near = reach m st (firstCell m + j) in
         let l : length (map (placed (firstCell m)) es) ≡ length es = length-map es (placed (firstCell m)) in
-        ap (λ n. listed 0 n (entryAt table (4 * getD ends j 0))) (size ∙ sym l)
-        ∙ listed-back 0 (entryAt table (4 * getD ends j 0)) (map (placed (firstCell m)) es) (record { cell = 0; layer = 0 })
+        ap (λ n. listed 0 n (tableEntry table (4 * getD ends j 0))) (size ∙ sym l)
+        ∙ listed-back 0 (tableEntry table (4 * getD ends j 0)) (map (placed (firstCell m)) es) (record { cell = 0; layer = 0 })
         (λ i k.
         let q : i < length es = omega arith in
-        ap (entryAt table (4 * getD ends j 0)) (zero-add i)
+        ap (tableEntry table (4 * getD ends j 0)) (zero-add i)
         ∙ entry-is i q
         ∙ sym (getD-map-any (placed (firstCell m)) es i (record { cell = 0; layer = 0 }) (record { cell = 0; layer = 0 }) q))
 

@@ -14,15 +14,15 @@ use Rattle.vocabulary.specs.Bytes.{Bytes}
 use Rattle.vocabulary.specs.ByteLaws.{byte-past}
 use Rattle.vocabulary.specs.Lists.{All}
 use Rattle.vocabulary.specs.ListLaws.{or-false}
-use Rattle.vocabulary.specs.Ranges.{every, blocks}
-use Rattle.vocabulary.specs.RangeLaws.{every-intro}
+use Rattle.vocabulary.specs.Intervals.{every, blocks}
+use Rattle.vocabulary.specs.IntervalLaws.{every-intro}
 use Rattle.layout.specs.Words.{word}
 use Rattle.depths.specs.Depths.{deepest, Valid, four, numberFrom, signed, depthFrom, depthOf, rangedAt}
 use Rattle.depths.specs.DepthLaws.{length-four, four-same, depth-same, depth-four, fours-length, fours-at, range-intro, ranged-size}
 use Rattle.mesh.specs.Walks.{Near}
-use Rattle.rules.specs.RuleLaws.{Small, new-small, new-length}
+use Rattle.round_rule.specs.RuleLaws.{Small, new-small, new-length}
 use Rattle.round.specs.Rounds.{bad14, Scheme, schemeOf, depthIn, oldsIn, newIn, round, undivided}
-use Rattle.rules.specs.Update.{oldsAt}
+use Rattle.round_rule.specs.Update.{oldsAt}
 
 -- ---- an accepted field of n cells
 

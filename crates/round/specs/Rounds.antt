@@ -4,7 +4,7 @@ use mathlib.Core.List.{List, [], _∷_, _++_, map}
 use Prim.Native.Nat.{ℕ, zero, suc, _-_, _*_}
 use lib.Dec.{eqb, ltb}
 use lib.ListN.{length}
-use Rattle.vocabulary.specs.Ranges.{every, blocks}
+use Rattle.vocabulary.specs.Intervals.{every, blocks}
 use Rattle.vocabulary.specs.Tests.{Test, refuse, firstOf}
 use Rattle.vocabulary.specs.Bytes.{Bytes, over}
 use Rattle.depths.specs.Depths.{four, rangedAt}
@@ -12,7 +12,7 @@ use Rattle.layout.specs.Answers.{answer, ifAccepted}
 use Rattle.layout.specs.declared.Answer.{Answer}
 use Rattle.mesh.specs.Mesh.{top, firstCell, cellCount, meshTests}
 use Rattle.mesh.specs.Walks.{Near, reach, steps, bad10, bad13}
-use Rattle.rules.specs.Rules.{RuleInput, Old, newDepth, bad11}
+use Rattle.round_rule.specs.Rules.{RuleInput, Old, newDepth, bad11}
 
 -- ---- fields: "A field is four bytes a cell", in rising number of the cells
 
@@ -31,10 +31,10 @@ pub record Scheme : Type 0 where
   pub new : Bytes → List Old → Bytes
 
 unfoldable pub schemeOf : Bytes → Bytes → ℕ → Bytes → Scheme
-schemeOf m st kind v = record {
+schemeOf m stencil kind v = record {
   first = firstCell m;
   cells = cellCount m;
-  reach = reach m st;
+  reach = reach m stencil;
   new = newDepth kind v;
 }
 
@@ -68,7 +68,7 @@ pub record RoundInput : Type 0 where
   pub field : Bytes
 
 abbrev pub roundInput : Bytes → Bytes → ℕ → Bytes → Bytes → RoundInput
-roundInput m st kind v f = record { mesh = m; stencil = st; rule = record { kind = kind; weights = v }; field = f }
+roundInput m stencil kind v f = record { mesh = m; stencil = stencil; rule = record { kind = kind; weights = v }; field = f }
 
 module _ (I : RoundInput) (out : Bytes) where
   -- what it tries after the mesh

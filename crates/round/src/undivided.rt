@@ -5,45 +5,53 @@ use layout::Answer;
 use layout::number_at;
 use mesh::inner::cell_count;
 use mesh::inner::top_of;
-use mesh_tests::inner::mesh_number_in;
-use reaches::inner::reach_table;
-use rules::Kind;
-use rules::Rule;
-use rules::inner::new_depth;
-use rules::rule_of;
-use rules::wrong_weights;
-use stencils::bad_stencil;
+use mesh_valid::inner::mesh_number_in;
+use round_rule::Kind;
+use round_rule::Rule;
+use round_rule::inner::new_depth;
+use round_rule::rule_of;
+use round_rule::wrong_weights;
+use walk_reach_table::inner::reach_table;
+use walk_stencil::bad_stencil;
 ghost use mathlib.Core.Path.{_≡_};
 ghost use mathlib.Core.Bool.{false};
 ghost use Prim.Native.Nat.{_*_, _≤_};
 ghost use lib.ListN.{length};
 ghost use Rattle.vocabulary.specs.Bytes.{over};
-ghost use Rattle.vocabulary.specs.Ranges.{blocks};
+ghost use Rattle.vocabulary.specs.Intervals.{blocks};
 ghost use Rattle.depths.specs.Depths.{depthBytes};
 ghost use Rattle.mesh.specs.Mesh.{top, meshNumber};
 ghost use Rattle.mesh.specs.Walks.{steps, bad10};
-ghost use Rattle.rules.specs.Rules.{bad11};
-ghost use Rattle.rules.specs.Kinds.{kindNumber};
+ghost use Rattle.round_rule.specs.Rules.{bad11};
+ghost use Rattle.round_rule.specs.Kinds.{kindNumber};
 ghost use Rattle.round.specs.Rounds.{roundInput, roundAnswer, roundOut};
 ghost use Rattle.round.specs.Rows.{rowNew, Row, Rows};
 
 // The new depth of the cell at place j, from its row of the table.
-fn new_at(kind: Kind, v: &[u8], table: &[u8], ends: &[u16], f: &[u8], j: usize) -> i32
-    requires { ⌜ (j ≤ 65535) × Row (kindNumber kind) (now v) (now table) (now ends) (now f) j ⌝ }
-    ensures { λ r. ⌜ depthBytes r ≡ rowNew (kindNumber kind) (now (v .entry)) (now (table .entry)) (now (ends .entry)) (now (f .entry)) j ⌝ }
+fn new_at(kind: Kind, weights: &[u8], table: &[u8], ends: &[u16], f: &[u8], j: usize) -> i32
+    requires { ⌜ (j ≤ 65535) × Row (kindNumber kind) (now weights) (now table) (now ends) (now f) j ⌝ }
+    ensures { λ r. ⌜ depthBytes r ≡ rowNew (kindNumber kind) (now (weights .entry)) (now (table .entry)) (now (ends .entry)) (now (f .entry)) j ⌝ }
 {
     let from = number_at(ends, j) as usize;
     let to = number_at(ends, j + 1) as usize;
-    new_depth(kind, v, table, 4 * from, to - from, f, 0, j)
+    new_depth(kind, weights, table, 4 * from, to - from, f, 0, j)
 }
 
 // The new depths of all cells: f is only read and out only written, so every one comes from old ones.
-fn renew(kind: Kind, v: &[u8], table: &[u8], ends: &[u16], cells: usize, f: &[u8], out: &mut [u8])
-    requires { ⌜ Rows (kindNumber kind) (now v) (now table) (now ends) cells (now f) × (4 * cells ≤ length (now out)) ⌝ }
-    ensures { λ _. ⌜ now (out .exit) ≡ over (now (out .entry)) 0 (blocks 0 cells (rowNew (kindNumber kind) (now (v .entry)) (now (table .entry)) (now (ends .entry)) (now (f .entry)))) ⌝ }
+fn renew(
+    kind: Kind,
+    weights: &[u8],
+    table: &[u8],
+    ends: &[u16],
+    cells: usize,
+    f: &[u8],
+    out: &mut [u8],
+)
+    requires { ⌜ Rows (kindNumber kind) (now weights) (now table) (now ends) cells (now f) × (4 * cells ≤ length (now out)) ⌝ }
+    ensures { λ _. ⌜ now (out .exit) ≡ over (now (out .entry)) 0 (blocks 0 cells (rowNew (kindNumber kind) (now (weights .entry)) (now (table .entry)) (now (ends .entry)) (now (f .entry)))) ⌝ }
 {
     for j in 0..cells {
-        let z = new_at(kind, v, table, ends, f, j);
+        let z = new_at(kind, weights, table, ends, f, j);
         put_depth(out, 4 * j, z);
     }
 }
@@ -51,23 +59,23 @@ fn renew(kind: Kind, v: &[u8], table: &[u8], ends: &[u16], cells: usize, f: &[u8
 // The round on an accepted mesh, stencil and rule. The arrays `cell` and `ends` are work space.
 fn round_on(
     m: &[u8],
-    st: &[u8],
+    stencil: &[u8],
     kind: Kind,
-    v: &[u8],
+    weights: &[u8],
     f: &[u8],
     out: &mut [u8],
     cell: &mut [u16],
     ends: &mut [u16],
 ) -> Answer
-    requires { ⌜ (meshNumber (now m) ≡ 0) × (bad10 (top (now m)) (now st) ≡ false) × (bad11 (kindNumber kind) (steps (now st)) (now v) ≡ false)
+    requires { ⌜ (meshNumber (now m) ≡ 0) × (bad10 (top (now m)) (now stencil) ≡ false) × (bad11 (kindNumber kind) (steps (now stencil)) (now weights) ≡ false)
         × (length (now cell) ≡ 12001) × (length (now ends) ≡ 2001) ⌝ }
     ensures { λ r.
-        let I = roundInput (now (m .entry)) (now (st .entry)) (kindNumber kind) (now (v .entry)) (now (f .entry)) in
+        let I = roundInput (now (m .entry)) (now (stencil .entry)) (kindNumber kind) (now (weights .entry)) (now (f .entry)) in
         ⌜ (r ≡ roundAnswer I (now (out .entry))) × (now (out .exit) ≡ roundOut I (now (out .entry))) ⌝ }
 {
     // the table is written even where the reaches are too many, so it stands in an array of our own
     let mut table = [0u8; 32000];
-    let t = reach_table(m, st, cell, &mut table, ends);
+    let t = reach_table(m, stencil, cell, &mut table, ends);
     if 8000 < t {
         return Answer::Refused(13);
     }
@@ -78,15 +86,22 @@ fn round_on(
     if out.len() < 4 * cells {
         return Answer::Refused(16);
     }
-    renew(kind, v, &table, ends, cells, f, out);
+    renew(kind, weights, &table, ends, cells, f, out);
     Answer::Done(cells as u32)
 }
 
 // One undivided round: mesh, stencil, rule kind and weights, field. The new field stands at the front of `out`. The mesh is tested in arrays that the
 // reaches are found in afterwards.
-pub fn undivided_round(m: &[u8], st: &[u8], kind: u32, v: &[u8], f: &[u8], out: &mut [u8]) -> Answer
+pub fn undivided_round(
+    m: &[u8],
+    stencil: &[u8],
+    kind: u32,
+    weights: &[u8],
+    f: &[u8],
+    out: &mut [u8],
+) -> Answer
     ensures { λ r.
-        let I = roundInput (now (m .entry)) (now (st .entry)) kind (now (v .entry)) (now (f .entry)) in
+        let I = roundInput (now (m .entry)) (now (stencil .entry)) kind (now (weights .entry)) (now (f .entry)) in
         ⌜ (r ≡ roundAnswer I (now (out .entry))) × (now (out .exit) ≡ roundOut I (now (out .entry))) ⌝ }
 {
     let mut cell = [0u16; 12001];
@@ -95,15 +110,15 @@ pub fn undivided_round(m: &[u8], st: &[u8], kind: u32, v: &[u8], f: &[u8], out: 
     if number != 0 {
         return Answer::Refused(number);
     }
-    if bad_stencil(top_of(m), st) {
+    if bad_stencil(top_of(m), stencil) {
         return Answer::Refused(10);
     }
     match rule_of(kind) {
         Rule::Known(k) => {
-            if wrong_weights(k, st.len() - 1, v) {
+            if wrong_weights(k, stencil.len() - 1, weights) {
                 return Answer::Refused(11);
             }
-            round_on(m, st, k, v, f, out, &mut cell, &mut ends)
+            round_on(m, stencil, k, weights, f, out, &mut cell, &mut ends)
         }
         Rule::Unknown => Answer::Refused(11),
     }

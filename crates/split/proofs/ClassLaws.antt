@@ -12,19 +12,19 @@ use lib.Seq.{getD-set-same, getD-set-other}
 use borrow.Author.Tests.{eqb-true, eqb-false, eq-eqb, ne-eqb, lt-ltb, le-ltb, ltb-true, ltb-false}
 use Rattle.split.specs.Split.{ownerAt}
 use Rattle.vocabulary.specs.Bytes.{Bytes, byteAt}
-use Rattle.vocabulary.specs.Ranges.{every, some}
-use Rattle.vocabulary.specs.RangeLaws.{last-or, some-next, at-last}
+use Rattle.vocabulary.specs.Intervals.{every, some}
+use Rattle.vocabulary.specs.IntervalLaws.{last-or, some-next, at-last}
 use Rattle.vocabulary.specs.ListLaws.{and-left, and-right, or-nothing, not-both}
 use Rattle.layout.specs.Words.{wordAt}
 use Rattle.split.specs.Classes.{ownsAt, entryOwned, insideAt}
-use Rattle.split.specs.Classes.{hasEntry, reachHas, entryIs, reachedAt, classAt, Classed, Cleared, Marked}
+use Rattle.split.specs.Classes.{hasEntry, reachHas, entryIs, reachedAt, classAt, Classed, RowCleared, OwnersMarked}
 
 -- ---- a cleared row
 
-pub clear-start : (class : Bytes) → length class ≡ 2000 → Cleared 0 class
+pub clear-start : (class : Bytes) → length class ≡ 2000 → RowCleared 0 class
 clear-start class l = record { room = l; each = λ x h. absurd (not-suc-le-zero h) }
 
-pub clear-turn : (q : ℕ) (a b : Bytes) → q < 2000 → Cleared q a → b ≡ set a q 0 → Cleared (q + 1) b
+pub clear-turn : (q : ℕ) (a b : Bytes) → q < 2000 → RowCleared q a → b ≡ set a q 0 → RowCleared (q + 1) b
 clear-turn q a b h C e = record {
   room = ap length e ∙ length-set a q 0 ∙ C .room;
   each = λ x l. ap (λ (c : Bytes). byteAt c x) e ∙ go x l (eqb x q) refl;
@@ -36,8 +36,8 @@ clear-turn q a b h C e = record {
         let ne : x ≡ q → ⊥ = eqb-false x q w in
         getD-set-other a q x 0 0 ne ∙ C .each x (⊎-elim (λ g. g) (λ g. absurd (ne g)) (last-or x q (omega arith)))
 
-pub clear-end : (q : ℕ) (class : Bytes) → q ≤ 2000 → 2000 ≤ q → Cleared q class → Cleared 2000 class
-clear-end q class g h C = at-last (λ k. Cleared k class) q 2000 g h C
+pub clear-end : (q : ℕ) (class : Bytes) → q ≤ 2000 → 2000 ≤ q → RowCleared q class → RowCleared 2000 class
+clear-end q class g h C = at-last (λ k. RowCleared k class) q 2000 g h C
 
 -- ---- one entry
 
@@ -46,7 +46,7 @@ module _ (owners table : Bytes) (i t w o : ℕ) (we : w ≡ wordAt table (2 * t)
   unfolding entryOwned ownsAt
   own-here = ap (λ x. eqb (ownerAt owners x) i) (sym we) ∙ ap (λ x. eqb x i) (sym oe)
 
-  pub entry-own : o ≡ i → (inside ≡ inside && entryOwned owners table i t) × Marked owners i before before (entryIs table t)
+  pub entry-own : o ≡ i → (inside ≡ inside && entryOwned owners table i t) × OwnersMarked owners i before before (entryIs table t)
   unfolding entryIs ownsAt
   entry-own e = (sym (ap (λ b. inside && b) (own-here ∙ eq-eqb o i e) ∙ all inside), record { size = refl; each = λ x h. sym (kept x (eqb w x) refl) })
     where
@@ -61,7 +61,7 @@ module _ (owners table : Bytes) (i t w o : ℕ) (we : w ≡ wordAt table (2 * t)
       kept x false p =
           ap (λ b. cond b (ownerAt owners x) (byteAt before x)) (and-left (eqb (wordAt table (2 * t)) x) (not (eqb (ownerAt owners x) i)) (ap (λ y. eqb y x) (sym we) ∙ p))
 
-  pub entry-other : (after : Bytes) → (o ≡ i → ⊥) → after ≡ set before w o → (false ≡ inside && entryOwned owners table i t) × Marked owners i before after (entryIs table t)
+  pub entry-other : (after : Bytes) → (o ≡ i → ⊥) → after ≡ set before w o → (false ≡ inside && entryOwned owners table i t) × OwnersMarked owners i before after (entryIs table t)
   unfolding entryIs ownsAt
   entry-other after ne e = (
     sym (ap (λ b. inside && b) (own-here ∙ ne-eqb o i ne) ∙ none inside),
@@ -88,7 +88,7 @@ module _ (owners table : Bytes) (i t w o : ℕ) (we : w ≡ wordAt table (2 * t)
 
 pub record Passing (owners table : Bytes) (i a t : ℕ) (inside : Bool) (before after : Bytes) : Type 0 where
   pub told : inside ≡ every a (t - a) (entryOwned owners table i)
-  pub marked : Marked owners i before after (hasEntry table a (t - a))
+  pub marked : OwnersMarked owners i before after (hasEntry table a (t - a))
 
 pub pass-start : (owners table : Bytes) (i a : ℕ) (class : Bytes) → Passing owners table i a a true class class
 unfolding hasEntry
@@ -103,7 +103,7 @@ pass-start owners table i a class =
     }
 
 pub pass-turn : (owners table : Bytes) (i a t : ℕ) (b c : Bool) (before class after : Bytes) → a ≤ t → Passing owners table i a t b before class → c ≡ b && entryOwned owners table i t
-    → Marked owners i class after (entryIs table t) → Passing owners table i a (t + 1) c before after
+    → OwnersMarked owners i class after (entryIs table t) → Passing owners table i a (t + 1) c before after
 unfolding hasEntry entryIs some every
 pass-turn owners table i a t b c before class after l P ce M = record {
   told = ce ∙ ap₂ (λ x y. x && entryOwned owners table i y) (P .told) (sym here) ∙ sym (ap (λ n. every a n (entryOwned owners table i)) next);
@@ -135,7 +135,7 @@ pass-turn owners table i a t b c before class after l P ce M = record {
     more x = ap (λ y. some a (t - a) (λ t. eqb (wordAt table (2 * t)) x) || eqb (wordAt table (2 * y)) x) (sym here) ∙ sym (ap (λ n. some a n (λ t. eqb (wordAt table (2 * t)) x)) next)
 
 pub pass-end : (owners table : Bytes) (ends : List ℕ) (i q a z t : ℕ) (b : Bool) (before after : Bytes) → a ≡ getD ends q 0 → z ≡ getD ends (q + 1) 0 → z ≤ t → (t ≤ z) ⊎ (t ≡ a)
-    → Passing owners table i a t b before after → (b ≡ insideAt owners table ends i q) × Marked owners i before after (reachHas table ends q)
+    → Passing owners table i a t b before after → (b ≡ insideAt owners table ends i q) × OwnersMarked owners i before after (reachHas table ends q)
 unfolding insideAt reachHas
 pass-end owners table ends i q a z t b before after ae ze h c P = (
   P .told ∙ ap₂ (λ x y. every x y (entryOwned owners table i)) ae whole,
@@ -147,7 +147,7 @@ pass-end owners table ends i q a z t b before after ae ze h c P = (
 
 -- ---- one cell more
 
-pub class-start : (owners table : Bytes) (ends : List ℕ) (i : ℕ) (class : Bytes) → Cleared 2000 class → Classed owners table ends i 0 class
+pub class-start : (owners table : Bytes) (ends : List ℕ) (i : ℕ) (class : Bytes) → RowCleared 2000 class → Classed owners table ends i 0 class
 unfolding classAt reachedAt some
 class-start owners table ends i class C = record { room = C .room; each = λ x h. C .each x h ∙ sym (none x) }
   where
@@ -196,7 +196,7 @@ module _ (owners table : Bytes) (ends : List ℕ) (i q o : ℕ) (small : q < 200
           (reachedAt owners table ends i q x)))
           ∙ sym (ap (λ b. cond b (cond (ltb x (q + 1)) (cond (insideAt owners table ends i x) 17 18) 0) (cond (reachedAt owners table ends i (q + 1) x) (ownerAt owners x) 0)) e)
 
-  pub class-own : (inside : Bool) (marked after : Bytes) (k : ℕ) → o ≡ i → inside ≡ insideAt owners table ends i q → Marked owners i before marked (reachHas table ends q) → k ≡ cond inside 17 18
+  pub class-own : (inside : Bool) (marked after : Bytes) (k : ℕ) → o ≡ i → inside ≡ insideAt owners table ends i q → OwnersMarked owners i before marked (reachHas table ends q) → k ≡ cond inside 17 18
       → after ≡ set marked q k → Classed owners table ends i (q + 1) after
   unfolding ownsAt classAt
   class-own inside marked after k own ie M ke e = record {

@@ -10,8 +10,8 @@ use lib.Dec.{eqb, ltb}
 use lib.ListN.{length, getD, length-append, length-map}
 use borrow.Author.Tests.{eqb-true, eq-eqb, ne-eqb, lt-ltb}
 use Rattle.vocabulary.specs.Bytes.{Bytes, byteAt}
-use Rattle.vocabulary.specs.Ranges.{picked, some, total}
-use Rattle.vocabulary.specs.RangeLaws.{some-cong, some-has, some-in, some-witness, total-cong, picked-all, picked-in, picked-passes}
+use Rattle.vocabulary.specs.Intervals.{picked, some, total}
+use Rattle.vocabulary.specs.IntervalLaws.{some-cong, some-has, some-in, some-witness, total-cong, picked-all, picked-in, picked-passes}
 use Rattle.vocabulary.specs.CountLaws.{total-add, total-zero, total-single}
 use Rattle.vocabulary.specs.Lists.{All, someOf}
 use Rattle.vocabulary.specs.ListLaws.{and-left, and-right, and-true, and-intro, not-both, same-test, All-getD, All-of-map, someOf-has, someOf-witness, getD-map-any}
@@ -19,11 +19,11 @@ use Rattle.layout.specs.Words.{wordAt}
 use Rattle.mesh.specs.Mesh.{firstCell, cellCount}
 use Rattle.mesh.specs.Walks.{Near, layer, stepsTo, reach}
 use Rattle.mesh.specs.WalkLaws.{reach-in}
-use Rattle.reaches.specs.Tables.{entryCount, Ends}
-use Rattle.reaches.proofs.EntryLaws.{count-more}
-use Rattle.reach_rows.specs.Rows.{walkedTo, rowCells, reachCount}
+use Rattle.walk_reach_table.specs.Tables.{entryCount, EndTable}
+use Rattle.walk_reach_table.proofs.EntryLaws.{count-more}
+use Rattle.walk_part_reach.specs.Rows.{walkedTo, rowCells, rowReachCount}
 use Rattle.split.specs.Split.{Split, splitOf, ownerAt, owns, owned, reaches, holds, held, imports, exports, inside}
-use Rattle.split.specs.SplitLaws.{Cell, map-facts, own-held, split-own}
+use Rattle.split.specs.SplitLaws.{SplitCell, map-facts, own-held, split-own}
 use Rattle.split.specs.Lists.{bad8, bad12}
 use Rattle.split.specs.Classes.{ownsAt, insideAt}
 use Rattle.split.proofs.HolderLaws.{total-swap}
@@ -113,8 +113,8 @@ module _ (m : Bytes) (parts : ℕ) (owners st : Bytes) where
   walked-is : (c q : ℕ) → q < cellCount m → walkedTo m st c (firstCell m + q) ≡ reaches S c (firstCell m + q)
   walked-is c q h = same-test _ _ (reach-has c (firstCell m + q) (omega arith) (omega arith)) (reach-only c (firstCell m + q))
 
-  walked-count : (i : ℕ) → reachCount m st owners i ≡ length (held S i)
-  unfolding reachCount rowCells holds owned owns splitOf
+  walked-count : (i : ℕ) → rowReachCount m st owners i ≡ length (held S i)
+  unfolding rowReachCount rowCells holds owned owns splitOf
   walked-count i =
       total-cong 0 (λ q. cond (someOf (picked (firstCell m) (cellCount m) (λ x. eqb (ownerAt owners (x - firstCell m)) i)) (λ c. walkedTo m st c (firstCell m + q))) 1 0)
       (λ q. cond (holds S i (firstCell m + q)) 1 0) (cellCount m)
@@ -131,9 +131,9 @@ module _ (m : Bytes) (parts : ℕ) (owners st : Bytes) where
       (w .0) (w .1) (walked-is _ (0 + q) l ∙ w .2))))
       ∙ sym (held-count i)
 
-  pub walked-told : (s : ℕ) → s ≡ total 1 parts (reachCount m st owners) → ltb 4096 s ≡ bad12 S
+  pub walked-told : (s : ℕ) → s ≡ total 1 parts (rowReachCount m st owners) → ltb 4096 s ≡ bad12 S
   unfolding bad12 splitOf
-  walked-told s e = ap (ltb 4096) (e ∙ total-cong 1 (reachCount m st owners) (λ i. length (held S i)) parts (λ k h. walked-count (1 + k)))
+  walked-told s e = ap (ltb 4096) (e ∙ total-cong 1 (rowReachCount m st owners) (λ i. length (held S i)) parts (λ k h. walked-count (1 + k)))
 
   -- a class is 0 exactly where the part does not hold the cell
   module _ (right : bad8 m parts owners [] ≡ false) where
@@ -153,7 +153,7 @@ module _ (m : Bytes) (parts : ℕ) (owners st : Bytes) where
             ∙ mine (inside S i (firstCell m + q))
         go true e false f = absurd (not-both (holds S i (firstCell m + q)) (own-held S (split-own m parts owners st) i (firstCell m + q) cell e) f)
           where
-            cell : Cell S (firstCell m + q)
+            cell : SplitCell S (firstCell m + q)
             cell = unfold splitOf in (omega arith, omega arith)
         go false e true f = (ap₂ (λ x y. eqb (cond x (cond (inside S i (firstCell m + q)) 17 18) (cond y (S .owner (firstCell m + q)) 0)) 0) e f)
             ∙ ne-eqb (S .owner (firstCell m + q)) 0 (omega (arith, owner-some))
@@ -215,7 +215,7 @@ module _ (m : Bytes) (parts : ℕ) (owners st : Bytes) where
 
   -- ---- by the table of the reaches
 
-  module _ (table : Bytes) (ends : List ℕ) (E : Ends m st ends (cellCount m))
+  module _ (table : Bytes) (ends : List ℕ) (E : EndTable m st ends (cellCount m))
       (T : (q t : ℕ) (d : Near) → q < cellCount m → t < length (reach m st (firstCell m + q))
       → (wordAt table (2 * (entryCount m st q + t)) ≡ getD (reach m st (firstCell m + q)) t d .cell - firstCell m)
       × (wordAt table (2 * (entryCount m st q + t) + 1) ≡ getD (reach m st (firstCell m + q)) t d .layer))

@@ -11,14 +11,14 @@ use lib.ListN.{length, getD, set, length-set}
 use lib.Seq.{getD-set-same, getD-set-other}
 use borrow.Author.Tests.{eqb-true, eqb-false, eq-eqb, ne-eqb, ltb-true, ltb-false}
 use Rattle.vocabulary.specs.Bytes.{Bytes, byteAt}
-use Rattle.vocabulary.specs.Ranges.{some, total}
-use Rattle.vocabulary.specs.RangeLaws.{at-last, some-next, some-start, total-start, total-turn, total-cong}
+use Rattle.vocabulary.specs.Intervals.{some, total}
+use Rattle.vocabulary.specs.IntervalLaws.{at-last, some-next, some-start, total-start, total-turn, total-cong}
 use Rattle.vocabulary.specs.CountLaws.{total-add, total-zero}
 use Rattle.vocabulary.specs.ListLaws.{and-left, and-right}
 use Rattle.layout.specs.Words.{wordAt}
 use Rattle.layout.proofs.Laws.{number-past}
 use Rattle.split.specs.Split.{ownerAt}
-use Rattle.split.specs.Classes.{ownsAt, hasEntry, reachHas, reachedAt, ownReach, Cleared, Raised, Few, rowSum, heldBy, partHeld, Counted, Holders}
+use Rattle.split.specs.Classes.{ownsAt, hasEntry, reachHas, reachedAt, ownReach, RowCleared, Raised, Few, rowSum, heldBy, partHeld, Counted, Holders}
 
 -- ---- one place
 
@@ -213,7 +213,7 @@ module _ (owners table : Bytes) (ends : List ℕ) (k : ℕ) where
 
 -- ---- all parts
 
-pub few-start : (row : Bytes) → Cleared 2000 row → Few 0 row
+pub few-start : (row : Bytes) → RowCleared 2000 row → Few 0 row
 few-start row C = record { room = C .room; each = λ x. low x (ltb x 2000) refl }
   where
     low : (x : ℕ) (b : Bool) → ltb x 2000 ≡ b → byteAt row x ≤ 0
@@ -221,7 +221,7 @@ few-start row C = record { room = C .room; each = λ x. low x (ltb x 2000) refl 
     low x false e = let l : 2000 ≤ x = ltb-false x 2000 e in omega (arith, number-past row x (omega (arith, C .room)))
 
 module _ (owners table : Bytes) (ends : List ℕ) (cells : ℕ) where
-  pub count-start : (holders : Bytes) → Cleared 2000 holders → Counted owners table ends cells 0 holders
+  pub count-start : (holders : Bytes) → RowCleared 2000 holders → Counted owners table ends cells 0 holders
   count-start holders C =
       let F = few-start holders C in
       record { few = F; each = λ q h. (let z : byteAt holders q ≡ 0 = omega (arith, F .each q) in z) ∙ sym (total-start 1 (heldBy owners table ends cells q)) }

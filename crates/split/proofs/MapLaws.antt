@@ -9,8 +9,8 @@ use lib.Dec.{eqb, leb}
 use lib.ListN.{length, getD}
 use borrow.Author.Tests.{le-leb, lt-leb, eq-eqb, ne-eqb, not-true, not-false}
 use Rattle.vocabulary.specs.Bytes.{Bytes}
-use Rattle.vocabulary.specs.Ranges.{isUpTo, every, some, picked}
-use Rattle.vocabulary.specs.RangeLaws.{every-at, every-intro, some-has, some-witness, some-at, some-more, picked-none, picked-at, every-stop, every-turn, some-stop, some-turn, at-last}
+use Rattle.vocabulary.specs.Intervals.{isUpTo, every, some, picked}
+use Rattle.vocabulary.specs.IntervalLaws.{every-at, every-intro, some-has, some-witness, some-at, some-more, picked-none, picked-at, every-stop, every-turn, some-stop, some-turn, at-last}
 use Rattle.vocabulary.specs.Lists.{everyOf}
 use Rattle.vocabulary.specs.ListLaws.{everyOf-at, everyOf-fails, everyOf-intro, All-intro, same-test}
 use Rattle.vocabulary.specs.Tests.{firstOf}

@@ -12,11 +12,11 @@ use borrow.Author.Tests.{eq-eqb}
 use Rattle.vocabulary.specs.Bytes.{Bytes}
 use Rattle.vocabulary.specs.Lists.{repeats}
 use Rattle.vocabulary.specs.ListLaws.{At, repeats-none, repeats-once, cond-has}
-use Rattle.vocabulary.specs.Ranges.{picked, total}
-use Rattle.vocabulary.specs.RangeLaws.{Rises, picked-rises, rises-once}
+use Rattle.vocabulary.specs.Intervals.{picked, total}
+use Rattle.vocabulary.specs.IntervalLaws.{Rises, picked-rises, rises-once}
 use Rattle.mesh.specs.Mesh.{top, counted, below}
 use Rattle.split.specs.Split.{Split, owns, owned, reaches, holds, held, imports, exports, interior, halo, locals, localOf, globalOf, range}
-use Rattle.split.specs.SplitLaws.{Cell, own-is, own-number, local-back, local-cases, import-facts, import-at, own-held}
+use Rattle.split.specs.SplitLaws.{SplitCell, own-is, own-number, local-back, local-cases, import-facts, import-at, own-held}
 
 -- ---- rising lists
 
@@ -48,7 +48,7 @@ range-rises m k p =
 module _ (S : Split) (i : ℕ) where
   -- what the t-th cell imported from j has
   facts-at : (j t : ℕ) → t < length (imports S i j)
-      → Cell S (getD (imports S i j) t 0) × (i ≢ j) × (S .owner (getD (imports S i j) t 0) ≡ j) × (holds S i (getD (imports S i j) t 0) ≡ true)
+      → SplitCell S (getD (imports S i j) t 0) × (i ≢ j) × (S .owner (getD (imports S i j) t 0) ≡ j) × (holds S i (getD (imports S i j) t 0) ≡ true)
   facts-at j t h = import-facts S i j (getD (imports S i j) t 0) (record { place = t; place-lt = h; place-is = refl })
 
   abbrev Imported : ℕ → Type 0
@@ -106,7 +106,7 @@ module _ (S : Split) (i : ℕ) where
       local-once _ l (b .0) (b .1) low high (b .2)
 
   -- what stands in the local order is held; `held-has` is the other way
-  module _ (own-reach : (c : ℕ) → Cell S c → reaches S c c ≡ true) where
+  module _ (own-reach : (c : ℕ) → SplitCell S c → reaches S c c ≡ true) where
     pub order-held : (l : ℕ) → 1 ≤ l → l ≤ length (locals S i) → holds S i (globalOf (locals S i) l) ≡ true
     order-held l low high = ⊎-elim mine theirs (local-cases S i l low high)
       where
@@ -115,7 +115,7 @@ module _ (S : Split) (i : ℕ) where
             let o = own-is S i l low a in
             held-own (o .0) (unfold owns in eq-eqb _ i (o .1))
           where
-            held-own : Cell S (globalOf (locals S i) l) → owns S i (globalOf (locals S i) l) ≡ true → holds S i (globalOf (locals S i) l) ≡ true
+            held-own : SplitCell S (globalOf (locals S i) l) → owns S i (globalOf (locals S i) l) ≡ true → holds S i (globalOf (locals S i) l) ≡ true
             held-own c e = own-held S own-reach i (globalOf (locals S i) l) c e
 
         theirs : Imported l → holds S i (globalOf (locals S i) l) ≡ true

@@ -7,8 +7,8 @@ use native.Mathlib.Omega.{arith}
 use lib.Dec.{eqb}
 use lib.ListN.{length}
 use Rattle.vocabulary.specs.Bytes.{Bytes}
-use Rattle.vocabulary.specs.Ranges.{isUpTo}
-use Rattle.vocabulary.specs.RangeLaws.{upTo-intro, upTo-true}
+use Rattle.vocabulary.specs.Intervals.{isUpTo}
+use Rattle.vocabulary.specs.IntervalLaws.{upTo-intro, upTo-true}
 use Rattle.vocabulary.specs.Lists.{everyOf}
 use Rattle.vocabulary.specs.Tests.{refuse}
 use Rattle.mesh.specs.Mesh.{top, cellCount, meshTests}

@@ -8,22 +8,22 @@ use lib.Dec.{eqb, ltb}
 use lib.ListN.{length, getD, replicate}
 use borrow.Author.Tests.{lt-ltb, le-ltb}
 use Rattle.vocabulary.specs.Bytes.{Bytes, over}
-use Rattle.vocabulary.specs.Ranges.{every, total}
-use Rattle.vocabulary.specs.RangeLaws.{every-at, every-intro}
+use Rattle.vocabulary.specs.Intervals.{every, total}
+use Rattle.vocabulary.specs.IntervalLaws.{every-at, every-intro}
 use Rattle.vocabulary.specs.Lists.{everyOf}
 use Rattle.vocabulary.specs.ListLaws.{same-test, everyOf-at, everyOf-intro, All-intro}
 use Rattle.layout.specs.Words.{wordAt, bytesOf}
 use Rattle.mesh.specs.Mesh.{top, firstCell, cellCount}
-use Rattle.links.specs.Links.{links, linkCells}
-use Rattle.walks.specs.Walking.{Ground, Sized}
-use Rattle.walks.specs.declared.steps.MeshSizes.{MeshSizes}
-use Rattle.walks.proofs.GroundLaws.{grounded}
+use Rattle.walk_incidence.specs.Links.{links, linkCells}
+use Rattle.walk_steps.specs.Walking.{Ground, Sized}
+use Rattle.walk_steps.specs.declared.steps.MeshSizes.{MeshSizes}
+use Rattle.walk_steps.proofs.GroundLaws.{grounded}
 use Rattle.mesh.specs.Walks.{Near, reach, bad10, bad13}
 use Rattle.mesh.specs.Accepted.{Accepted}
-use Rattle.reaches.specs.Tables.{tableWords, entryCount, Ends, Tabled}
-use Rattle.reach_rows.specs.Rows.{reachCount}
-use Rattle.reaches.proofs.EntryLaws.{count-more, entry-is}
-use Rattle.reaches.proofs.SizeLaws.{table-refused}
+use Rattle.walk_reach_table.specs.Tables.{tableWords, entryCount, EndTable, Tabled}
+use Rattle.walk_part_reach.specs.Rows.{rowReachCount}
+use Rattle.walk_reach_table.proofs.EntryLaws.{count-more, entry-is}
+use Rattle.walk_reach_table.proofs.SizeLaws.{table-refused}
 use Rattle.split.specs.Split.{splitOf, ownerAt, owns, inside}
 use Rattle.split.specs.Lists.{bad8, bad12, sizeTests, sizesNumber}
 use Rattle.split.specs.Classes.{ownsAt, entryOwned, insideAt, Holders, Prepared}
@@ -37,7 +37,7 @@ module _ (m st before table : Bytes) (e : table ≡ over before 0 (bytesOf (tabl
       same-test _ _ (λ s. everyOf-intro r xs (All-intro (λ x. r x ≡ true) xs d (λ t h. sym (f t h) ∙ every-at a p (length xs) t s h)))
       (λ s. every-intro a p (length xs) (λ t h. f t h ∙ everyOf-at r xs d t s h))
 
-  pub insides-are : (parts : ℕ) (owners : Bytes) (ends : List ℕ) → Ends m st ends (cellCount m) → (i q : ℕ) → q < cellCount m
+  pub insides-are : (parts : ℕ) (owners : Bytes) (ends : List ℕ) → EndTable m st ends (cellCount m) → (i q : ℕ) → q < cellCount m
       → insideAt owners table ends i q ≡ inside (splitOf m parts owners st) i (firstCell m + q)
   unfolding insideAt entryOwned ownsAt inside owns splitOf
   insides-are parts owners ends E i q h =
@@ -64,11 +64,11 @@ pub table-over : (m st start table : Bytes) (ends : List ℕ) (r : ℕ) → Tabl
 table-over m st start table ends r T h = sym (table-refused m st start table ends r T) ∙ lt-ltb 8000 r h
 
 module _ (m : Bytes) (parts : ℕ) (owners st : Bytes) where
-  pub overflow-twelve : (s : ℕ) → s ≡ total 1 parts (reachCount m st owners) → 4096 < s → 12 ≡ sizesNumber m parts owners st
+  pub overflow-twelve : (s : ℕ) → s ≡ total 1 parts (rowReachCount m st owners) → 4096 < s → 12 ≡ sizesNumber m parts owners st
   unfolding sizesNumber sizeTests
   overflow-twelve s e h = sym (ap (λ b. cond b 12 (cond (bad13 m st) 13 0)) (sym (walked-told m parts owners st s e) ∙ lt-ltb 4096 s h))
 
-  pub overflow-thirteen : (s : ℕ) → s ≡ total 1 parts (reachCount m st owners) → s ≤ 4096 → bad13 m st ≡ true → 13 ≡ sizesNumber m parts owners st
+  pub overflow-thirteen : (s : ℕ) → s ≡ total 1 parts (rowReachCount m st owners) → s ≤ 4096 → bad13 m st ≡ true → 13 ≡ sizesNumber m parts owners st
   unfolding sizesNumber sizeTests
   overflow-thirteen s e h t = sym (ap₂ (λ a b. cond a 12 (cond b 13 0)) (sym (walked-told m parts owners st s e) ∙ le-ltb 4096 s h) t)
 

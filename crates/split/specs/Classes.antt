@@ -7,12 +7,12 @@ use Prim.Native.Nat.{ℕ, _+_, _-_, _*_, _≤_, _<_}
 use lib.Dec.{eqb, ltb}
 use lib.ListN.{length, getD}
 use Rattle.vocabulary.specs.Bytes.{Bytes, byteAt, over}
-use Rattle.vocabulary.specs.Ranges.{isUpTo, every, some, blocks, total}
+use Rattle.vocabulary.specs.Intervals.{isUpTo, every, some, blocks, total}
 use Rattle.layout.specs.Words.{wordAt}
 use Rattle.mesh.specs.Mesh.{top, firstCell, cellCount}
 use Rattle.mesh.specs.Walks.{Near, reach, bad10}
 use Rattle.mesh.specs.Accepted.{Accepted}
-use Rattle.reaches.specs.Tables.{entryCount, Ends}
+use Rattle.walk_reach_table.specs.Tables.{entryCount, EndTable}
 use Rattle.split.specs.Split.{Split, splitOf, owns, holds, inside, ownerAt}
 use Rattle.split.specs.Lists.{bad8}
 
@@ -67,12 +67,12 @@ pub record Classed (owners table : Bytes) (ends : List ℕ) (i n : ℕ) (class :
   pub each : (x : ℕ) → x < 2000 → byteAt class x ≡ classAt owners table ends i n x
 
 -- the first n places are cleared
-pub record Cleared (n : ℕ) (class : Bytes) : Type 0 where
+pub record RowCleared (n : ℕ) (class : Bytes) : Type 0 where
   pub room : length class ≡ 2000
   pub each : (x : ℕ) → x < n → byteAt class x ≡ 0
 
 -- the places that pass bear their owner's number afterwards, unless part i owns them
-pub record Marked (owners : Bytes) (i : ℕ) (before after : Bytes) (p : ℕ → Bool) : Type 0 where
+pub record OwnersMarked (owners : Bytes) (i : ℕ) (before after : Bytes) (p : ℕ → Bool) : Type 0 where
   pub size : length after ≡ length before
   pub each : (x : ℕ) → x < length before → byteAt after x ≡ cond (p x && not (ownsAt owners i x)) (ownerAt owners x) (byteAt before x)
 
@@ -124,7 +124,7 @@ pub record Prepared (m : Bytes) (parts : ℕ) (owners st table : Bytes) (ends : 
   pub mesh : Accepted m
   pub map : bad8 m parts owners [] ≡ false
   pub stencil : bad10 (top m) st ≡ false
-  pub ended : Ends m st ends (cellCount m)
+  pub ended : EndTable m st ends (cellCount m)
   pub entries : (q t : ℕ) (d : Near) → q < cellCount m → t < length (reach m st (firstCell m + q))
       → (wordAt table (2 * (entryCount m st q + t)) ≡ getD (reach m st (firstCell m + q)) t d .cell - firstCell m)
       × (wordAt table (2 * (entryCount m st q + t) + 1) ≡ getD (reach m st (firstCell m + q)) t d .layer)
@@ -157,7 +157,7 @@ unfoldable pub classOrder : Bytes → ℕ → ℕ → ℕ → List ℕ
 classOrder class first cells parts = classCells class first cells 17 ++ (classCells class first cells 18 ++ blocks 1 parts (classCells class first cells))
 
 -- a list to which the numbers ws were added after the first s, which makes t of them; nothing is said of the list where they do not fit
-pub record Added (before after : List ℕ) (s t : ℕ) (ws : List ℕ) : Type 0 where
+pub record Appended (before after : List ℕ) (s t : ℕ) (ws : List ℕ) : Type 0 where
   pub size : length after ≡ length before
   pub count : t ≡ s + length ws
   pub text : t ≤ length before → after ≡ over before s ws

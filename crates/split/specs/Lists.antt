@@ -4,7 +4,7 @@ use mathlib.Core.List.{List, [], _∷_, _++_}
 use Prim.Native.Nat.{ℕ, _*_}
 use lib.Dec.{eqb, ltb}
 use lib.ListN.{length}
-use Rattle.vocabulary.specs.Ranges.{isUpTo, some, total}
+use Rattle.vocabulary.specs.Intervals.{isUpTo, some, total}
 use Rattle.vocabulary.specs.Lists.{everyOf}
 use Rattle.vocabulary.specs.Tests.{Test, refuse, firstOf}
 use Rattle.vocabulary.specs.Bytes.{Bytes, over}
@@ -41,7 +41,7 @@ pub record SplitInput : Type 0 where
   pub stencil : Bytes
 
 abbrev pub splitInput : Bytes → ℕ → Bytes → Bytes → SplitInput
-splitInput m parts owners st = record { mesh = m; parts = parts; owners = owners; stencil = st }
+splitInput m parts owners stencil = record { mesh = m; parts = parts; owners = owners; stencil = stencil }
 
 abbrev pub splitIn : SplitInput → Split
 splitIn D = splitOf (D .mesh) (D .parts) (D .owners) (D .stencil)
@@ -59,10 +59,10 @@ sizeTests D = refuse 12 (bad12 (splitIn D)) ∷ refuse 13 (bad13 (D .mesh) (D .s
 
 -- the numbers of the two, apart
 unfoldable pub splitNumber : Bytes → ℕ → Bytes → List ℕ → Bytes → ℕ
-splitNumber m parts owners named st = firstOf (splitTests (splitInput m parts owners st) named)
+splitNumber m parts owners named stencil = firstOf (splitTests (splitInput m parts owners stencil) named)
 
 unfoldable pub sizesNumber : Bytes → ℕ → Bytes → Bytes → ℕ
-sizesNumber m parts owners st = firstOf (sizeTests (splitInput m parts owners st))
+sizesNumber m parts owners stencil = firstOf (sizeTests (splitInput m parts owners stencil))
 
 -- the other part that a list names
 unfoldable pub others : Wanted → List ℕ

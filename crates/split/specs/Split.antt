@@ -4,7 +4,7 @@ use mathlib.Core.List.{List, [], _++_}
 use Prim.Native.Nat.{ℕ, _+_, _-_}
 use lib.Dec.{eqb, ltb}
 use lib.ListN.{getD}
-use Rattle.vocabulary.specs.Ranges.{picked, some, blocks}
+use Rattle.vocabulary.specs.Intervals.{picked, some, blocks}
 use Rattle.vocabulary.specs.Lists.{placeOf, someOf, everyOf}
 use Rattle.vocabulary.specs.Bytes.{Bytes, byteAt}
 use Rattle.mesh.specs.Mesh.{top, counted, below, firstCell, cellCount}
@@ -26,10 +26,10 @@ ownerAt owners k = byteAt owners k
 
 -- "A part map gives P from 1 to 16, and one byte a cell in rising number: its owner, from 1 to P."
 unfoldable pub splitOf : Bytes → ℕ → Bytes → Bytes → Split
-splitOf m parts owners st = record {
+splitOf m parts owners stencil = record {
   first = firstCell m;
   cells = cellCount m;
-  reach = reach m st;
+  reach = reach m stencil;
   around = cellsAt m;
   owner = λ c. ownerAt owners (c - firstCell m);
   parts = parts;

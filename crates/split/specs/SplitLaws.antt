@@ -14,8 +14,8 @@ use Rattle.vocabulary.specs.Bytes.{Bytes}
 use Rattle.vocabulary.specs.ByteLaws.{Place, below, inside as within, above, place}
 use Rattle.vocabulary.specs.Lists.{All, someOf, everyOf, placeOf, repeats}
 use Rattle.vocabulary.specs.ListLaws.{repeats-none, repeats-once, and-true, and-intro, and-left, and-right, or-false, everyOf-at, everyOf-true, All-map, All-append, All-getD, All-intro, At, at-left, at-right, placeOf-is, placeOf-left, not-both, same-test, someOf-has}
-use Rattle.vocabulary.specs.Ranges.{isUpTo, picked, blocks, total}
-use Rattle.vocabulary.specs.RangeLaws.{picked-all, picked-in, picked-passes, picked-none, picked-cong, picked-rises, blocks-all, blocks-cases, blocks-at, blocks-have, blocks-length, upTo-true}
+use Rattle.vocabulary.specs.Intervals.{isUpTo, picked, blocks, total}
+use Rattle.vocabulary.specs.IntervalLaws.{picked-all, picked-in, picked-passes, picked-none, picked-cong, picked-rises, blocks-all, blocks-cases, blocks-at, blocks-have, blocks-length, upTo-true}
 use Rattle.vocabulary.specs.CountLaws.{picked-halves, total-short, picked-shared}
 use Rattle.vocabulary.specs.Tests.{Test, firstOf}
 use Rattle.vocabulary.specs.TestLaws.{numbered, numbered-append, small, small-append, passed-by, passed-append, firstOf-after, firstOf-left}
@@ -94,8 +94,8 @@ module _ (m : Bytes) (parts : ℕ) (owners st : Bytes) where
 -- ---- a split whose reaches stay among the cells and whose cells belong to its parts
 
 -- a cell of the split
-abbrev pub Cell : Split → ℕ → Type 0
-Cell S c = (S .first ≤ c) × (c < S .first + S .cells)
+abbrev pub SplitCell : Split → ℕ → Type 0
+SplitCell S c = (S .first ≤ c) × (c < S .first + S .cells)
 
 -- the owned cells in local order
 abbrev pub ownCells : Split → ℕ → List ℕ
@@ -116,13 +116,13 @@ module _ (S : Split) where
       ∙ length-append (ownCells S i) (blocks 1 (S .parts) (imports S i))
       ∙ ap₂ _+_ (own-count i) (blocks-length 1 (imports S i) (S .parts))
 
-  own-all : (i : ℕ) → All (λ c. Cell S c × (S .owner c ≡ i)) (ownCells S i)
+  own-all : (i : ℕ) → All (λ c. SplitCell S c × (S .owner c ≡ i)) (ownCells S i)
   unfolding interior halo owns
   own-all i =
-      All-append (λ c. Cell S c × (S .owner c ≡ i)) (interior S i) (halo S i)
-      (picked-all (S .first) (λ c. eqb (S .owner c) i && inside S i c) (λ c. Cell S c × (S .owner c ≡ i)) (S .cells)
+      All-append (λ c. SplitCell S c × (S .owner c ≡ i)) (interior S i) (halo S i)
+      (picked-all (S .first) (λ c. eqb (S .owner c) i && inside S i c) (λ c. SplitCell S c × (S .owner c ≡ i)) (S .cells)
       (λ k h e. ((omega arith, omega arith), eqb-true (S .owner (S .first + k)) i (and-true (eqb (S .owner (S .first + k)) i) (inside S i (S .first + k)) e .0))))
-      (picked-all (S .first) (λ c. eqb (S .owner c) i && not (inside S i c)) (λ c. Cell S c × (S .owner c ≡ i)) (S .cells)
+      (picked-all (S .first) (λ c. eqb (S .owner c) i && not (inside S i c)) (λ c. SplitCell S c × (S .owner c ≡ i)) (S .cells)
       (λ k h e. ((omega arith, omega arith), eqb-true (S .owner (S .first + k)) i (and-true (eqb (S .owner (S .first + k)) i) (not (inside S i (S .first + k))) e .0))))
 
   pub own-first : (i l : ℕ) → 1 ≤ l → l ≤ length (owned S i) → globalOf (locals S i) l ≡ getD (ownCells S i) (l - 1) 0
@@ -132,12 +132,12 @@ module _ (S : Split) where
       ∙ List·getD-append (ownCells S i) (blocks 1 (S .parts) (imports S i)) 0 (l - 1) (omega (arith, own-count i))
 
   -- the first local numbers are the owned cells'
-  pub own-is : (i l : ℕ) → 1 ≤ l → l ≤ length (owned S i) → Cell S (globalOf (locals S i) l) × (S .owner (globalOf (locals S i) l) ≡ i)
+  pub own-is : (i l : ℕ) → 1 ≤ l → l ≤ length (owned S i) → SplitCell S (globalOf (locals S i) l) × (S .owner (globalOf (locals S i) l) ≡ i)
   own-is i l h k =
-      subst (λ c. Cell S c × (S .owner c ≡ i)) (sym (own-first i l h k))
-      (All-getD (λ c. Cell S c × (S .owner c ≡ i)) (ownCells S i) (l - 1) 0 (own-all i) (omega (arith, own-count i)))
+      subst (λ c. SplitCell S c × (S .owner c ≡ i)) (sym (own-first i l h k))
+      (All-getD (λ c. SplitCell S c × (S .owner c ≡ i)) (ownCells S i) (l - 1) 0 (own-all i) (omega (arith, own-count i)))
 
-  pub own-has : (i c : ℕ) → Cell S c → S .owner c ≡ i → At c (ownCells S i)
+  pub own-has : (i c : ℕ) → SplitCell S c → S .owner c ≡ i → At c (ownCells S i)
   unfolding interior halo owns
   own-has i c h e = go (inside S i c) refl
     where
@@ -216,16 +216,16 @@ module _ (S : Split) where
       omega arith
 
   -- all in the local order are cells
-  pub order-cells : (i : ℕ) → All (λ c. Cell S c) (locals S i)
+  pub order-cells : (i : ℕ) → All (λ c. SplitCell S c) (locals S i)
   unfolding imports
   order-cells i =
-      subst (All (λ c. Cell S c)) (sym (order-is i))
-      (All-append (λ c. Cell S c) (ownCells S i) (blocks 1 (S .parts) (imports S i)) (All-map (ownCells S i) (λ c h. h .0) (own-all i))
-      (blocks-all 1 (imports S i) (λ c. Cell S c) (S .parts)
-      (λ j h. picked-all (S .first) (λ c. not (eqb i (1 + j)) && owns S (1 + j) c && holds S i c) (λ c. Cell S c) (S .cells) (λ k q e. (omega arith, omega arith)))))
+      subst (All (λ c. SplitCell S c)) (sym (order-is i))
+      (All-append (λ c. SplitCell S c) (ownCells S i) (blocks 1 (S .parts) (imports S i)) (All-map (ownCells S i) (λ c h. h .0) (own-all i))
+      (blocks-all 1 (imports S i) (λ c. SplitCell S c) (S .parts)
+      (λ j h. picked-all (S .first) (λ c. not (eqb i (1 + j)) && owns S (1 + j) c && holds S i c) (λ c. SplitCell S c) (S .cells) (λ k q e. (omega arith, omega arith)))))
 
   -- a cell that is imported from j belongs to j, which is another part, and is held; and every such cell is imported
-  pub import-facts : (i j c : ℕ) → At c (imports S i j) → Cell S c × (i ≢ j) × (S .owner c ≡ j) × (holds S i c ≡ true)
+  pub import-facts : (i j c : ℕ) → At c (imports S i j) → SplitCell S c × (i ≢ j) × (S .owner c ≡ j) × (holds S i c ≡ true)
   unfolding imports owns
   import-facts i j c a =
       let w = picked-passes (S .first) (λ c. not (eqb i j) && eqb (S .owner c) j && holds S i c) (S .cells) c a in
@@ -233,7 +233,7 @@ module _ (S : Split) where
       let v = and-true (not (eqb i j)) (eqb (S .owner c) j) (u .0) in
       ((w .0, w .1), eqb-false i j (not-true _ (v .0)), eqb-true _ j (v .1), u .1)
 
-  pub import-has : (i j c : ℕ) → Cell S c → i ≢ j → S .owner c ≡ j → holds S i c ≡ true → At c (imports S i j)
+  pub import-has : (i j c : ℕ) → SplitCell S c → i ≢ j → S .owner c ≡ j → holds S i c ≡ true → At c (imports S i j)
   unfolding imports owns
   import-has i j c h ne o e =
       picked-in (S .first) (λ c. not (eqb i j) && eqb (S .owner c) j && holds S i c) (S .cells) c (h .0) (h .1)
@@ -284,16 +284,16 @@ module _ (S : Split) where
       go false e = inl (ltb-false _ _ e)
 
   -- an owned cell that is in its own reach is held
-  pub own-held : ((c : ℕ) → Cell S c → reaches S c c ≡ true) → (i c : ℕ) → Cell S c → owns S i c ≡ true → holds S i c ≡ true
+  pub own-held : ((c : ℕ) → SplitCell S c → reaches S c c ≡ true) → (i c : ℕ) → SplitCell S c → owns S i c ≡ true → holds S i c ≡ true
   unfolding holds owned
   own-held own-reach i c h e =
       let a = picked-in (S .first) (owns S i) (S .cells) c (h .0) (h .1) e in
       someOf-has (λ o. reaches S o c) (picked (S .first) (S .cells) (owns S i)) 0 (a .place) (a .place-lt)
       (subst (λ o. reaches S o c ≡ true) (sym (a .place-is)) (own-reach c h))
 
-  module _ (reach-in : (c : ℕ) → Cell S c → All (λ e. Cell S (e .cell)) (S .reach c)) (owner-in : (c : ℕ) → Cell S c → (1 ≤ S .owner c) × (S .owner c ≤ S .parts)) where
+  module _ (reach-in : (c : ℕ) → SplitCell S c → All (λ e. SplitCell S (e .cell)) (S .reach c)) (owner-in : (c : ℕ) → SplitCell S c → (1 ≤ S .owner c) × (S .owner c ≤ S .parts)) where
     -- what is held stands in the local order
-    pub held-has : (i x : ℕ) → Cell S x → holds S i x ≡ true → At x (locals S i)
+    pub held-has : (i x : ℕ) → SplitCell S x → holds S i x ≡ true → At x (locals S i)
     held-has i x h e = subst (At x) (sym (order-is i)) (go (eqb i (S .owner x)) refl)
       where
         go : (b : Bool) → eqb i (S .owner x) ≡ b → At x (ownCells S i ++ blocks 1 (S .parts) (imports S i))
@@ -305,7 +305,7 @@ module _ (S : Split) where
             (blocks-have 1 (imports S i) (S .parts) (S .owner x - 1) x (omega arith)
             (subst (λ j. At x (imports S i j)) (sym one) (import-has i (S .owner x) x h (eqb-false i (S .owner x) q) refl e)))
 
-    reach-holds : (i c : ℕ) → Cell S c → S .owner c ≡ i → (t : ℕ) → t < length (S .reach c) → holds S i ((getD (S .reach c) t (record { cell = 0; layer = 0 })) .cell) ≡ true
+    reach-holds : (i c : ℕ) → SplitCell S c → S .owner c ≡ i → (t : ℕ) → t < length (S .reach c) → holds S i ((getD (S .reach c) t (record { cell = 0; layer = 0 })) .cell) ≡ true
     unfolding holds owned owns reaches
     reach-holds i c h e t k =
         let x : ℕ = (getD (S .reach c) t (record { cell = 0; layer = 0 })) .cell in
@@ -315,11 +315,11 @@ module _ (S : Split) where
         (subst (λ z. someOf (S .reach z) (λ y. eqb (y .cell) x) ≡ true) (sym (a .place-is)) r)
 
     -- all in the reach of an owned cell is held
-    pub reach-held : (i c : ℕ) → Cell S c → S .owner c ≡ i → All (λ e. At (e .cell) (locals S i)) (S .reach c)
+    pub reach-held : (i c : ℕ) → SplitCell S c → S .owner c ≡ i → All (λ e. At (e .cell) (locals S i)) (S .reach c)
     reach-held i c h e =
         All-intro (λ e. At (e .cell) (locals S i)) (S .reach c) (record { cell = 0; layer = 0 })
         (λ t k.
-        held-has i _ (All-getD (λ e. Cell S (e .cell)) (S .reach c) t (record { cell = 0; layer = 0 }) (reach-in c h) k) (reach-holds i c h e t k))
+        held-has i _ (All-getD (λ e. SplitCell S (e .cell)) (S .reach c) t (record { cell = 0; layer = 0 }) (reach-in c h) k) (reach-holds i c h e t k))
 
     -- a number that is no part owns nothing, imports nothing and exports nothing
     pub owned-none : (j : ℕ) → S .parts < j → owned S j ≡ []
@@ -359,7 +359,7 @@ module _ (S : Split) where
 
     -- ---- what is held, where a cell is in its own reach: the owned cells and the imports
 
-    module _ (own-reach : (c : ℕ) → Cell S c → reaches S c c ≡ true) where
+    module _ (own-reach : (c : ℕ) → SplitCell S c → reaches S c c ≡ true) where
       pub held-length : (i : ℕ) → length (held S i) ≡ length (owned S i) + total 1 (S .parts) (λ j. length (imports S i j))
       unfolding held owned imports owns
       held-length i =
@@ -423,17 +423,17 @@ map-facts m parts owners named e =
     }
 
 module _ (m : Bytes) (parts : ℕ) (owners st : Bytes) where
-  pub split-reach : (c : ℕ) → Cell (splitOf m parts owners st) c → All (λ e. Cell (splitOf m parts owners st) (e .cell)) (splitOf m parts owners st .reach c)
+  pub split-reach : (c : ℕ) → SplitCell (splitOf m parts owners st) c → All (λ e. SplitCell (splitOf m parts owners st) (e .cell)) (splitOf m parts owners st .reach c)
   unfolding splitOf
   split-reach c h = reach-in m st c
 
-  pub split-own : (c : ℕ) → Cell (splitOf m parts owners st) c → reaches (splitOf m parts owners st) c c ≡ true
+  pub split-own : (c : ℕ) → SplitCell (splitOf m parts owners st) c → reaches (splitOf m parts owners st) c c ≡ true
   unfolding splitOf reaches
   split-own c h =
       let t = reach-own m st c (h .0) (h .1) in
       someOf-has (λ e. eqb (e .cell) c) (reach m st c) (record { cell = 0; layer = 0 }) (t .0) (t .1) (eq-eqb _ _ (ap (λ e. e .cell) (t .2)))
 
-  pub split-owner : ((k : ℕ) → k < cellCount m → (1 ≤ ownerAt owners k) × (ownerAt owners k ≤ parts)) → (c : ℕ) → Cell (splitOf m parts owners st) c
+  pub split-owner : ((k : ℕ) → k < cellCount m → (1 ≤ ownerAt owners k) × (ownerAt owners k ≤ parts)) → (c : ℕ) → SplitCell (splitOf m parts owners st) c
       → (1 ≤ splitOf m parts owners st .owner c) × (splitOf m parts owners st .owner c ≤ splitOf m parts owners st .parts)
   unfolding splitOf
   split-owner f c h = f (c - firstCell m) (omega (arith, h .0, h .1))

@@ -7,7 +7,7 @@ ghost use mathlib.Core.Bool.{_&&_, cond};
 ghost use Prim.Native.Nat.{_+_, _≤_, _<_};
 ghost use lib.ListN.{length, set};
 ghost use Rattle.split.specs.Classes.{entryOwned, insideAt};
-ghost use Rattle.split.specs.Classes.{entryIs, reachHas, Classed, Cleared, Marked};
+ghost use Rattle.split.specs.Classes.{entryIs, reachHas, Classed, RowCleared, OwnersMarked};
 
 // The most cells that a mesh has.
 pub const MOST_CELLS: usize = 2000;
@@ -20,7 +20,7 @@ pub const HALO: u8 = 18;
 // Clears a row.
 pub fn clear_row(class: &mut [u8])
     requires { ⌜ length (now class) ≡ 2000 ⌝ }
-    ensures { λ _. ⌜ Cleared 2000 (now (class .exit)) ⌝ }
+    ensures { λ _. ⌜ RowCleared 2000 (now (class .exit)) ⌝ }
 {
     for q in 0..MOST_CELLS {
         class[q] = 0;
@@ -46,7 +46,7 @@ fn mark_entry(
     class: &mut [u8],
 ) -> bool
     requires { ⌜ t < 65536 ⌝ }
-    ensures { λ b. ⌜ (b ≡ inside && entryOwned (now (owners .entry)) (now (table .entry)) i t) × Marked (now (owners .entry)) i (now (class .entry)) (now (class .exit)) (entryIs (now (table .entry)) t) ⌝ }
+    ensures { λ b. ⌜ (b ≡ inside && entryOwned (now (owners .entry)) (now (table .entry)) i t) × OwnersMarked (now (owners .entry)) i (now (class .entry)) (now (class .exit)) (entryIs (now (table .entry)) t) ⌝ }
 {
     let x = word_at(table, 2 * t);
     let owner = owner_of(owners, x);
@@ -67,7 +67,7 @@ fn mark_reach(
     class: &mut [u8],
 ) -> bool
     requires { ⌜ q < 65536 ⌝ }
-    ensures { λ b. ⌜ (b ≡ insideAt (now (owners .entry)) (now (table .entry)) (now (ends .entry)) i q) × Marked (now (owners .entry)) i (now (class .entry)) (now (class .exit)) (reachHas (now (table .entry)) (now (ends .entry)) q) ⌝ }
+    ensures { λ b. ⌜ (b ≡ insideAt (now (owners .entry)) (now (table .entry)) (now (ends .entry)) i q) × OwnersMarked (now (owners .entry)) i (now (class .entry)) (now (class .exit)) (reachHas (now (table .entry)) (now (ends .entry)) q) ⌝ }
 {
     let from = number_at(ends, q) as usize;
     let to = number_at(ends, q + 1) as usize;

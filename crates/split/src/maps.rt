@@ -2,14 +2,14 @@
 use crate::owners::owner_of;
 use mesh::inner::cell_count;
 use mesh::inner::top_of;
-use mesh_tests::inner::mesh_number_in;
-use stencils::bad_stencil;
+use mesh_valid::inner::mesh_number_in;
+use walk_stencil::bad_stencil;
 ghost use mathlib.Core.Path.{_≡_};
 ghost use mathlib.Core.List.{[], _∷_};
 ghost use Prim.Native.Nat.{_≤_};
 ghost use lib.ListN.{length};
 ghost use Rattle.vocabulary.specs.Lists.{Zeros};
-ghost use Rattle.vocabulary.specs.Ranges.{isUpTo, every, some};
+ghost use Rattle.vocabulary.specs.Intervals.{isUpTo, every, some};
 ghost use Rattle.split.specs.Split.{splitOf};
 ghost use Rattle.split.specs.Lists.{bad8, bad9, splitNumber};
 ghost use Rattle.split.specs.Classes.{ownerRight, ownsAt};
@@ -78,12 +78,12 @@ pub fn split_number(
     owners: &[u8],
     i: u32,
     j: u32,
-    st: &[u8],
+    stencil: &[u8],
     items: &mut [u16],
     ends: &mut [u16],
 ) -> u32
     requires { ⌜ (12000 ≤ length (now items)) × Zeros 2001 (now ends) ⌝ }
-    ensures { λ r. ⌜ r ≡ splitNumber (now (m .entry)) parts (now (owners .entry)) (i ∷ j ∷ []) (now (st .entry)) ⌝ }
+    ensures { λ r. ⌜ r ≡ splitNumber (now (m .entry)) parts (now (owners .entry)) (i ∷ j ∷ []) (now (stencil .entry)) ⌝ }
 {
     let number = mesh_number_in(m, items, ends);
     if number != 0 {
@@ -101,7 +101,7 @@ pub fn split_number(
     if bad_shares(m, parts, owners) {
         return 9;
     }
-    if bad_stencil(top_of(m), st) {
+    if bad_stencil(top_of(m), stencil) {
         return 10;
     }
     0

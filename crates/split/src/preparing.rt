@@ -1,11 +1,11 @@
 // What the lists of all parts are read off: the chains turned round, a table of the reaches, and how many parts hold each cell. The tests 12
 // and 13.
 use crate::holders::count_holders;
-use links::inner::invert;
-use reach_rows::inner::count_all;
-use reaches::inner::reach_all;
-use walks::inner::MeshSizes;
-use walks::inner::sizes_of;
+use walk_incidence::inner::invert;
+use walk_part_reach::inner::count_all;
+use walk_reach_table::inner::reach_all;
+use walk_steps::inner::MeshSizes;
+use walk_steps::inner::sizes_of;
 ghost use mathlib.Core.Path.{_≡_};
 ghost use mathlib.Core.Bool.{true, false};
 ghost use mathlib.Core.List.{[]};
@@ -14,7 +14,7 @@ ghost use lib.ListN.{length, replicate};
 ghost use Rattle.mesh.specs.Mesh.{top};
 ghost use Rattle.mesh.specs.Walks.{bad10, bad13};
 ghost use Rattle.mesh.specs.Accepted.{Accepted};
-ghost use Rattle.walks.specs.Walking.{Ground, Sized, Arrays};
+ghost use Rattle.walk_steps.specs.Walking.{Ground, Sized, Arrays};
 ghost use Rattle.split.specs.Lists.{bad8, sizesNumber};
 ghost use Rattle.split.specs.Classes.{Prepared};
 
@@ -22,10 +22,17 @@ ghost use Rattle.split.specs.Classes.{Prepared};
 const NUMBERS: usize = 2001;
 
 // Turns the chains of all cells round. Only `last` has to be cleared.
-fn link(m: &[u8], sizes: MeshSizes, st: &[u8], cell: &mut [u16], prev: &mut [u16], last: &mut [u16])
-    requires { ⌜ Accepted (now m) × Sized (now m) sizes × (bad10 (top (now m)) (now st) ≡ false) × (length (now cell) ≡ 12001)
+fn link(
+    m: &[u8],
+    sizes: MeshSizes,
+    stencil: &[u8],
+    cell: &mut [u16],
+    prev: &mut [u16],
+    last: &mut [u16],
+)
+    requires { ⌜ Accepted (now m) × Sized (now m) sizes × (bad10 (top (now m)) (now stencil) ≡ false) × (length (now cell) ≡ 12001)
         × (length (now prev) ≡ 12001) × (now last ≡ replicate 2001 0) ⌝ }
-    ensures { λ _. ⌜ Ground (now (m .entry)) (now (st .entry)) (now (cell .exit)) (now (prev .exit)) (now (last .exit)) ⌝ }
+    ensures { λ _. ⌜ Ground (now (m .entry)) (now (stencil .entry)) (now (cell .exit)) (now (prev .exit)) (now (last .exit)) ⌝ }
 {
     invert(
         m,
@@ -46,7 +53,7 @@ fn overflow_number(
     sizes: MeshSizes,
     parts: u32,
     owners: &[u8],
-    st: &[u8],
+    stencil: &[u8],
     cell: &[u16],
     prev: &[u16],
     last: &[u16],
@@ -55,14 +62,14 @@ fn overflow_number(
     found: &mut [u16],
     layers: &mut [u16],
 ) -> u32
-    requires { ⌜ Ground (now m) (now st) (now cell) (now prev) (now last) × Sized (now m) sizes × (bad8 (now m) parts (now owners) [] ≡ false) × (bad13 (now m) (now st) ≡ true)
+    requires { ⌜ Ground (now m) (now stencil) (now cell) (now prev) (now last) × Sized (now m) sizes × (bad8 (now m) parts (now owners) [] ≡ false) × (bad13 (now m) (now stencil) ≡ true)
         × Arrays (now marks) (now from) (now found) (now layers) ⌝ }
-    ensures { λ r. ⌜ (r ≡ sizesNumber (now (m .entry)) parts (now (owners .entry)) (now (st .entry))) × (1 ≤ r) ⌝ }
+    ensures { λ r. ⌜ (r ≡ sizesNumber (now (m .entry)) parts (now (owners .entry)) (now (stencil .entry))) × (1 ≤ r) ⌝ }
 {
     let held = count_all(
         m,
         sizes,
-        st,
+        stencil,
         cell,
         prev,
         last,
@@ -82,7 +89,7 @@ pub fn prepare(
     m: &[u8],
     parts: u32,
     owners: &[u8],
-    st: &[u8],
+    stencil: &[u8],
     cell: &mut [u16],
     prev: &mut [u16],
     last: &mut [u16],
@@ -91,13 +98,13 @@ pub fn prepare(
     holders: &mut [u8],
     class: &mut [u8],
 ) -> u32
-    requires { ⌜ Accepted (now m) × (bad8 (now m) parts (now owners) [] ≡ false) × (bad10 (top (now m)) (now st) ≡ false) × (length (now cell) ≡ 12001)
+    requires { ⌜ Accepted (now m) × (bad8 (now m) parts (now owners) [] ≡ false) × (bad10 (top (now m)) (now stencil) ≡ false) × (length (now cell) ≡ 12001)
         × (length (now prev) ≡ 12001) × (now last ≡ replicate 2001 0) × (length (now table) ≡ 32000) × (length (now ends) ≡ 2001)
         × (length (now holders) ≡ 2000) × (length (now class) ≡ 2000) ⌝ }
-    ensures { λ r. ⌜ (r ≡ sizesNumber (now (m .entry)) parts (now (owners .entry)) (now (st .entry))) × (r ≡ 0 → Prepared (now (m .entry)) parts (now (owners .entry)) (now (st .entry)) (now (table .exit)) (now (ends .exit)) (now (holders .exit))) × Ground (now (m .entry)) (now (st .entry)) (now (cell .exit)) (now (prev .exit)) (now (last .exit)) ⌝ }
+    ensures { λ r. ⌜ (r ≡ sizesNumber (now (m .entry)) parts (now (owners .entry)) (now (stencil .entry))) × (r ≡ 0 → Prepared (now (m .entry)) parts (now (owners .entry)) (now (stencil .entry)) (now (table .exit)) (now (ends .exit)) (now (holders .exit))) × Ground (now (m .entry)) (now (stencil .entry)) (now (cell .exit)) (now (prev .exit)) (now (last .exit)) ⌝ }
 {
     let sizes = sizes_of(m);
-    link(m, sizes, st, cell, prev, last);
+    link(m, sizes, stencil, cell, prev, last);
     let mut marks = [0u16; NUMBERS];
     let mut from = [0u16; NUMBERS];
     let mut found = [0u16; NUMBERS];
@@ -105,7 +112,7 @@ pub fn prepare(
     let entries = reach_all(
         m,
         sizes,
-        st,
+        stencil,
         cell,
         prev,
         last,
@@ -122,7 +129,7 @@ pub fn prepare(
             sizes,
             parts,
             owners,
-            st,
+            stencil,
             cell,
             prev,
             last,

@@ -8,8 +8,8 @@ use native.Mathlib.Nat.{not-suc-le-zero, add-zero}
 use native.Mathlib.Omega.{arith}
 use lib.ListN.{length, length-append}
 use Rattle.vocabulary.specs.ListLaws.{not-both}
-use Rattle.vocabulary.specs.Ranges.{picked, total}
-use Rattle.vocabulary.specs.RangeLaws.{last-or, total-cong}
+use Rattle.vocabulary.specs.Intervals.{picked, total}
+use Rattle.vocabulary.specs.IntervalLaws.{last-or, total-cong}
 
 -- those that pass are those that pass one more test and those that fail it
 pub picked-halves : (a n : ℕ) (p q : ℕ → Bool)

@@ -4,8 +4,8 @@ use mathlib.Core.Path.{_≡_, sym, ap, _∙_}
 use mathlib.Core.Bool.{Bool, true, false, not}
 use Prim.Native.Nat.{ℕ, _+_, _-_, _≤_, _<_}
 use native.Mathlib.Omega.{arith}
-use Rattle.vocabulary.specs.Ranges.{every, some}
-use Rattle.vocabulary.specs.RangeLaws.{none-fails, every-by, some-in, some-more}
+use Rattle.vocabulary.specs.Intervals.{every, some}
+use Rattle.vocabulary.specs.IntervalLaws.{none-fails, every-by, some-in, some-more}
 
 module _ (a : ℕ) (p : ℕ → Bool) where
   pub some-start-from : some a (a - a) p ≡ false

@@ -9,8 +9,8 @@ use lib.ListN.{length, getD, take, length-append}
 use lib.Seq.{take-suc, length-take-le}
 use Rattle.vocabulary.specs.Bytes.{Bytes, over}
 use Rattle.vocabulary.specs.ByteLaws.{over-none, over-length, over-more}
-use Rattle.vocabulary.specs.Ranges.{listed, blocks}
-use Rattle.vocabulary.specs.RangeLaws.{listed-turn, listed-length, blocks-start, blocks-turn, blocks-fit, at-last}
+use Rattle.vocabulary.specs.Intervals.{listed, blocks}
+use Rattle.vocabulary.specs.IntervalLaws.{listed-turn, listed-length, blocks-start, blocks-turn, blocks-fit, at-last}
 use Rattle.layout.specs.Words.{wordBytes, bytesOf}
 use Rattle.layout.specs.WordLaws.{length-bytesOf, bytesOf-append}
 use Rattle.word_lists.specs.Putting.{Put}

@@ -8,8 +8,8 @@ use lib.ListN.{length, getD, take, length-append, List·getD-append}
 use lib.Seq.{getD-append-add}
 use Rattle.vocabulary.specs.Bytes.{Bytes}
 use Rattle.vocabulary.specs.Lists.{joined}
-use Rattle.vocabulary.specs.Ranges.{listed, blocks, total}
-use Rattle.vocabulary.specs.RangeLaws.{listed-length, listed-at, listed-back, blocks-at, blocks-fit, blocks-sized, total-last}
+use Rattle.vocabulary.specs.Intervals.{listed, blocks, total}
+use Rattle.vocabulary.specs.IntervalLaws.{listed-length, listed-at, listed-back, blocks-at, blocks-fit, blocks-sized, total-last}
 use Rattle.layout.specs.Words.{wordAt, bytesOf}
 use Rattle.layout.specs.WordLaws.{word-any}
 

@@ -7,7 +7,7 @@ ghost use mathlib.Core.Path.{_≡_};
 ghost use mathlib.Core.List.{[], _∷_};
 ghost use Prim.Native.Nat.{_+_, _*_, _<_, _≤_};
 ghost use lib.ListN.{length, take};
-ghost use Rattle.vocabulary.specs.Ranges.{listed};
+ghost use Rattle.vocabulary.specs.Intervals.{listed};
 ghost use Rattle.layout.specs.Words.{wordAt};
 ghost use Rattle.word_lists.specs.Putting.{Put, givenAnswer, givenOut};
 

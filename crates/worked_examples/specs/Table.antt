@@ -9,7 +9,7 @@ use lib.IntN.{ℤ, pos, negsuc}
 use lib.ListN.{length, take, replicate}
 use Rattle.vocabulary.specs.Bytes.{Bytes, over}
 use Rattle.vocabulary.specs.Lists.{isIn, placeOf, joined, repeats, someOf, everyOf}
-use Rattle.vocabulary.specs.Ranges.{isUpTo, picked, every, some, listed, blocks, total}
+use Rattle.vocabulary.specs.Intervals.{isUpTo, picked, every, some, listed, blocks, total}
 use Rattle.layout.specs.Answers.{answer}
 use Rattle.depths.specs.Depths.{four, numberFrom, signed, unsigned, depthFrom, numberBytes, depthBytes, inRange, rangedAt}
 use Rattle.layout.specs.Words.{word, wordAt, words, wordBytes, bytesOf}
@@ -18,23 +18,23 @@ use Rattle.mesh.specs.Mesh.{below, dimension, elementIn, nextOf, follow, record
 use Rattle.mesh.specs.Mesh.{headed, bad4, wrongIn, wrongAt, bad5, leaves, unclosed, bad6, bare, bad7, meshTests, meshNumber, checkAnswer}
 use Rattle.mesh.specs.Walks.{Near, incident, steps, rightAt, bad10, stepTo, walked, stepsTo, layer, reach, bad13, cellsAt}
 use Rattle.round.specs.Rounds.{bad14, schemeOf, depthIn, oldsIn, newIn, round, undivided, roundNumber, roundAnswer, roundOut}
-use Rattle.rules.specs.Rules.{weightCount, tooHeavy, bad11, weight, depthSum, weightSum, quotient, least, newDepth}
-use Rattle.rules.specs.Update.{entries, oldsAt}
+use Rattle.round_rule.specs.Rules.{weightCount, tooHeavy, bad11, weight, depthSum, weightSum, quotient, least, newDepth}
+use Rattle.round_rule.specs.Update.{tableEntries, oldsAt}
 use Rattle.messages.specs.Messages.{encode, bad15, reading}
 use Rattle.split.specs.Lists.{bad8, bad9, bad12, splitTests, sizeTests, others, listOf, listWords, listNumber, listAnswer, listOut, splitInput}
 use Rattle.split.specs.declared.Wanted.{Wanted}
 use Rattle.split.specs.declared.Wanted.the-variants.{Interior, Imports}
 use Rattle.split.specs.Split.{splitOf, owns, owned, reaches, holds, held, imports, exports, inside, interior, halo}
 use Rattle.split.specs.Split.{locals, localOf, globalOf, holdsLower, touches, another, isCopied, isShared, isExposed, isPrivate, range}
-use Rattle.parts.specs.Calls.{importsFrom, exportsTo, messageTo, writeTestsIn, writtenIn, takeTestsIn, takenIn, allTaken, allWritten, advanceTestsIn, newAt, advancedIn, collectTestsIn, scatter}
-use Rattle.parts.specs.Calls.{writeNumber, message, writeAnswer, writeState, writeOut, takeNumber, takeAnswer}
-use Rattle.parts.specs.Calls.{takeState, advanceNumber, advanceAnswer, advanceState, collectNumber, collectAnswer, collectOut}
-use Rattle.states.specs.State.{weights, localReach, localExports, listsIn, listsOf, rises, listsTests, dynamicTests, isState, bad20}
-use Rattle.starts.specs.Start.{importEnds, exportEnds, reachEnds, reachWords, exportWords, listsLong, listsRegions, stateSize, sizeNumber, sizeAnswer, inputs, Inputs, schemeIn}
-use Rattle.starts.specs.Start.{firstState, startNumber, startAnswer, startState}
-use Rattle.runs.specs.Run.{ownerIn, Gathered, collectsOf, Run, World, Collected, collect, advance, take-in, write, Call, put, more, step, run, Fair, Honest, begin, StateBound}
-use Rattle.text.specs.Listing.{ascii, digits, decimal, spaced, line, lineUnlessEmpty, dimensionText, partText}
-use Rattle.text.specs.Listing.{splitText, meshPiece, mapPiece, partsPiece, ownersPiece, lastPiece, stencilPiece, listingNumber, listText}
+use Rattle.part_calls.specs.Calls.{importsFrom, exportsTo, messageTo, writeTestsIn, writtenIn, takeTestsIn, takenIn, allTaken, allWritten, advanceTestsIn, newAt, advancedIn, collectTestsIn, scatter}
+use Rattle.part_calls.specs.Calls.{writeNumber, message, writeAnswer, writeState, writeOut, takeNumber, takeAnswer}
+use Rattle.part_calls.specs.Calls.{takeState, advanceNumber, advanceAnswer, advanceState, collectNumber, collectAnswer, collectOut}
+use Rattle.part_state.specs.State.{weights, localReach, localExports, listsIn, listsOf, rises, listsTests, dynamicTests, isState, bad20}
+use Rattle.part_start.specs.Start.{importEnds, exportEnds, reachEnds, reachWords, exportWords, listsLong, listsRegions, stateSize, sizeNumber, sizeAnswer, inputs, Inputs, schemeIn}
+use Rattle.part_start.specs.Start.{firstState, startNumber, startAnswer, startState}
+use Rattle.run_theorem.specs.Run.{ownerIn, Gathered, collectsOf, Run, World, Collected, collect, advance, take-in, write, Call, put, more, step, run, Fair, Honest, begin, StateBound}
+use Rattle.list_text.specs.Listing.{ascii, digits, decimal, spaced, line, lineUnlessEmpty, dimensionText, partText}
+use Rattle.list_text.specs.Listing.{splitText, meshPiece, mapPiece, partsPiece, ownersPiece, lastPiece, stencilPiece, listingNumber, listText}
 
 -- ---- the inputs
 
@@ -140,9 +140,9 @@ numberAt w (take-in i x) = takeNumber (w .states i) x
 numberAt w (advance i) = advanceNumber (w .states i)
 numberAt w (collect i k f) = collectNumber (w .states i) k f
 
-unfoldable pub numbers : World → List Call → List ℕ
-numbers w [] = []
-numbers w (c ∷ cs) = numberAt w c ∷ numbers (step w c) cs
+unfoldable pub runNumbers : World → List Call → List ℕ
+runNumbers w [] = []
+runNumbers w (c ∷ cs) = numberAt w c ∷ runNumbers (step w c) cs
 
 -- ---- the table
 
@@ -212,7 +212,7 @@ Holds (rounds k ds) = undivided (schemeIn fiveInputs) (fiveInputs .field) k ≡ 
 Holds (divided s w q) = quotient s w ≡ q
 Holds (start-number ds n) = startCall ds ≡ n
 Holds (first-message i j b) = message (begin fiveInputs buffers .states i) j ≡ b
-Holds (answers ns) = numbers (begin fiveInputs buffers) calls ≡ ns
+Holds (answers ns) = runNumbers (begin fiveInputs buffers) calls ≡ ns
 Holds (collects gs) = run (begin fiveInputs buffers) calls .given ≡ gs
 Holds (begins i) = startNumber fiveInputs i (buffers i) ≡ 0
 Holds fair = Honest (begin fiveInputs buffers) calls
@@ -265,14 +265,14 @@ pub worked : AllHold table
 unfolding over isIn placeOf joined repeats someOf everyOf isUpTo picked every some listed blocks total answer four numberFrom signed unsigned depthFrom numberBytes depthBytes
     inRange rangedAt word wordAt words wordBytes bytesOf meet stamp unlike below dimension elementIn nextOf follow records chain allRecords bad1 wrongCount bad2 meshLength bad3
     headed bad4 wrongIn wrongAt bad5 leaves unclosed bad6 bare bad7 meshTests meshNumber checkAnswer incident steps rightAt bad10 stepTo walked stepsTo layer reach bad13 bad14
-    schemeOf depthIn oldsIn newIn round undivided roundNumber roundAnswer roundOut weightCount tooHeavy bad11 weight depthSum weightSum quotient least newDepth entries oldsAt
+    schemeOf depthIn oldsIn newIn round undivided roundNumber roundAnswer roundOut weightCount tooHeavy bad11 weight depthSum weightSum quotient least newDepth tableEntries oldsAt
     encode bad15 reading bad8 bad9 bad12 splitTests sizeTests others listOf listWords listNumber listAnswer listOut splitOf owns owned reaches holds held imports exports inside
     interior halo locals localOf globalOf cellsAt holdsLower touches another isCopied isShared isExposed isPrivate range importsFrom exportsTo messageTo writeTestsIn writtenIn
     takeTestsIn takenIn allTaken allWritten advanceTestsIn newAt advancedIn collectTestsIn scatter writeNumber message writeAnswer writeState writeOut takeNumber takeAnswer
     takeState advanceNumber advanceAnswer advanceState collectNumber collectAnswer collectOut put more step run Fair Honest startNumber startState begin StateBound importEnds
     exportEnds reachEnds reachWords exportWords listsLong listsRegions stateSize sizeNumber sizeAnswer firstState startAnswer weights localReach localExports listsIn listsOf rises
     listsTests dynamicTests isState bad20 ascii digits decimal spaced line lineUnlessEmpty dimensionText partText splitText meshPiece mapPiece partsPiece ownersPiece lastPiece
-    stencilPiece listingNumber listText buffers calls field five fiveInputs listInput numberAt numbers triangles
+    stencilPiece listingNumber listText buffers calls field five fiveInputs listInput numberAt runNumbers triangles
 worked = (refl, (refl, (refl, (refl, (refl, (refl, (refl, (refl, (refl, (refl, (refl, (refl, (refl, (refl, (refl, (refl, (refl, (refl, (refl, (refl, (refl, (refl, (refl, (refl, (refl, (honest, (refl, tt)))))))))))))))))))))))))))
   where
     honest : Honest (begin fiveInputs buffers) calls

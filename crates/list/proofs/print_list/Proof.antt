@@ -1,5 +1,5 @@
 -- `list::print_list` runs to its end. Assumes nothing.
-use Rattle.listing.proofs.PieceLaws.{cut-length}
+use Rattle.list_input.proofs.PieceLaws.{cut-length}
 use borrow.Author.Needs.{needs}
 use Rattle.list.proofs.print_list.Statement.{statement}
 use Rattle.list.proofs.print_list.Tie as tie

@@ -1,6 +1,6 @@
 -- `answer` meets what `print_reaches` asks: the mesh and the stencil are accepted. Assumes nothing.
 use native.Mathlib.Omega.{arith}
-use Rattle.stencils.proofs.StencilLaws.{accepted-stencil}
+use Rattle.walk_stencil.proofs.StencilLaws.{accepted-stencil}
 use Rattle.mesh.proofs.AcceptedLaws.{accepted-mesh}
 use borrow.Author.Needs.{needs}
 use Rattle.reach_check.proofs.answer.Statement.{statement}

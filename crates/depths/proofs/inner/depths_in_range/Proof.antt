@@ -2,8 +2,8 @@
 use mathlib.Core.Path.{_≡_}
 use mathlib.Core.Bool.{true}
 use Prim.Native.Nat.{_-_, _≤_}
-use Rattle.vocabulary.specs.Ranges.{every}
-use Rattle.vocabulary.specs.RangeLaws.{every-none, every-stop, every-turn, every-end}
+use Rattle.vocabulary.specs.Intervals.{every}
+use Rattle.vocabulary.specs.IntervalLaws.{every-none, every-stop, every-turn, every-end}
 use Rattle.depths.specs.Depths.{rangedAt}
 use Rattle.depths.proofs.SignedLaws.{ranged-told}
 use borrow.Author.Needs.{needs}

@@ -2,7 +2,7 @@
 use mathlib.Core.Path.{_≡_}
 use mathlib.Core.Bool.{false}
 use Prim.Native.Nat.{_+_, _-_, _≤_}
-use Rattle.vocabulary.specs.Ranges.{some}
+use Rattle.vocabulary.specs.Intervals.{some}
 use Rattle.mesh.specs.Mesh.{below, wrongAt}
 use Rattle.mesh.specs.Meet.{Under}
 use Rattle.mesh_chains.proofs.ElementLaws.{points-below, zeros-under, points-few, points-right, lower-found, lower-turn, lower-end, next-below, next-few, next-under}

@@ -2,7 +2,7 @@
 use mathlib.Core.Path.{_≡_}
 use mathlib.Core.Bool.{false}
 use Prim.Native.Nat.{_+_, _-_, _≤_}
-use Rattle.vocabulary.specs.Ranges.{some}
+use Rattle.vocabulary.specs.Intervals.{some}
 use Rattle.vocabulary.specs.ScanLaws.{some-start-from, some-end-from}
 use Rattle.mesh.specs.Mesh.{headed}
 use Rattle.mesh.proofs.FollowLaws.{head-found, head-turn}

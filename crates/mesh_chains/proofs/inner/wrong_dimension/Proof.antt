@@ -3,7 +3,7 @@ use mathlib.Core.Path.{_≡_}
 use mathlib.Core.Bool.{false}
 use Prim.Native.Nat.{_+_, _-_, _≤_}
 use lib.ListN.{length}
-use Rattle.vocabulary.specs.Ranges.{some}
+use Rattle.vocabulary.specs.Intervals.{some}
 use Rattle.vocabulary.specs.ScanLaws.{some-start-from}
 use Rattle.mesh.specs.Mesh.{elements, wrongAt}
 use Rattle.mesh.specs.Meet.{Under}

@@ -3,7 +3,7 @@ use mathlib.Core.Path.{_≡_, refl}
 use mathlib.Core.Bool.{false}
 use Prim.Native.Nat.{_+_, _-_, _≤_}
 use lib.ListN.{length}
-use Rattle.vocabulary.specs.Ranges.{some}
+use Rattle.vocabulary.specs.Intervals.{some}
 use Rattle.mesh.specs.Mesh.{unclosed}
 use Rattle.mesh.specs.Meet.{Under}
 use Rattle.mesh_chains.proofs.ElementLaws.{zeros-under, ends-size}

@@ -2,7 +2,7 @@
 use mathlib.Core.Path.{_≡_, refl}
 use mathlib.Core.Bool.{false}
 use Prim.Native.Nat.{_+_, _-_, _≤_}
-use Rattle.vocabulary.specs.Ranges.{some}
+use Rattle.vocabulary.specs.Intervals.{some}
 use Rattle.vocabulary.specs.ScanLaws.{some-start-from}
 use Rattle.mesh.specs.Mesh.{bare}
 use Rattle.mesh_closure.proofs.ClosureLaws.{last-there, last-named, low-few, low-there, bare-found, bare-turn, bare-end}

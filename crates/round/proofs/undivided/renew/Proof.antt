@@ -3,9 +3,9 @@ use mathlib.Core.Path.{_≡_}
 use Prim.Native.Nat.{_-_, _≤_}
 use lib.ListN.{length}
 use Rattle.vocabulary.specs.Bytes.{over}
-use Rattle.vocabulary.specs.Ranges.{blocks}
-use Rattle.vocabulary.specs.RangeLaws.{stored-start, stored-end}
-use Rattle.rules.specs.Kinds.{kindNumber}
+use Rattle.vocabulary.specs.Intervals.{blocks}
+use Rattle.vocabulary.specs.IntervalLaws.{stored-start, stored-end}
+use Rattle.round_rule.specs.Kinds.{kindNumber}
 use Rattle.round.specs.Rows.{rowNew}
 use Rattle.round.proofs.UndividedLaws.{renew-turn, row-each}
 use borrow.Author.Needs.{needs}

@@ -4,7 +4,7 @@ use Prim.Native.Nat.{ℕ}
 use native.Mathlib.Omega.{arith}
 use lib.ListN.{length-replicate}
 use Rattle.vocabulary.specs.ListLaws.{zeros}
-use Rattle.stencils.proofs.StencilLaws.{accepted-stencil, stencil-some}
+use Rattle.walk_stencil.proofs.StencilLaws.{accepted-stencil, stencil-some}
 use Rattle.round.proofs.UndividedLaws.{rule-good, told-mesh, told-10, told-unknown, told-11, told-kind}
 use borrow.Author.Needs.{needs}
 use Rattle.round.proofs.undivided.undivided_round.Statement.{statement}

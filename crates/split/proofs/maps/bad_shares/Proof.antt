@@ -2,8 +2,8 @@
 use mathlib.Core.Path.{_≡_}
 use mathlib.Core.Bool.{false}
 use Prim.Native.Nat.{_-_, _≤_}
-use Rattle.vocabulary.specs.Ranges.{some}
-use Rattle.vocabulary.specs.RangeLaws.{some-start}
+use Rattle.vocabulary.specs.Intervals.{some}
+use Rattle.vocabulary.specs.IntervalLaws.{some-start}
 use Rattle.split.proofs.MapLaws.{ownsNone, share-none, share-turn, share-end}
 use borrow.Author.Needs.{needs}
 use Rattle.split.proofs.maps.bad_shares.Statement.{statement}

@@ -3,8 +3,8 @@ use mathlib.Core.Path.{_≡_, refl}
 use mathlib.Core.Bool.{true}
 use Prim.Native.Nat.{_-_, _≤_}
 use lib.ListN.{length}
-use Rattle.vocabulary.specs.Ranges.{every}
-use Rattle.vocabulary.specs.RangeLaws.{every-none, every-end}
+use Rattle.vocabulary.specs.Intervals.{every}
+use Rattle.vocabulary.specs.IntervalLaws.{every-none, every-end}
 use Rattle.split.specs.Classes.{ownerRight}
 use Rattle.split.proofs.MapLaws.{owner-wrong, owner-turn}
 use borrow.Author.Needs.{needs}

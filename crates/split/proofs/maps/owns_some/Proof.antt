@@ -2,8 +2,8 @@
 use mathlib.Core.Path.{_≡_}
 use mathlib.Core.Bool.{false}
 use Prim.Native.Nat.{_-_, _≤_}
-use Rattle.vocabulary.specs.Ranges.{some}
-use Rattle.vocabulary.specs.RangeLaws.{some-start, some-end}
+use Rattle.vocabulary.specs.Intervals.{some}
+use Rattle.vocabulary.specs.IntervalLaws.{some-start, some-end}
 use Rattle.split.specs.Classes.{ownsAt}
 use Rattle.split.proofs.MapLaws.{owns-found, owns-turn}
 use borrow.Author.Needs.{needs}

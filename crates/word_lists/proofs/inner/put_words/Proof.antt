@@ -2,7 +2,7 @@
 use mathlib.Core.Path.{_≡_}
 use Prim.Native.Nat.{_+_, _-_, _≤_}
 use lib.ListN.{length}
-use Rattle.vocabulary.specs.Ranges.{listed}
+use Rattle.vocabulary.specs.Intervals.{listed}
 use Rattle.layout.specs.Words.{wordAt}
 use Rattle.word_lists.specs.Putting.{Put}
 use Rattle.word_lists.proofs.PutLaws.{words-start, words-turn, words-end}

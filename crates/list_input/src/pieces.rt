@@ -1,0 +1,145 @@
+// The text of an input: it is cut into its pieces, one function a cut, and cut short they are as long as they are.
+use layout::byte_at;
+use list_parts::inner::put_parts;
+use list_text::inner::put_line;
+use list_text::inner::put_text;
+use mesh::inner::cell_count;
+use mesh::inner::elements_of;
+use mesh::inner::record_count;
+use split::inner::MOST_CELLS;
+use split::inner::prepare;
+use split::inner::split_number;
+ghost use mathlib.Core.Path.{_≡_};
+ghost use Prim.Native.Nat.{_≤_};
+ghost use lib.ListN.{length, take, drop};
+ghost use Rattle.mesh.specs.Mesh.{meshLength};
+ghost use Rattle.list_text.specs.Listing.{listText};
+ghost use Rattle.list_text.specs.Printing.{Printed};
+ghost use Rattle.list_input.specs.Pieces.{Listed, piecesText, stencilText, lastText, ownersText, mapText};
+
+// The tests up to 10 are asked for the parts 1 and 1, which any map has. The mesh is tested in arrays that hold the links and the ends of the reaches
+// afterwards.
+fn list_pieces(m: &[u8], parts: u32, owners: &[u8], stencil: &[u8], out: &mut [u8]) -> usize
+    ensures { λ t. ⌜ Printed (now (out .entry)) (now (out .exit)) 0 t (piecesText (now (m .entry)) parts (now (owners .entry)) (now (stencil .entry))) ⌝ }
+{
+    let mut cell = [0u16; 12001];
+    let mut ends = [0u16; 2001];
+    let number = split_number(m, parts, owners, 1, 1, stencil, &mut cell, &mut ends);
+    if number != 0 {
+        return put_line(b"refused", number as usize, out, 0);
+    }
+    let mut prev = [0u16; 12001];
+    let mut last = [0u16; 2001];
+    let mut table = [0u8; 32000];
+    let mut holders = [0u8; MOST_CELLS];
+    let mut class = [0u8; MOST_CELLS];
+    let number = prepare(
+        m,
+        parts,
+        owners,
+        stencil,
+        &mut cell,
+        &mut prev,
+        &mut last,
+        &mut table,
+        &mut ends,
+        &mut holders,
+        &mut class,
+    );
+    if number != 0 {
+        return put_line(b"refused", number as usize, out, 0);
+    }
+    let t = put_line(b"parts", parts as usize, out, 0);
+    put_parts(
+        m,
+        parts as usize,
+        owners,
+        stencil,
+        &cell,
+        &prev,
+        &last,
+        &table,
+        &ends,
+        &holders,
+        out,
+        t,
+    )
+}
+
+// With a stencil that should have n bytes.
+fn list_stencil(
+    n: usize,
+    m: &[u8],
+    parts: u32,
+    owners: &[u8],
+    stencil: &[u8],
+    out: &mut [u8],
+) -> usize
+    ensures { λ t. ⌜ Printed (now (out .entry)) (now (out .exit)) 0 t (stencilText n (now (m .entry)) parts (now (owners .entry)) (now (stencil .entry))) ⌝ }
+{
+    if stencil.len() != n {
+        return list_pieces(m, parts, owners, &stencil[..0], out);
+    }
+    list_pieces(m, parts, owners, stencil, out)
+}
+
+// Where the first n bytes end: at the end of what there is, if that comes before.
+fn end_of(b: &[u8], n: usize) -> usize
+    ensures { λ e. ⌜ (e ≤ length (now (b .entry))) × (take e (now (b .entry)) ≡ take n (now (b .entry))) × (drop e (now (b .entry)) ≡ drop n (now (b .entry))) ⌝ }
+{
+    if b.len() < n {
+        return b.len();
+    }
+    n
+}
+
+// With the length byte and the stencil.
+fn list_last(m: &[u8], parts: u32, owners: &[u8], last: &[u8], out: &mut [u8]) -> usize
+    ensures { λ t. ⌜ Printed (now (out .entry)) (now (out .exit)) 0 t (lastText (now (m .entry)) parts (now (owners .entry)) (now (last .entry))) ⌝ }
+{
+    let n = byte_at(last, 0) as usize;
+    let e = end_of(last, 1);
+    list_stencil(n, m, parts, owners, &last[e..last.len()], out)
+}
+
+// With the owners and what comes after them.
+fn list_owners(cells: usize, m: &[u8], parts: u32, b: &[u8], out: &mut [u8]) -> usize
+    ensures { λ t. ⌜ Printed (now (out .entry)) (now (out .exit)) 0 t (ownersText cells (now (m .entry)) parts (now (b .entry))) ⌝ }
+{
+    let e = end_of(b, cells);
+    list_last(m, parts, &b[..e], &b[e..b.len()], out)
+}
+
+// With P and what comes after it.
+fn list_map(cells: usize, m: &[u8], b: &[u8], out: &mut [u8]) -> usize
+    ensures { λ t. ⌜ Printed (now (out .entry)) (now (out .exit)) 0 t (mapText cells (now (m .entry)) (now (b .entry))) ⌝ }
+{
+    let parts = byte_at(b, 0) as u32;
+    let e = end_of(b, 1);
+    list_owners(cells, m, parts, &b[e..b.len()], out)
+}
+
+// The length of a mesh, by its head.
+fn mesh_length(b: &[u8]) -> usize
+    ensures { λ r. ⌜ r ≡ meshLength (now (b .entry)) ⌝ }
+{
+    2 * (6 + elements_of(b) + 2 * record_count(b))
+}
+
+fn list_input(input: &[u8], out: &mut [u8]) -> usize
+    ensures { λ t. ⌜ Printed (now (out .entry)) (now (out .exit)) 0 t (listText (now (input .entry))) ⌝ }
+{
+    if 65536 < input.len() {
+        return put_text(b"too long\n", out, 0);
+    }
+    let e = end_of(input, mesh_length(input));
+    list_map(cell_count(input), &input[..e], &input[e..input.len()], out)
+}
+
+// Puts what the list program prints for an input into a buffer, from its start on and as far as there is room, and gives its length there. In
+// 700,000 bytes there is room for the text of any input.
+pub fn list_text(input: &[u8], out: &mut [u8]) -> usize
+    ensures { λ t. ⌜ Listed (now (out .entry)) (now (out .exit)) t (listText (now (input .entry))) ⌝ }
+{
+    list_input(input, out)
+}

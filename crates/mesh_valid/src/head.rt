@@ -1,0 +1,65 @@
+// The tests 1 to 3: the sizes of a mesh. Each function answers true where the mesh is to be refused.
+use mesh::inner::count_of;
+use mesh::inner::elements_of;
+use mesh::inner::record_count;
+use mesh::inner::top_of;
+ghost use mathlib.Core.Path.{_≡_};
+ghost use Prim.Native.Nat.{ℕ, _+_, _*_, _<_};
+ghost use Rattle.vocabulary.specs.Intervals.{some};
+ghost use Rattle.mesh.specs.Mesh.{wrongCount, bad1, bad2, bad3};
+
+pub fn bad1(m: &[u8]) -> bool
+    ensures { λ r. ⌜ r ≡ bad1 (now (m .entry)) ⌝ }
+{
+    if m.len() < 12 {
+        return true;
+    }
+    let d = top_of(m);
+    if d < 1 {
+        return true;
+    }
+    3 < d
+}
+
+// Elements of a dimension that has none, or none of one that should have some.
+fn wrong_count(m: &[u8], k: usize) -> bool
+    requires { ⌜ k < 4 ⌝ }
+    ensures { λ r. ⌜ r ≡ wrongCount (now (m .entry)) k ⌝ }
+{
+    let d = top_of(m);
+    let c = count_of(m, k);
+    if k <= d { c == 0 } else { 0 < c }
+}
+
+fn wrong_counts(m: &[u8]) -> bool
+    ensures { λ r. ⌜ r ≡ some 0 4 (wrongCount (now (m .entry))) ⌝ }
+{
+    for k in 0..4 {
+        if wrong_count(m, k) {
+            return true;
+        }
+    }
+    false
+}
+
+pub fn bad2(m: &[u8]) -> bool
+    ensures { λ r. ⌜ r ≡ bad2 (now (m .entry)) ⌝ }
+{
+    if wrong_counts(m) {
+        return true;
+    }
+    let n = elements_of(m);
+    if 2000 < n {
+        return true;
+    }
+    let r = record_count(m);
+    12000 < r
+}
+
+pub fn bad3(m: &[u8]) -> bool
+    ensures { λ r. ⌜ r ≡ bad3 (now (m .entry)) ⌝ }
+{
+    let n = elements_of(m);
+    let r = record_count(m);
+    m.len() != 2 * (6 + n + 2 * r)
+}

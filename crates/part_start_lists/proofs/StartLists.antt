@@ -1,0 +1,204 @@
+-- The lists of a part's state, put together from their pieces, and the depths behind them. Assumes nothing.
+use mathlib.Core.Path.{_≡_, sym, ap, ap₂, _∙_, subst}
+use mathlib.Core.List.{List, [], _∷_, _++_, map, append-assoc}
+use Prim.Native.Nat.{ℕ, _+_, _-_, _*_, _≤_, _<_}
+use native.Mathlib.Nat.{zero-add}
+use native.Mathlib.Omega.{arith}
+use lib.ListN.{length, getD, take, drop, length-append}
+use lib.Seq.{length-take-le, take-append-seam}
+use Rattle.vocabulary.specs.Bytes.{Bytes, over}
+use Rattle.vocabulary.specs.ByteLaws.{over-front}
+use Rattle.vocabulary.specs.Intervals.{listed, blocks, total}
+use Rattle.vocabulary.specs.IntervalLaws.{listed-cong, listed-length, blocks-cong, blocks-length, total-agree}
+use Rattle.layout.specs.Words.{wordAt}
+use Rattle.split.specs.Classes.{Classed, classCells, partCells, classOrder, Appended}
+use Rattle.split_cells.proofs.ClassLists.{row-cells}
+use Rattle.split_cells.proofs.AddLaws.{added-fits, added-take, class-count}
+use Rattle.depths.specs.Depths.{four}
+use Rattle.depths.specs.DepthLaws.{length-four, fours-store}
+use Rattle.part_state.specs.State.{importWord, reachWord, exportsWord}
+use Rattle.word_lists.specs.Putting.{Put}
+use Rattle.part_start_lists.specs.Starting.{localIn, numbersOf, startWords, gotEnds, sentEnds, sentList, sentWords, rowEnds, rowWords, numberedWords, startDepth, FieldCells}
+use Rattle.part_start_lists.specs.Starting.{gotFrom, sentFrom, countAt, endsBy, Tallied, Got, Sent, exportCount, Fit, Fitting, Drawn, partOrder, partOwned}
+use Rattle.part_calls.proofs.OpenedLaws.{four-cut}
+use Rattle.word_lists.proofs.PutLaws.{put-as, put-both}
+use Rattle.word_lists.proofs.RegionLaws.{joined-length, joined-append, regions-two, regions-three, regions-four}
+use Rattle.part_start_lists.proofs.StartCounts.{rows-long, all-long, sent-mapped}
+
+-- the words before the tables
+pub head-count : (long i steps kind first cells : ℕ) (v a b : Bytes) (t : ℕ) → Put a b 0 t ((long ∷ i ∷ steps ∷ kind ∷ []) ++ (listed 0 5 (wordAt v) ++ (first ∷ cells ∷ []))) → t ≡ importWord
+head-count long i steps kind first cells v a b t P = omega (arith, P .count, length-append (listed 0 5 (wordAt v)) (first ∷ cells ∷ []), listed-length 0 (wordAt v) 5)
+
+-- ---- the tables of ends by the arrays of counts
+
+module _ (owners table : Bytes) (ends : List ℕ) (i first cells : ℕ) where
+  pub got-is : (got : List ℕ) → Got owners table ends i cells got → (owned j : ℕ) → j ≤ 16 → endsBy got owned j ≡ gotEnds owners table ends i first cells owned j
+  unfolding endsBy gotEnds
+  got-is got G owned j h = ap (λ x. owned + x) (total-agree (countAt got) (λ k. length (gotFrom owners table ends i first cells k)) 16 j h (λ k l q. G .each first k l q))
+
+  pub sent-total : (sent : List ℕ) → Sent owners table ends i cells 16 sent → (j : ℕ) → j ≤ 16 → total 1 j (countAt sent) ≡ sentEnds owners table ends i first cells j
+  unfolding sentEnds
+  sent-total sent X j h = total-agree (countAt sent) (λ k. length (sentFrom owners table ends i first cells k)) 16 j h (λ k l q. X .each first k l q)
+
+  pub sent-is : (sent : List ℕ) → Sent owners table ends i cells 16 sent → (j : ℕ) → j ≤ 16 → endsBy sent 0 j ≡ sentEnds owners table ends i first cells j
+  unfolding endsBy
+  sent-is sent X j h = zero-add _ ∙ sent-total sent X j h
+
+  borders-are : (got sent : List ℕ) (owned : ℕ) → Got owners table ends i cells got → Sent owners table ends i cells 16 sent
+      → listed 0 17 (endsBy got owned) ++ listed 0 17 (endsBy sent 0) ≡ listed 0 17 (gotEnds owners table ends i first cells owned) ++ listed 0 17 (sentEnds owners table ends i first cells)
+  borders-are got sent owned G X =
+      ap₂ _++_ (listed-cong 0 (endsBy got owned) (gotEnds owners table ends i first cells owned) 17 (λ k h. got-is got G owned (0 + k) (omega arith)))
+      (listed-cong 0 (endsBy sent 0) (sentEnds owners table ends i first cells) 17 (λ k h. sent-is sent X (0 + k) (omega arith)))
+
+pub front-count : (long i steps kind first cells : ℕ) (v : Bytes) (owned : ℕ) (got sent : List ℕ) (a b : Bytes) (t : ℕ)
+    → Put a b 0 t (((long ∷ i ∷ steps ∷ kind ∷ []) ++ (listed 0 5 (wordAt v) ++ (first ∷ cells ∷ []))) ++ (listed 0 17 (endsBy got owned) ++ listed 0 17 (endsBy sent 0))) → t ≡ reachWord 0
+front-count long i steps kind first cells v owned got sent a b t P =
+    omega (
+      arith,
+      P .count,
+      length-append ((long ∷ i ∷ steps ∷ kind ∷ []) ++ (listed 0 5 (wordAt v) ++ (first ∷ cells ∷ []))) (listed 0 17 (endsBy got owned) ++ listed 0 17 (endsBy sent 0)),
+      length-append (listed 0 5 (wordAt v)) (first ∷ cells ∷ []),
+      listed-length 0 (wordAt v) 5,
+      length-append (listed 0 17 (endsBy got owned)) (listed 0 17 (endsBy sent 0)),
+      listed-length 0 (endsBy got owned) 17,
+      listed-length 0 (endsBy sent 0) 17,
+    )
+
+-- the exports stand at the front of their list
+sent-taken : (a b ws : List ℕ) (n k : ℕ) → Appended a b 0 n ws → k ≡ length ws → k ≤ length a → take k b ≡ ws
+sent-taken a b ws n k X e h =
+    ap₂ (λ j (xs : List ℕ). take j xs) e (X .text (omega (arith, X .count)) ∙ over-front a ws) ∙ take-append-seam ws (drop (length ws) a)
+
+sent-length : (owners table : Bytes) (ends : List ℕ) (i first cells : ℕ) → length (sentList owners table ends i first cells 16) ≡ sentEnds owners table ends i first cells 16
+unfolding sentList sentEnds
+sent-length owners table ends i first cells = blocks-length 1 (λ j. partCells owners table ends j first cells i) 16
+
+-- ---- all pieces
+
+module _ (owners table : Bytes) (ends : List ℕ) (i first cells : ℕ) (order : List ℕ) where
+  module _ (n : ℕ) (local : List ℕ) (owned long steps kind : ℕ) (v : Bytes) (le : long ≡ exportsWord n owned (rowEnds table ends first order owned) + sentEnds owners table ends i first cells 16) where
+    -- what comes after the two tables
+    abbrev later : List ℕ
+    later =
+        take n order
+        ++ (listed 0 (owned + 1) (rowEnds table ends first order)
+        ++ (blocks 1 owned (rowWords table ends first order local)
+        ++ blocks 1 16 (sentWords owners table ends i first cells local)))
+
+    words-are : ((long ∷ i ∷ steps ∷ kind ∷ []) ++ (listed 0 5 (wordAt v) ++ (first ∷ cells ∷ [])))
+        ++ ((listed 0 17 (gotEnds owners table ends i first cells owned) ++ listed 0 17 (sentEnds owners table ends i first cells)) ++ later)
+        ≡ numberedWords owners table ends i first cells order n local owned steps kind v
+    unfolding numberedWords
+    words-are =
+        let G = listed 0 17 (gotEnds owners table ends i first cells owned) in
+        let E = listed 0 17 (sentEnds owners table ends i first cells) in
+        let R = listed 0 (owned + 1) (rowEnds table ends first order) in
+        let N = blocks 1 owned (rowWords table ends first order local) in
+        let X = blocks 1 16 (sentWords owners table ends i first cells local) in
+        ap₂ _++_ (ap (λ x. (x ∷ i ∷ steps ∷ kind ∷ []) ++ (listed 0 5 (wordAt v) ++ (first ∷ cells ∷ []))) le ∙ regions-three _ (listed 0 5 (wordAt v)) (first ∷ cells ∷ []))
+        (ap₂ _++_ (regions-two G E) (regions-four (take n order) R N X) ∙ sym (joined-append (G ∷ E ∷ []) (take n order ∷ R ∷ N ∷ X ∷ [])))
+        ∙ sym (joined-append (_ ∷ listed 0 5 (wordAt v) ∷ (first ∷ cells ∷ []) ∷ []) (G ∷ E ∷ take n order ∷ R ∷ N ∷ X ∷ []))
+
+    pub words-long : n ≤ length order → length (numberedWords owners table ends i first cells order n local owned steps kind v) ≡ long
+    unfolding numberedWords
+    words-long h =
+        joined-length _
+        ∙ omega (
+          arith,
+          le,
+          listed-length 0 (wordAt v) 5,
+          listed-length 0 (gotEnds owners table ends i first cells owned) 17,
+          listed-length 0 (sentEnds owners table ends i first cells) 17,
+          listed-length 0 (rowEnds table ends first order) (owned + 1),
+          length-take-le n order h,
+          rows-long table ends first order local owned,
+          all-long owners table ends i first cells local,
+        )
+
+    pub lists-put : (got sent before list : List ℕ) (x k : ℕ) (a b c : Bytes) (t u : ℕ) → Got owners table ends i cells got → Sent owners table ends i cells 16 sent
+        → Appended before list 0 x (sentList owners table ends i first cells 16) → k ≡ sentEnds owners table ends i first cells 16 → k ≤ length before → 2 * reachWord 0 ≤ length a
+        → Put a b 0 t (((long ∷ i ∷ steps ∷ kind ∷ []) ++ (listed 0 5 (wordAt v) ++ (first ∷ cells ∷ []))) ++ (listed 0 17 (endsBy got owned) ++ listed 0 17 (endsBy sent 0)))
+        → Put b c t u (take n order ++ (listed 0 (owned + 1) (rowEnds table ends first order) ++ (blocks 1 owned (rowWords table ends first order local) ++ map (localIn local) (take k list))))
+        → Put a c 0 u (numberedWords owners table ends i first cells order n local owned steps kind v)
+    lists-put got sent before list x k a b c t u G X Y ke there room P Q =
+        let e = sent-taken before list (sentList owners table ends i first cells 16) x k Y (ke ∙ sym (sent-length owners table ends i first cells)) there in
+        put-as a c 0 u _ _
+        (append-assoc ((long ∷ i ∷ steps ∷ kind ∷ []) ++ (listed 0 5 (wordAt v) ++ (first ∷ cells ∷ []))) (listed 0 17 (endsBy got owned) ++ listed 0 17 (endsBy sent 0)) _
+        ∙ ap₂ (λ (bs : List ℕ) (xs : List ℕ). ((long ∷ i ∷ steps ∷ kind ∷ []) ++ (listed 0 5 (wordAt v) ++ (first ∷ cells ∷ []))) ++ (bs ++ (take n order
+        ++ (listed 0 (owned + 1) (rowEnds table ends first order) ++ (blocks 1 owned (rowWords table ends first order local) ++ xs)))))
+        (borders-are owners table ends i first cells got sent owned G X) (ap (map (localIn local)) e ∙ sent-mapped owners table ends i first cells local 16)
+        ∙ words-are)
+        (put-both a b c 0 t u _ _ P Q (omega (arith, front-count long i steps kind first cells v owned got sent a b t P)))
+
+-- the lists by the local numbers of the order
+pub lists-numbered : (a b : Bytes) (s t : ℕ) (owners table : Bytes) (ends : List ℕ) (i first cells : ℕ) (order : List ℕ) (n owned steps kind : ℕ) (v : Bytes) (local : List ℕ)
+    → local ≡ numbersOf order n → Put a b s t (numberedWords owners table ends i first cells order n local owned steps kind v)
+    → Put a b s t (startWords owners table ends i first cells order n owned steps kind v)
+lists-numbered a b s t owners table ends i first cells order n owned steps kind v local e P =
+    put-as a b s t _ _ (ap (λ l. numberedWords owners table ends i first cells order n l owned steps kind v) e) P
+
+-- ---- the plan by the tables
+
+-- a row tells the order that the tables tell
+pub row-order : (owners table : Bytes) (ends : List ℕ) (i first cells parts : ℕ) (class : Bytes) → cells ≤ 2000 → Classed owners table ends i cells class
+    → classOrder class first cells parts ≡ partOrder owners table ends i first cells parts
+unfolding classOrder partOrder
+row-order owners table ends i first cells parts class few C =
+    ap₂ _++_ (row-cells owners table ends i first cells 17 class few C)
+    (ap₂ _++_ (row-cells owners table ends i first cells 18 class few C)
+    (blocks-cong 1 (classCells class first cells) (partCells owners table ends i first cells) parts (λ j h. row-cells owners table ends i first cells (1 + j) class few C)))
+
+module _ (owners table : Bytes) (ends : List ℕ) (i first cells parts : ℕ) (F : Fitting owners table ends i first cells parts) (class : Bytes) (C : Classed owners table ends i cells class)
+    (a order : List ℕ) (n : ℕ) (X : Appended a order 0 n (classOrder class first cells parts)) (room : 2000 ≤ length a) where
+  order-same : classOrder class first cells parts ≡ partOrder owners table ends i first cells parts
+  order-same = row-order owners table ends i first cells parts class (F .cells-few) C
+
+  few : length (classOrder class first cells parts) ≤ 2000
+  few = omega (arith, ap length order-same, F .order-few)
+
+  there : n ≤ length order
+  there = added-fits a order n (classOrder class first cells parts) X room few
+
+  order-is : take n order ≡ partOrder owners table ends i first cells parts
+  order-is = added-take a order n (classOrder class first cells parts) X room few ∙ order-same
+
+  module _ (got : List ℕ) (T : Tallied class cells got) (inner outer : ℕ) (ie : inner ≡ getD got 17 0) (oe : outer ≡ getD got 18 0) where
+    owned-is : inner + outer ≡ partOwned owners table ends i first cells
+    unfolding countAt partOwned
+    owned-is =
+        ap₂ _+_ (ie ∙ T .each 17 (omega arith) ∙ sym (class-count class 17 first cells) ∙ ap length (row-cells owners table ends i first cells 17 class (F .cells-few) C))
+        (oe ∙ T .each 18 (omega arith) ∙ sym (class-count class 18 first cells) ∙ ap length (row-cells owners table ends i first cells 18 class (F .cells-few) C))
+
+    pub plan-fit : Fit owners table ends i first cells order n (inner + outer)
+    plan-fit = subst (Fit owners table ends i first cells order n) (sym owned-is) (F .fit order n there order-is)
+
+    pub plan-drawn : (holders : Bytes) (sent long : ℕ) → sent ≡ exportCount owners holders i cells → long ≡ exportsWord n (inner + outer) (rowEnds table ends first order (inner + outer)) + sent
+        → Drawn owners table ends holders i first cells parts order n (inner + outer) sent long
+    plan-drawn holders sent long se le = record { there = there; order-is = order-is; owned-is = owned-is; sent-is = se; long-is = le }
+
+-- ---- the depths
+
+depth-four : (f : Bytes) (first : ℕ) (order : List ℕ) (l : ℕ) → length (startDepth f first order l) ≡ 4
+unfolding startDepth
+depth-four f first order l = length-four f _
+
+module _ (f : Bytes) (first : ℕ) (order : List ℕ) (n : ℕ) (C : FieldCells f first order n) (l : ℕ) (h : 1 ≤ l) (k : l < n + 1) where
+  pub held-low : first ≤ getD order (l - 1) 0
+  held-low = omega (arith, C .each l h (omega arith) .0)
+
+  module _ (q : ℕ) (qe : q ≡ getD order (l - 1) 0 - first) where
+    pub held-room : 4 * q + 4 ≤ length f
+    held-room = omega (arith, C .each l h (omega arith) .0, C .each l h (omega arith) .1)
+
+    depth-is : four f (4 * q) ≡ startDepth f first order (1 + (l - 1))
+    unfolding startDepth
+    depth-is = let p : 1 + (l - 1) - 1 ≡ l - 1 = omega arith in ap (λ x. four f (4 * x)) (qe ∙ ap (λ j. getD order j 0 - first) (sym p))
+
+    pub held-turn : (b x y : Bytes) (at : ℕ) → at + 4 * n ≤ length b → x ≡ over b at (blocks 1 (l - 1) (startDepth f first order)) → y ≡ over x (at + 4 * (l - 1)) (take 4 (drop (4 * q) f))
+        → y ≡ over b at (blocks 1 (l + 1 - 1) (startDepth f first order))
+    held-turn b x y at room e w =
+        let p : l - 1 + 1 ≡ l + 1 - 1 = omega arith in
+        w
+        ∙ ap₂ (λ (u : Bytes) (w : Bytes). over u (at + 4 * (l - 1)) w) e (four-cut f (4 * q) held-room ∙ depth-is)
+        ∙ fours-store 1 (l - 1) (startDepth f first order) (λ t c. depth-four f first order (1 + t)) b at (omega arith)
+        ∙ ap (λ m. over b at (blocks 1 m (startDepth f first order))) p

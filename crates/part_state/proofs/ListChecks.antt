@@ -1,0 +1,314 @@
+-- What the tests of a state's lists answer, by the tests that the code makes one after the other. Assumes nothing.
+use mathlib.Core.Path.{_≡_, refl, sym, ap, ap₂, _∙_}
+use mathlib.Core.Bool.{Bool, true, false, not, _&&_}
+use mathlib.Core.List.{List, [], _∷_, _++_}
+use Prim.Native.Nat.{ℕ, zero, suc, _+_, _-_, _*_, _/_, _%_, _≤_, _<_}
+use native.Mathlib.Nat.{zero-add}
+use native.Mathlib.Omega.{arith}
+use lib.Dec.{eqb, ltb, leb}
+use lib.ListN.{length, take, drop}
+use borrow.Author.Tests.{eqb-true, le-leb, lt-leb, eq-eqb, ne-eqb, not-true, not-false}
+use Rattle.vocabulary.specs.Bytes.{Bytes}
+use Rattle.vocabulary.specs.ListLaws.{and-all, and-true, and-left, and-right, and-assoc}
+use Rattle.vocabulary.specs.Intervals.{isUpTo, every, some}
+use Rattle.vocabulary.specs.IntervalLaws.{every-stop, every-turn, someOf-listed}
+use Rattle.vocabulary.specs.ScanLaws.{some-stop-from, some-end-from, every-stop-from, every-turn-from, every-end-from}
+use Rattle.vocabulary.specs.Tests.{allOf}
+use Rattle.vocabulary.specs.TestLaws.{allOf-true}
+use Rattle.layout.specs.Words.{wordAt}
+use Rattle.round_rule.specs.Rules.{weightCount, bad11}
+use Rattle.round_rule.specs.Kinds.{kindNumber, ruleOf}
+use Rattle.round_rule.specs.declared.Kind.{Kind}
+use Rattle.round_rule.specs.declared.Kind.the-variants.{Hold, Mean, Shoalest}
+use Rattle.round_rule.specs.declared.Rule.{Rule}
+use Rattle.round_rule.specs.declared.Rule.the-variants.{Known, Unknown}
+use Rattle.round_rule.proofs.KindLaws.{known-number}
+use Rattle.round_rule.proofs.Refusals.{unknown-rule}
+use Rattle.part_state.specs.State.{LocalNear, partNumber, stepCount, ruleKind, weights, ownedCount, heldCount, reachEnd, reachCount, rises, entryAt}
+use Rattle.part_state.specs.State.{exportAt, localReach, globalAt, globalFine, entryFine, ownFound, exportFine, listsTests, exportsWord, entryWord, reachWord}
+use Rattle.part_state.specs.StateLaws.{rises-grow}
+use Rattle.part_state.specs.declared.places.Sizes.{Sizes}
+use Rattle.part_state.specs.Checks.{reachStart, entryStart, exportStart, Counts, Fitting, Tested, riseAt, ownEntry, rowFine, headTests, endTests, entryTests}
+
+-- ---- a test of a range, asked with the count that stands in the lists
+
+pub counted-by : (a n c : ℕ) (p : ℕ → Bool) (r : Bool) → n ≡ c → r ≡ every a n p → r ≡ every a c p
+counted-by a n c p r e q = q ∙ ap (λ k. every a k p) e
+
+-- ---- a number from 1 to n
+
+module _ (n x : ℕ) where
+  pub up-low : x < 1 → false ≡ isUpTo n x
+  unfolding isUpTo
+  up-low h = simp (lt-leb _ _ h)
+
+  pub up-rest : 1 ≤ x → leb x n ≡ isUpTo n x
+  unfolding isUpTo
+  up-rest h = simp (le-leb _ _ h)
+
+-- ---- a table of ends
+
+module _ (b : Bytes) (a n j end next : ℕ) (ee : end ≡ wordAt b (a + j)) (ne : next ≡ wordAt b (a + (j + 1))) where
+  pub ends-fall : j < n → next < end → false ≡ every 0 n (riseAt b a)
+  unfolding riseAt
+  ends-fall h k = every-stop (riseAt b a) n j false h (simp (sym ee, sym ne, lt-leb _ _ k)) refl
+
+  pub ends-turn : every 0 j (riseAt b a) ≡ true → end ≤ next → every 0 (j + 1) (riseAt b a) ≡ true
+  unfolding riseAt
+  ends-turn i k = every-turn (riseAt b a) n j true i (simp (sym ee, sym ne, le-leb _ _ k)) refl
+
+pub ends-start : (b : Bytes) (a end : ℕ) → end ≡ wordAt b a → end ≡ wordAt b (a + 0)
+ends-start b a end e = e ∙ ap (wordAt b) (let p : a ≡ a + 0 = omega arith in p)
+
+-- ---- the held cells
+
+pub global-told : (b : Bytes) (l c first cells : ℕ) (r : Bool) → c ≡ globalAt b l → first ≡ wordAt b 9 → cells ≡ wordAt b 10 → r ≡ leb first c && ltb c (first + cells) → r ≡ globalFine b l
+global-told b l c first cells r ce fe ke e = e ∙ ap₂ (λ f n. leb f c && ltb c (f + n)) fe ke ∙ ap (λ x. leb (wordAt b 9) x && ltb x (wordAt b 9 + wordAt b 10)) ce
+
+-- ---- an entry of the reaches
+
+module _ (b : Bytes) (at held n : ℕ) (T : Tested b at held n) (t l : ℕ) (le : l ≡ wordAt b (at + 2 * t)) where
+  entry-local : (entryAt b t) .local ≡ l
+  entry-local = ap (λ a. wordAt b (a + 2 * t)) (sym (T .at-is)) ∙ sym le
+
+  module _ (layer : ℕ) (ye : layer ≡ wordAt b (at + 2 * t + 1)) where
+    entry-layer : (entryAt b t) .layer ≡ layer
+    entry-layer = let p : entryWord (heldCount b) (ownedCount b) + 2 * t + 1 ≡ at + 2 * t + 1 = omega (arith, T .at-is) in ap (wordAt b) p ∙ sym ye
+
+    module _ (u : Bool) (ue : u ≡ isUpTo held l) where
+      entry-held : isUpTo (heldCount b) ((entryAt b t) .local) ≡ u
+      entry-held = ap₂ isUpTo (sym (T .held-is)) entry-local ∙ sym ue
+
+      pub entry-outside : not u ≡ true → false ≡ entryFine b t
+      entry-outside z = simp (entry-held, not-true u z)
+
+      pub entry-odd : not u ≡ false → (layer % 2 ≡ 0 → ⊥) → false ≡ entryFine b t
+      entry-odd z o = simp (entry-held, not-false u z, entry-layer, ne-eqb _ _ o)
+
+      pub entry-rest : not u ≡ false → layer % 2 ≡ 0 → leb layer n ≡ entryFine b t
+      entry-rest z o = simp (entry-held, not-false u z, entry-layer, eq-eqb _ _ o, sym (T .n-is))
+
+  pub own-other : (c : ℕ) → (l ≡ c → ⊥) → false ≡ ownEntry b c t
+  unfolding ownEntry
+  own-other c h = simp (entry-local, ne-eqb _ _ h)
+
+  pub own-same : (c layer : ℕ) → l ≡ c → layer ≡ wordAt b (at + 2 * t + 1) → eqb layer 0 ≡ ownEntry b c t
+  unfolding ownEntry
+  own-same c layer h e = simp (entry-local, entry-layer layer e, eq-eqb _ _ h)
+
+-- ---- a row: p of all its entries, and q of some
+
+-- the first k, then j more
+every-split : (a : ℕ) (p : ℕ → Bool) (k j : ℕ) → every a (k + j) p ≡ every a k p && every (a + k) j p
+unfolding every
+every-split a p k zero = let e : k + 0 ≡ k = omega arith in ap (λ x. every a x p) e ∙ sym (and-all (every a k p))
+every-split a p k (suc j) =
+    let e : k + suc j ≡ suc (k + j) = omega arith in
+    let f : a + (k + j) ≡ a + k + j = omega arith in
+    ap (λ x. every a x p) e ∙ ap₂ _&&_ (every-split a p k j) (ap p f) ∙ and-assoc (every a k p) (every (a + k) j p) (p (a + k + j))
+
+module _ (p : ℕ → Bool) (from to t : ℕ) (low : from ≤ t) where
+  pub rest-wrong : (r : Bool) → t < to → r ≡ p t → not r ≡ true → false ≡ every from (to - from) p
+  rest-wrong r h e z = every-stop-from from p (to - from) t r e z low (omega arith)
+
+  pub rest-end : t ≤ to → to ≤ t → every from (t - from) p ≡ true → true ≡ every from (to - from) p
+  rest-end g h i = every-end-from from p (to - from) t i (omega arith) (omega arith)
+
+module _ (p q : ℕ → Bool) (from to : ℕ) where
+  pub row-wrong : (t : ℕ) (r : Bool) → r ≡ p t → not r ≡ true → from ≤ t → t < to → false ≡ every from (to - from) p && some from (to - from) q
+  row-wrong t r e z g h = sym (and-left _ (some from (to - from) q) (sym (rest-wrong p from to t g r h e z)))
+
+  -- the own entry is found: what is left decides
+  pub row-found : (t : ℕ) (r s w : Bool) → every from (t - from) p ≡ true → r ≡ p t → not r ≡ false → s ≡ q t → s ≡ true → w ≡ every (t + 1) (to - (t + 1)) p → from ≤ t → t < to
+      → w ≡ every from (to - from) p && some from (to - from) q
+  row-found t r s w i e z f y we g h =
+      let k : to - from ≡ (t + 1 - from) + (to - (t + 1)) = omega arith in
+      let m : from + (t + 1 - from) ≡ t + 1 = omega arith in
+      let all : every from (to - from) p ≡ w = ap (λ x. every from x p) k ∙ every-split from p (t + 1 - from) (to - (t + 1))
+      ∙ ap₂ (λ x y. x && every y (to - (t + 1)) p) (every-turn-from from p t r g i e z) m ∙ sym we in
+      let one : some from (to - from) q ≡ true = sym (some-stop-from from q (to - from) t s f y g (omega arith)) in
+      sym (ap₂ _&&_ all one ∙ and-all w)
+
+  pub row-end : (t : ℕ) → some from (t - from) q ≡ false → t ≤ to → to ≤ t → from ≤ t → false ≡ every from (to - from) p && some from (to - from) q
+  row-end t i g h k = sym (and-right (every from (to - from) p) _ (sym (some-end-from from q (to - from) t i (omega arith) (omega arith))))
+
+-- ---- the rows one after another, from 0 on
+
+and-both : (a b c changes : Bool) → (a && b) && (c && changes) ≡ (a && c) && (b && changes)
+and-both true true c changes = refl
+and-both true false c changes = sym (and-right c false refl)
+and-both false b c changes = refl
+
+-- p of every row's entries is p of all entries
+rows-are : (end : ℕ → ℕ) (p q : ℕ → Bool) → end 0 ≡ 0 → (n : ℕ) → ((j : ℕ) → j < n → end j ≤ end (j + 1))
+    → every 1 n (λ l. every (end (l - 1)) (end l - end (l - 1)) p && q l) ≡ every 0 (end n) p && every 1 n q
+unfolding every
+rows-are end p q z zero h = sym (ap (λ x. every 0 x p && true) z)
+rows-are end p q z (suc n) h =
+    let e : 1 + n - 1 ≡ n = omega arith in
+    let s : n + 1 ≡ suc n = omega arith in
+    let u : 1 + n ≡ suc n = omega arith in
+    let k : end (suc n) ≡ end n + (end (suc n) - end n) = omega (arith, h n (omega arith), ap end s) in
+    let w : every 0 (end (suc n)) p ≡ every 0 (end n) p && every (end n) (end (suc n) - end n) p =
+    ap (λ x. every 0 x p) k ∙ every-split 0 p (end n) (end (suc n) - end n)
+    ∙ ap (λ x. every 0 (end n) p && every x (end (suc n) - end n) p) (zero-add (end n)) in
+    ap₂ _&&_ (rows-are end p q z n (λ j l. h j (omega arith))) (ap₂ (λ x y. every (end x) (end y - end x) p && q (1 + n)) e u)
+    ∙ and-both (every 0 (end n) p) (every 1 n q) (every (end n) (end (suc n) - end n) p) (q (1 + n))
+    ∙ ap (λ x. x && (every 1 n q && q (1 + n))) (sym w)
+
+pub row-tested : (b : Bytes) (z : Sizes) (at n : ℕ) → Counts b z → at ≡ entryStart z → n ≡ stepCount b → Tested b at (z .held) n
+row-tested b z at n C ae e = record { at-is = ae ∙ ap₂ (λ x y. entryWord x y) (C .held-is) (C .owned-is); held-is = C .held-is; n-is = e }
+
+module _ (b : Bytes) (good : allOf (endTests b) ≡ true) where
+  reach-tests : (eqb (reachEnd b 0) 0 ≡ true) × (rises (ownedCount b) (reachEnd b) ≡ true)
+  reach-tests = and-true (eqb (reachEnd b 0) 0) (rises (ownedCount b) (reachEnd b)) (allOf-true (endTests b) good .1 .1 .0)
+
+  reach-grow : (i j : ℕ) → i ≤ j → j ≤ ownedCount b → reachEnd b i ≤ reachEnd b j
+  reach-grow = rises-grow (ownedCount b) (reachEnd b) (reach-tests .1)
+
+  -- the first row begins at 0
+  pub rows-start : 0 ≡ reachEnd b (1 - 1)
+  rows-start = sym (eqb-true _ _ (reach-tests .0))
+
+  rows-tests : every 1 (ownedCount b) (rowFine b) ≡ every 0 (reachCount b) (entryFine b) && every 1 (ownedCount b) (ownFound b)
+  unfolding rowFine
+  rows-tests =
+      rows-are (reachEnd b) (entryFine b) (ownFound b) (eqb-true _ _ (reach-tests .0)) (ownedCount b)
+      (λ j h. reach-grow j (j + 1) (omega arith) (omega arith))
+
+  module _ (owned : ℕ) (oe : owned ≡ ownedCount b) (r x : Bool) (e : r ≡ every 1 owned (rowFine b)) where
+    rows-here : r && x ≡ every 0 (reachCount b) (entryFine b) && (every 1 (ownedCount b) (ownFound b) && x)
+    rows-here =
+        ap (λ t. t && x) (e ∙ ap (λ k. every 1 k (rowFine b)) oe ∙ rows-tests)
+        ∙ and-assoc (every 0 (reachCount b) (entryFine b)) (every 1 (ownedCount b) (ownFound b)) x
+
+    pub rows-wrong : not r ≡ true → false ≡ every 0 (reachCount b) (entryFine b) && (every 1 (ownedCount b) (ownFound b) && x)
+    rows-wrong z = sym (ap (λ t. t && x) (not-true r z)) ∙ rows-here
+
+    pub rows-right : (y : Bool) → not r ≡ false → y ≡ x → y ≡ every 0 (reachCount b) (entryFine b) && (every 1 (ownedCount b) (ownFound b) && x)
+    rows-right y z q = q ∙ sym (ap (λ t. t && x) (not-false r z)) ∙ rows-here
+
+  module _ (z : Sizes) (F : Fitting b z) (ends : ℕ) (ee : ends ≡ reachStart z) (l from to : ℕ) (low : 1 ≤ l) (high : l < 1 + z .owned) (te : to ≡ wordAt b (ends + l)) where
+    to-is : to ≡ reachEnd b l
+    to-is = te ∙ ap (λ k. wordAt b (k + l)) (ee ∙ ap reachWord (F .counts .held-is))
+
+    -- and the next where this one ends
+    pub rows-next : to ≡ reachEnd b (l + 1 - 1)
+    rows-next = to-is ∙ ap (reachEnd b) (let e : l ≡ l + 1 - 1 = omega arith in e)
+
+    pub row-rises : from ≡ reachEnd b (l - 1) → from ≤ to
+    row-rises fe = omega (arith, fe, to-is, F .counts .owned-is, reach-grow (l - 1) l (omega arith) (omega (arith, F .counts .owned-is)))
+
+    pub row-room : (at : ℕ) → at ≡ entryStart z → 2 * (at + 2 * to) ≤ length b
+    row-room at ae = omega (arith, ae, to-is, F .room, F .counts .reached-is, reach-grow l (ownedCount b) (omega (arith, F .counts .owned-is)) (omega arith))
+
+    pub row-told : (r : Bool) → from ≡ reachEnd b (l - 1) → r ≡ every from (to - from) (entryFine b) && some from (to - from) (ownEntry b l) → r ≡ rowFine b l
+    unfolding rowFine ownEntry localReach
+    row-told r fe e =
+        e
+        ∙ ap₂ (λ x y. every x (y - x) (entryFine b) && some x (y - x) (ownEntry b l)) fe to-is
+        ∙ ap (λ x. every (reachEnd b (l - 1)) (reachEnd b l - reachEnd b (l - 1)) (entryFine b) && x)
+        (sym (someOf-listed (λ (e : LocalNear). eqb (e .local) l && eqb (e .layer) 0) (entryAt b) (reachEnd b (l - 1)) (reachEnd b l - reachEnd b (l - 1))))
+
+-- ---- the exports
+
+module _ (b : Bytes) (z : Sizes) (C : Counts b z) (at : ℕ) (ae : at ≡ exportStart z) (t l : ℕ) (le : l ≡ wordAt b (at + t)) where
+  export-local : exportAt b t ≡ l
+  export-local =
+      let p : exportsWord (heldCount b) (ownedCount b) (reachCount b) + t ≡ at + t = omega (arith, ae, C .held-is, C .owned-is, C .reached-is) in
+      ap (wordAt b) p ∙ sym le
+
+  pub export-told : (r : Bool) → r ≡ isUpTo (z .owned) l → r ≡ exportFine b t
+  export-told r e = e ∙ ap₂ isUpTo (C .owned-is) (sym export-local)
+
+-- ---- the rule and the head
+
+module _ (kind : Kind) (n : ℕ) where
+  pub weights-hold : kind ≡ Hold → 0 ≡ weightCount (kindNumber kind) n
+  unfolding weightCount kindNumber
+  weights-hold e = rw e refl
+
+  pub weights-mean : kind ≡ Mean → n / 2 + 1 ≡ weightCount (kindNumber kind) n
+  unfolding weightCount kindNumber
+  weights-mean e = rw e refl
+
+  pub weights-shoalest : kind ≡ Shoalest → 0 ≡ weightCount (kindNumber kind) n
+  unfolding weightCount kindNumber
+  weights-shoalest e = rw e refl
+
+module _ (b : Bytes) (number n : ℕ) (r : Rule) (re : r ≡ ruleOf number) where
+  pub rule-told : (k : Kind) → r ≡ Known k → (count : ℕ) → count ≡ weightCount (kindNumber k) n → (w : Bool) → w ≡ bad11 (kindNumber k) n (take (8 + 2 * count - 8) (drop 8 b))
+      → not w ≡ not (bad11 number n (take (2 * weightCount number n) (drop 8 b)))
+  rule-told k q count ce w we =
+      let p : 8 + 2 * count - 8 ≡ 2 * weightCount (kindNumber k) n = omega (arith, ce) in
+      ap not (we ∙ ap (λ x. bad11 (kindNumber k) n (take x (drop 8 b))) p)
+      ∙ ap (λ x. not (bad11 x n (take (2 * weightCount x n) (drop 8 b)))) (sym (known-number number k (sym re ∙ q)))
+
+  pub rule-unknown : r ≡ Unknown → false ≡ not (bad11 number n (take (2 * weightCount number n) (drop 8 b)))
+  rule-unknown q = ap not (unknown-rule (take (2 * weightCount number n) (drop 8 b)) n number r re q)
+
+module _ (b : Bytes) where
+  pub head-part : (part : ℕ) (u : Bool) → part ≡ wordAt b 1 → u ≡ isUpTo 16 part → u ≡ isUpTo 16 (partNumber b)
+  head-part part u pe ue = ue ∙ ap (isUpTo 16) pe
+
+  module _ (n : ℕ) (ne : n ≡ wordAt b 2) where
+    pub steps-odd : (x : Bool) → (n % 2 ≡ 0 → ⊥) → false ≡ (eqb (stepCount b % 2) 0 && leb (stepCount b) 8) && x
+    steps-odd x o = simp (sym ne, ne-eqb _ _ o)
+
+    pub steps-many : (x : Bool) → 8 < n → false ≡ (eqb (stepCount b % 2) 0 && leb (stepCount b) 8) && x
+    steps-many x h = simp (sym ne, lt-leb _ _ h, and-right)
+
+    pub steps-fine : (x y : Bool) → n % 2 ≡ 0 → n ≤ 8 → y ≡ x → y ≡ (eqb (stepCount b % 2) 0 && leb (stepCount b) 8) && x
+    steps-fine x y e h q = simp (sym ne, eq-eqb _ _ e, le-leb _ _ h, q)
+
+    pub head-rule : (kind : ℕ) (w : Bool) → kind ≡ wordAt b 3 → w ≡ not (bad11 kind n (take (2 * weightCount kind n) (drop 8 b))) → w ≡ not (bad11 (ruleKind b) (stepCount b) (weights b))
+    unfolding weights
+    head-rule kind w ke we = we ∙ ap₂ (λ k m. not (bad11 k m (take (2 * weightCount k m) (drop 8 b)))) ke ne
+
+  pub head-held : (held : ℕ) → held ≡ wordAt b 27 → leb held 2000 ≡ leb (heldCount b) 2000 && true
+  head-held held e = simp (sym e, and-all)
+
+-- ---- the tables of ends, and the entries
+
+-- the first end e: not 0, and 0
+module _ (e x : ℕ) (c : x ≡ e) (r y : Bool) where
+  pub first-wrong : (x ≡ 0 → ⊥) → false ≡ (eqb e 0 && r) && y
+  first-wrong z = simp (sym c, ne-eqb _ _ z)
+
+  pub first-right : (t : Bool) → x ≡ 0 → t ≡ r && y → t ≡ (eqb e 0 && r) && y
+  first-right t z q = simp (sym c, eq-eqb _ _ z, q)
+
+module _ (b : Bytes) (z : Sizes) (C : Counts b z) (ends : ℕ) (ee : ends ≡ reachStart z) where
+  module _ (y : ℕ) (ye : y ≡ wordAt b ends) where
+    reach-end : y ≡ reachEnd b 0
+    reach-end = ye ∙ ap (wordAt b) (let p : ends ≡ reachWord (heldCount b) + 0 = omega (arith, ee, C .held-is) in p)
+
+    pub reach-wrong : (r x : Bool) → (y ≡ 0 → ⊥) → false ≡ (eqb (reachEnd b 0) 0 && r) && x
+    reach-wrong = first-wrong (reachEnd b 0) y reach-end
+
+    pub reach-right : (r : Bool) → y ≡ 0 → r ≡ every 0 (z .owned) (riseAt b ends) → r ≡ (eqb (reachEnd b 0) 0 && rises (ownedCount b) (reachEnd b)) && true
+    unfolding riseAt rises
+    reach-right r w e =
+        first-right (reachEnd b 0) y reach-end (rises (ownedCount b) (reachEnd b)) true r w
+        (e ∙ ap₂ (λ k n. every 0 n (riseAt b k)) (ee ∙ ap reachWord (C .held-is)) (C .owned-is) ∙ sym (and-all (rises (ownedCount b) (reachEnd b))))
+
+-- ---- the three groups
+
+allOf-append : (xs ys : List Bool) → allOf (xs ++ ys) ≡ allOf xs && allOf ys
+allOf-append [] ys = refl
+allOf-append (x ∷ xs) ys = ap (λ t. x && t) (allOf-append xs ys) ∙ sym (and-assoc x (allOf xs) (allOf ys))
+
+in-groups : (b : Bytes) → allOf (listsTests b) ≡ allOf (headTests b) && (allOf (endTests b) && allOf (entryTests b))
+unfolding listsTests
+in-groups b = allOf-append (headTests b) (endTests b ++ entryTests b) ∙ ap (λ t. allOf (headTests b) && t) (allOf-append (endTests b) (entryTests b))
+
+module _ (b : Bytes) (r : Bool) (re : r ≡ allOf (headTests b)) where
+  pub lists-1 : not r ≡ true → false ≡ allOf (listsTests b)
+  lists-1 z = simp (in-groups b, sym re, not-true r z)
+
+  module _ (rt : not r ≡ false) (s : Bool) (se : s ≡ allOf (endTests b)) where
+    pub lists-2 : not s ≡ true → false ≡ allOf (listsTests b)
+    lists-2 z = simp (in-groups b, sym re, not-false r rt, sym se, not-true s z)
+
+    pub lists-3 : (t : Bool) → not s ≡ false → t ≡ allOf (entryTests b) → t ≡ allOf (listsTests b)
+    lists-3 t lists e = simp (in-groups b, sym re, not-false r rt, sym se, not-false s lists, sym e)

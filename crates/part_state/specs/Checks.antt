@@ -1,0 +1,91 @@
+-- How the code makes the tests of a state's lists: in three groups, and the entries of the reaches row by row. No public contract rests on
+-- this page. Assumes nothing.
+use mathlib.Core.Path.{_≡_}
+use mathlib.Core.Bool.{Bool, not, _&&_}
+use mathlib.Core.List.{List, [], _∷_}
+use Prim.Native.Nat.{ℕ, _+_, _-_, _*_, _%_, _<_}
+use lib.Dec.{eqb, leb}
+use lib.ListN.{length}
+use Rattle.vocabulary.specs.Bytes.{Bytes}
+use Rattle.vocabulary.specs.Intervals.{isUpTo, every}
+use Rattle.layout.specs.Words.{wordAt}
+use Rattle.round_rule.specs.Rules.{bad11}
+use Rattle.part_state.specs.State.{partNumber, stepCount, ruleKind, weights, importEnd, ownedCount, heldCount, exportEnd, exportCount}
+use Rattle.part_state.specs.State.{reachEnd, reachCount, entryAt, globalFine, entryFine, ownFound, exportFine, rises, exportsWord, entryWord, reachWord}
+use Rattle.part_state.specs.declared.places.Sizes.{Sizes}
+
+-- the lists b in three groups
+abbrev pub headTests : Bytes → List Bool
+headTests b =
+    isUpTo 16 (partNumber b)
+    ∷ (eqb (stepCount b % 2) 0 && leb (stepCount b) 8)
+    ∷ not (bad11 (ruleKind b) (stepCount b) (weights b))
+    ∷ leb (heldCount b) 2000
+    ∷ []
+
+abbrev pub endTests : Bytes → List Bool
+endTests b =
+    rises 16 (importEnd b)
+    ∷ (eqb (exportEnd b 0) 0 && rises 16 (exportEnd b))
+    ∷ (eqb (reachEnd b 0) 0 && rises (ownedCount b) (reachEnd b))
+    ∷ []
+
+abbrev pub entryTests : Bytes → List Bool
+entryTests b =
+    every 1 (heldCount b) (globalFine b)
+    ∷ every 0 (reachCount b) (entryFine b)
+    ∷ every 1 (ownedCount b) (ownFound b)
+    ∷ every 0 (exportCount b) (exportFine b)
+    ∷ []
+
+-- the end after the one at word a + j is at least as great
+unfoldable pub riseAt : Bytes → ℕ → ℕ → Bool
+riseAt b a j = leb (wordAt b (a + j)) (wordAt b (a + (j + 1)))
+
+-- entry t is that of cell l itself
+unfoldable pub ownEntry : Bytes → ℕ → ℕ → Bool
+ownEntry b l t = eqb ((entryAt b t) .local) l && eqb ((entryAt b t) .layer) 0
+
+-- the row of the owned cell l: its entries are fine, and its own is among them
+unfoldable pub rowFine : Bytes → ℕ → Bool
+rowFine b l = every (reachEnd b (l - 1)) (reachEnd b l - reachEnd b (l - 1)) (entryFine b) && ownFound b l
+
+-- ---- the places that counts give: the ends of the reaches, their entries, the exports, and how many words that makes
+
+abbrev pub reachStart : Sizes → ℕ
+reachStart z = reachWord (z .held)
+
+abbrev pub entryStart : Sizes → ℕ
+entryStart z = entryWord (z .held) (z .owned)
+
+abbrev pub exportStart : Sizes → ℕ
+exportStart z = exportsWord (z .held) (z .owned) (z .reached)
+
+abbrev pub wordCount : Sizes → ℕ
+wordCount z = exportStart z + z .sent
+
+-- every count is a word; start adds up the exports before it knows that of them
+pub record Small (z : Sizes) : Type 0 where
+  pub held-small : z .held < 65536
+  pub owned-small : z .owned < 65536
+  pub reached-small : z .reached < 65536
+  pub sent-small : z .sent < 2000000
+
+-- they are those that stand in the lists
+pub record Counts (b : Bytes) (z : Sizes) : Type 0 where
+  pub held-is : z .held ≡ heldCount b
+  pub owned-is : z .owned ≡ ownedCount b
+  pub reached-is : z .reached ≡ reachCount b
+  pub sent-is : z .sent ≡ exportCount b
+  pub small : Small z
+
+-- lists as long as their counts say
+pub record Fitting (b : Bytes) (z : Sizes) : Type 0 where
+  pub counts : Counts b z
+  pub room : length b ≡ 2 * wordCount z
+
+-- the word at which the entries of the reaches begin, and what they are tested by
+pub record Tested (b : Bytes) (at held n : ℕ) : Type 0 where
+  pub at-is : at ≡ entryWord (heldCount b) (ownedCount b)
+  pub held-is : held ≡ heldCount b
+  pub n-is : n ≡ stepCount b

@@ -1,0 +1,249 @@
+-- The byte form of a part's state, and the refusal 20. docs/LAYOUTS.md has it as a table. Assumes nothing.
+--
+-- A state is first its lists, which start writes once, all words; and then, from the place `changes` on, what calls change; word 0 has how many words
+-- come before `changes`. Local numbers run from 1, and so do the numbers of parts, 1 to 16. A table of ends has at j how many entries belong to the
+-- numbers up to j, so those of j are the ones after end (j − 1), up to end j.
+use mathlib.Core.Bool.{Bool, not, _&&_}
+use mathlib.Core.List.{List, [], _∷_}
+use Prim.Native.Nat.{ℕ, _+_, _-_, _*_, _%_}
+use lib.Dec.{eqb, ltb, leb}
+use lib.ListN.{length, take, drop}
+use Rattle.vocabulary.specs.Intervals.{isUpTo, every, listed}
+use Rattle.vocabulary.specs.Lists.{someOf}
+use Rattle.vocabulary.specs.Tests.{allOf}
+use Rattle.vocabulary.specs.Bytes.{Bytes, byteAt}
+use Rattle.layout.specs.Words.{word, wordAt}
+use Rattle.depths.specs.Depths.{rangedAt}
+use Rattle.round_rule.specs.Rules.{Old, newDepth, weightCount, bad11}
+
+-- a cell of a reach by its local number, with its layer
+pub record LocalNear : Type 0 where
+  pub local : ℕ
+  pub layer : ℕ
+
+-- ---- where the lists stand, by their counts: in words, from 0 on
+
+-- the tables of ends of the imports and of the exports, for parts from 0 on; and the held cells, for local numbers from 1 on
+abbrev pub importWord : ℕ
+importWord = 11
+
+abbrev pub exportWord : ℕ
+exportWord = 28
+
+abbrev pub cellWord : ℕ
+cellWord = 44
+
+-- the table of ends of the reaches, the entries of the reaches (a local number and, one word later, its layer), and those of the exports
+abbrev pub reachWord : ℕ → ℕ
+reachWord held = 45 + held
+
+abbrev pub entryWord : ℕ → ℕ → ℕ
+entryWord held owned = 46 + held + owned
+
+abbrev pub exportsWord : ℕ → ℕ → ℕ → ℕ
+exportsWord held owned reached = entryWord held owned + 2 * reached
+
+-- ---- the lists, read from the bytes b of a state, or from its first `changes` bytes
+
+module _ (b : Bytes) where
+  -- word 0: the length of the lists in words; 1: the part's number; 2: n of the stencil; 3: the rule's kind; 4 to 8: its weights
+  abbrev pub dynamic : ℕ
+  dynamic = 2 * wordAt b 0
+
+  abbrev pub partNumber : ℕ
+  partNumber = wordAt b 1
+
+  abbrev pub stepCount : ℕ
+  stepCount = wordAt b 2
+
+  abbrev pub ruleKind : ℕ
+  ruleKind = wordAt b 3
+
+  unfoldable pub weights : Bytes
+  weights = take (2 * weightCount ruleKind stepCount) (drop 8 b)
+
+  -- word 9: the number of the mesh's first cell; 10: how many cells the mesh has
+  abbrev pub firstOfMesh : ℕ
+  firstOfMesh = wordAt b 9
+
+  abbrev pub cellsOfMesh : ℕ
+  cellsOfMesh = wordAt b 10
+
+  -- words 11 to 27, for j from 0 to 16: how many held cells are owned or imported from the parts up to j
+  abbrev pub importEnd : ℕ → ℕ
+  importEnd j = wordAt b (importWord + j)
+
+  abbrev pub ownedCount : ℕ
+  ownedCount = importEnd 0
+
+  abbrev pub heldCount : ℕ
+  heldCount = importEnd 16
+
+  -- words 28 to 44, for j from 0 to 16: how many exports go to the parts up to j
+  abbrev pub exportEnd : ℕ → ℕ
+  exportEnd j = wordAt b (exportWord + j)
+
+  abbrev pub exportCount : ℕ
+  exportCount = exportEnd 16
+
+  -- the global number of each held cell, in local order, from word 45 on
+  abbrev pub globalAt : ℕ → ℕ
+  globalAt l = wordAt b (cellWord + l)
+
+  -- for l from 0 to the owned count: how many entries the reaches of the local cells up to l have
+  abbrev pub reachEnd : ℕ → ℕ
+  reachEnd l = wordAt b (reachWord heldCount + l)
+
+  abbrev pub reachCount : ℕ
+  reachCount = reachEnd ownedCount
+
+  -- the entries of the reaches, two words each, from t = 0 on: a local number and its layer
+  abbrev pub entryAt : ℕ → LocalNear
+  entryAt t = record {
+    local = wordAt b (entryWord heldCount ownedCount + 2 * t);
+    layer = wordAt b (entryWord heldCount ownedCount + 2 * t + 1);
+  }
+
+  -- the local number of each exported cell, from t = 0 on
+  abbrev pub exportAt : ℕ → ℕ
+  exportAt t = wordAt b (exportsWord heldCount ownedCount reachCount + t)
+
+  -- the length in bytes that the counts give the lists
+  abbrev pub listsLength : ℕ
+  listsLength = 2 * (exportsWord heldCount ownedCount reachCount + exportCount)
+
+  -- the entries of the reach of an owned cell, by its local number
+  unfoldable pub localReach : ℕ → List LocalNear
+  localReach l = listed (reachEnd (l - 1)) (reachEnd l - reachEnd (l - 1)) entryAt
+
+  -- the local numbers of the cells exported to part j, in export order
+  unfoldable pub localExports : ℕ → List ℕ
+  localExports j = listed (exportEnd (j - 1)) (exportEnd j - exportEnd (j - 1)) exportAt
+
+-- ---- what calls change, from `changes` on: the round, a flag for each part taken from, a flag for each part written to, the depth of each held cell
+
+abbrev pub roundAt : Bytes → ℕ → ℕ
+roundAt b changes = word b changes
+
+abbrev pub takenPlace : ℕ → ℕ → ℕ
+takenPlace changes j = changes + 1 + j
+
+abbrev pub writtenPlace : ℕ → ℕ → ℕ
+writtenPlace changes j = changes + 17 + j
+
+-- the depths of all held cells, and that of local cell l
+abbrev pub depthsPlace : ℕ → ℕ
+depthsPlace changes = changes + 34
+
+abbrev pub depthPlace : ℕ → ℕ → ℕ
+depthPlace changes l = changes + 30 + 4 * l
+
+-- the length in bytes of a state that holds n cells
+abbrev pub stateLength : ℕ → ℕ → ℕ
+stateLength changes n = depthsPlace changes + 4 * n
+
+-- ---- the lists as a call follows them
+
+pub record Lists : Type 0 where
+  -- the part's number
+  pub part : ℕ
+  -- the mesh's first cell and how many cells it has
+  pub first : ℕ
+  pub cells : ℕ
+  -- the rule: the new depth of a cell from its own old depth and those of its reach
+  pub new : Bytes → List Old → Bytes
+  -- the local numbers up to `owned` are the owned cells', and those up to `held` the held ones'
+  pub owned : ℕ
+  pub held : ℕ
+  -- the global number of a local one
+  pub global : ℕ → ℕ
+  -- the reach of an owned cell, in local numbers
+  pub reach : ℕ → List LocalNear
+  -- imports from part j are the local numbers after `before j`, `imported j` of them
+  pub before : ℕ → ℕ
+  pub imported : ℕ → ℕ
+  -- the local numbers of what is exported to part j
+  pub exports : ℕ → List ℕ
+
+-- the lists that stand in the first `changes` bytes of a state
+unfoldable pub listsIn : Bytes → Lists
+listsIn b = record {
+  part = partNumber b;
+  first = firstOfMesh b;
+  cells = cellsOfMesh b;
+  new = newDepth (ruleKind b) (weights b);
+  owned = ownedCount b;
+  held = heldCount b;
+  global = globalAt b;
+  reach = localReach b;
+  before = λ j. importEnd b (j - 1);
+  imported = λ j. importEnd b j - importEnd b (j - 1);
+  exports = localExports b;
+}
+
+unfoldable pub listsOf : Bytes → Lists
+listsOf b = listsIn (take (dynamic b) b)
+
+-- ---- 20: "Not a part state by the form in docs/."
+
+-- a table of n + 1 ends never falls
+unfoldable pub rises : ℕ → (ℕ → ℕ) → Bool
+rises n end = every 0 n (λ j. leb (end j) (end (j + 1)))
+
+-- a held cell is one of the mesh's
+abbrev pub globalFine : Bytes → ℕ → Bool
+globalFine b l = leb (firstOfMesh b) (globalAt b l) && ltb (globalAt b l) (firstOfMesh b + cellsOfMesh b)
+
+-- an entry of a reach names one of the held cells, at an even layer of at most n
+abbrev pub fineEntry : ℕ → ℕ → LocalNear → Bool
+fineEntry held n e = isUpTo held (e .local) && eqb (e .layer % 2) 0 && leb (e .layer) n
+
+abbrev pub entryFine : Bytes → ℕ → Bool
+entryFine b t = fineEntry (heldCount b) (stepCount b) (entryAt b t)
+
+-- an owned cell is in its own reach, at layer 0
+abbrev pub ownFound : Bytes → ℕ → Bool
+ownFound b l = someOf (localReach b l) (λ e. eqb (e .local) l && eqb (e .layer) 0)
+
+-- an exported cell is owned
+abbrev pub exportFine : Bytes → ℕ → Bool
+exportFine b t = isUpTo (ownedCount b) (exportAt b t)
+
+-- tests of the lists b
+unfoldable pub listsTests : Bytes → List Bool
+listsTests b =
+    isUpTo 16 (partNumber b)
+    ∷ (eqb (stepCount b % 2) 0 && leb (stepCount b) 8)
+    ∷ not (bad11 (ruleKind b) (stepCount b) (weights b))
+    ∷ leb (heldCount b) 2000
+    ∷ rises 16 (importEnd b)
+    ∷ (eqb (exportEnd b 0) 0 && rises 16 (exportEnd b))
+    ∷ (eqb (reachEnd b 0) 0 && rises (ownedCount b) (reachEnd b))
+    ∷ every 1 (heldCount b) (globalFine b)
+    ∷ every 0 (reachCount b) (entryFine b)
+    ∷ every 1 (ownedCount b) (ownFound b)
+    ∷ every 0 (exportCount b) (exportFine b)
+    ∷ []
+
+-- the flags of part j are 0 or 1
+abbrev pub flagsFine : Bytes → ℕ → ℕ → Bool
+flagsFine b changes j = leb (byteAt b (takenPlace changes j)) 1 && leb (byteAt b (writtenPlace changes j)) 1
+
+-- tests of what calls change, in the state b whose lists end at `changes` and hold n cells
+unfoldable pub dynamicTests : Bytes → ℕ → ℕ → List Bool
+dynamicTests b changes n =
+    leb (stateLength changes n) (length b)
+    ∷ leb (roundAt b changes) 60000
+    ∷ every 1 16 (flagsFine b changes)
+    ∷ every 0 n (rangedAt b (depthsPlace changes))
+    ∷ []
+
+-- a part state: the lists are as long as their counts say, and all tests hold
+unfoldable pub isState : Bytes → Bool
+isState b =
+    let changes : ℕ = dynamic b in
+    let lists : Bytes = take (dynamic b) b in
+    eqb changes (listsLength lists) && allOf (listsTests lists) && allOf (dynamicTests b changes (heldCount lists))
+
+unfoldable pub bad20 : Bytes → Bool
+bad20 b = not (isState b)

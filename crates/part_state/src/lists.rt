@@ -1,0 +1,290 @@
+// Whether the lists of a state are as its form asks. `lists` are the bytes before what calls change.
+use crate::places::CELLS;
+use crate::places::EXPORT_ENDS;
+use crate::places::FIRST;
+use crate::places::GLOBALS;
+use crate::places::HELD;
+use crate::places::KIND;
+use crate::places::OWNED;
+use crate::places::PART;
+use crate::places::STEPS;
+use crate::places::Sizes;
+use crate::places::WEIGHTS;
+use cell_numbers::Global;
+use cell_numbers::Local;
+use cell_numbers::inner::is_cell;
+use layout::inner::word_in;
+use layout::word_at;
+use round_rule::Kind;
+use round_rule::Rule;
+use round_rule::rule_of;
+use round_rule::wrong_weights;
+ghost use mathlib.Core.Path.{_≡_};
+ghost use mathlib.Core.Bool.{true, not, _&&_};
+ghost use Prim.Native.Nat.{_+_, _-_, _*_, _<_, _≤_};
+ghost use lib.ListN.{length, take, drop};
+ghost use Rattle.vocabulary.specs.Intervals.{isUpTo, every, some};
+ghost use Rattle.vocabulary.specs.Tests.{allOf};
+ghost use Rattle.layout.specs.Words.{wordAt};
+ghost use Rattle.round_rule.specs.Rules.{weightCount, bad11};
+ghost use Rattle.round_rule.specs.Kinds.{kindNumber};
+ghost use Rattle.part_state.specs.State.{exportCount, globalAt, globalFine, entryFine, exportFine, listsTests, reachWord};
+ghost use Rattle.part_state.specs.Checks.{Fitting, Tested, riseAt, ownEntry, rowFine, headTests, endTests, entryTests};
+
+// Whether x is a number from 1 to n.
+pub fn up_to(n: usize, x: usize) -> bool
+    ensures { λ r. ⌜ r ≡ isUpTo n x ⌝ }
+{
+    if x < 1 {
+        return false;
+    }
+    x <= n
+}
+
+// The word of index i, which is there.
+fn word_there(lists: &[u8], i: usize) -> usize
+    requires { ⌜ 2 * i + 1 < length (now lists) ⌝ }
+    ensures { λ r. ⌜ (r ≡ wordAt (now (lists .entry)) i) × (r < 65536) ⌝ }
+{
+    word_in(lists, 2 * i)
+}
+
+// How many entries belong to a number, by the ends at words k and k + 1.
+pub fn count_between(lists: &[u8], k: usize) -> usize
+    requires { ⌜ k < 1000000 ⌝ }
+    ensures { λ r. ⌜ (r ≡ wordAt (now (lists .entry)) (k + 1) - wordAt (now (lists .entry)) k) × (r < 65536) ⌝ }
+{
+    let from = word_at(lists, k);
+    let to = word_at(lists, k + 1);
+    if to < from { 0 } else { to - from }
+}
+
+// The cell of a local number, through the list of the held cells.
+pub fn global_of(lists: &[u8], l: Local) -> Global
+    ensures { λ c. ⌜ c .0 ≡ globalAt (now (lists .entry)) (l .0) ⌝ }
+{
+    Global(word_at(lists, GLOBALS + l.0 as usize) as u16)
+}
+
+// Whether the n + 1 ends from word a on never fall.
+fn ends_rise(lists: &[u8], a: usize, n: usize) -> bool
+    requires { ⌜ 2 * (a + n) + 1 < length (now lists) ⌝ }
+    ensures { λ r. ⌜ r ≡ every 0 n (riseAt (now (lists .entry)) a) ⌝ }
+{
+    let mut end = word_there(lists, a);
+    for j in 0..n {
+        let next = word_there(lists, a + (j + 1));
+        if next < end {
+            return false;
+        }
+        end = next;
+    }
+    true
+}
+
+// Whether the held cells are the mesh's.
+fn globals_fine(lists: &[u8], held: usize) -> bool
+    requires { ⌜ (2 * (reachWord held) ≤ length (now lists)) × (held < 65536) ⌝ }
+    ensures { λ r. ⌜ r ≡ every 1 held (globalFine (now (lists .entry))) ⌝ }
+{
+    let first = word_there(lists, FIRST);
+    let cells = word_there(lists, CELLS);
+    for l in 1..1 + held {
+        if !is_cell(global_of(lists, Local(l as u16)), first, cells) {
+            return false;
+        }
+    }
+    true
+}
+
+// Entry t of the reaches, whose entries begin at word `at`: a held cell, at an even layer of at most n.
+fn entry_fine(lists: &[u8], at: usize, held: usize, n: usize, t: usize) -> bool
+    requires { ⌜ Tested (now lists) at held n × (2 * (at + 2 * t) + 3 < length (now lists)) ⌝ }
+    ensures { λ r. ⌜ r ≡ entryFine (now (lists .entry)) t ⌝ }
+{
+    let layer = word_there(lists, at + 2 * t + 1);
+    if !up_to(held, word_there(lists, at + 2 * t)) {
+        return false;
+    }
+    if layer % 2 != 0 {
+        return false;
+    }
+    layer <= n
+}
+
+// Whether entry t is that of cell l itself.
+fn own_entry(lists: &[u8], at: usize, held: usize, n: usize, l: usize, t: usize) -> bool
+    requires { ⌜ Tested (now lists) at held n × (2 * (at + 2 * t) + 3 < length (now lists)) ⌝ }
+    ensures { λ r. ⌜ r ≡ ownEntry (now (lists .entry)) l t ⌝ }
+{
+    if word_there(lists, at + 2 * t) != l {
+        return false;
+    }
+    word_there(lists, at + 2 * t + 1) == 0
+}
+
+// Whether the entries from `from` up to `to` are fine.
+fn rest_fine(lists: &[u8], at: usize, held: usize, n: usize, from: usize, to: usize) -> bool
+    requires { ⌜ Tested (now lists) at held n × (from ≤ to) × (2 * (at + 2 * to) ≤ length (now lists)) ⌝ }
+    ensures { λ r. ⌜ r ≡ every from (to - from) (entryFine (now (lists .entry))) ⌝ }
+{
+    for t in from..to {
+        if !entry_fine(lists, at, held, n, t) {
+            return false;
+        }
+    }
+    true
+}
+
+// The same, and whether the entry of cell l itself is among them. Where it is found, only the entries after it are left to test.
+fn row_fine(
+    lists: &[u8],
+    at: usize,
+    held: usize,
+    n: usize,
+    l: usize,
+    from: usize,
+    to: usize,
+) -> bool
+    requires { ⌜ Tested (now lists) at held n × (from ≤ to) × (2 * (at + 2 * to) ≤ length (now lists)) ⌝ }
+    ensures { λ r. ⌜ r ≡ every from (to - from) (entryFine (now (lists .entry))) && some from (to - from) (ownEntry (now (lists .entry)) l) ⌝ }
+{
+    for t in from..to {
+        if !entry_fine(lists, at, held, n, t) {
+            return false;
+        }
+        if own_entry(lists, at, held, n, l, t) {
+            return rest_fine(lists, at, held, n, t + 1, to);
+        }
+    }
+    false
+}
+
+// The reaches of the owned cells, row by row. Their ends rise from 0 to the count of all, so the rows have all the entries.
+fn rows_fine(lists: &[u8], sizes: Sizes) -> bool
+    requires { ⌜ Fitting (now lists) sizes × (allOf (endTests (now lists)) ≡ true) ⌝ }
+    ensures { λ r. ⌜ r ≡ every 1 (sizes .owned) (rowFine (now (lists .entry))) ⌝ }
+{
+    let n = word_there(lists, STEPS);
+    let ends = sizes.reach_word();
+    let at = sizes.entry_word();
+    let mut from = 0;
+    for l in 1..1 + sizes.owned {
+        let to = word_there(lists, ends + l);
+        if !row_fine(lists, at, sizes.held, n, l, from, to) {
+            return false;
+        }
+        from = to;
+    }
+    true
+}
+
+// Whether the exported cells are owned.
+fn exports_fine(lists: &[u8], sizes: Sizes) -> bool
+    requires { ⌜ Fitting (now lists) sizes ⌝ }
+    ensures { λ r. ⌜ r ≡ every 0 (exportCount (now (lists .entry))) (exportFine (now (lists .entry))) ⌝ }
+{
+    let at = sizes.exports_word();
+    for t in 0..sizes.sent {
+        if !up_to(sizes.owned, word_there(lists, at + t)) {
+            return false;
+        }
+    }
+    true
+}
+
+// How many weights a rule of this kind has under a stencil of n steps.
+pub fn weight_count(kind: Kind, n: usize) -> usize
+    requires { ⌜ n ≤ 8 ⌝ }
+    ensures { λ r. ⌜ (r ≡ weightCount (kindNumber kind) n) × (r ≤ 5) ⌝ }
+{
+    match kind {
+        Kind::Hold => 0,
+        Kind::Mean => n / 2 + 1,
+        Kind::Shoalest => 0,
+    }
+}
+
+// Whether the rule in the lists is one.
+fn rule_fine(lists: &[u8], kind: usize, n: usize) -> bool
+    requires { ⌜ (18 ≤ length (now lists)) × (n ≤ 8) × (kind < 65536) ⌝ }
+    ensures { λ r. ⌜ r ≡ not (bad11 kind n (take (2 * weightCount kind n) (drop 8 (now (lists .entry))))) ⌝ }
+{
+    match rule_of(kind as u32) {
+        Rule::Known(k) => {
+            let end = WEIGHTS + 2 * weight_count(k, n);
+            !wrong_weights(k, n, &lists[WEIGHTS..end])
+        }
+        Rule::Unknown => false,
+    }
+}
+
+// The part's number, the stencil's steps, the rule and the count of held cells.
+fn head_fine(lists: &[u8]) -> bool
+    requires { ⌜ 18 ≤ length (now lists) ⌝ }
+    ensures { λ r. ⌜ r ≡ allOf (headTests (now (lists .entry))) ⌝ }
+{
+    if !up_to(16, word_at(lists, PART)) {
+        return false;
+    }
+    let n = word_at(lists, STEPS);
+    if n % 2 != 0 {
+        return false;
+    }
+    if 8 < n {
+        return false;
+    }
+    if !rule_fine(lists, word_at(lists, KIND), n) {
+        return false;
+    }
+    word_at(lists, HELD) <= 2000
+}
+
+// The three tables of ends.
+fn ends_fine(lists: &[u8], sizes: Sizes) -> bool
+    requires { ⌜ Fitting (now lists) sizes ⌝ }
+    ensures { λ r. ⌜ r ≡ allOf (endTests (now (lists .entry))) ⌝ }
+{
+    if !ends_rise(lists, OWNED, 16) {
+        return false;
+    }
+    if word_there(lists, EXPORT_ENDS) != 0 {
+        return false;
+    }
+    if !ends_rise(lists, EXPORT_ENDS, 16) {
+        return false;
+    }
+    let ends = sizes.reach_word();
+    if word_there(lists, ends) != 0 {
+        return false;
+    }
+    ends_rise(lists, ends, sizes.owned)
+}
+
+// The held cells, the reaches and the exports.
+fn entries_fine(lists: &[u8], sizes: Sizes) -> bool
+    requires { ⌜ Fitting (now lists) sizes × (allOf (endTests (now lists)) ≡ true) ⌝ }
+    ensures { λ r. ⌜ r ≡ allOf (entryTests (now (lists .entry))) ⌝ }
+{
+    if !globals_fine(lists, sizes.held) {
+        return false;
+    }
+    if !rows_fine(lists, sizes) {
+        return false;
+    }
+    exports_fine(lists, sizes)
+}
+
+// Whether the lists pass all their tests.
+pub fn lists_fine(lists: &[u8], sizes: Sizes) -> bool
+    requires { ⌜ Fitting (now lists) sizes ⌝ }
+    ensures { λ r. ⌜ r ≡ allOf (listsTests (now (lists .entry))) ⌝ }
+{
+    if !head_fine(lists) {
+        return false;
+    }
+    if !ends_fine(lists, sizes) {
+        return false;
+    }
+    entries_fine(lists, sizes)
+}

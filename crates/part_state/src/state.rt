@@ -1,0 +1,83 @@
+// Whether bytes begin with a part's state (20).
+use crate::lists::lists_fine;
+use crate::places::DEPTHS;
+use crate::places::TAKEN;
+use crate::places::WRITTEN;
+use crate::places::sizes_of;
+use depths::inner::depths_in_range;
+use layout::byte_at;
+use layout::inner::word_in;
+use layout::word_at;
+ghost use mathlib.Core.Path.{_≡_};
+ghost use Prim.Native.Nat.{_+_, _*_, _<_};
+ghost use lib.ListN.{length};
+ghost use Rattle.vocabulary.specs.Intervals.{every};
+ghost use Rattle.vocabulary.specs.Tests.{allOf};
+ghost use Rattle.part_state.specs.State.{flagsFine, dynamicTests, isState};
+ghost use Rattle.part_state.specs.StateLaws.{isStateAt};
+
+// The flags of part j.
+fn flag_fine(b: &[u8], changes: usize, j: usize) -> bool
+    requires { ⌜ (changes < 1000000) × (j < 65536) ⌝ }
+    ensures { λ r. ⌜ r ≡ flagsFine (now (b .entry)) changes j ⌝ }
+{
+    if 1 < byte_at(b, changes + TAKEN + j) {
+        return false;
+    }
+    byte_at(b, changes + WRITTEN + j) <= 1
+}
+
+fn flags_fine(b: &[u8], changes: usize) -> bool
+    requires { ⌜ changes < 1000000 ⌝ }
+    ensures { λ r. ⌜ r ≡ every 1 16 (flagsFine (now (b .entry)) changes) ⌝ }
+{
+    for j in 1..17 {
+        if !flag_fine(b, changes, j) {
+            return false;
+        }
+    }
+    true
+}
+
+// What calls change, from `changes` on, where n cells are held.
+fn changes_fine(b: &[u8], changes: usize, n: usize) -> bool
+    requires { ⌜ (changes < 1000000) × (n < 65536) ⌝ }
+    ensures { λ r. ⌜ r ≡ allOf (dynamicTests (now (b .entry)) changes n) ⌝ }
+{
+    if b.len() < changes + DEPTHS + 4 * n {
+        return false;
+    }
+    if 60000 < word_in(b, changes) {
+        return false;
+    }
+    if !flags_fine(b, changes) {
+        return false;
+    }
+    depths_in_range(b, changes + DEPTHS, n)
+}
+
+// The state b, whose lists end at `changes`.
+fn state_fine(lists: &[u8], b: &[u8], changes: usize) -> bool
+    requires { ⌜ (changes ≡ length (now lists)) × (changes < 1000000) ⌝ }
+    ensures { λ r. ⌜ r ≡ isStateAt (now (lists .entry)) changes (now (b .entry)) ⌝ }
+{
+    let sizes = sizes_of(lists);
+    if changes != 2 * sizes.words() {
+        return false;
+    }
+    if !lists_fine(lists, sizes) {
+        return false;
+    }
+    changes_fine(b, changes, sizes.held)
+}
+
+// Whether the bytes begin with a part's state.
+pub fn is_state(b: &[u8]) -> bool
+    ensures { λ r. ⌜ r ≡ isState (now (b .entry)) ⌝ }
+{
+    let changes = 2 * word_at(b, 0);
+    if b.len() < changes {
+        return false;
+    }
+    state_fine(&b[0..changes], b, changes)
+}

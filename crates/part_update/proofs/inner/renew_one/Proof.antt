@@ -1,0 +1,26 @@
+-- `part_update::inner::renew_one` meets its contract. Assumes nothing.
+use Rattle.part_update.proofs.RenewLaws.{renew-ready, renew-told}
+use borrow.Author.Needs.{needs}
+use Rattle.part_update.proofs.inner.renew_one.Statement.{statement}
+use Rattle.part_update.proofs.inner.renew_one.Tie as tie
+
+pub renew-one-spec : {M : Type 1} → statement M
+renew-one-spec =
+    tie.close
+    (tie.spec
+    (λ c κs. search needs)
+    (λ c. search needs)
+    (λ c. search needs)
+    (λ c κs. search needs)
+    (λ c. search needs)
+    (λ c κs. search needs)
+    (λ c. search needs)
+    (λ c. search needs)
+    (λ c κs. search needs)
+    (λ c. search needs)
+    (λ c κs.
+    let entry = c .before .before in
+    let pre = entry .before .before .before .before .before .pre in
+    renew-ready _ _ _ (pre .0) _ (pre .3) _ _ _ _ _ (entry .before .reach-word .ensures) (entry .entry-word .ensures) (pre .4) (pre .5) (c .before .word-at .ensures .0) (c .count-between .ensures .0) _ _
+    (pre .1) (pre .2))
+    (λ c. search renew-told))

@@ -1,0 +1,84 @@
+-- What the registers of 32 and 64 bits hold of the numbers in a sum, a quotient and a comparison of depths. Assumes nothing.
+use mathlib.Core.Path.{_≡_, refl, sym, ap, _∙_}
+use mathlib.Core.Bool.{true, false, cond}
+use Prim.Native.Nat.{ℕ, _*_, _≤_, _<_, _^_}
+use native.Mathlib.Nat.{mul-le-mul, div-le-of-le-mul}
+use native.Mathlib.Omega.{arith}
+use lib.IntN.{ℤ, pos, negsuc, natAbs, _+ℤ_, _*ℤ_}
+use lib.Signed.{mag, ltZ, quotZ}
+use mir.Syntax.{w32, w64}
+use mir.Val.{SFits, toZ, ofZ}
+use mir.ValLaws.{toZ-pos, toZ-ofZ}
+use Rattle.depths.specs.Depths.{deepest}
+use Rattle.round_rule.specs.Rules.{quotient, lesser}
+use Rattle.round_rule.specs.RuleLaws.{size-add, size-times, size-quotient}
+
+-- ---- small numbers fit
+
+pub fits-long : (z : ℤ) → natAbs z < 2 ^ 63 → SFits w64 z
+fits-long (pos n) h = record { sfits = h }
+fits-long (negsuc n) h = record { sfits = omega arith }
+
+pub fits-short : (z : ℤ) → natAbs z < 2147483648 → SFits w32 z
+fits-short (pos n) h = record { sfits = h }
+fits-short (negsuc n) h = record { sfits = omega arith }
+
+-- ---- sum + w * d
+
+pub wide-fits : (d : ℤ) → SFits w32 d → SFits w64 (toZ w32 (ofZ w32 d))
+wide-fits d f = rw (toZ-ofZ w32 d f) (record { sfits = omega (arith, f .sfits) })
+
+module _ (sum : ℤ) (w : ℕ) (d : ℤ) (fs : SFits w64 sum) (fd : SFits w32 d) (pre : (natAbs sum ≤ 1179630000000) × (w ≤ 15) × (natAbs d ≤ deepest)) where
+  size-term : natAbs (pos w *ℤ d) ≤ 18000000
+  size-term = omega (arith, size-times w d, mul-le-mul {n₁ = w} {m₁ = natAbs d} {n₂ = 15} {m₂ = deepest} (pre .1) (pre .2))
+
+  term-is : toZ w64 w *ℤ toZ w64 (ofZ w64 (toZ w32 (ofZ w32 d))) ≡ pos w *ℤ d
+  term-is = rw (toZ-ofZ w64 _ (wide-fits d fd), toZ-ofZ w32 d fd, toZ-pos w64 w (omega arith)) refl
+
+  pub term-fits : SFits w64 (toZ w64 w *ℤ toZ w64 (ofZ w64 (toZ w32 (ofZ w32 d))))
+  term-fits = rw term-is (fits-long (pos w *ℤ d) (omega (arith, size-term)))
+
+  sum-is : toZ w64 (ofZ w64 sum) +ℤ toZ w64 (ofZ w64 (toZ w64 w *ℤ toZ w64 (ofZ w64 (toZ w32 (ofZ w32 d))))) ≡ sum +ℤ pos w *ℤ d
+  sum-is = rw (toZ-ofZ w64 sum fs, toZ-ofZ w64 _ term-fits, term-is) refl
+
+  pub sum-fits : SFits w64 (toZ w64 (ofZ w64 sum) +ℤ toZ w64 (ofZ w64 (toZ w64 w *ℤ toZ w64 (ofZ w64 (toZ w32 (ofZ w32 d))))))
+  sum-fits = rw sum-is (fits-long (sum +ℤ pos w *ℤ d) (omega (arith, size-term, size-add sum (pos w *ℤ d), pre .0)))
+
+  pub sum-gives : toZ w64 (ofZ w64 (toZ w64 (ofZ w64 sum) +ℤ toZ w64 (ofZ w64 (toZ w64 w *ℤ toZ w64 (ofZ w64 (toZ w32 (ofZ w32 d))))))) ≡ sum +ℤ pos w *ℤ d
+  sum-gives = toZ-ofZ w64 _ sum-fits ∙ sum-is
+
+-- ---- sum / w, which is no larger than a depth
+
+module _ (sum : ℤ) (w : ℕ) (fs : SFits w64 sum) (pre : (1 ≤ w) × (w ≤ 983025) × (natAbs sum ≤ w * deepest)) where
+  quotient-is : quotZ (toZ w64 (ofZ w64 sum)) (toZ w64 w) ≡ quotient sum w
+  unfolding quotient
+  quotient-is = rw (toZ-ofZ w64 sum fs, toZ-pos w64 w (omega arith)) refl
+
+  quotient-small : natAbs (quotient sum w) ≤ deepest
+  quotient-small = rw (size-quotient sum w) (div-le-of-le-mul w (pre .2))
+
+  pub quotient-fits : SFits w64 (quotZ (toZ w64 (ofZ w64 sum)) (toZ w64 w))
+  quotient-fits = rw quotient-is (fits-long (quotient sum w) (omega (arith, quotient-small)))
+
+  pub quotient-narrow : SFits w32 (toZ w64 (ofZ w64 (quotZ (toZ w64 (ofZ w64 sum)) (toZ w64 w))))
+  quotient-narrow = rw (toZ-ofZ w64 _ quotient-fits, quotient-is) (fits-short (quotient sum w) (omega (arith, quotient-small)))
+
+  pub quotient-gives : toZ w32 (ofZ w32 (toZ w64 (ofZ w64 (quotZ (toZ w64 (ofZ w64 sum)) (toZ w64 w))))) ≡ quotient sum w
+  quotient-gives = toZ-ofZ w32 _ quotient-narrow ∙ toZ-ofZ w64 _ quotient-fits ∙ quotient-is
+
+-- ---- the lesser of two
+
+module _ (y z : ℤ) (fy : SFits w32 y) (fz : SFits w32 z) where
+  test-is : ltZ (toZ w32 (ofZ w32 y)) (toZ w32 (ofZ w32 z)) ≡ ltZ y z
+  test-is = rw (toZ-ofZ w32 y fy, toZ-ofZ w32 z fz) refl
+
+  pub lesser-first : ltZ (toZ w32 (ofZ w32 y)) (toZ w32 (ofZ w32 z)) ≡ true → toZ w32 (ofZ w32 y) ≡ lesser y z
+  lesser-first t = toZ-ofZ w32 y fy ∙ ap (λ b. cond b y z) (sym (sym test-is ∙ t))
+
+  pub lesser-second : ltZ (toZ w32 (ofZ w32 y)) (toZ w32 (ofZ w32 z)) ≡ false → toZ w32 (ofZ w32 z) ≡ lesser y z
+  lesser-second t = toZ-ofZ w32 z fz ∙ ap (λ b. cond b y z) (sym (sym test-is ∙ t))
+
+-- ---- a depth that a call gave, in its register
+
+pub depth-held : (z e : ℤ) → mag z < 2147483648 → z ≡ e → toZ w32 (ofZ w32 z) ≡ e
+depth-held z e h p = toZ-ofZ w32 z (record { sfits = h }) ∙ p

@@ -1,0 +1,19 @@
+-- `round_rule::inner::new_depth` meets its contract. Assumes nothing.
+use Rattle.round_rule.proofs.Chosen.{mean-weighed, holds, means, shoals, held-ranged, mean-ranged, least-ranged}
+use borrow.Author.Needs.{needs}
+use Rattle.round_rule.proofs.inner.new_depth.Statement.{statement}
+use Rattle.round_rule.proofs.inner.new_depth.Tie as tie
+
+pub new-depth-spec : {M : Type 1} → statement M
+new-depth-spec =
+    tie.close
+    (tie.spec
+    (λ c. search needs)
+    (λ c κs. search needs)
+    (λ c. search needs)
+    (λ c κs. (search needs, search mean-weighed))
+    (λ c. search needs)
+    (λ c κs. search needs)
+    (λ c. (search (holds, c .before .before .before .shared-slice-known3 .given), search held-ranged))
+    (λ c. (search means, search mean-ranged))
+    (λ c. (search shoals, search least-ranged)))

@@ -1,0 +1,78 @@
+-- Rules and the new depth of one cell, and the refusal 11. Assumes nothing.
+--
+-- "The rule kind is 0 hold, 1 mean, 2 shoalest."
+use mathlib.Core.Bool.{Bool, _&&_, _||_, not, cond}
+use mathlib.Core.List.{List, [], _∷_}
+use Prim.Native.Nat.{ℕ, zero, suc, _+_, _*_, _/_}
+use lib.Dec.{eqb, ltb}
+use lib.IntN.{ℤ, pos, _+ℤ_, _*ℤ_}
+use lib.ListN.{length}
+use lib.Signed.{ltZ, quotZ}
+use Rattle.vocabulary.specs.Intervals.{some}
+use Rattle.vocabulary.specs.Bytes.{Bytes}
+use Rattle.layout.specs.Words.{wordAt}
+use Rattle.depths.specs.Depths.{depthOf, depthBytes}
+
+-- a rule as a call is given it: its kind, and its weights as words
+pub record RuleInput : Type 0 where
+  pub kind : ℕ
+  pub weights : Bytes
+
+-- how many weights a rule of this kind has under a stencil of n steps: "Mean has weights v0, .., v(n/2)"; "Weights are empty for kinds 0
+-- and 2."
+unfoldable pub weightCount : ℕ → ℕ → ℕ
+weightCount kind n = cond (eqb kind 1) (n / 2 + 1) 0
+
+-- "Unknown rule, or weights wrong in number or range": "each 0 to 15, v0 at least 1". Weights are given as words.
+unfoldable pub tooHeavy : Bytes → ℕ → Bool
+tooHeavy v k = ltb 15 (wordAt v k)
+
+unfoldable pub bad11 : ℕ → ℕ → Bytes → Bool
+bad11 kind n v =
+    ltb 2 kind
+    || not (eqb (length v) (2 * weightCount kind n))
+    || some 0 (weightCount kind n) (tooHeavy v)
+    || (eqb kind 1 && eqb (wordAt v 0) 0)
+
+-- an old depth of a reach, as its four bytes, and the layer it is met at
+pub record Old : Type 0 where
+  pub layer : ℕ
+  pub depth : Bytes
+
+-- the weight of what is met at a layer
+unfoldable pub weight : Bytes → Old → ℕ
+weight v o = wordAt v (o .layer / 2)
+
+-- "the sum of v(layer/2) × old depth over the reach", and "the sum of those weights"
+unfoldable pub depthSum : Bytes → List Old → ℤ
+depthSum v [] = pos 0
+depthSum v (o ∷ os) = pos (weight v o) *ℤ depthOf (o .depth) +ℤ depthSum v os
+
+unfoldable pub weightSum : Bytes → List Old → ℕ
+weightSum v [] = 0
+weightSum v (o ∷ os) = weight v o + weightSum v os
+
+-- "divided by the sum of those weights, fraction dropped toward zero"
+unfoldable pub quotient : ℤ → ℕ → ℤ
+quotient sum weights = quotZ sum (pos weights)
+
+-- "The new depth is the sum of v(layer/2) × old depth over the reach, divided by the sum of those weights, fraction dropped toward zero."
+abbrev pub mean : Bytes → List Old → ℤ
+mean v os = quotient (depthSum v os) (weightSum v os)
+
+-- the lesser of two depths
+abbrev pub lesser : ℤ → ℤ → ℤ
+lesser y z = cond (ltZ y z) y z
+
+-- the least of z and the old depths: "Shoalest is the least old depth in the reach", where z is the cell's own
+unfoldable pub least : ℤ → List Old → ℤ
+least z [] = z
+least z (o ∷ os) = least (lesser (depthOf (o .depth)) z) os
+
+-- the new depth of a cell, from its own old depth and those of its reach in rising order of the cells, itself among them: 0 hold, 1 mean,
+-- 2 shoalest. 11 refuses every other kind before a depth is made, so what stands for it here is arbitrary.
+unfoldable pub newDepth : ℕ → Bytes → Bytes → List Old → Bytes
+newDepth zero v own os = own
+newDepth (suc zero) v own os = depthBytes (mean v os)
+newDepth (suc (suc zero)) v own os = depthBytes (least (depthOf own) os)
+newDepth (suc (suc (suc kind))) v own os = own

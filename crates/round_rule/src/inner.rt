@@ -1,0 +1,111 @@
+// The new depth of one cell, from a table of its reach and the bytes of a field, where the caller knows both to be there.
+use crate::Kind;
+use depths::inner::depth_in;
+use layout::inner::word_in;
+use layout::word_at;
+ghost use mathlib.Core.Path.{_≡_};
+ghost use Prim.Native.Nat.{_+_, _*_, _/_, _<_, _≤_};
+ghost use lib.IntN.{pos, natAbs, _+ℤ_, _*ℤ_};
+ghost use lib.ListN.{length};
+ghost use Rattle.layout.specs.Words.{word, wordAt};
+ghost use Rattle.depths.specs.Depths.{deepest, four, depthFrom, depthBytes};
+ghost use Rattle.round_rule.specs.Rules.{quotient, mean, lesser, least, newDepth};
+ghost use Rattle.round_rule.specs.Kinds.{kindNumber};
+ghost use Rattle.round_rule.specs.Update.{tableEntries, oldsAt, TableThere, Weighed, UpdateReady};
+
+// The weight of entry t.
+fn weight_of(weights: &[u8], b: &[u8], at: usize, t: usize) -> usize
+    requires { ⌜ at + 4 * t + 3 < length (now b) ⌝ }
+    ensures { λ r. ⌜ (r ≡ wordAt (now (weights .entry)) (word (now (b .entry)) (at + 4 * t + 2) / 2)) × (r < 65536) ⌝ }
+{
+    word_at(weights, word_in(b, at + 4 * t + 2) / 2)
+}
+
+// The old depth at a place of the field.
+fn depth_of(f: &[u8], base: usize, cell: usize) -> i32
+    requires { ⌜ base + 4 * cell + 3 < length (now f) ⌝ }
+    ensures { λ r. ⌜ r ≡ depthFrom (now (f .entry)) (base + 4 * cell) ⌝ }
+{
+    depth_in(f, base + 4 * cell)
+}
+
+// The old depth of entry t.
+fn old_of(b: &[u8], at: usize, t: usize, f: &[u8], base: usize) -> i32
+    requires { ⌜ (at + 4 * t + 3 < length (now b)) × (base + 4 * word (now b) (at + 4 * t) + 3 < length (now f)) ⌝ }
+    ensures { λ r. ⌜ r ≡ depthFrom (now (f .entry)) (base + 4 * word (now (b .entry)) (at + 4 * t)) ⌝ }
+{
+    depth_of(f, base, word_in(b, at + 4 * t))
+}
+
+// One more weighed depth.
+fn add_weighed(sum: i64, w: usize, d: i32) -> i64
+    requires { ⌜ (natAbs sum ≤ 1179630000000) × (w ≤ 15) × (natAbs d ≤ deepest) ⌝ }
+    ensures { λ r. ⌜ r ≡ sum +ℤ pos w *ℤ d ⌝ }
+{
+    sum + (w as i64) * (d as i64)
+}
+
+// The mean, "fraction dropped toward zero".
+fn quotient(sum: i64, w: usize) -> i32
+    requires { ⌜ (1 ≤ w) × (w ≤ 983025) × (natAbs sum ≤ w * deepest) ⌝ }
+    ensures { λ r. ⌜ r ≡ quotient sum w ⌝ }
+{
+    (sum / (w as i64)) as i32
+}
+
+// The mean over the n entries at `at` in b.
+fn mean_of(weights: &[u8], b: &[u8], at: usize, n: usize, f: &[u8], base: usize) -> i32
+    requires { ⌜ TableThere (now b) at n (now f) base × Weighed (now weights) (now b) at n (now f) base ⌝ }
+    ensures { λ r. ⌜ r ≡ mean (now (weights .entry)) (oldsAt (now (f .entry)) base (tableEntries (now (b .entry)) at n)) ⌝ }
+{
+    let mut sum: i64 = 0;
+    let mut weight_sum: usize = 0;
+    for t in 0..n {
+        let w = weight_of(weights, b, at, t);
+        let d = old_of(b, at, t, f, base);
+        sum = add_weighed(sum, w, d);
+        weight_sum += w;
+    }
+    quotient(sum, weight_sum)
+}
+
+// The lesser of two depths.
+fn lesser(y: i32, z: i32) -> i32
+    ensures { λ r. ⌜ r ≡ lesser y z ⌝ }
+{
+    if y < z { y } else { z }
+}
+
+// The least of the cell's own depth and those of the n entries.
+fn least_of(b: &[u8], at: usize, n: usize, f: &[u8], base: usize, own: usize) -> i32
+    requires { ⌜ TableThere (now b) at n (now f) base × (base + 4 * own + 3 < length (now f)) ⌝ }
+    ensures { λ r. ⌜ r ≡ least (depthFrom (now (f .entry)) (base + 4 * own)) (oldsAt (now (f .entry)) base (tableEntries (now (b .entry)) at n)) ⌝ }
+{
+    let mut z = depth_of(f, base, own);
+    for t in 0..n {
+        z = lesser(old_of(b, at, t, f, base), z);
+    }
+    z
+}
+
+// The new depth of the cell at the place `own` of the field that stands at `base` in f. Its reach are the n entries at `at` in b.
+pub fn new_depth(
+    kind: Kind,
+    weights: &[u8],
+    b: &[u8],
+    at: usize,
+    n: usize,
+    f: &[u8],
+    base: usize,
+    own: usize,
+) -> i32
+    requires { ⌜ UpdateReady (kindNumber kind) (now weights) (now b) at n (now f) base own ⌝ }
+    ensures { λ r. ⌜ (depthBytes r ≡ newDepth (kindNumber kind) (now (weights .entry)) (four (now (f .entry)) (base + 4 * own))
+        (oldsAt (now (f .entry)) base (tableEntries (now (b .entry)) at n))) × (natAbs r ≤ deepest) ⌝ }
+{
+    match kind {
+        Kind::Hold => depth_of(f, base, own),
+        Kind::Mean => mean_of(weights, b, at, n, f, base),
+        Kind::Shoalest => least_of(b, at, n, f, base, own),
+    }
+}

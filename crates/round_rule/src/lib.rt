@@ -1,0 +1,84 @@
+// Rules, and the new depth of one cell. Here stands the test that takes any bytes; what supposes something is in `inner`.
+pub mod inner;
+
+use layout::word_at;
+ghost use mathlib.Core.Path.{_≡_};
+ghost use Rattle.vocabulary.specs.Intervals.{some};
+ghost use Rattle.round_rule.specs.Rules.{tooHeavy, bad11};
+ghost use Rattle.round_rule.specs.Kinds.{kindNumber, ruleOf};
+
+// "The rule kind is 0 hold, 1 mean, 2 shoalest": each chooses another update of a depth.
+pub enum Kind {
+    Hold,
+    Mean,
+    Shoalest,
+}
+
+// What the number of a rule stands for.
+pub enum Rule {
+    Known(Kind),
+    Unknown,
+}
+
+// The kind by its number. Here alone the number is looked at, and every other is refused.
+pub fn rule_of(number: u32) -> Rule
+    ensures { λ r. ⌜ r ≡ ruleOf number ⌝ }
+{
+    match number {
+        0 => Rule::Known(Kind::Hold),
+        1 => Rule::Known(Kind::Mean),
+        2 => Rule::Known(Kind::Shoalest),
+        3..=4294967295 => Rule::Unknown,
+    }
+}
+
+// Whether one of the first `count` weights is above 15.
+fn too_heavy(weights: &[u8], count: usize) -> bool
+    ensures { λ r. ⌜ r ≡ some 0 count (tooHeavy (now (weights .entry))) ⌝ }
+{
+    for k in 0..count {
+        if 15 < word_at(weights, k) {
+            return true;
+        }
+    }
+    false
+}
+
+// Whether the weights of a mean are wrong under a stencil of n steps.
+fn bad_weights(n: usize, weights: &[u8]) -> bool
+    ensures { λ r. ⌜ r ≡ bad11 1 n (now (weights .entry)) ⌝ }
+{
+    let count = n / 2 + 1;
+    // the length by its halves, so that no count is too large to double
+    if weights.len() % 2 != 0 {
+        return true;
+    }
+    if weights.len() / 2 != count {
+        return true;
+    }
+    if too_heavy(weights, count) {
+        return true;
+    }
+    word_at(weights, 0) == 0
+}
+
+// Whether the weights of a rule of this kind are wrong under a stencil of n steps.
+pub fn wrong_weights(kind: Kind, n: usize, weights: &[u8]) -> bool
+    ensures { λ r. ⌜ r ≡ bad11 (kindNumber kind) n (now (weights .entry)) ⌝ }
+{
+    match kind {
+        Kind::Hold => weights.len() != 0,
+        Kind::Mean => bad_weights(n, weights),
+        Kind::Shoalest => weights.len() != 0,
+    }
+}
+
+// Whether a rule is to be refused, with number 11, under a stencil of n steps.
+pub fn bad_rule(kind: u32, n: usize, weights: &[u8]) -> bool
+    ensures { λ r. ⌜ r ≡ bad11 kind n (now (weights .entry)) ⌝ }
+{
+    match rule_of(kind) {
+        Rule::Known(k) => wrong_weights(k, n, weights),
+        Rule::Unknown => true,
+    }
+}

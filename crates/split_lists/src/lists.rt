@@ -1,0 +1,192 @@
+// The lists of a part, as the calls give them.
+use layout::Answer;
+use mesh::inner::cell_count;
+use mesh::inner::first_cell;
+use split::Wanted;
+use split::inner::HALO;
+use split::inner::INTERIOR;
+use split::inner::MOST_CELLS;
+use split::inner::classify;
+use split::inner::prepare;
+use split::inner::split_number;
+use split_cells::inner::add_class;
+use split_cells::inner::add_order;
+use split_ranges::inner::COPIED;
+use split_ranges::inner::EXPOSED;
+use split_ranges::inner::PRIVATE;
+use split_ranges::inner::SHARED;
+use split_ranges::inner::add_range;
+use split_ranges::inner::classify_lowers;
+use word_lists::inner::give;
+ghost use mathlib.Core.Path.{_≡_};
+ghost use Prim.Native.Nat.{_≤_};
+ghost use Rattle.mesh.specs.Accepted.{Accepted};
+ghost use Rattle.split.specs.Lists.{splitInput, listAnswer, listOut};
+ghost use Rattle.split.specs.Classes.{Appended};
+ghost use Rattle.split_lists.specs.Giving.{otherOf, rowOf, sortOf, dimensionOf, cellWords};
+
+// The other part that the list names, and the part i itself where it names none.
+fn other_of(wanted: Wanted, i: u32) -> u32
+    ensures { λ r. ⌜ r ≡ otherOf wanted i ⌝ }
+{
+    match wanted {
+        Wanted::Interior => i,
+        Wanted::Halo => i,
+        Wanted::Locals => i,
+        Wanted::Imports(j) => j,
+        Wanted::Exports(j) => j,
+        Wanted::Private(_) => i,
+        Wanted::Exposed(_) => i,
+        Wanted::Shared(_) => i,
+        Wanted::Copied(_) => i,
+    }
+}
+
+// The part whose row of classes tells the list: exports to j are what j imports.
+fn row_of(wanted: Wanted, i: u32) -> u32
+    ensures { λ r. ⌜ r ≡ rowOf wanted i ⌝ }
+{
+    match wanted {
+        Wanted::Interior => i,
+        Wanted::Halo => i,
+        Wanted::Locals => i,
+        Wanted::Imports(_) => i,
+        Wanted::Exports(j) => j,
+        Wanted::Private(_) => i,
+        Wanted::Exposed(_) => i,
+        Wanted::Shared(_) => i,
+        Wanted::Copied(_) => i,
+    }
+}
+
+// The class of the lower elements in a range, and 0 for a list of cells.
+fn sort_of(wanted: Wanted) -> u8
+    ensures { λ r. ⌜ r ≡ sortOf wanted ⌝ }
+{
+    match wanted {
+        Wanted::Interior => 0,
+        Wanted::Halo => 0,
+        Wanted::Locals => 0,
+        Wanted::Imports(_) => 0,
+        Wanted::Exports(_) => 0,
+        Wanted::Private(_) => PRIVATE,
+        Wanted::Exposed(_) => EXPOSED,
+        Wanted::Shared(_) => SHARED,
+        Wanted::Copied(_) => COPIED,
+    }
+}
+
+// The dimension of a range, and 0 for a list of cells.
+fn dimension_of(wanted: Wanted) -> u32
+    ensures { λ r. ⌜ r ≡ dimensionOf wanted ⌝ }
+{
+    match wanted {
+        Wanted::Interior => 0,
+        Wanted::Halo => 0,
+        Wanted::Locals => 0,
+        Wanted::Imports(_) => 0,
+        Wanted::Exports(_) => 0,
+        Wanted::Private(k) => k,
+        Wanted::Exposed(k) => k,
+        Wanted::Shared(k) => k,
+        Wanted::Copied(k) => k,
+    }
+}
+
+// The words of a list of cells, and their count, from the row of classes that tells it; none for a range.
+fn cell_words(
+    wanted: Wanted,
+    m: &[u8],
+    parts: usize,
+    class: &[u8],
+    i: usize,
+    list: &mut [u16],
+) -> usize
+    requires { ⌜ Accepted (now m) × (parts ≤ 16) × (i ≤ 16) × (otherOf wanted i ≤ 16) ⌝ }
+    ensures { λ n. ⌜ Appended (now (list .entry)) (now (list .exit)) 0 n (cellWords wanted (now (m .entry)) parts (now (class .entry)) i) ⌝ }
+{
+    let first = first_cell(m);
+    let cells = cell_count(m);
+    match wanted {
+        Wanted::Interior => add_class(class, first, cells, INTERIOR, list, 0),
+        Wanted::Halo => add_class(class, first, cells, HALO, list, 0),
+        Wanted::Locals => add_order(class, first, cells, parts, list),
+        Wanted::Imports(j) => add_class(class, first, cells, j as u8, list, 0),
+        Wanted::Exports(_) => add_class(class, first, cells, i as u8, list, 0),
+        Wanted::Private(_) => 0,
+        Wanted::Exposed(_) => 0,
+        Wanted::Shared(_) => 0,
+        Wanted::Copied(_) => 0,
+    }
+}
+
+// The call. A list that names no other part is tried as if it named its own part twice. The mesh is tested in arrays that hold the links and the
+// ends of the reaches afterwards. Once the row of classes is made those ends are not needed, and the list is made in their array.
+pub fn list(
+    wanted: Wanted,
+    m: &[u8],
+    parts: u32,
+    owners: &[u8],
+    i: u32,
+    stencil: &[u8],
+    out: &mut [u8],
+) -> Answer
+    ensures { λ r.
+        let D = splitInput (now (m .entry)) parts (now (owners .entry)) (now (stencil .entry)) in
+        ⌜ (r ≡ listAnswer D i wanted (now (out .entry))) × (now (out .exit) ≡ listOut D i wanted (now (out .entry))) ⌝ }
+{
+    let mut cell = [0u16; 12001];
+    let mut ends = [0u16; 2001];
+    let number = split_number(
+        m,
+        parts,
+        owners,
+        i,
+        other_of(wanted, i),
+        stencil,
+        &mut cell,
+        &mut ends,
+    );
+    if number != 0 {
+        return Answer::Refused(number);
+    }
+    let mut prev = [0u16; 12001];
+    let mut last = [0u16; 2001];
+    let mut table = [0u8; 32000];
+    let mut holders = [0u8; MOST_CELLS];
+    let mut class = [0u8; MOST_CELLS];
+    let number = prepare(
+        m,
+        parts,
+        owners,
+        stencil,
+        &mut cell,
+        &mut prev,
+        &mut last,
+        &mut table,
+        &mut ends,
+        &mut holders,
+        &mut class,
+    );
+    if number != 0 {
+        return Answer::Refused(number);
+    }
+    classify(
+        owners,
+        &table,
+        &ends,
+        cell_count(m),
+        row_of(wanted, i) as usize,
+        &mut class,
+    );
+    let sort = sort_of(wanted);
+    if sort == 0 {
+        let n = cell_words(wanted, m, parts as usize, &class, i as usize, &mut ends);
+        return give(&ends, n, out);
+    }
+    let k = dimension_of(wanted) as usize;
+    let mut lower = [0u8; MOST_CELLS];
+    classify_lowers(m, &cell, &prev, &last, &class, &holders, k, &mut lower);
+    let n = add_range(m, k, &lower, sort, &mut ends);
+    give(&ends, n, out)
+}
