@@ -2,3 +2,4 @@ pub mod Words
 pub mod Answers
 pub mod WordLaws
 pub mod AnswerLaws
+pub mod Limits

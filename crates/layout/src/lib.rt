@@ -1,6 +1,7 @@
 // The layout of words and answers. Here stand the functions that take any bytes; those that
 // suppose their bytes to be there are in `inner`.
 pub mod inner;
+pub mod limits;
 
 use crate::inner::word_in;
 ghost use mathlib.Core.Path.{_≡_};

@@ -1,12 +1,15 @@
 // The text of an input: it is cut into its pieces, one function a cut, and cut short they are as long as they are.
 use layout::byte_at;
+use layout::limits::ELEMENT_PLACES;
+use layout::limits::MOST_ELEMENTS;
+use layout::limits::RECORD_PLACES;
+use layout::limits::TABLE_BYTES;
 use list_parts::inner::put_parts;
 use list_text::inner::put_line;
 use list_text::inner::put_text;
 use mesh::inner::cell_count;
 use mesh::inner::elements_of;
 use mesh::inner::record_count;
-use split::inner::MOST_CELLS;
 use split::inner::prepare;
 use split::inner::split_number;
 ghost use mathlib.Core.Path.{_≡_};
@@ -22,17 +25,17 @@ ghost use Rattle.list_input.specs.Pieces.{Listed, piecesText, stencilTex
 fn list_pieces(m: &[u8], parts: u32, owners: &[u8], stencil: &[u8], out: &mut [u8]) -> usize
     ensures { λ t. ⌜ Printed (now (out .entry)) (now (out .exit)) 0 t (piecesText (now (m .entry)) parts (now (owners .entry)) (now (stencil .entry))) ⌝ }
 {
-    let mut cell = [0u16; 12001];
-    let mut ends = [0u16; 2001];
+    let mut cell = [0u16; RECORD_PLACES];
+    let mut ends = [0u16; ELEMENT_PLACES];
     let number = split_number(m, parts, owners, 1, 1, stencil, &mut cell, &mut ends);
     if number != 0 {
         return put_line(b"refused", number as usize, out, 0);
     }
-    let mut prev = [0u16; 12001];
-    let mut last = [0u16; 2001];
-    let mut table = [0u8; 32000];
-    let mut holders = [0u8; MOST_CELLS];
-    let mut class = [0u8; MOST_CELLS];
+    let mut prev = [0u16; RECORD_PLACES];
+    let mut last = [0u16; ELEMENT_PLACES];
+    let mut table = [0u8; TABLE_BYTES];
+    let mut holders = [0u8; MOST_ELEMENTS];
+    let mut class = [0u8; MOST_ELEMENTS];
     let number = prepare(
         m,
         parts,

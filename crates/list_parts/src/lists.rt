@@ -1,4 +1,5 @@
 // The lines of a part, from prepared tables. The stencil stands beside the tables for the contracts, which speak of the split that it makes.
+use layout::limits::MOST_ELEMENTS;
 use list_ranges::inner::put_class;
 use list_ranges::inner::put_dimensions;
 use list_text::inner::put_line;
@@ -9,7 +10,6 @@ use mesh::inner::cell_count;
 use mesh::inner::first_cell;
 use split::inner::HALO;
 use split::inner::INTERIOR;
-use split::inner::MOST_CELLS;
 use split::inner::classify;
 use split_cells::inner::add_class;
 ghost use mathlib.Core.Path.{_≡_};
@@ -74,7 +74,7 @@ fn put_passing(
     requires { ⌜ (first + cells ≤ 65536) × (cells ≤ 2000) ⌝ }
     ensures { λ t. ⌜ Printed (now (out .entry)) (now (out .exit)) at t (passing (now (label .entry)) j (classCells (now (class .entry)) first cells k)) ⌝ }
 {
-    let mut list = [0u16; MOST_CELLS];
+    let mut list = [0u16; MOST_ELEMENTS];
     let n = add_class(class, first, cells, k, &mut list, 0);
     if n < 1 {
         return at;
@@ -116,7 +116,7 @@ fn put_export(
     requires { ⌜ (first + cells ≤ 65536) × (cells ≤ 2000) × (i ≤ 16) ⌝ }
     ensures { λ t. ⌜ Printed (now (out .entry)) (now (out .exit)) at t (exportLine (now (owners .entry)) (now (table .entry)) (now (ends .entry)) first cells i j) ⌝ }
 {
-    let mut class = [0u8; MOST_CELLS];
+    let mut class = [0u8; MOST_ELEMENTS];
     classify(owners, table, ends, cells, j, &mut class);
     put_passing(b"export", j, &class, first, cells, i as u8, out, at)
 }
@@ -164,7 +164,7 @@ fn put_part(
 {
     let first = first_cell(m);
     let cells = cell_count(m);
-    let mut class = [0u8; MOST_CELLS];
+    let mut class = [0u8; MOST_ELEMENTS];
     classify(owners, table, ends, cells, i, &mut class);
     let t = put_own(&class, first, cells, i, out, at);
     let t = put_imports(&class, first, cells, parts, out, t);

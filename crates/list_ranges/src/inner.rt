@@ -1,11 +1,11 @@
 // The lines of a part's ranges, and the lines of lists by a row of classes.
+use layout::limits::MOST_ELEMENTS;
 use list_text::inner::put_numbers;
 use list_text::inner::put_spaced;
 use list_text::inner::put_text;
 use mesh::inner::below_of;
 use mesh::inner::count_of;
 use mesh::inner::top_of;
-use split::inner::MOST_CELLS;
 use split_cells::inner::add_class;
 use split_ranges::inner::COPIED;
 use split_ranges::inner::EXPOSED;
@@ -34,7 +34,7 @@ pub fn put_class(
     requires { ⌜ (first + count ≤ 65536) × (count ≤ 2000) ⌝ }
     ensures { λ t. ⌜ Printed (now (out .entry)) (now (out .exit)) at t (numbers (classCells (now (class .entry)) first count k)) ⌝ }
 {
-    let mut list = [0u16; MOST_CELLS];
+    let mut list = [0u16; MOST_ELEMENTS];
     let n = add_class(class, first, count, k, &mut list, 0);
     put_numbers(&list, n, out, at)
 }
@@ -74,7 +74,7 @@ fn put_dimension(
     requires { ⌜ Ground (now m) (top (now m) ∷ []) (now cell) (now prev) (now last) × (dimension < top (now m)) ⌝ }
     ensures { λ t. ⌜ Printed (now (out .entry)) (now (out .exit)) at t (dimensionLines (now (m .entry)) (now (class .entry)) (now (holders .entry)) dimension) ⌝ }
 {
-    let mut lower = [0u8; MOST_CELLS];
+    let mut lower = [0u8; MOST_ELEMENTS];
     classify_lowers(m, cell, prev, last, class, holders, dimension, &mut lower);
     let first = below_of(m, dimension) + 1;
     let count = count_of(m, dimension);

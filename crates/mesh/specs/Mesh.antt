@@ -14,6 +14,7 @@ use Rattle.vocabulary.specs.Bytes.{Bytes}
 use Rattle.layout.specs.Words.{wordAt}
 use Rattle.layout.specs.Answers.{answer}
 use Rattle.layout.specs.declared.Answer.{Answer}
+use Rattle.layout.specs.Limits.{mostElements, mostRecords}
 
 -- ---- the head
 
@@ -91,7 +92,7 @@ wrongCount m k = cond (leb k (top m)) (eqb (counted m k) 0) (ltb 0 (counted m k)
 
 -- "A count above d not zero; a count up to d zero; N over 2,000; R over 12,000."
 unfoldable pub bad2 : Bytes → Bool
-bad2 m = some 0 4 (wrongCount m) || ltb 2000 (elements m) || ltb 12000 (recordCount m)
+bad2 m = some 0 4 (wrongCount m) || ltb mostElements (elements m) || ltb mostRecords (recordCount m)
 
 -- "Mesh length not exactly 2 × (6 + N + 2R)."
 unfoldable pub meshLength : Bytes → ℕ

@@ -7,6 +7,7 @@ use lib.ListN.{length, getD}
 use Rattle.vocabulary.specs.Intervals.{picked, every, total}
 use Rattle.vocabulary.specs.Lists.{isIn, someOf}
 use Rattle.vocabulary.specs.Bytes.{Bytes, byteAt}
+use Rattle.layout.specs.Limits.{mostReached}
 use Rattle.mesh.specs.Mesh.{counted, below, firstCell, cellCount, chain}
 
 -- "Two elements are incident if one is in the other's chain."
@@ -68,4 +69,4 @@ reach m stencil c =
 
 -- "Sizes of all cells' reaches together above 8,000."
 unfoldable pub bad13 : Bytes → Bytes → Bool
-bad13 m stencil = ltb 8000 (total (firstCell m) (cellCount m) (λ c. length (reach m stencil c)))
+bad13 m stencil = ltb mostReached (total (firstCell m) (cellCount m) (λ c. length (reach m stencil c)))

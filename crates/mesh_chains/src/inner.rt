@@ -1,4 +1,6 @@
 // The tests 4 and 5: records and elements of the chains. Each function answers true where the mesh is to be refused.
+use layout::limits::ELEMENT_PLACES;
+use layout::limits::RECORD_PLACES;
 use layout::put_number_at;
 use mesh::inner::count_of;
 use mesh::inner::head_of;
@@ -14,15 +16,6 @@ ghost use Rattle.vocabulary.specs.Lists.{repeats, someOf, Zeros};
 ghost use Rattle.mesh.specs.Mesh.{top, counted, below, elements, follow, allRecords, headed, wrongAt, bad4, bad5};
 ghost use Rattle.mesh.specs.Meet.{Met, meet, Sizes, Under};
 ghost use Rattle.mesh_chains.specs.Written.{ChainNotes, note, stretch, Wrote, Written};
-
-// The most records that a mesh may have. The chains that test 4 accepts have no more elements together.
-pub const MOST_RECORDS: usize = 12000;
-
-// The room for a mark of each record; none is numbered 0.
-const MARKS: usize = 12001;
-
-// The room for a number of each element; none is numbered 0.
-pub const NUMBERS: usize = 2001;
 
 fn point_headed(m: &[u8], points: usize) -> bool
     requires { ⌜ points < 65536 ⌝ }
@@ -50,7 +43,7 @@ fn write_chain(
     r: usize,
     h: usize,
     from: usize,
-    seen: &mut [u8; MARKS],
+    seen: &mut [u8; RECORD_PLACES],
     items: &mut [u16],
 ) -> Followed
     requires { ⌜ (n ≡ elements (now m)) × (n ≤ 2000) × (r ≤ 12000) × (h < 65536) × (from ≤ 12000) ⌝ }
@@ -94,7 +87,7 @@ fn write_all(m: &[u8], d: usize, n: usize, r: usize, items: &mut [u16], ends: &m
     ensures { λ b. ⌜ (b ≡ someOf (allRecords (now (m .entry))) (ltb r) || repeats (allRecords (now (m .entry))))
         × (b ≡ false → Wrote (now (m .entry)) n (now (items .exit)) (now (ends .exit))) ⌝ }
 {
-    let mut seen = [0u8; MARKS];
+    let mut seen = [0u8; RECORD_PLACES];
     let mut end = 0;
     for e in 1..1 + n {
         let h = head_of(m, e);
@@ -134,7 +127,7 @@ fn wrong_items(
     to: usize,
     low: usize,
     mark: u16,
-    marks: &mut [u16; NUMBERS],
+    marks: &mut [u16; ELEMENT_PLACES],
 ) -> bool
     requires { ⌜ (to ≤ length (now items)) × (low ≤ 2000) ⌝ }
     ensures { λ b. ⌜ Met.met b (now (marks .exit)) ≡ meet mark low (now (marks .entry)) (stretch (now (items .entry)) from to) ⌝ }
@@ -162,7 +155,7 @@ fn wrong_dimension(
     low: usize,
     items: &[u16],
     ends: &[u16],
-    marks: &mut [u16; NUMBERS],
+    marks: &mut [u16; ELEMENT_PLACES],
 ) -> bool
     requires { ⌜ Written (now m) (now items) (now ends) × (1 ≤ k) × (k ≤ top (now m)) × (low ≡ below (now m) k) × (low ≤ 2000) × Under (low + 1) (now marks) ⌝ }
     ensures { λ b. ⌜ (b ≡ some (low + 1) (counted (now (m .entry)) k) (wrongAt (now (m .entry)))) × Under (below (now (m .entry)) (k + 1) + 1) (now (marks .exit)) ⌝ }
@@ -183,7 +176,7 @@ pub fn bad5(m: &[u8], d: usize, items: &[u16], ends: &[u16]) -> bool
     requires { ⌜ Written (now m) (now items) (now ends) × (d ≡ top (now m)) ⌝ }
     ensures { λ b. ⌜ b ≡ bad5 (now (m .entry)) ⌝ }
 {
-    let mut marks = [0u16; NUMBERS];
+    let mut marks = [0u16; ELEMENT_PLACES];
     let mut low = count_of(m, 0);
     for k in 1..1 + d {
         if wrong_dimension(m, k, low, items, ends, &mut marks) {

@@ -1,6 +1,6 @@
 // The tests 6 and 7: closed chains, and no element that is in no cell's chain. Each function answers true where the mesh is to be refused.
+use layout::limits::ELEMENT_PLACES;
 use mesh::inner::below_of;
-use mesh_chains::inner::NUMBERS;
 use mesh_chains::inner::number_in;
 ghost use mathlib.Core.Path.{_≡_};
 ghost use mathlib.Core.Bool.{false};
@@ -13,7 +13,7 @@ ghost use Rattle.mesh_chains.specs.Written.{stretch, Written};
 ghost use Rattle.mesh_closure.specs.Rows.{leavesBy, Named, ChainRows};
 
 // Marks the items from place `from` up to `to`.
-fn stamp_items(items: &[u16], from: usize, to: usize, v: u16, marks: &mut [u16; NUMBERS])
+fn stamp_items(items: &[u16], from: usize, to: usize, v: u16, marks: &mut [u16; ELEMENT_PLACES])
     requires { ⌜ Named (now items) to ⌝ }
     ensures { λ _. ⌜ now (marks .exit) ≡ stamp v (now (marks .entry)) (stretch (now (items .entry)) from to) ⌝ }
 {
@@ -24,7 +24,13 @@ fn stamp_items(items: &[u16], from: usize, to: usize, v: u16, marks: &mut [u16; 
 }
 
 // Whether some item from place `from` up to `to` does not bear the mark v.
-fn any_unmarked(items: &[u16], from: usize, to: usize, v: u16, marks: &[u16; NUMBERS]) -> bool
+fn any_unmarked(
+    items: &[u16],
+    from: usize,
+    to: usize,
+    v: u16,
+    marks: &[u16; ELEMENT_PLACES],
+) -> bool
     requires { ⌜ Named (now items) to ⌝ }
     ensures { λ b. ⌜ b ≡ someOf (stretch (now (items .entry)) from to) (unlike v (now (marks .entry))) ⌝ }
 {
@@ -38,7 +44,7 @@ fn any_unmarked(items: &[u16], from: usize, to: usize, v: u16, marks: &[u16; NUM
 }
 
 // Whether some element of the chain of f does not bear the mark v.
-fn leaves_by(items: &[u16], ends: &[u16], f: usize, v: u16, marks: &[u16; NUMBERS]) -> bool
+fn leaves_by(items: &[u16], ends: &[u16], f: usize, v: u16, marks: &[u16; ELEMENT_PLACES]) -> bool
     requires { ⌜ (1 ≤ f) × (f < length (now ends)) × Named (now items) (getD (now ends) f 0) ⌝ }
     ensures { λ b. ⌜ b ≡ leavesBy (now (items .entry)) (now (ends .entry)) v (now (marks .entry)) f ⌝ }
 {
@@ -54,7 +60,7 @@ fn any_leaves(
     from: usize,
     to: usize,
     v: u16,
-    marks: &[u16; NUMBERS],
+    marks: &[u16; ELEMENT_PLACES],
 ) -> bool
     requires { ⌜ ChainRows (now items) (now ends) to ⌝ }
     ensures { λ b. ⌜ b ≡ someOf (stretch (now (items .entry)) from to) (leavesBy (now (items .entry)) (now (ends .entry)) v (now (marks .entry))) ⌝ }
@@ -75,7 +81,7 @@ fn unclosed_items(
     from: usize,
     to: usize,
     v: u16,
-    marks: &mut [u16; NUMBERS],
+    marks: &mut [u16; ELEMENT_PLACES],
 ) -> bool
     requires { ⌜ ChainRows (now items) (now ends) to ⌝ }
     ensures { λ b. ⌜ (now (marks .exit) ≡ stamp v (now (marks .entry)) (stretch (now (items .entry)) from to))
@@ -91,7 +97,7 @@ pub fn bad6(m: &[u8], n: usize, items: &[u16], ends: &[u16]) -> bool
     ensures { λ b. ⌜ b ≡ bad6 (now (m .entry)) ⌝ }
 {
     let low = below_of(m, 2);
-    let mut marks = [0u16; NUMBERS];
+    let mut marks = [0u16; ELEMENT_PLACES];
     for e in low + 1..1 + n {
         let from = number_in(ends, e - 1);
         let to = number_in(ends, e);
@@ -110,7 +116,7 @@ pub fn bad7(m: &[u8], d: usize, n: usize, items: &[u16], ends: &[u16]) -> bool
     let low = below_of(m, d);
     let from = number_in(ends, low);
     let to = number_in(ends, n);
-    let mut marks = [0u16; NUMBERS];
+    let mut marks = [0u16; ELEMENT_PLACES];
     stamp_items(items, from, to, 1, &mut marks);
     for g in 1..1 + low {
         if marks[g] != 1 {

@@ -1,4 +1,6 @@
 // The tests 1 to 3: the sizes of a mesh. Each function answers true where the mesh is to be refused.
+use layout::limits::MOST_ELEMENTS;
+use layout::limits::MOST_RECORDS;
 use mesh::inner::count_of;
 use mesh::inner::elements_of;
 use mesh::inner::record_count;
@@ -49,11 +51,11 @@ pub fn bad2(m: &[u8]) -> bool
         return true;
     }
     let n = elements_of(m);
-    if 2000 < n {
+    if MOST_ELEMENTS < n {
         return true;
     }
     let r = record_count(m);
-    12000 < r
+    MOST_RECORDS < r
 }
 
 pub fn bad3(m: &[u8]) -> bool

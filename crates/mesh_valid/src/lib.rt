@@ -5,9 +5,9 @@ pub mod inner;
 
 use inner::mesh_number_in;
 use layout::Answer;
+use layout::limits::ELEMENT_PLACES;
+use layout::limits::MOST_RECORDS;
 use mesh::inner::cell_count;
-use mesh_chains::inner::MOST_RECORDS;
-use mesh_chains::inner::NUMBERS;
 ghost use mathlib.Core.Path.{_≡_};
 ghost use Rattle.mesh.specs.Mesh.{meshNumber, checkAnswer};
 
@@ -16,7 +16,7 @@ pub fn mesh_number(m: &[u8]) -> u32
     ensures { λ r. ⌜ r ≡ meshNumber (now (m .entry)) ⌝ }
 {
     let mut items = [0u16; MOST_RECORDS];
-    let mut ends = [0u16; NUMBERS];
+    let mut ends = [0u16; ELEMENT_PLACES];
     mesh_number_in(m, &mut items, &mut ends)
 }
 

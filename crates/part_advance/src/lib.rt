@@ -3,6 +3,7 @@ use layout::Answer;
 use layout::inner::copy;
 use layout::inner::put_word;
 use layout::inner::word_in;
+use layout::limits::LAST_ROUND;
 use layout::word_at;
 use part_calls::inner::all_taken;
 use part_calls::inner::all_written;
@@ -35,7 +36,7 @@ fn advance_rest(lists: &[u8], b: &[u8], changes: usize) -> u32
     if !all_written(lists, b, changes) {
         return 25;
     }
-    if 60000 <= word_in(b, changes) {
+    if LAST_ROUND <= word_in(b, changes) {
         return 26;
     }
     0

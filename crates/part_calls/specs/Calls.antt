@@ -14,16 +14,17 @@ use Rattle.vocabulary.specs.Bytes.{Bytes, byteAt, over}
 use Rattle.layout.specs.Words.{wordBytes}
 use Rattle.layout.specs.Answers.{answer, ifAccepted}
 use Rattle.layout.specs.declared.Answer.{Answer}
+use Rattle.layout.specs.Limits.{mostParts, lastRound}
 use Rattle.depths.specs.Depths.{four}
 use Rattle.messages.specs.Messages.{depthsOf, Message, encode, fromIn, toIn, roundIn, countIn, bad15}
 use Rattle.part_state.specs.State.{Lists, listsOf, dynamic, bad20, roundAt, takenPlace, writtenPlace, depthPlace}
 
 -- the part imports from j, exports to j
 unfoldable pub importsFrom : Lists → ℕ → Bool
-importsFrom L j = isUpTo 16 j && ltb 0 (L .imported j)
+importsFrom L j = isUpTo mostParts j && ltb 0 (L .imported j)
 
 unfoldable pub exportsTo : Lists → ℕ → Bool
-exportsTo L j = isUpTo 16 j && ltb 0 (length (L .exports j))
+exportsTo L j = isUpTo mostParts j && ltb 0 (length (L .exports j))
 
 -- the depth of local cell l, as its four bytes
 abbrev pub depthAt : ℕ → Bytes → ℕ → Bytes
@@ -80,10 +81,10 @@ module _ (L : Lists) (changes : ℕ) (b : Bytes) where
   -- ---- advance: "makes a round of the owned cells"
 
   unfoldable pub allTaken : Bool
-  allTaken = every 1 16 (λ j. not (importsFrom L j) || eqb (byteAt b (takenPlace changes j)) 1)
+  allTaken = every 1 mostParts (λ j. not (importsFrom L j) || eqb (byteAt b (takenPlace changes j)) 1)
 
   unfoldable pub allWritten : Bool
-  allWritten = every 1 16 (λ j. not (exportsTo L j) || eqb (byteAt b (writtenPlace changes j)) 1)
+  allWritten = every 1 mostParts (λ j. not (exportsTo L j) || eqb (byteAt b (writtenPlace changes j)) 1)
 
   -- 24: "Advance with an import not taken." 25: "Advance with an export not written." 26: "Advance at round 60,000."
   unfoldable pub advanceTestsIn : List Test
@@ -91,7 +92,7 @@ module _ (L : Lists) (changes : ℕ) (b : Bytes) where
       refuse 20 (bad20 b)
       ∷ refuse 24 (not allTaken)
       ∷ refuse 25 (not allWritten)
-      ∷ refuse 26 (leb 60000 (roundAt b changes))
+      ∷ refuse 26 (leb lastRound (roundAt b changes))
       ∷ []
 
   -- the new depth of an owned cell: "All new depths come from old ones."

@@ -1,5 +1,6 @@
 // Whether all imports are taken and all exports written in this round.
 use layout::byte_at;
+use layout::limits::MOST_PARTS;
 use part_state::inner::BEFORE_EXPORTS;
 use part_state::inner::BEFORE_IMPORTS;
 use part_state::inner::TAKEN;
@@ -27,7 +28,7 @@ fn all_settled(lists: &[u8], b: &[u8], ends: usize, flags: usize) -> bool
     requires { ⌜ (ends < 65536) × (flags < 1000000) ⌝ }
     ensures { λ r. ⌜ r ≡ every 1 16 (settledAt (now (lists .entry)) (now (b .entry)) ends flags) ⌝ }
 {
-    for j in 1..17 {
+    for j in 1..MOST_PARTS + 1 {
         if !settled(lists, b, ends, flags, j) {
             return false;
         }

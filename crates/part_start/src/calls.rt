@@ -1,11 +1,15 @@
 // Start and state size.
 use layout::Answer;
+use layout::limits::ELEMENT_PLACES;
+use layout::limits::MOST_ELEMENTS;
+use layout::limits::MOST_PARTS;
+use layout::limits::RECORD_PLACES;
+use layout::limits::TABLE_BYTES;
 use mesh::inner::cell_count;
 use mesh::inner::first_cell;
 use part_calls::inner::clear;
 use part_start_lists::inner::Asked;
 use part_start_lists::inner::CLASSES;
-use part_start_lists::inner::MOST_PARTS;
 use part_start_lists::inner::Plan;
 use part_start_lists::inner::find_sent;
 use part_start_lists::inner::make_plan;
@@ -16,7 +20,6 @@ use part_start_lists::inner::put_front;
 use part_state::inner::DEPTHS;
 use round::bad_field;
 use round_rule::bad_rule;
-use split::inner::MOST_CELLS;
 use split::inner::prepare;
 use split::inner::split_number;
 ghost use mathlib.Core.Path.{_≡_};
@@ -64,17 +67,17 @@ fn asked_of(m: &[u8], parts: u32, i: u32) -> Asked
 pub fn state_size(m: &[u8], parts: u32, owners: &[u8], i: u32, stencil: &[u8]) -> Answer
     ensures { λ r. ⌜ r ≡ sizeAnswer (splitInput (now (m .entry)) parts (now (owners .entry)) (now (stencil .entry))) i ⌝ }
 {
-    let mut cell = [0u16; 12001];
-    let mut ends = [0u16; 2001];
+    let mut cell = [0u16; RECORD_PLACES];
+    let mut ends = [0u16; ELEMENT_PLACES];
     let number = split_number(m, parts, owners, i, i, stencil, &mut cell, &mut ends);
     if number != 0 {
         return Answer::Refused(number);
     }
-    let mut prev = [0u16; 12001];
-    let mut last = [0u16; 2001];
-    let mut table = [0u8; 32000];
-    let mut holders = [0u8; MOST_CELLS];
-    let mut class = [0u8; MOST_CELLS];
+    let mut prev = [0u16; RECORD_PLACES];
+    let mut last = [0u16; ELEMENT_PLACES];
+    let mut table = [0u8; TABLE_BYTES];
+    let mut holders = [0u8; MOST_ELEMENTS];
+    let mut class = [0u8; MOST_ELEMENTS];
     let mut got = [0u16; CLASSES];
     let number = prepare(
         m,
@@ -123,8 +126,8 @@ pub fn start(
         let I = inputs (now (m .entry)) parts (now (owners .entry)) (now (stencil .entry)) kind (now (weights .entry)) (now (f .entry)) in
         ⌜ (r ≡ startAnswer I i (now (b .entry))) × (now (b .exit) ≡ startState I i (now (b .entry))) ⌝ }
 {
-    let mut cell = [0u16; 12001];
-    let mut ends = [0u16; 2001];
+    let mut cell = [0u16; RECORD_PLACES];
+    let mut ends = [0u16; ELEMENT_PLACES];
     let number = split_number(m, parts, owners, i, i, stencil, &mut cell, &mut ends);
     if number != 0 {
         return Answer::Refused(number);
@@ -132,11 +135,11 @@ pub fn start(
     if bad_rule(kind, stencil.len() - 1, weights) {
         return Answer::Refused(11);
     }
-    let mut prev = [0u16; 12001];
-    let mut last = [0u16; 2001];
-    let mut table = [0u8; 32000];
-    let mut holders = [0u8; MOST_CELLS];
-    let mut class = [0u8; MOST_CELLS];
+    let mut prev = [0u16; RECORD_PLACES];
+    let mut last = [0u16; ELEMENT_PLACES];
+    let mut table = [0u8; TABLE_BYTES];
+    let mut holders = [0u8; MOST_ELEMENTS];
+    let mut class = [0u8; MOST_ELEMENTS];
     let mut got = [0u16; CLASSES];
     let mut sent = [0u16; MOST_PARTS + 1];
     let number = prepare(

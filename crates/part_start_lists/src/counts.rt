@@ -8,9 +8,6 @@ ghost use Prim.Native.Nat.{_≤_, _<_};
 ghost use lib.ListN.{replicate};
 ghost use Rattle.part_start_lists.specs.Starting.{Tallied, exportedAt, exportCount};
 
-// The most parts.
-pub const MOST_PARTS: usize = 16;
-
 // How many classes there are: none, the parts, interior and halo.
 pub const CLASSES: usize = 19;
 

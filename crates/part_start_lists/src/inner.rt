@@ -1,6 +1,5 @@
 // The lists of a part as the words of its state, from the owners, the table of the reaches with its ends, and the part's local order.
 pub use crate::counts::CLASSES;
-pub use crate::counts::MOST_PARTS;
 use crate::counts::count_classes;
 use crate::counts::count_exports;
 pub use crate::exports::find_sent;
@@ -9,6 +8,7 @@ use cell_numbers::Local;
 use cell_numbers::inner::cell_at;
 use cell_numbers::inner::index_of;
 use layout::inner::copy;
+use layout::limits::MOST_PARTS;
 use layout::number_at;
 use layout::word_at;
 use part_state::inner::CELLS;

@@ -13,6 +13,7 @@ use Rattle.vocabulary.specs.Lists.{someOf}
 use Rattle.vocabulary.specs.Tests.{allOf}
 use Rattle.vocabulary.specs.Bytes.{Bytes, byteAt}
 use Rattle.layout.specs.Words.{word, wordAt}
+use Rattle.layout.specs.Limits.{mostElements, mostParts, lastRound}
 use Rattle.depths.specs.Depths.{rangedAt}
 use Rattle.round_rule.specs.Rules.{Old, newDepth, weightCount, bad11}
 
@@ -77,14 +78,14 @@ module _ (b : Bytes) where
   ownedCount = importEnd 0
 
   abbrev pub heldCount : ℕ
-  heldCount = importEnd 16
+  heldCount = importEnd mostParts
 
   -- words 28 to 44, for j from 0 to 16: how many exports go to the parts up to j
   abbrev pub exportEnd : ℕ → ℕ
   exportEnd j = wordAt b (exportWord + j)
 
   abbrev pub exportCount : ℕ
-  exportCount = exportEnd 16
+  exportCount = exportEnd mostParts
 
   -- the global number of each held cell, in local order, from word 45 on
   abbrev pub globalAt : ℕ → ℕ
@@ -212,12 +213,12 @@ exportFine b t = isUpTo (ownedCount b) (exportAt b t)
 -- tests of the lists b
 unfoldable pub listsTests : Bytes → List Bool
 listsTests b =
-    isUpTo 16 (partNumber b)
+    isUpTo mostParts (partNumber b)
     ∷ (eqb (stepCount b % 2) 0 && leb (stepCount b) 8)
     ∷ not (bad11 (ruleKind b) (stepCount b) (weights b))
-    ∷ leb (heldCount b) 2000
-    ∷ rises 16 (importEnd b)
-    ∷ (eqb (exportEnd b 0) 0 && rises 16 (exportEnd b))
+    ∷ leb (heldCount b) mostElements
+    ∷ rises mostParts (importEnd b)
+    ∷ (eqb (exportEnd b 0) 0 && rises mostParts (exportEnd b))
     ∷ (eqb (reachEnd b 0) 0 && rises (ownedCount b) (reachEnd b))
     ∷ every 1 (heldCount b) (globalFine b)
     ∷ every 0 (reachCount b) (entryFine b)
@@ -233,8 +234,8 @@ flagsFine b changes j = leb (byteAt b (takenPlace changes j)) 1 && leb (byteAt b
 unfoldable pub dynamicTests : Bytes → ℕ → ℕ → List Bool
 dynamicTests b changes n =
     leb (stateLength changes n) (length b)
-    ∷ leb (roundAt b changes) 60000
-    ∷ every 1 16 (flagsFine b changes)
+    ∷ leb (roundAt b changes) lastRound
+    ∷ every 1 mostParts (flagsFine b changes)
     ∷ every 0 n (rangedAt b (depthsPlace changes))
     ∷ []
 

@@ -14,6 +14,7 @@ use cell_numbers::Global;
 use cell_numbers::Local;
 use cell_numbers::inner::is_cell;
 use layout::inner::word_in;
+use layout::limits::MOST_ELEMENTS;
 use layout::word_at;
 use round_rule::Kind;
 use round_rule::Rule;
@@ -237,7 +238,7 @@ fn head_fine(lists: &[u8]) -> bool
     if !rule_fine(lists, word_at(lists, KIND), n) {
         return false;
     }
-    word_at(lists, HELD) <= 2000
+    word_at(lists, HELD) <= MOST_ELEMENTS
 }
 
 // The three tables of ends.

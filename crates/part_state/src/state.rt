@@ -7,6 +7,8 @@ use crate::places::sizes_of;
 use depths::inner::depths_in_range;
 use layout::byte_at;
 use layout::inner::word_in;
+use layout::limits::LAST_ROUND;
+use layout::limits::MOST_PARTS;
 use layout::word_at;
 ghost use mathlib.Core.Path.{_≡_};
 ghost use Prim.Native.Nat.{_+_, _*_, _<_};
@@ -31,7 +33,7 @@ fn flags_fine(b: &[u8], changes: usize) -> bool
     requires { ⌜ changes < 1000000 ⌝ }
     ensures { λ r. ⌜ r ≡ every 1 16 (flagsFine (now (b .entry)) changes) ⌝ }
 {
-    for j in 1..17 {
+    for j in 1..MOST_PARTS + 1 {
         if !flag_fine(b, changes, j) {
             return false;
         }
@@ -47,7 +49,7 @@ fn changes_fine(b: &[u8], changes: usize, n: usize) -> bool
     if b.len() < changes + DEPTHS + 4 * n {
         return false;
     }
-    if 60000 < word_in(b, changes) {
+    if LAST_ROUND < word_in(b, changes) {
         return false;
     }
     if !flags_fine(b, changes) {

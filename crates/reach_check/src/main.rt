@@ -1,6 +1,10 @@
 // Reads a byte stencil length, the stencil and a mesh from standard input, and prints for each cell the cells of its reach, each with its layer,
 // or the number of the refusal. No accepted mesh is longer than 52,012 bytes.
 use layout::byte_at;
+use layout::limits::ELEMENT_PLACES;
+use layout::limits::MOST_REACHED;
+use layout::limits::RECORD_PLACES;
+use layout::limits::TABLE_BYTES;
 use layout::number_at;
 use layout::word_at;
 use mesh::inner::cell_count;
@@ -55,11 +59,11 @@ fn print_rows(first: usize, cells: usize, table: &[u8], ends: &[u16])
 fn print_reaches(m: &[u8], stencil: &[u8])
     requires { ⌜ Accepted (now m) × (bad10 (top (now m)) (now stencil) ≡ false) ⌝ }
 {
-    let mut cell = [0u16; 12001];
-    let mut table = [0u8; 32000];
-    let mut ends = [0u16; 2001];
+    let mut cell = [0u16; RECORD_PLACES];
+    let mut table = [0u8; TABLE_BYTES];
+    let mut ends = [0u16; ELEMENT_PLACES];
     let t = reach_table(m, stencil, &mut cell, &mut table, &mut ends);
-    if 8000 < t {
+    if MOST_REACHED < t {
         refuse(13);
     } else {
         print_rows(first_cell(m), cell_count(m), &table, &ends);

@@ -2,6 +2,10 @@
 use crate::bad_field;
 use depths::inner::put_depth;
 use layout::Answer;
+use layout::limits::ELEMENT_PLACES;
+use layout::limits::MOST_REACHED;
+use layout::limits::RECORD_PLACES;
+use layout::limits::TABLE_BYTES;
 use layout::number_at;
 use mesh::inner::cell_count;
 use mesh::inner::top_of;
@@ -74,9 +78,9 @@ fn round_on(
         ⌜ (r ≡ roundAnswer I (now (out .entry))) × (now (out .exit) ≡ roundOut I (now (out .entry))) ⌝ }
 {
     // the table is written even where the reaches are too many, so it stands in an array of our own
-    let mut table = [0u8; 32000];
+    let mut table = [0u8; TABLE_BYTES];
     let t = reach_table(m, stencil, cell, &mut table, ends);
-    if 8000 < t {
+    if MOST_REACHED < t {
         return Answer::Refused(13);
     }
     let cells = cell_count(m);
@@ -104,8 +108,8 @@ pub fn undivided_round(
         let I = roundInput (now (m .entry)) (now (stencil .entry)) kind (now (weights .entry)) (now (f .entry)) in
         ⌜ (r ≡ roundAnswer I (now (out .entry))) × (now (out .exit) ≡ roundOut I (now (out .entry))) ⌝ }
 {
-    let mut cell = [0u16; 12001];
-    let mut ends = [0u16; 2001];
+    let mut cell = [0u16; RECORD_PLACES];
+    let mut ends = [0u16; ELEMENT_PLACES];
     let number = mesh_number_in(m, &mut cell, &mut ends);
     if number != 0 {
         return Answer::Refused(number);

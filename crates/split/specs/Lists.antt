@@ -11,6 +11,7 @@ use Rattle.vocabulary.specs.Bytes.{Bytes, over}
 use Rattle.layout.specs.Words.{bytesOf}
 use Rattle.layout.specs.Answers.{answer, ifAccepted}
 use Rattle.layout.specs.declared.Answer.{Answer}
+use Rattle.layout.specs.Limits.{mostParts, mostHeld}
 use Rattle.mesh.specs.Mesh.{top, cellCount, meshTests}
 use Rattle.mesh.specs.Walks.{bad10, bad13}
 use Rattle.split.specs.declared.Wanted.{Wanted}
@@ -20,7 +21,7 @@ use Rattle.split.specs.Split.{Split, splitOf, owned, held, imports, expo
 -- "P, the part wanted, an owner or the map's length wrong." A call may name several parts.
 unfoldable pub bad8 : Bytes → ℕ → Bytes → List ℕ → Bool
 bad8 m parts owners named =
-    not (isUpTo 16 parts)
+    not (isUpTo mostParts parts)
     || not (everyOf named (isUpTo parts))
     || not (eqb (length owners) (cellCount m))
     || not (everyOf owners (isUpTo parts))
@@ -31,7 +32,7 @@ bad9 S = some 1 (S .parts) (λ i. eqb (length (owned S i)) 0)
 
 -- "Held cells over all parts above 4,096."
 unfoldable pub bad12 : Split → Bool
-bad12 S = ltb 4096 (total 1 (S .parts) (λ i. length (held S i)))
+bad12 S = ltb mostHeld (total 1 (S .parts) (λ i. length (held S i)))
 
 -- what a mesh is split by: the mesh itself, P and the owners of a part map, and a stencil
 pub record SplitInput : Type 0 where

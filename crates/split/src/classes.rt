@@ -1,5 +1,6 @@
 // The classes of the cells for one part, in a row of one byte a cell, from the owners and the table of the reaches.
 use crate::owners::owner_of;
+use layout::limits::MOST_ELEMENTS;
 use layout::number_at;
 use layout::word_at;
 ghost use mathlib.Core.Path.{_≡_};
@@ -8,9 +9,6 @@ ghost use Prim.Native.Nat.{_+_, _≤_, _<_};
 ghost use lib.ListN.{length, set};
 ghost use Rattle.split.specs.Classes.{entryOwned, insideAt};
 ghost use Rattle.split.specs.Classes.{entryIs, reachHas, Classed, RowCleared, OwnersMarked};
-
-// The most cells that a mesh has.
-pub const MOST_CELLS: usize = 2000;
 
 // The classes of owned cells. A part's number is at most 16, so these are free.
 pub const INTERIOR: u8 = 17;
@@ -22,7 +20,7 @@ pub fn clear_row(class: &mut [u8])
     requires { ⌜ length (now class) ≡ 2000 ⌝ }
     ensures { λ _. ⌜ RowCleared 2000 (now (class .exit)) ⌝ }
 {
-    for q in 0..MOST_CELLS {
+    for q in 0..MOST_ELEMENTS {
         class[q] = 0;
     }
 }

@@ -1,7 +1,6 @@
 // The tests up to 10 in lent space; the tables that all lists are read off, and the numbers of cells, for an accepted mesh, map and stencil.
 pub use crate::classes::HALO;
 pub use crate::classes::INTERIOR;
-pub use crate::classes::MOST_CELLS;
 pub use crate::classes::classify;
 pub use crate::classes::clear_row;
 pub use crate::holders::add_part;

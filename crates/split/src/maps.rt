@@ -1,5 +1,6 @@
 // The tests 8 and 9, and the number of a call by the tests up to 10.
 use crate::owners::owner_of;
+use layout::limits::MOST_PARTS;
 use mesh::inner::cell_count;
 use mesh::inner::top_of;
 use mesh_valid::inner::mesh_number_in;
@@ -13,6 +14,9 @@ ghost use Rattle.vocabulary.specs.Intervals.{isUpTo, every, some};
 ghost use Rattle.split.specs.Split.{splitOf};
 ghost use Rattle.split.specs.Lists.{bad8, bad9, splitNumber};
 ghost use Rattle.split.specs.Classes.{ownerRight, ownsAt};
+
+// The most parts, as the number that calls are given.
+const PARTS: u32 = MOST_PARTS as u32;
 
 // Whether i is one of the parts.
 pub fn is_part(parts: u32, i: u32) -> bool
@@ -36,7 +40,7 @@ fn owners_right(parts: u32, owners: &[u8]) -> bool
 pub fn bad_map(m: &[u8], parts: u32, owners: &[u8]) -> bool
     ensures { λ b. ⌜ b ≡ bad8 (now (m .entry)) parts (now (owners .entry)) [] ⌝ }
 {
-    if !is_part(16, parts) {
+    if !is_part(PARTS, parts) {
         return true;
     }
     if owners.len() != cell_count(m) {

@@ -1,6 +1,9 @@
 // What the lists of all parts are read off: the chains turned round, a table of the reaches, and how many parts hold each cell. The tests 12
 // and 13.
 use crate::holders::count_holders;
+use layout::limits::ELEMENT_PLACES;
+use layout::limits::MOST_HELD;
+use layout::limits::MOST_REACHED;
 use walk_incidence::inner::invert;
 use walk_part_reach::inner::count_all;
 use walk_reach_table::inner::reach_all;
@@ -17,9 +20,6 @@ ghost use Rattle.mesh.specs.Accepted.{Accepted};
 ghost use Rattle.walk_steps.specs.Walking.{Ground, Sized, Arrays};
 ghost use Rattle.split.specs.Lists.{bad8, sizesNumber};
 ghost use Rattle.split.specs.Classes.{Prepared};
-
-// The room for a number of each element; none is numbered 0.
-const NUMBERS: usize = 2001;
 
 // Turns the chains of all cells round. Only `last` has to be cleared.
 fn link(
@@ -80,7 +80,7 @@ fn overflow_number(
         found,
         layers,
     );
-    if 4096 < held { 12 } else { 13 }
+    if MOST_HELD < held { 12 } else { 13 }
 }
 
 // Prepares the tables for an accepted mesh, map and stencil, in lent space, of which `last` is cleared: the number of the first of the tests 12 and 13
@@ -105,10 +105,10 @@ pub fn prepare(
 {
     let sizes = sizes_of(m);
     link(m, sizes, stencil, cell, prev, last);
-    let mut marks = [0u16; NUMBERS];
-    let mut from = [0u16; NUMBERS];
-    let mut found = [0u16; NUMBERS];
-    let mut near = [0u16; NUMBERS];
+    let mut marks = [0u16; ELEMENT_PLACES];
+    let mut from = [0u16; ELEMENT_PLACES];
+    let mut found = [0u16; ELEMENT_PLACES];
+    let mut near = [0u16; ELEMENT_PLACES];
     let entries = reach_all(
         m,
         sizes,
@@ -123,7 +123,7 @@ pub fn prepare(
         table,
         ends,
     );
-    if 8000 < entries {
+    if MOST_REACHED < entries {
         return overflow_number(
             m,
             sizes,
@@ -139,7 +139,7 @@ pub fn prepare(
             &mut near,
         );
     }
-    if 4096
+    if MOST_HELD
         < count_holders(
             owners,
             table,

@@ -1,11 +1,14 @@
 // The lists of a part, as the calls give them.
 use layout::Answer;
+use layout::limits::ELEMENT_PLACES;
+use layout::limits::MOST_ELEMENTS;
+use layout::limits::RECORD_PLACES;
+use layout::limits::TABLE_BYTES;
 use mesh::inner::cell_count;
 use mesh::inner::first_cell;
 use split::Wanted;
 use split::inner::HALO;
 use split::inner::INTERIOR;
-use split::inner::MOST_CELLS;
 use split::inner::classify;
 use split::inner::prepare;
 use split::inner::split_number;
@@ -135,8 +138,8 @@ pub fn list(
         let D = splitInput (now (m .entry)) parts (now (owners .entry)) (now (stencil .entry)) in
         ⌜ (r ≡ listAnswer D i wanted (now (out .entry))) × (now (out .exit) ≡ listOut D i wanted (now (out .entry))) ⌝ }
 {
-    let mut cell = [0u16; 12001];
-    let mut ends = [0u16; 2001];
+    let mut cell = [0u16; RECORD_PLACES];
+    let mut ends = [0u16; ELEMENT_PLACES];
     let number = split_number(
         m,
         parts,
@@ -150,11 +153,11 @@ pub fn list(
     if number != 0 {
         return Answer::Refused(number);
     }
-    let mut prev = [0u16; 12001];
-    let mut last = [0u16; 2001];
-    let mut table = [0u8; 32000];
-    let mut holders = [0u8; MOST_CELLS];
-    let mut class = [0u8; MOST_CELLS];
+    let mut prev = [0u16; RECORD_PLACES];
+    let mut last = [0u16; ELEMENT_PLACES];
+    let mut table = [0u8; TABLE_BYTES];
+    let mut holders = [0u8; MOST_ELEMENTS];
+    let mut class = [0u8; MOST_ELEMENTS];
     let number = prepare(
         m,
         parts,
@@ -185,7 +188,7 @@ pub fn list(
         return give(&ends, n, out);
     }
     let k = dimension_of(wanted) as usize;
-    let mut lower = [0u8; MOST_CELLS];
+    let mut lower = [0u8; MOST_ELEMENTS];
     classify_lowers(m, &cell, &prev, &last, &class, &holders, k, &mut lower);
     let n = add_range(m, k, &lower, sort, &mut ends);
     give(&ends, n, out)

@@ -1,5 +1,6 @@
 // What a part makes of the lower elements, and the ranges of those of one class.
 use layout::byte_at;
+use layout::limits::RECORD_PLACES;
 use layout::number_at;
 use mesh::inner::below_of;
 use mesh::inner::count_of;
@@ -37,9 +38,6 @@ enum Side {
     Held,
     HeldByAnother,
 }
-
-// The most entries that the chains of all cells have, and one more.
-const ENTRIES: usize = 12001;
 
 // One if the part holds the cell at place q.
 fn held_one(class: &[u8], q: usize) -> u8
@@ -80,7 +78,7 @@ fn some_cell(
     ensures { λ b. ⌜ b ≡ someSide (trail (now (cell .entry)) (now (prev .entry)) 12001 t) first side (now (class .entry)) (now (holders .entry)) ⌝ }
 {
     let mut s = t;
-    for _k in 0..ENTRIES {
+    for _k in 0..RECORD_PLACES {
         if s < 1 {
             return false;
         }

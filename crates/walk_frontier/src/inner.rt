@@ -1,4 +1,5 @@
 // Elements gathered in a step of a walk, each once.
+use layout::limits::RECORD_PLACES;
 use layout::number_at;
 use layout::put_number_at;
 use mesh::inner::head_of;
@@ -12,9 +13,6 @@ ghost use Rattle.walk_incidence.specs.Links.{trail};
 ghost use Rattle.vocabulary.specs.Lists.{All};
 ghost use Rattle.vocabulary.specs.Intervals.{blocks};
 ghost use Rattle.mesh.specs.Mesh.{elements, recordCount, elementIn, follow};
-
-// The most entries that the chains of all cells have, and one more.
-const ENTRIES: usize = 12001;
 
 // The number at i of a list, and 0 past the end.
 pub fn index_at(list: &[u16], i: usize) -> usize
@@ -106,7 +104,7 @@ pub fn visit_trail(
 {
     let mut i = t;
     let mut s = n;
-    for _k in 0..ENTRIES {
+    for _k in 0..RECORD_PLACES {
         if i < 1 {
             return s;
         }

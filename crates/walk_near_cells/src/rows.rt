@@ -1,5 +1,6 @@
 // The cells two steps from each cell, listed once.
 use layout::byte_at;
+use layout::limits::ELEMENT_PLACES;
 use layout::put_number_at;
 use walk_frontier::inner::visit;
 use walk_steps::inner::MeshSizes;
@@ -18,9 +19,6 @@ ghost use Rattle.mesh.specs.Mesh.{top, cellCount};
 ghost use Rattle.mesh.specs.Accepted.{Cell};
 ghost use Rattle.walk_steps.specs.Walking.{Ground, Sized, throughOne};
 ghost use Rattle.walk_near_cells.specs.NearCells.{NearRow, NearRows, WalksReady};
-
-// The room for all rows.
-const ROOM: usize = 2001;
 
 // The most cells in a row: long rows name the same cells over and over, and a walk step by step is then faster.
 const LONGEST: usize = 12;
@@ -133,7 +131,7 @@ pub fn near_rows(
         return 0;
     }
     let a = byte_at(stencil, 1) as usize;
-    let w = lesser(LONGEST, ROOM / sizes.cells);
+    let w = lesser(LONGEST, ELEMENT_PLACES / sizes.cells);
     if list_rows(
         m,
         sizes,

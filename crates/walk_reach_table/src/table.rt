@@ -1,5 +1,8 @@
 // The reaches of all cells as a table.
 use layout::inner::put_word;
+use layout::limits::ELEMENT_PLACES;
+use layout::limits::MOST_REACHED;
+use layout::limits::RECORD_PLACES;
 use layout::put_number_at;
 use walk_frontier::inner::index_at;
 use walk_incidence::inner::invert;
@@ -26,17 +29,8 @@ ghost use Rattle.mesh.specs.Mesh.{top};
 ghost use Rattle.mesh.specs.Walks.{bad10};
 ghost use Rattle.mesh.specs.Accepted.{Accepted, Cell};
 
-// The most entries that a table has room for.
-const MOST: usize = 8000;
-
 // What stands for all counts above that.
-const TOO_MANY: usize = 8001;
-
-// The room for a number of each element; none is numbered 0.
-const NUMBERS: usize = 2001;
-
-// The room for an entry of each record of the cells' chains; none is numbered 0.
-const ENTRIES: usize = 12001;
+const TOO_MANY: usize = MOST_REACHED + 1;
 
 // The first mark above those that the rows of near cells take: two a cell.
 const AFTER_ROWS: usize = 4001;
@@ -60,7 +54,7 @@ fn emit_one(layers: &mut [u16], first: usize, q: usize, table: &mut [u8], t: usi
     if x < 1 {
         return t;
     }
-    if MOST <= t {
+    if MOST_REACHED <= t {
         return TOO_MANY;
     }
     put_entry(table, t, q, x - 1);
@@ -195,7 +189,7 @@ pub fn reach_all(
             table,
             t,
         );
-        if MOST < t {
+        if MOST_REACHED < t {
             return t;
         }
         mark += n + 1;
@@ -218,8 +212,8 @@ pub fn reach_table(
     ensures { λ s. ⌜ Tabled (now (m .entry)) (now (stencil .entry)) (now (table .entry)) (now (table .exit)) (now (ends .exit)) s ⌝ }
 {
     let sizes = sizes_of(m);
-    let mut prev = [0u16; ENTRIES];
-    let mut last = [0u16; NUMBERS];
+    let mut prev = [0u16; RECORD_PLACES];
+    let mut last = [0u16; ELEMENT_PLACES];
     invert(
         m,
         sizes.elements,
@@ -230,10 +224,10 @@ pub fn reach_table(
         &mut prev,
         &mut last,
     );
-    let mut marks = [0u16; NUMBERS];
-    let mut from = [0u16; NUMBERS];
-    let mut found = [0u16; NUMBERS];
-    let mut near = [0u16; NUMBERS];
+    let mut marks = [0u16; ELEMENT_PLACES];
+    let mut from = [0u16; ELEMENT_PLACES];
+    let mut found = [0u16; ELEMENT_PLACES];
+    let mut near = [0u16; ELEMENT_PLACES];
     reach_all(
         m,
         sizes,
