@@ -50,10 +50,7 @@ depthsOf b = drop headSize b
 
 -- "Message under 8 bytes, length not 8 + 4 × count, or a depth out of range."
 unfoldable pub bad15 : Bytes → Bool
-bad15 b =
-    ltb (length b) headSize
-    || not (eqb (length b) (messageSize (countIn b)))
-    || not (every 0 (countIn b) (rangedAt b headSize))
+bad15 b = ltb (length b) headSize || not (eqb (length b) (messageSize (countIn b))) || not (every 0 (countIn b) (rangedAt b headSize))
 
 -- "What reading gives is either the message or a refusal."
 pub data Reading : Type 0 where
@@ -62,10 +59,5 @@ pub data Reading : Type 0 where
 
 unfoldable pub reading : Bytes → Reading
 reading b =
-    cond (bad15 b) (refused 15)
-    (read (record {
-      from = fromIn b;
-      to = toIn b;
-      round = roundIn b;
-      depths = listed 0 (countIn b) (λ t. four b (depthStart t));
-    }))
+    let depths : List Bytes = listed 0 (countIn b) (λ t. four b (depthStart t)) in
+    cond (bad15 b) (refused 15) (read (record { from = fromIn b; to = toIn b; round = roundIn b; depths = depths }))

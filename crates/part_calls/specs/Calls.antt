@@ -40,23 +40,14 @@ scatter w place piece (suc n) f = over (scatter w place piece n f) (w * place (s
 module _ (L : Lists) (changes : ℕ) (b : Bytes) where
   -- the message to part j, and its bytes
   abbrev pub sentMessageIn : ℕ → Message
-  sentMessageIn j = record {
-    from = L .part;
-    to = j;
-    round = roundAt b changes;
-    depths = map (depthAt changes b) (L .exports j);
-  }
+  sentMessageIn j = record { from = L .part; to = j; round = roundAt b changes; depths = map (depthAt changes b) (L .exports j) }
 
   unfoldable pub messageTo : ℕ → Bytes
   messageTo j = encode (sentMessageIn j)
 
   -- 27: "Write to a number that isn't a part importing from here."
   unfoldable pub writeTestsIn : ℕ → Bytes → List Test
-  writeTestsIn j out =
-      refuse 20 (bad20 b)
-      ∷ refuse 27 (not (exportsTo L j))
-      ∷ refuse 16 (ltb (length out) (length (messageTo j)))
-      ∷ []
+  writeTestsIn j out = refuse 20 (bad20 b) ∷ refuse 27 (not (exportsTo L j)) ∷ refuse 16 (ltb (length out) (length (messageTo j))) ∷ []
 
   unfoldable pub writtenIn : ℕ → Bytes
   writtenIn j = set b (writtenPlace changes j) 1
@@ -111,11 +102,7 @@ module _ (L : Lists) (changes : ℕ) (b : Bytes) where
 
   -- 28: "Collect for another round than the state's."
   unfoldable pub collectTestsIn : ℕ → Bytes → List Test
-  collectTestsIn k f =
-      refuse 20 (bad20 b)
-      ∷ refuse 28 (not (eqb k (roundAt b changes)))
-      ∷ refuse 16 (ltb (length f) (4 * L .cells))
-      ∷ []
+  collectTestsIn k f = refuse 20 (bad20 b) ∷ refuse 28 (not (eqb k (roundAt b changes))) ∷ refuse 16 (ltb (length f) (4 * L .cells)) ∷ []
 
   -- the field f with the depths of the local cells 1 to n put at their places
   abbrev pub collectedIn : ℕ → Bytes → Bytes

@@ -100,10 +100,7 @@ module _ (b : Bytes) where
 
   -- the entries of the reaches, two words each, from t = 0 on: a local number and its layer
   abbrev pub entryAt : ℕ → LocalNear
-  entryAt t = record {
-    local = wordAt b (entryWord heldCount ownedCount + 2 * t);
-    layer = wordAt b (entryWord heldCount ownedCount + 2 * t + 1);
-  }
+  entryAt t = record { local = wordAt b (entryWord heldCount ownedCount + 2 * t); layer = wordAt b (entryWord heldCount ownedCount + 2 * t + 1) }
 
   -- the local number of each exported cell, from t = 0 on
   abbrev pub exportAt : ℕ → ℕ
@@ -169,18 +166,9 @@ pub record Lists : Type 0 where
 -- the lists that stand in the first `changes` bytes of a state
 unfoldable pub listsIn : Bytes → Lists
 listsIn b = record {
-  part = partNumber b;
-  first = firstOfMesh b;
-  cells = cellsOfMesh b;
-  new = newDepth (ruleKind b) (weights b);
-  owned = ownedCount b;
-  held = heldCount b;
-  global = globalAt b;
-  reach = localReach b;
-  before = λ j. importEnd b (j - 1);
-  imported = λ j. importEnd b j - importEnd b (j - 1);
-  exports = localExports b;
-}
+  part = partNumber b; first = firstOfMesh b; cells = cellsOfMesh b; new = newDepth (ruleKind b) (weights b); owned = ownedCount b;
+  held = heldCount b; global = globalAt b; reach = localReach b;
+  before = λ j. importEnd b (j - 1); imported = λ j. importEnd b j - importEnd b (j - 1); exports = localExports b }
 
 unfoldable pub listsOf : Bytes → Lists
 listsOf b = listsIn (take (dynamic b) b)

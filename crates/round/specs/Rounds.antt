@@ -31,12 +31,7 @@ pub record Scheme : Type 0 where
   pub new : Bytes → List Old → Bytes
 
 unfoldable pub schemeOf : Bytes → Bytes → ℕ → Bytes → Scheme
-schemeOf m stencil kind v = record {
-  first = firstCell m;
-  cells = cellCount m;
-  reach = reach m stencil;
-  new = newDepth kind v;
-}
+schemeOf m stencil kind v = record { first = firstCell m; cells = cellCount m; reach = reach m stencil; new = newDepth kind v }
 
 -- the depth of cell c in a field, as its four bytes
 unfoldable pub depthIn : Scheme → Bytes → ℕ → Bytes

@@ -16,7 +16,7 @@ use Rattle.messages.specs.Messages.{read, reading}
 use Rattle.split.specs.Split.{Split, ownerAt, owned, held, exports, locals, globalOf}
 use Rattle.part_state.specs.State.{isState}
 use Rattle.part_calls.specs.Calls.{writeNumber, sentMessage, message, writeState, writeOut, takeNumber, takeState, advanceNumber, advanceState, collectNumber, collectOut}
-use Rattle.split.specs.Lists.{SplitInput, splitIn}
+use Rattle.split.specs.Lists.{mapIn, SplitInput, splitIn}
 use Rattle.part_start.specs.Start.{Inputs, schemeIn, startNumber, startState, sizeNumber, stateSize}
 
 -- "Each call is on one part, and gets that part's state". The first number is the part; a write is lent an output, a take is handed any bytes,
@@ -54,30 +54,19 @@ more n x xs = cond (eqb n 0) (x ∷ xs) xs
 
 -- one call. "A refused call leaves the state as it was."
 unfoldable pub step : World → Call → World
-step w (write i j out) = let b : Bytes = w .states i in record {
-  states = put (w .states) i (writeState b j out);
-  made = w .made;
-  sent = more (writeNumber b j out) (take (length (message b j)) (writeOut b j out)) (w .sent);
-  given = w .given;
-}
-step w (take-in i x) = let b : Bytes = w .states i in record {
-  states = put (w .states) i (takeState b x);
-  made = w .made;
-  sent = w .sent;
-  given = w .given;
-}
-step w (advance i) = let b : Bytes = w .states i in record {
-  states = put (w .states) i (advanceState b);
-  made = put (w .made) i (cond (eqb (advanceNumber b) 0) (suc (w .made i)) (w .made i));
-  sent = w .sent;
-  given = w .given;
-}
-step w (collect i k f) = let b : Bytes = w .states i in record {
-  states = w .states;
-  made = w .made;
-  sent = w .sent;
-  given = more (collectNumber b k f) (record { part = i; round = k; made = w .made i; before = f; field = collectOut b k f }) (w .given);
-}
+step w (write i j out) =
+    let b : Bytes = w .states i in
+    let sent : List Bytes = more (writeNumber b j out) (take (length (message b j)) (writeOut b j out)) (w .sent) in
+    record { states = put (w .states) i (writeState b j out); made = w .made; sent = sent; given = w .given }
+step w (take-in i x) = record { states = put (w .states) i (takeState (w .states i) x); made = w .made; sent = w .sent; given = w .given }
+step w (advance i) =
+    let b : Bytes = w .states i in
+    let made : ℕ = cond (eqb (advanceNumber b) 0) (suc (w .made i)) (w .made i) in
+    record { states = put (w .states) i (advanceState b); made = put (w .made) i made; sent = w .sent; given = w .given }
+step w (collect i k f) =
+    let b : Bytes = w .states i in
+    let g : Collected = record { part = i; round = k; made = w .made i; before = f; field = collectOut b k f } in
+    record { states = w .states; made = w .made; sent = w .sent; given = more (collectNumber b k f) g (w .given) }
 
 unfoldable pub run : World → List Call → World
 run w [] = w
@@ -96,17 +85,12 @@ Honest w [] = Unit {0}
 Honest w (c ∷ cs) = Fair w c × Honest (step w c) cs
 
 abbrev pub ownerIn : Inputs → ℕ → ℕ
-ownerIn I k = ownerAt (I .split .owners) k
+ownerIn I k = ownerAt (mapIn (I .split)) k
 
 -- "Each state is at first as its part's one accepted start left it" in the buffer it was lent. A start reads no other part's state, so all of them
 -- may come first as well as "just before that part's first call". A number that is no part has no state.
 unfoldable pub begin : Inputs → (ℕ → Bytes) → World
-begin I buffers = record {
-  states = λ i. cond (isUpTo (I .split .parts) i) (startState I i (buffers i)) [];
-  made = λ i. 0;
-  sent = [];
-  given = [];
-}
+begin I buffers = record { states = λ i. cond (isUpTo (I .split .parts) i) (startState I i (buffers i)) []; made = λ i. 0; sent = []; given = [] }
 
 -- a run: all parts started, of which there is one at least, and an honest list of calls
 pub record Run (I : Inputs) : Type 0 where
@@ -159,8 +143,7 @@ pub record StatesKept : Type 0 where
 unfoldable pub StateBound : Type 0
 StateBound =
     (D : SplitInput) (i : ℕ) → sizeNumber D i ≡ 0 → let S : Split = splitIn D in
-    stateSize D i
-    ≤ 200 + 40 * (length (held S i) + total 1 (length (owned S i)) (λ l. length (S .reach (globalOf (locals S i) l))) + total 1 (D .parts) (λ j. length (exports S i j)))
+    stateSize D i ≤ 200 + 40 * (length (held S i) + total 1 (length (owned S i)) (λ l. length (S .reach (globalOf (locals S i) l))) + total 1 (D .parts) (λ j. length (exports S i j)))
 
 -- ---- demand 2: "A message written is read back as the same depths, and no other bytes are read as that message."
 

@@ -21,10 +21,7 @@ use Rattle.split.specs.Split.{Split, splitOf, owned, held, imports, expo
 -- "P, the part wanted, an owner or the map's length wrong." A call may name several parts.
 unfoldable pub bad8 : Bytes → ℕ → Bytes → List ℕ → Bool
 bad8 m parts owners named =
-    not (isUpTo mostParts parts)
-    || not (everyOf named (isUpTo parts))
-    || not (eqb (length owners) (cellCount m))
-    || not (everyOf owners (isUpTo parts))
+    not (isUpTo mostParts parts) || not (everyOf named (isUpTo parts)) || not (eqb (length owners) (cellCount m)) || not (everyOf owners (isUpTo parts))
 
 -- "A part owning no cell."
 unfoldable pub bad9 : Split → Bool
@@ -44,8 +41,12 @@ pub record SplitInput : Type 0 where
 abbrev pub splitInput : Bytes → ℕ → Bytes → Bytes → SplitInput
 splitInput m parts owners stencil = record { mesh = m; parts = parts; owners = owners; stencil = stencil }
 
+-- its part map, and what it comes to
+abbrev pub mapIn : SplitInput → Bytes
+mapIn D = D .owners
+
 abbrev pub splitIn : SplitInput → Split
-splitIn D = splitOf (D .mesh) (D .parts) (D .owners) (D .stencil)
+splitIn D = splitOf (D .mesh) (D .parts) (mapIn D) (D .stencil)
 
 -- what a call that is given these and the numbers of some parts tries after the mesh
 abbrev pub mapTests : SplitInput → List ℕ → List Test

@@ -26,14 +26,8 @@ ownerAt owners k = byteAt owners k
 
 -- "A part map gives P from 1 to 16, and one byte a cell in rising number: its owner, from 1 to P."
 unfoldable pub splitOf : Bytes → ℕ → Bytes → Bytes → Split
-splitOf m parts owners stencil = record {
-  first = firstCell m;
-  cells = cellCount m;
-  reach = reach m stencil;
-  around = cellsAt m;
-  owner = λ c. ownerAt owners (c - firstCell m);
-  parts = parts;
-}
+splitOf m parts owners stencil =
+    record { first = firstCell m; cells = cellCount m; reach = reach m stencil; around = cellsAt m; owner = λ c. ownerAt owners (c - firstCell m); parts = parts }
 
 module _ (S : Split) where
   unfoldable pub owns : ℕ → ℕ → Bool
