@@ -1,4 +1,4 @@
--- The limits of the specification, each said once; the refusals that go by them quote it. Assumes nothing.
+-- Limits of the specification by name: the definitions of refusals go by them, and laws may say the number. Assumes nothing.
 use Prim.Native.Nat.{ℕ}
 
 -- of a mesh: elements, records
@@ -19,5 +19,6 @@ mostParts = 16
 abbrev pub mostHeld : ℕ
 mostHeld = 4096
 
+-- of a run: the round at which advance is refused (26)
 abbrev pub lastRound : ℕ
 lastRound = 60000

@@ -1,4 +1,4 @@
-// The specification's limits, each said once, and the sizes of arrays that follow from them.
+// Limits of the specification by name, and the sizes of arrays that follow from them.
 pub const MOST_ELEMENTS: usize = 2000;
 
 pub const MOST_RECORDS: usize = 12000;

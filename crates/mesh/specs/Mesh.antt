@@ -144,10 +144,11 @@ bare m g = not (some (firstCell m) (cellCount m) (λ c. isIn g (chain m c)))
 unfoldable pub bad7 : Bytes → Bool
 bad7 m = some 1 (below m (top m)) (bare m)
 
--- what every call that is given a mesh tries first: the sizes, and then the chains
+-- what is tried of a mesh after its sizes: its chains
 abbrev pub chainTests : Bytes → List Test
 chainTests m = refuse 4 (bad4 m) ∷ refuse 5 (bad5 m) ∷ refuse 6 (bad6 m) ∷ refuse 7 (bad7 m) ∷ []
 
+-- what every call that is given a mesh tries first: the sizes, and then the chains
 unfoldable pub meshTests : Bytes → List Test
 meshTests m = refuse 1 (bad1 m) ∷ refuse 2 (bad2 m) ∷ refuse 3 (bad3 m) ∷ chainTests m
 

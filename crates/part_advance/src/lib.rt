@@ -4,6 +4,7 @@ use layout::inner::copy;
 use layout::inner::put_word;
 use layout::inner::word_in;
 use layout::limits::LAST_ROUND;
+use layout::limits::MOST_ELEMENTS;
 use layout::word_at;
 use part_calls::inner::all_taken;
 use part_calls::inner::all_written;
@@ -90,6 +91,6 @@ pub fn advance(b: &mut [u8]) -> Answer
         return Answer::Refused(20);
     }
     let changes = 2 * word_at(b, 0);
-    let mut new = [0u8; 8000];
+    let mut new = [0u8; 4 * MOST_ELEMENTS];
     advance_in(b, changes, &mut new)
 }

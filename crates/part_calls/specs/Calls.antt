@@ -58,12 +58,9 @@ module _ (L : Lists) (changes : ℕ) (b : Bytes) where
   -- message's round is not the state's." 23: "Already taken this round."
   unfoldable pub takeTestsIn : Bytes → List Test
   takeTestsIn x =
-      refuse 15 (bad15 x)
-      ∷ refuse 20 (bad20 b)
+      refuse 15 (bad15 x) ∷ refuse 20 (bad20 b)
       ∷ refuse 21 (not (eqb (toIn x) (L .part)) || not (importsFrom L (fromIn x)) || not (eqb (countIn x) (L .imported (fromIn x))))
-      ∷ refuse 22 (not (eqb (roundIn x) (roundAt b changes)))
-      ∷ refuse 23 (eqb (byteAt b (takenPlace changes (fromIn x))) 1)
-      ∷ []
+      ∷ refuse 22 (not (eqb (roundIn x) (roundAt b changes))) ∷ refuse 23 (eqb (byteAt b (takenPlace changes (fromIn x))) 1) ∷ []
 
   -- the flag is set, and the message's depths become those of the cells imported from there
   unfoldable pub takenIn : Bytes → Bytes
@@ -79,12 +76,7 @@ module _ (L : Lists) (changes : ℕ) (b : Bytes) where
 
   -- 24: "Advance with an import not taken." 25: "Advance with an export not written." 26: "Advance at round 60,000."
   unfoldable pub advanceTestsIn : List Test
-  advanceTestsIn =
-      refuse 20 (bad20 b)
-      ∷ refuse 24 (not allTaken)
-      ∷ refuse 25 (not allWritten)
-      ∷ refuse 26 (leb lastRound (roundAt b changes))
-      ∷ []
+  advanceTestsIn = refuse 20 (bad20 b) ∷ refuse 24 (not allTaken) ∷ refuse 25 (not allWritten) ∷ refuse 26 (leb lastRound (roundAt b changes)) ∷ []
 
   -- the new depth of an owned cell: "All new depths come from old ones."
   unfoldable pub newAt : ℕ → Bytes

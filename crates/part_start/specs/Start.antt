@@ -11,6 +11,7 @@ use Rattle.vocabulary.specs.Tests.{Test, refuse, firstOf}
 use Rattle.vocabulary.specs.Bytes.{Bytes, over}
 use Rattle.layout.specs.Words.{wordAt, wordBytes, bytesOf}
 use Rattle.layout.specs.Answers.{answer, ifAccepted}
+use Rattle.layout.specs.Limits.{mostParts}
 use Rattle.layout.specs.declared.Answer.{Answer}
 use Rattle.mesh.specs.Mesh.{cellCount}
 use Rattle.mesh.specs.Walks.{Near, steps}
@@ -52,7 +53,7 @@ module _ (S : Split) (i : ℕ) (order : List ℕ) where
 
   -- the length of the lists in words
   unfoldable pub listsLong : ℕ
-  listsLong = exportsWord (length order) (ownedIn S i) (reachEnds (ownedIn S i)) + exportEnds 16
+  listsLong = exportsWord (length order) (ownedIn S i) (reachEnds (ownedIn S i)) + exportEnds mostParts
 
   -- the words, region by region, for a stencil of n steps and a rule
   unfoldable pub listsRegions : ℕ → ℕ → Bytes → List (List ℕ)
@@ -60,12 +61,12 @@ module _ (S : Split) (i : ℕ) (order : List ℕ) where
       (listsLong ∷ i ∷ n ∷ kind ∷ [])
       ∷ listed 0 5 (wordAt v)
       ∷ (S .first ∷ S .cells ∷ [])
-      ∷ listed 0 17 importEnds
-      ∷ listed 0 17 exportEnds
+      ∷ listed 0 (mostParts + 1) importEnds
+      ∷ listed 0 (mostParts + 1) exportEnds
       ∷ order
       ∷ listed 0 (ownedIn S i + 1) reachEnds
       ∷ blocks 1 (ownedIn S i) reachWords
-      ∷ blocks 1 16 exportWords
+      ∷ blocks 1 mostParts exportWords
       ∷ []
 
 -- ---- the calls for part i
@@ -90,9 +91,11 @@ pub record Inputs : Type 0 where
   pub rule : RuleInput
   pub field : Bytes
 
+-- from the arguments of a call
 abbrev pub inputs : Bytes → ℕ → Bytes → Bytes → ℕ → Bytes → Bytes → Inputs
 inputs m parts owners stencil kind v f = record { split = splitInput m parts owners stencil; rule = record { kind = kind; weights = v }; field = f }
 
+-- what their mesh, stencil and rule come to, for the undivided round
 abbrev pub schemeIn : Inputs → Scheme
 schemeIn I = schemeOf (I .split .mesh) (I .split .stencil) (I .rule .kind) (I .rule .weights)
 
@@ -103,8 +106,8 @@ module _ (I : Inputs) (i : ℕ) where
       let order : List ℕ = orderOf (I .split) i in
       let lists : List ℕ = joined (listsRegions (splitIn (I .split)) i order (steps (I .split .stencil)) (I .rule .kind) (I .rule .weights)) in
       let round : Bytes = wordBytes 0 in
-      let taken : Bytes = replicate 16 0 in
-      let written : Bytes = replicate 16 0 in
+      let taken : Bytes = replicate mostParts 0 in
+      let written : Bytes = replicate mostParts 0 in
       let depths : Bytes = blocks 1 (length order) (λ l. depthIn (schemeIn I) (I .field) (globalOf order l)) in
       bytesOf lists ++ (round ++ (taken ++ (written ++ depths)))
 

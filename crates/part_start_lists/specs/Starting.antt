@@ -65,8 +65,8 @@ module _ (table : Bytes) (ends : List ℕ) (first : ℕ) (order : List ℕ) wher
   unfoldable pub rowWords : List ℕ → ℕ → List ℕ
   rowWords local l = blocks (getD ends (placeAt l) 0) (rowSize l) (entryWords table first local)
 
--- all words of the lists of part i, region by region, of which n cells are held and `owned` owned, for a stencil of `steps` steps and a rule, by an array of local
--- numbers, and by that of the order
+-- all words of the lists, region by region, of part i, which holds n cells and owns `owned`, for a stencil of `steps` steps and a rule, by an array of
+-- local numbers, and by that of the order
 unfoldable pub numberedWords : Bytes → Bytes → List ℕ → ℕ → ℕ → ℕ → List ℕ → ℕ → List ℕ → ℕ → ℕ → ℕ → Bytes → List ℕ
 numberedWords owners table ends i first cells order n local owned steps kind v =
     joined (

@@ -64,7 +64,7 @@ exportStart z = exportsWord (z .held) (z .owned) (z .reached)
 abbrev pub wordCount : Sizes → ℕ
 wordCount z = exportStart z + z .sent
 
--- every count is a word; start adds up the exports before it knows that of them
+-- every count is a word, but for that of the exports, which start adds up before it knows that it is one
 pub record Small (z : Sizes) : Type 0 where
   pub held-small : z .held < 65536
   pub owned-small : z .owned < 65536

@@ -1,8 +1,8 @@
 -- The byte form of a part's state, and the refusal 20. docs/LAYOUTS.md has it as a table. Assumes nothing.
 --
--- A state is first its lists, which start writes once, all words; and then, from the place `changes` on, what calls change; word 0 has how many words
--- come before `changes`. Local numbers run from 1, and so do the numbers of parts, 1 to 16. A table of ends has at j how many entries belong to the
--- numbers up to j, so those of j are the ones after end (j − 1), up to end j.
+-- A state is first its lists, which start writes once, all words; and then what calls change, from a place on that is called `changes` (d in
+-- docs/LAYOUTS.md). Word 0 has how many words come before it. Local numbers run from 1, and so do the numbers of parts, 1 to 16. A table of ends has
+-- at j how many entries belong to the numbers up to j, so those of j are the ones after end (j − 1), up to end j.
 use mathlib.Core.Bool.{Bool, not, _&&_}
 use mathlib.Core.List.{List, [], _∷_}
 use Prim.Native.Nat.{ℕ, _+_, _-_, _*_, _%_}
@@ -47,7 +47,7 @@ exportsWord held owned reached = entryWord held owned + 2 * reached
 -- ---- the lists, read from the bytes b of a state, or from its first `changes` bytes
 
 module _ (b : Bytes) where
-  -- word 0: the length of the lists in words; 1: the part's number; 2: n of the stencil; 3: the rule's kind; 4 to 8: its weights
+  -- word 0: the length of the lists in words, and twice that is the place `changes`; 1: the part's number; 2: n of the stencil; 3: the rule's kind; 4 to 8: its weights
   abbrev pub dynamic : ℕ
   dynamic = 2 * wordAt b 0
 
@@ -166,9 +166,18 @@ pub record Lists : Type 0 where
 -- the lists that stand in the first `changes` bytes of a state
 unfoldable pub listsIn : Bytes → Lists
 listsIn b = record {
-  part = partNumber b; first = firstOfMesh b; cells = cellsOfMesh b; new = newDepth (ruleKind b) (weights b); owned = ownedCount b;
-  held = heldCount b; global = globalAt b; reach = localReach b;
-  before = λ j. importEnd b (j - 1); imported = λ j. importEnd b j - importEnd b (j - 1); exports = localExports b }
+  part = partNumber b;
+  first = firstOfMesh b;
+  cells = cellsOfMesh b;
+  new = newDepth (ruleKind b) (weights b);
+  owned = ownedCount b;
+  held = heldCount b;
+  global = globalAt b;
+  reach = localReach b;
+  before = λ j. importEnd b (j - 1);
+  imported = λ j. importEnd b j - importEnd b (j - 1);
+  exports = localExports b;
+}
 
 unfoldable pub listsOf : Bytes → Lists
 listsOf b = listsIn (take (dynamic b) b)
@@ -221,11 +230,8 @@ flagsFine b changes j = leb (byteAt b (takenPlace changes j)) 1 && leb (byteAt b
 -- tests of what calls change, in the state b whose lists end at `changes` and hold n cells
 unfoldable pub dynamicTests : Bytes → ℕ → ℕ → List Bool
 dynamicTests b changes n =
-    leb (stateLength changes n) (length b)
-    ∷ leb (roundAt b changes) lastRound
-    ∷ every 1 mostParts (flagsFine b changes)
-    ∷ every 0 n (rangedAt b (depthsPlace changes))
-    ∷ []
+    leb (stateLength changes n) (length b) ∷ leb (roundAt b changes) lastRound
+    ∷ every 1 mostParts (flagsFine b changes) ∷ every 0 n (rangedAt b (depthsPlace changes)) ∷ []
 
 -- a part state: the lists are as long as their counts say, and all tests hold
 unfoldable pub isState : Bytes → Bool

@@ -15,6 +15,7 @@ use cell_numbers::Local;
 use cell_numbers::inner::is_cell;
 use layout::inner::word_in;
 use layout::limits::MOST_ELEMENTS;
+use layout::limits::MOST_PARTS;
 use layout::word_at;
 use round_rule::Kind;
 use round_rule::Rule;
@@ -225,7 +226,7 @@ fn head_fine(lists: &[u8]) -> bool
     requires { ⌜ 18 ≤ length (now lists) ⌝ }
     ensures { λ r. ⌜ r ≡ allOf (headTests (now (lists .entry))) ⌝ }
 {
-    if !up_to(16, word_at(lists, PART)) {
+    if !up_to(MOST_PARTS, word_at(lists, PART)) {
         return false;
     }
     let n = word_at(lists, STEPS);
@@ -246,13 +247,13 @@ fn ends_fine(lists: &[u8], sizes: Sizes) -> bool
     requires { ⌜ Fitting (now lists) sizes ⌝ }
     ensures { λ r. ⌜ r ≡ allOf (endTests (now (lists .entry))) ⌝ }
 {
-    if !ends_rise(lists, OWNED, 16) {
+    if !ends_rise(lists, OWNED, MOST_PARTS) {
         return false;
     }
     if word_there(lists, EXPORT_ENDS) != 0 {
         return false;
     }
-    if !ends_rise(lists, EXPORT_ENDS, 16) {
+    if !ends_rise(lists, EXPORT_ENDS, MOST_PARTS) {
         return false;
     }
     let ends = sizes.reach_word();

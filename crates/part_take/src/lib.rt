@@ -3,6 +3,7 @@ use layout::Answer;
 use layout::byte_at;
 use layout::inner::copy;
 use layout::inner::word_in;
+use layout::limits::MOST_PARTS;
 use layout::word_at;
 use messages::HEAD_SIZE;
 use messages::Reading;
@@ -33,7 +34,7 @@ fn wrong_sender(lists: &[u8], from: usize, to: usize, count: usize) -> bool
     if to != word_at(lists, PART) {
         return true;
     }
-    if !up_to(16, from) {
+    if !up_to(MOST_PARTS, from) {
         return true;
     }
     let n = count_between(lists, BEFORE_IMPORTS + from);

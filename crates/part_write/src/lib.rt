@@ -2,6 +2,7 @@
 use layout::Answer;
 use layout::inner::copy;
 use layout::inner::word_in;
+use layout::limits::MOST_PARTS;
 use layout::word_at;
 use messages::HEAD_SIZE;
 use messages::inner::write_header;
@@ -30,7 +31,7 @@ ghost use Rattle.part_calls.specs.Calls.{messageTo, writeAnswer, writeState, wr
 fn sent_to(lists: &[u8], j: usize) -> usize
     ensures { λ r. ⌜ (r ≡ sentTo (listsIn (now (lists .entry))) j) × (r < 65536) ⌝ }
 {
-    if !up_to(16, j) {
+    if !up_to(MOST_PARTS, j) {
         return 0;
     }
     count_between(lists, BEFORE_EXPORTS + j)

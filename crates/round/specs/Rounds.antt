@@ -55,13 +55,16 @@ unfoldable pub undivided : Scheme → Bytes → ℕ → Bytes
 undivided S f zero = f
 undivided S f (suc k) = round S (undivided S f k)
 
--- ---- the call, and what it is given
+-- ---- the call
+
+-- what it is given: a mesh, a stencil, a rule and a field
 pub record RoundInput : Type 0 where
   pub mesh : Bytes
   pub stencil : Bytes
   pub rule : RuleInput
   pub field : Bytes
 
+-- from the arguments of a call
 abbrev pub roundInput : Bytes → Bytes → ℕ → Bytes → Bytes → RoundInput
 roundInput m stencil kind v f = record { mesh = m; stencil = stencil; rule = record { kind = kind; weights = v }; field = f }
 
@@ -69,12 +72,9 @@ module _ (I : RoundInput) (out : Bytes) where
   -- what it tries after the mesh
   abbrev pub laterTests : List Test
   laterTests =
-      refuse 10 (bad10 (top (I .mesh)) (I .stencil))
-      ∷ refuse 11 (bad11 (I .rule .kind) (steps (I .stencil)) (I .rule .weights))
-      ∷ refuse 13 (bad13 (I .mesh) (I .stencil))
-      ∷ refuse 14 (bad14 (cellCount (I .mesh)) (I .field))
-      ∷ refuse 16 (ltb (length out) (4 * cellCount (I .mesh)))
-      ∷ []
+      refuse 10 (bad10 (top (I .mesh)) (I .stencil)) ∷ refuse 11 (bad11 (I .rule .kind) (steps (I .stencil)) (I .rule .weights))
+      ∷ refuse 13 (bad13 (I .mesh) (I .stencil)) ∷ refuse 14 (bad14 (cellCount (I .mesh)) (I .field))
+      ∷ refuse 16 (ltb (length out) (4 * cellCount (I .mesh))) ∷ []
 
   unfoldable pub roundNumber : ℕ
   roundNumber = firstOf (meshTests (I .mesh) ++ laterTests)

@@ -84,6 +84,7 @@ unfoldable pub Honest : World → List Call → Type 0
 Honest w [] = Unit {0}
 Honest w (c ∷ cs) = Fair w c × Honest (step w c) cs
 
+-- the owner of the cell of index k, from 0
 abbrev pub ownerIn : Inputs → ℕ → ℕ
 ownerIn I k = ownerAt (mapIn (I .split)) k
 

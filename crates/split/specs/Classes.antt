@@ -78,7 +78,7 @@ pub record OwnersMarked (owners : Bytes) (i : ℕ) (before after : Bytes) (p : �
 
 -- ---- how many parts hold a cell
 
--- one where a row says that its part holds the cell at place q
+-- 1 where a row says that its part holds the cell at place q
 unfoldable pub heldOne : Bytes → ℕ → ℕ
 heldOne class q = cond (eqb (byteAt class q) 0) 0 1
 
@@ -102,7 +102,7 @@ pub record Few (n : ℕ) (row : Bytes) : Type 0 where
 unfoldable pub rowSum : Bytes → ℕ → ℕ
 rowSum row n = total 0 n (byteAt row)
 
--- one where part j holds the cell at place q, by the tables; how many of `cells` cells it holds
+-- 1 where part j holds the cell at place q, by the tables; how many of `cells` cells it holds
 unfoldable pub heldBy : Bytes → Bytes → List ℕ → ℕ → ℕ → ℕ → ℕ
 heldBy owners table ends cells q j = cond (reachedAt owners table ends j cells q) 1 0
 

@@ -38,10 +38,11 @@ pub record SplitInput : Type 0 where
   pub owners : Bytes
   pub stencil : Bytes
 
+-- from the arguments of a call
 abbrev pub splitInput : Bytes → ℕ → Bytes → Bytes → SplitInput
 splitInput m parts owners stencil = record { mesh = m; parts = parts; owners = owners; stencil = stencil }
 
--- its part map, and what it comes to
+-- the owners that its part map gives, one a cell; and what the whole comes to
 abbrev pub mapIn : SplitInput → Bytes
 mapIn D = D .owners
 
@@ -66,7 +67,8 @@ splitNumber m parts owners named stencil = firstOf (splitTests (splitInput m par
 unfoldable pub sizesNumber : Bytes → ℕ → Bytes → Bytes → ℕ
 sizesNumber m parts owners stencil = firstOf (sizeTests (splitInput m parts owners stencil))
 
--- the other part that a list names
+-- `Wanted`, which the code declares, has the lists of a part that can be asked for: an import or export list names the other part, a range its
+-- dimension. The other part that a list names
 unfoldable pub others : Wanted → List ℕ
 others Interior = []
 others Halo = []

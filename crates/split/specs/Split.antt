@@ -11,7 +11,7 @@ use Rattle.mesh.specs.Mesh.{top, counted, below, firstCell, cellCount}
 use Rattle.mesh.specs.Walks.{Near, reach, cellsAt}
 
 -- what a mesh, a part map and a stencil come to, as far as the lists of the parts go by them: cells from `first` on, the reach and the owner
--- of each, the cells around an element, and P
+-- of each, the cells incident to an element, and P
 pub record Split : Type 0 where
   pub first : ℕ
   pub cells : ℕ
