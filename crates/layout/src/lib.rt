@@ -5,7 +5,7 @@ pub mod limits;
 
 use crate::inner::word_in;
 ghost use mathlib.Core.Path.{_≡_};
-ghost use Prim.Native.Nat.{ℕ, _<_};
+ghost use Prim.Native.Nat.{_<_};
 ghost use lib.ListN.{getD, set};
 ghost use Rattle.vocabulary.specs.Bytes.{byteAt};
 ghost use Rattle.layout.specs.Words.{wordAt};

@@ -12,7 +12,6 @@ use split::inner::HALO;
 use split::inner::INTERIOR;
 use split::inner::classify;
 use split_cells::inner::add_class;
-ghost use mathlib.Core.Path.{_≡_};
 ghost use mathlib.Core.List.{_++_};
 ghost use Prim.Native.Nat.{_+_, _≤_};
 ghost use lib.ListN.{length, take};

@@ -2,7 +2,7 @@
 use mathlib.Core.List.{List, [], _∷_, _++_}
 use Prim.Native.Nat.{ℕ}
 use Rattle.vocabulary.specs.Bytes.{Bytes}
-use Rattle.split.specs.Split.{Split, splitOf}
+use Rattle.split.specs.Split.{splitOf}
 use Rattle.split.specs.Classes.{classCells, partCells}
 use Rattle.split_ranges.specs.Lowers.{rangeOf}
 use Rattle.list_text.specs.Listing.{ascii, spaced, line, lineUnlessEmpty, partText}

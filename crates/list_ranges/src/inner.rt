@@ -12,7 +12,6 @@ use split_ranges::inner::EXPOSED;
 use split_ranges::inner::PRIVATE;
 use split_ranges::inner::SHARED;
 use split_ranges::inner::classify_lowers;
-ghost use mathlib.Core.Path.{_≡_};
 ghost use mathlib.Core.List.{[], _∷_};
 ghost use Prim.Native.Nat.{_+_, _≤_, _<_};
 ghost use Rattle.vocabulary.specs.Intervals.{blocks};

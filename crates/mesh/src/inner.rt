@@ -4,7 +4,7 @@ pub use crate::reader::is_empty;
 pub use crate::reader::read_record;
 use layout::word_at;
 ghost use mathlib.Core.Path.{_≡_};
-ghost use Prim.Native.Nat.{ℕ, _+_, _*_, _<_, _≤_};
+ghost use Prim.Native.Nat.{_+_, _*_, _<_, _≤_};
 ghost use Rattle.mesh.specs.Mesh.{top, counted, below, elements, recordCount, firstCell, cellCount, headOf};
 
 // The dimension of the cells.

@@ -4,7 +4,7 @@ use mesh::inner::below_of;
 use mesh_chains::inner::number_in;
 ghost use mathlib.Core.Path.{_≡_};
 ghost use mathlib.Core.Bool.{false};
-ghost use Prim.Native.Nat.{ℕ, _-_, _<_, _≤_};
+ghost use Prim.Native.Nat.{_-_, _<_, _≤_};
 ghost use lib.ListN.{length, getD};
 ghost use Rattle.vocabulary.specs.Lists.{someOf};
 ghost use Rattle.mesh.specs.Mesh.{top, elements, bad5, bad6, bad7};

@@ -5,7 +5,7 @@ use mesh_closure::inner::bad6;
 use mesh_closure::inner::bad7;
 ghost use mathlib.Core.Path.{_≡_};
 ghost use Prim.Native.Nat.{_≤_};
-ghost use lib.ListN.{length, drop};
+ghost use lib.ListN.{length};
 ghost use Rattle.vocabulary.specs.Lists.{Zeros};
 ghost use Rattle.vocabulary.specs.Tests.{firstOf};
 ghost use Rattle.mesh.specs.Mesh.{chainTests};

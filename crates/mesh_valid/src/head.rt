@@ -6,7 +6,7 @@ use mesh::inner::elements_of;
 use mesh::inner::record_count;
 use mesh::inner::top_of;
 ghost use mathlib.Core.Path.{_≡_};
-ghost use Prim.Native.Nat.{ℕ, _+_, _*_, _<_};
+ghost use Prim.Native.Nat.{_+_, _*_, _<_};
 ghost use Rattle.vocabulary.specs.Intervals.{some};
 ghost use Rattle.mesh.specs.Mesh.{wrongCount, bad1, bad2, bad3};
 

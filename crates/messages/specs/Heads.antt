@@ -1,5 +1,5 @@
 -- What the answer of the code's reader means: the paper's message, or the number of its refusal. Assumes nothing.
-use Prim.Native.Nat.{ℕ, _+_, _*_}
+use Prim.Native.Nat.{ℕ}
 use Rattle.vocabulary.specs.Bytes.{Bytes}
 use Rattle.vocabulary.specs.Intervals.{listed}
 use Rattle.depths.specs.Depths.{four}

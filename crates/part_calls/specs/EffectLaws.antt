@@ -8,7 +8,7 @@ use Prim.Native.Nat.{ℕ, zero, suc, _+_, _-_, _*_, _<_, _≤_}
 use native.Mathlib.Nat.{add-zero, zero-add, mul-le-mul-left, mul-suc}
 use native.Mathlib.Omega.{arith}
 use lib.Dec.{eqb, ltb}
-use lib.ListN.{length, getD, set, take, replicate, length-append, length-drop, length-set, length-replicate, length-map, getD-replicate, List·getD-append}
+use lib.ListN.{length, getD, set, replicate, length-append, length-drop, length-set, length-replicate, length-map, getD-replicate, List·getD-append}
 use lib.Seq.{getD-set-other, getD-append-add}
 use borrow.Author.Tests.{eqb-true, ne-eqb, lt-ltb, not-false}
 use Rattle.vocabulary.specs.Bytes.{Bytes, byteAt}

@@ -8,6 +8,7 @@ use layout::word_at;
 use part_state::inner::CELLS;
 use part_state::inner::DEPTH;
 use part_state::inner::FIRST;
+use part_state::inner::LENGTH;
 use part_state::inner::OWNED;
 use part_state::inner::global_of;
 use part_state::is_state;
@@ -52,6 +53,6 @@ pub fn collect(b: &[u8], k: u32, f: &mut [u8]) -> Answer
     if !is_state(b) {
         return Answer::Refused(20);
     }
-    let changes = 2 * word_at(b, 0);
+    let changes = 2 * word_at(b, LENGTH);
     collect_from(&b[0..changes], b, changes, k, f)
 }

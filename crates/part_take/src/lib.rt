@@ -12,6 +12,7 @@ use messages::refusal_of;
 use part_calls::inner::set_flag;
 use part_state::inner::BEFORE_IMPORTS;
 use part_state::inner::DEPTH;
+use part_state::inner::LENGTH;
 use part_state::inner::PART;
 use part_state::inner::TAKEN;
 use part_state::inner::count_between;
@@ -109,6 +110,6 @@ pub fn take(b: &mut [u8], x: &[u8]) -> Answer
     if !is_state(b) {
         return Answer::Refused(20);
     }
-    let changes = 2 * word_at(b, 0);
+    let changes = 2 * word_at(b, LENGTH);
     take_in(b, changes, h.from, h.to, h.round, h.count, x)
 }

@@ -9,6 +9,7 @@ use messages::inner::write_header;
 use part_calls::inner::set_flag;
 use part_state::inner::BEFORE_EXPORTS;
 use part_state::inner::DEPTH;
+use part_state::inner::LENGTH;
 use part_state::inner::PART;
 use part_state::inner::Sizes;
 use part_state::inner::WRITTEN;
@@ -108,6 +109,6 @@ pub fn write(b: &mut [u8], j: u32, out: &mut [u8]) -> Answer
     if !is_state(b) {
         return Answer::Refused(20);
     }
-    let changes = 2 * word_at(b, 0);
+    let changes = 2 * word_at(b, LENGTH);
     write_in(b, changes, j as usize, out)
 }

@@ -6,6 +6,7 @@ use mesh::inner::below_of;
 use mesh::inner::count_of;
 use mesh::inner::first_cell;
 use mesh::inner::top_of;
+use split::inner::INTERIOR;
 use split_cells::inner::add_class;
 ghost use mathlib.Core.Path.{_≡_};
 ghost use mathlib.Core.List.{[], _∷_};
@@ -29,7 +30,7 @@ pub const SHARED: u8 = 3;
 pub const COPIED: u8 = 4;
 
 // The least class of an owned cell: interior, and halo is the next.
-const OWNED: u8 = 17;
+const OWNED: u8 = INTERIOR;
 
 // What is asked of a cell at an element: whether the part owns it, another part does, the part holds it, another part does.
 enum Side {

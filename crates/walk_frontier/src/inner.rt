@@ -7,7 +7,7 @@ use mesh::inner::read_record;
 ghost use mathlib.Core.Path.{_≡_};
 ghost use lib.ListN.{length, getD, take};
 ghost use mathlib.Core.List.{[], _∷_, map};
-ghost use Prim.Native.Nat.{ℕ, _+_, _<_, _≤_};
+ghost use Prim.Native.Nat.{_+_, _<_, _≤_};
 ghost use Rattle.walk_frontier.specs.Visits.{Frontier, Toward, with, between, down, up, Added, Upward};
 ghost use Rattle.walk_incidence.specs.Links.{trail};
 ghost use Rattle.vocabulary.specs.Lists.{All};

@@ -5,7 +5,7 @@ use mesh::inner::head_of;
 use mesh::inner::read_record;
 ghost use mathlib.Core.Path.{_≡_};
 ghost use mathlib.Core.List.{map};
-ghost use Prim.Native.Nat.{ℕ, _+_, _<_, _≤_};
+ghost use Prim.Native.Nat.{_+_, _<_, _≤_};
 ghost use lib.ListN.{length};
 ghost use Rattle.mesh.specs.Mesh.{elements, recordCount, firstCell, cellCount, elementIn, follow};
 ghost use Rattle.mesh.specs.Accepted.{Accepted};

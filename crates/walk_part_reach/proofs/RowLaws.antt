@@ -11,7 +11,7 @@ use lib.ListN.{length, getD, set, take, length-set, length-take}
 use lib.Seq.{take-suc-set}
 use borrow.Author.Tests.{eq-eqb, ne-eqb}
 use Rattle.vocabulary.specs.Bytes.{Bytes, byteAt}
-use Rattle.vocabulary.specs.Intervals.{some, picked, total}
+use Rattle.vocabulary.specs.Intervals.{picked, total}
 use Rattle.vocabulary.specs.IntervalLaws.{some-cong, picked-all, picked-yes, picked-no, picked-some, some-swap, at-last, total-start, total-turn, total-cong}
 use Rattle.vocabulary.specs.Lists.{isIn, someOf, All, Zeros}
 use Rattle.vocabulary.specs.ListLaws.{same-test, All-intro, someOf-has, someOf-witness, someOf-cong, isIn-some}

@@ -15,7 +15,7 @@ use walk_steps::inner::walk;
 ghost use mathlib.Core.Path.{_≡_};
 ghost use mathlib.Core.Bool.{false};
 ghost use mathlib.Core.List.{[], _∷_};
-ghost use Prim.Native.Nat.{ℕ, _+_, _-_, _*_, _<_, _≤_};
+ghost use Prim.Native.Nat.{_+_, _-_, _*_, _<_, _≤_};
 ghost use lib.ListN.{length, set};
 ghost use Rattle.vocabulary.specs.Bytes.{over};
 ghost use Rattle.vocabulary.specs.Lists.{Zeros};
@@ -33,7 +33,7 @@ ghost use Rattle.mesh.specs.Accepted.{Accepted, Cell};
 const TOO_MANY: usize = MOST_REACHED + 1;
 
 // The first mark above those that the rows of near cells take: two a cell.
-const AFTER_ROWS: usize = 4001;
+const AFTER_ROWS: usize = 2 * MOST_ELEMENTS + 1;
 
 // Writes entry t.
 fn put_entry(table: &mut [u8], t: usize, place: usize, layer: usize)

@@ -1,7 +1,6 @@
 // The test 10.
 use layout::byte_at;
 ghost use mathlib.Core.Path.{_≡_};
-ghost use Prim.Native.Nat.{ℕ};
 ghost use lib.ListN.{length};
 ghost use Rattle.vocabulary.specs.Intervals.{every};
 ghost use Rattle.mesh.specs.Walks.{rightAt, bad10};
