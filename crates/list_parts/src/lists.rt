@@ -158,7 +158,13 @@ fn put_part(
     out: &mut [u8],
     at: usize,
 ) -> usize
-    requires { ⌜ Prepared (now m) parts (now owners) (now stencil) (now table) (now ends) (now holders) × Ground (now m) (now stencil) (now cell) (now prev) (now last) × (parts ≤ 16) × (1 ≤ i) × (i ≤ parts) ⌝ }
+    requires { ⌜
+        Prepared (now m) parts (now owners) (now stencil) (now table) (now ends) (now holders)
+        × Ground (now m) (now stencil) (now cell) (now prev) (now last)
+        × (parts ≤ 16)
+        × (1 ≤ i)
+        × (i ≤ parts)
+        ⌝ }
     ensures { λ t. ⌜ Printed (now (out .entry)) (now (out .exit)) at t (partOf (now (m .entry)) parts (now (owners .entry)) (now (stencil .entry)) i) ⌝ }
 {
     let first = first_cell(m);

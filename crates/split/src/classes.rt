@@ -44,7 +44,10 @@ fn mark_entry(
     class: &mut [u8],
 ) -> bool
     requires { ⌜ t < 65536 ⌝ }
-    ensures { λ b. ⌜ (b ≡ inside && entryOwned (now (owners .entry)) (now (table .entry)) i t) × OwnersMarked (now (owners .entry)) i (now (class .entry)) (now (class .exit)) (entryIs (now (table .entry)) t) ⌝ }
+    ensures { λ b. ⌜
+        (b ≡ inside && entryOwned (now (owners .entry)) (now (table .entry)) i t)
+        × OwnersMarked (now (owners .entry)) i (now (class .entry)) (now (class .exit)) (entryIs (now (table .entry)) t)
+        ⌝ }
 {
     let x = word_at(table, 2 * t);
     let owner = owner_of(owners, x);
@@ -65,7 +68,10 @@ fn mark_reach(
     class: &mut [u8],
 ) -> bool
     requires { ⌜ q < 65536 ⌝ }
-    ensures { λ b. ⌜ (b ≡ insideAt (now (owners .entry)) (now (table .entry)) (now (ends .entry)) i q) × OwnersMarked (now (owners .entry)) i (now (class .entry)) (now (class .exit)) (reachHas (now (table .entry)) (now (ends .entry)) q) ⌝ }
+    ensures { λ b. ⌜
+        (b ≡ insideAt (now (owners .entry)) (now (table .entry)) (now (ends .entry)) i q)
+        × OwnersMarked (now (owners .entry)) i (now (class .entry)) (now (class .exit)) (reachHas (now (table .entry)) (now (ends .entry)) q)
+        ⌝ }
 {
     let from = number_at(ends, q) as usize;
     let to = number_at(ends, q + 1) as usize;

@@ -101,7 +101,12 @@ pub fn prepare(
     requires { ⌜ Accepted (now m) × (bad8 (now m) parts (now owners) [] ≡ false) × (bad10 (top (now m)) (now stencil) ≡ false) × (length (now cell) ≡ 12001)
         × (length (now prev) ≡ 12001) × (now last ≡ replicate 2001 0) × (length (now table) ≡ 32000) × (length (now ends) ≡ 2001)
         × (length (now holders) ≡ 2000) × (length (now class) ≡ 2000) ⌝ }
-    ensures { λ r. ⌜ (r ≡ sizesNumber (now (m .entry)) parts (now (owners .entry)) (now (stencil .entry))) × (r ≡ 0 → Prepared (now (m .entry)) parts (now (owners .entry)) (now (stencil .entry)) (now (table .exit)) (now (ends .exit)) (now (holders .exit))) × Ground (now (m .entry)) (now (stencil .entry)) (now (cell .exit)) (now (prev .exit)) (now (last .exit)) ⌝ }
+    ensures { λ r. ⌜
+        (r ≡ sizesNumber (now (m .entry)) parts (now (owners .entry)) (now (stencil .entry)))
+        × (r ≡ 0 → Prepared (now (m .entry)) parts (now (owners .entry)) (now (stencil .entry)) (now (table .exit)) (now (ends .exit)) (now (holders
+        .exit)))
+        × Ground (now (m .entry)) (now (stencil .entry)) (now (cell .exit)) (now (prev .exit)) (now (last .exit))
+        ⌝ }
 {
     let sizes = sizes_of(m);
     link(m, sizes, stencil, cell, prev, last);

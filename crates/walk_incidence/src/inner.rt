@@ -36,7 +36,10 @@ fn link_chain(
     last: &mut [u16],
 ) -> usize
     requires { ⌜ (n ≡ elements (now m)) × (n ≤ 2000) × (r ≤ 12000) × (h < 65536) × (t + length (follow (now m) (r + 1) h) ≤ 12000) ⌝ }
-    ensures { λ s. ⌜ Links.links s (now (cell .exit)) (now (prev .exit)) (now (last .exit)) ≡ linkAll c (Links.links t (now (cell .entry)) (now (prev .entry)) (now (last .entry))) (map (elementIn (now (m .entry))) (follow (now (m .entry)) (r + 1) h)) ⌝ }
+    ensures { λ s. ⌜
+        Links.links s (now (cell .exit)) (now (prev .exit)) (now (last .exit)) ≡ linkAll c (Links.links t (now (cell .entry)) (now (prev .entry)) (now
+        (last .entry))) (map (elementIn (now (m .entry))) (follow (now (m .entry)) (r + 1) h))
+        ⌝ }
 {
     let mut i = h;
     let mut s = t;
@@ -63,7 +66,10 @@ pub fn invert(
     last: &mut [u16],
 ) -> usize
     requires { ⌜ Accepted (now m) × (n ≡ elements (now m)) × (r ≡ recordCount (now m)) × (first ≡ firstCell (now m)) × (cells ≡ cellCount (now m)) ⌝ }
-    ensures { λ s. ⌜ Links.links s (now (cell .exit)) (now (prev .exit)) (now (last .exit)) ≡ linkCells (now (m .entry)) first cells (Links.links 0 (now (cell .entry)) (now (prev .entry)) (now (last .entry))) ⌝ }
+    ensures { λ s. ⌜
+        Links.links s (now (cell .exit)) (now (prev .exit)) (now (last .exit)) ≡ linkCells (now (m .entry)) first cells (Links.links 0 (now (cell
+        .entry)) (now (prev .entry)) (now (last .entry)))
+        ⌝ }
 {
     let mut s = 0;
     for e in first..first + cells {
