@@ -1,6 +1,7 @@
 // The reaches of all cells as a table.
 use layout::inner::put_word;
 use layout::limits::ELEMENT_PLACES;
+use layout::limits::MOST_ELEMENTS;
 use layout::limits::MOST_REACHED;
 use layout::limits::RECORD_PLACES;
 use layout::put_number_at;
