@@ -68,7 +68,7 @@ module _ (b : Bytes) where
   abbrev pub Answered : Answer → Bytes → Type 0
   Answered r x = (r ≡ advanceAnswer b) × (x ≡ advanceState b)
 
-  pub refused : (n : ℕ) → advanceNumber b ≡ n → (n ≡ 0 → ⊥) → Answered (Refused n) b
+  refused : (n : ℕ) → advanceNumber b ≡ n → (n ≡ 0 → ⊥) → Answered (Refused n) b
   unfolding advanceAnswer advanceState
   refused = refuses (advanceNumber b) 0 (advancedIn (listsOf b) (dynamic b) b) b
 
@@ -85,38 +85,45 @@ module _ (b : Bytes) where
     unfolding advanceNumber advanceTestsIn advanceRest
     number-here = simp (good-state (take changes b) changes b o)
 
-    pub number-is : advanceNumber b ≡ advanceRest (listsIn (take changes b)) changes b
+    number-is : advanceNumber b ≡ advanceRest (listsIn (take changes b)) changes b
     number-is = number-here ∙ ap₂ (λ (L : Lists) p. advanceRest L p b) (lists-is (take changes b) changes b o) (sym (o .place-is))
 
-    module _ (n : ℕ) (ne : n ≡ advanceRest (listsIn (take changes b)) changes b) where
-      pub told-done : n ≡ 0 → (owned : ℕ) → owned ≡ ownedCount (take changes b) → (round : ℕ) → round ≡ word b changes + 1 → (new x y : Bytes)
-          → 4 * owned ≤ length new → x ≡ over new 0 (blocks 1 owned (newAt (listsIn (take changes b)) changes b)) → y ≡ over b changes (wordBytes round ++ (replicate 32 0 ++ take (4 * owned) x)) → Answered (Done 0) y
-      told-done z owned oe round re new x y room xe ye =
-          let a = done (number-is ∙ sym ne ∙ z) in
-          let g = newAt (listsIn (take changes b)) changes b in
-          let l : length (blocks 1 owned (newAt (listsIn (take changes b)) changes b)) ≡ 4 * owned = fours-length 1 owned (newAt (listsIn (take changes b)) changes b) (λ t c. new-four (take changes b) changes b (1 + t)) in
-          let t : take (4 * owned) x ≡ blocks 1 owned (newAt (listsIn (take changes b)) changes b) =
-          ap (take (4 * owned)) (xe ∙ over-front new (blocks 1 owned (newAt (listsIn (take changes b)) changes b)))
-          ∙ take-at (blocks 1 owned (newAt (listsIn (take changes b)) changes b)) (drop (length (blocks 1 owned (newAt (listsIn (take changes b)) changes b))) new) (4 * owned) l in (
-            a .0,
-            ye
-                ∙ ap (λ (u : Bytes). over b changes (wordBytes round ++ (replicate 32 0 ++ u))) (t ∙ ap (λ n. blocks 1 n (newAt (listsIn (take changes b)) changes b)) oe)
-                ∙ here (take changes b) changes round re
-                ∙ ap₂ (λ (L : Lists) p. advancedIn L p b) (sym (lists-is (take changes b) changes b o)) (o .place-is)
-                ∙ a .1,
-          )
+    pub told-refused : (n : ℕ) → n ≡ advanceRest (listsIn (take changes b)) changes b → (n ≡ 0 → ⊥) → Answered (Refused n) b
+    told-refused n ne = refused n (number-is ∙ sym ne)
 
-    pub owned-room : (z : Sizes) → Counts (take (changes - 0) (drop 0 b)) z → (z .owned ≡ ownedCount (take changes b)) × (z .owned ≤ 2000) × (stateLength changes (z .owned) ≤ length b) × Counts (take changes b) z
-    owned-room z C =
-        let e : z .owned ≡ ownedCount (take changes b) = C .owned-is ∙ ap (λ (x : Bytes). ownedCount x) (cut b changes) in (
-          e,
-          omega (arith, own-few (take changes b) changes b o, whole (take changes b) changes b o .few),
-          omega (arith, own-few (take changes b) changes b o, long (take changes b) changes b o),
-          subst (λ (x : Bytes). Counts x z) (cut b changes) C,
-        )
+    pub told-done : (n : ℕ) → n ≡ advanceRest (listsIn (take changes b)) changes b → n ≡ 0 → (y : Bytes) → y ≡ advancedIn (listsIn (take changes b)) changes b → Answered (Done 0) y
+    told-done n ne z y ye =
+        let a = done (number-is ∙ sym ne ∙ z) in
+        (a .0, ye ∙ ap₂ (λ (L : Lists) p. advancedIn L p b) (sym (lists-is (take changes b) changes b o)) (o .place-is) ∙ a .1)
 
-    pub round-small : word b changes ≤ 60000
-    round-small = whole (take changes b) changes b o .early
+    pub next-put : (owned : ℕ) → owned ≡ ownedCount (take changes b) → (r : ℕ) → r ≡ word b changes → (new x y : Bytes)
+        → x ≡ over new 0 (blocks 1 owned (newAt (listsIn (take changes b)) changes b)) → y ≡ over b changes (wordBytes (r + 1) ++ (replicate 32 0 ++ take (4 * owned) x))
+        → y ≡ advancedIn (listsIn (take changes b)) changes b
+    next-put owned oe r re new x y xe ye =
+        let l : length (blocks 1 owned (newAt (listsIn (take changes b)) changes b)) ≡ 4 * owned = fours-length 1 owned (newAt (listsIn (take changes b)) changes b) (λ t c. new-four (take changes b) changes b (1 + t)) in
+        let t : take (4 * owned) x ≡ blocks 1 owned (newAt (listsIn (take changes b)) changes b) =
+        ap (take (4 * owned)) (xe ∙ over-front new (blocks 1 owned (newAt (listsIn (take changes b)) changes b)))
+        ∙ take-at (blocks 1 owned (newAt (listsIn (take changes b)) changes b)) (drop (length (blocks 1 owned (newAt (listsIn (take changes b)) changes b))) new) (4 * owned) l in
+        ye
+        ∙ ap (λ (u : Bytes). over b changes (wordBytes (r + 1) ++ (replicate 32 0 ++ u))) (t ∙ ap (λ n. blocks 1 n (newAt (listsIn (take changes b)) changes b)) oe)
+        ∙ here (take changes b) changes (r + 1) (ap (λ k. k + 1) re)
+
+    pub lists-there : changes ≤ length b
+    lists-there = omega (arith, long (take changes b) changes b o)
+
+    pub round-there : changes + 1 < length b
+    round-there = omega (arith, long (take changes b) changes b o)
+
+    pub round-small : (r : ℕ) → r ≡ word b changes → r + 1 < 65536
+    round-small r e = omega (arith, e, whole (take changes b) changes b o .early)
+
+    pub owned-room : (z : Sizes) → Counts (take changes b) z → stateLength changes (z .owned) ≤ length b
+    owned-room z C = omega (arith, C .owned-is, own-few (take changes b) changes b o, long (take changes b) changes b o)
+
+    pub owned-few : (z : Sizes) → Counts (take (changes - 0) (drop 0 b)) z → z .owned ≤ 2000
+    owned-few z C =
+        let e : z .owned ≡ ownedCount (take changes b) = C .owned-is ∙ ap (λ (x : Bytes). ownedCount x) (cut b changes) in
+        omega (arith, own-few (take changes b) changes b o, whole (take changes b) changes b o .few)
 
 -- ---- the lists as they are cut
 
@@ -125,6 +132,9 @@ rest-cut b changes r e = e ∙ ap (λ (x : Bytes). advanceRest (listsIn x) chang
 
 pub counts-cut : (b : Bytes) (changes : ℕ) (z : Sizes) → Counts (take changes b) z → Counts (take (changes - 0) (drop 0 b)) z
 counts-cut b changes z C = subst (λ (x : Bytes). Counts x z) (sym (cut b changes)) C
+
+pub counts-whole : (b : Bytes) (changes : ℕ) (z : Sizes) → Counts (take (changes - 0) (drop 0 b)) z → Counts (take changes b) z
+counts-whole b changes z C = subst (λ (x : Bytes). Counts x z) (cut b changes) C
 
 pub renewed-cut : (b new x : Bytes) (changes owned : ℕ) → x ≡ over new 0 (blocks 1 owned (newAt (listsIn (take (changes - 0) (drop 0 b))) changes b)) → x ≡ over new 0 (blocks 1 owned (newAt (listsIn (take changes b)) changes b))
 renewed-cut b new x changes owned e = e ∙ ap (λ (y : Bytes). over new 0 (blocks 1 owned (newAt (listsIn y) changes b))) (cut b changes)

@@ -24,7 +24,7 @@ ghost use Rattle.layout.specs.Words.{wordBytes};
 ghost use Rattle.part_state.specs.State.{listsIn, stateLength};
 ghost use Rattle.part_state.specs.Checks.{Counts};
 ghost use Rattle.part_calls.specs.Opened.{Opened, advanceRest};
-ghost use Rattle.part_calls.specs.Calls.{newAt, advanceAnswer, advanceState};
+ghost use Rattle.part_calls.specs.Calls.{newAt, advancedIn, advanceAnswer, advanceState};
 
 // The number of the first of advance's tests after 20 that holds, and 0 where none does.
 fn advance_rest(lists: &[u8], b: &[u8], changes: usize) -> u32
@@ -67,9 +67,35 @@ fn renew_state(b: &[u8], changes: usize, sizes: Sizes, new: &mut [u8])
     renew_by(&b[0..changes], b, changes, sizes, new);
 }
 
-// Advance on a state whose lists end at `changes`, with room for the new depths.
-fn advance_in(b: &mut [u8], changes: usize, new: &mut [u8]) -> Answer
-    requires { ⌜ Opened (take changes (now b)) changes (now b) × (length (now new) ≡ 8000) ⌝ }
+// Where a part owns no more cells than these, the room for their new depths is small: to make it costs time at every call.
+const FEW: usize = 128;
+
+// One round of the owned cells, by the room `new` for their new depths.
+fn put_next(b: &mut [u8], changes: usize, sizes: Sizes, new: &mut [u8])
+    requires { ⌜ Opened (take changes (now b)) changes (now b) × Counts (take changes (now b)) sizes × (4 * sizes .owned ≤ length (now new)) ⌝ }
+    ensures { λ _. ⌜ now (b .exit) ≡ advancedIn (listsIn (take changes (now (b .entry)))) changes (now (b .entry)) ⌝ }
+{
+    let round = word_in(b, changes) + 1;
+    renew_state(b, changes, sizes, new);
+    put_round(b, changes, round, sizes.owned, new);
+}
+
+fn next_round(b: &mut [u8], changes: usize, sizes: Sizes)
+    requires { ⌜ Opened (take changes (now b)) changes (now b) × Counts (take changes (now b)) sizes × (sizes .owned ≤ 2000) ⌝ }
+    ensures { λ _. ⌜ now (b .exit) ≡ advancedIn (listsIn (take changes (now (b .entry)))) changes (now (b .entry)) ⌝ }
+{
+    if sizes.owned <= FEW {
+        let mut few = [0u8; 4 * FEW];
+        put_next(b, changes, sizes, &mut few);
+    } else {
+        let mut new = [0u8; 4 * MOST_ELEMENTS];
+        put_next(b, changes, sizes, &mut new);
+    }
+}
+
+// Advance on a state whose lists end at `changes`.
+fn advance_in(b: &mut [u8], changes: usize) -> Answer
+    requires { ⌜ Opened (take changes (now b)) changes (now b) ⌝ }
     ensures { λ r. ⌜ (r ≡ advanceAnswer (now (b .entry))) × (now (b .exit) ≡ advanceState (now (b .entry))) ⌝ }
 {
     let number = advance_number(b, changes);
@@ -77,9 +103,7 @@ fn advance_in(b: &mut [u8], changes: usize, new: &mut [u8]) -> Answer
         return Answer::Refused(number);
     }
     let sizes = sizes_of(&b[0..changes]);
-    let round = word_in(b, changes) + 1;
-    renew_state(b, changes, sizes, new);
-    put_round(b, changes, round, sizes.owned, new);
+    next_round(b, changes, sizes);
     Answer::Done(0)
 }
 
@@ -91,6 +115,5 @@ pub fn advance(b: &mut [u8]) -> Answer
         return Answer::Refused(20);
     }
     let changes = 2 * word_at(b, 0);
-    let mut new = [0u8; 4 * MOST_ELEMENTS];
-    advance_in(b, changes, &mut new)
+    advance_in(b, changes)
 }

@@ -25,26 +25,29 @@ fits-short (negsuc n) h = record { sfits = omega arith }
 
 -- ---- sum + w * d
 
-pub wide-fits : (d : ℤ) → SFits w32 d → SFits w64 (toZ w32 (ofZ w32 d))
-wide-fits d f = rw (toZ-ofZ w32 d f) (record { sfits = omega (arith, f .sfits) })
-
 module _ (sum : ℤ) (w : ℕ) (d : ℤ) (fs : SFits w64 sum) (fd : SFits w32 d) (pre : (natAbs sum ≤ 1179630000000) × (w ≤ 15) × (natAbs d ≤ deepest)) where
   size-term : natAbs (pos w *ℤ d) ≤ 18000000
   size-term = omega (arith, size-times w d, mul-le-mul {n₁ = w} {m₁ = natAbs d} {n₂ = 15} {m₂ = deepest} (pre .1) (pre .2))
 
-  term-is : toZ w64 w *ℤ toZ w64 (ofZ w64 (toZ w32 (ofZ w32 d))) ≡ pos w *ℤ d
-  term-is = rw (toZ-ofZ w64 _ (wide-fits d fd), toZ-ofZ w32 d fd, toZ-pos w64 w (omega arith)) refl
+  term-is : toZ w32 w *ℤ toZ w32 (ofZ w32 d) ≡ pos w *ℤ d
+  term-is = rw (toZ-ofZ w32 d fd, toZ-pos w32 w (omega arith)) refl
 
-  pub term-fits : SFits w64 (toZ w64 w *ℤ toZ w64 (ofZ w64 (toZ w32 (ofZ w32 d))))
-  term-fits = rw term-is (fits-long (pos w *ℤ d) (omega (arith, size-term)))
+  pub term-fits : SFits w32 (toZ w32 w *ℤ toZ w32 (ofZ w32 d))
+  term-fits = rw term-is (fits-short (pos w *ℤ d) (omega (arith, size-term)))
 
-  sum-is : toZ w64 (ofZ w64 sum) +ℤ toZ w64 (ofZ w64 (toZ w64 w *ℤ toZ w64 (ofZ w64 (toZ w32 (ofZ w32 d))))) ≡ sum +ℤ pos w *ℤ d
-  sum-is = rw (toZ-ofZ w64 sum fs, toZ-ofZ w64 _ term-fits, term-is) refl
+  term-gives : toZ w32 (ofZ w32 (toZ w32 w *ℤ toZ w32 (ofZ w32 d))) ≡ pos w *ℤ d
+  term-gives = toZ-ofZ w32 _ term-fits ∙ term-is
 
-  pub sum-fits : SFits w64 (toZ w64 (ofZ w64 sum) +ℤ toZ w64 (ofZ w64 (toZ w64 w *ℤ toZ w64 (ofZ w64 (toZ w32 (ofZ w32 d))))))
+  pub wide-fits : SFits w64 (toZ w32 (ofZ w32 (toZ w32 w *ℤ toZ w32 (ofZ w32 d))))
+  wide-fits = rw term-gives (fits-long (pos w *ℤ d) (omega (arith, size-term)))
+
+  sum-is : toZ w64 (ofZ w64 sum) +ℤ toZ w64 (ofZ w64 (toZ w32 (ofZ w32 (toZ w32 w *ℤ toZ w32 (ofZ w32 d))))) ≡ sum +ℤ pos w *ℤ d
+  sum-is = rw (toZ-ofZ w64 sum fs, toZ-ofZ w64 _ wide-fits, term-gives) refl
+
+  pub sum-fits : SFits w64 (toZ w64 (ofZ w64 sum) +ℤ toZ w64 (ofZ w64 (toZ w32 (ofZ w32 (toZ w32 w *ℤ toZ w32 (ofZ w32 d))))))
   sum-fits = rw sum-is (fits-long (sum +ℤ pos w *ℤ d) (omega (arith, size-term, size-add sum (pos w *ℤ d), pre .0)))
 
-  pub sum-gives : toZ w64 (ofZ w64 (toZ w64 (ofZ w64 sum) +ℤ toZ w64 (ofZ w64 (toZ w64 w *ℤ toZ w64 (ofZ w64 (toZ w32 (ofZ w32 d))))))) ≡ sum +ℤ pos w *ℤ d
+  pub sum-gives : toZ w64 (ofZ w64 (toZ w64 (ofZ w64 sum) +ℤ toZ w64 (ofZ w64 (toZ w32 (ofZ w32 (toZ w32 w *ℤ toZ w32 (ofZ w32 d))))))) ≡ sum +ℤ pos w *ℤ d
   sum-gives = toZ-ofZ w64 _ sum-fits ∙ sum-is
 
 -- ---- sum / w, which is no larger than a depth

@@ -37,12 +37,12 @@ fn old_of(b: &[u8], at: usize, t: usize, f: &[u8], base: usize) -> i32
     depth_of(f, base, word_in(b, at + 4 * t))
 }
 
-// One more weighed depth.
+// One more weighed depth. The product is taken in 32 bits, which hold it: so the depth is read at once and not byte by byte.
 fn add_weighed(sum: i64, w: usize, d: i32) -> i64
     requires { ⌜ (natAbs sum ≤ 1179630000000) × (w ≤ 15) × (natAbs d ≤ deepest) ⌝ }
     ensures { λ r. ⌜ r ≡ sum +ℤ pos w *ℤ d ⌝ }
 {
-    sum + (w as i64) * (d as i64)
+    sum + ((w as i32) * d) as i64
 }
 
 // The mean, "fraction dropped toward zero".

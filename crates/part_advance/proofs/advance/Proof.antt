@@ -15,7 +15,6 @@ advance-spec =
     (λ c. told-20 _ _ _ _ _ _ (c .before .is-state .ensures) (c .if1 .taken))
     (λ c κs. search needs)
     (λ c. search needs)
-    (λ c. search needs)
-    (λ c κs. (opened-here _ _ _ (c .before .before .before .before .before .is-state .ensures) (c .before .before .before .before .if1 .left) (c .before .before .word-at .ensures .0) (c .before .before .word-at .ensures .1), search needs))
+    (λ c κs. opened-here _ _ _ (c .before .before .before .before .is-state .ensures) (c .before .before .before .if1 .left) (c .before .word-at .ensures .0) (c .before .word-at .ensures .1))
     (λ c. search needs)
     (λ c. search needs))

@@ -1,5 +1,5 @@
 -- `round_rule::inner::add_weighed` meets its contract. Assumes nothing.
-use Rattle.round_rule.proofs.Registers.{wide-fits, term-fits, sum-fits, sum-gives}
+use Rattle.round_rule.proofs.Registers.{term-fits, wide-fits, sum-fits, sum-gives}
 use borrow.Author.Needs.{needs}
 use Rattle.round_rule.proofs.inner.add_weighed.Statement.{statement}
 use Rattle.round_rule.proofs.inner.add_weighed.Tie as tie
@@ -9,7 +9,7 @@ add-weighed-spec =
     tie.close
     (tie.spec
     (λ c. search needs)
-    (λ c. search wide-fits)
     (λ c. search term-fits)
+    (λ c. search wide-fits)
     (λ c. search sum-fits)
     (λ c. search sum-gives))
