@@ -19,7 +19,7 @@ use Rattle.split.specs.Classes.{ownsAt, insideAt, reachHas, reachedAt, classAt,
 use Rattle.vocabulary.specs.Lists.{Zeros}
 use Rattle.split_cells.proofs.AddLaws.{add-none, add-one, add-both, add-end, count-start, count-turn, place-one, place-none, class-count, class-few}
 use Rattle.split_cells.proofs.ClassLists.{row-cells}
-use Rattle.part_start_lists.specs.Starting.{numbersOf, countAt, endsBy, Tallied, Got, Sent, OwnersFew, sentList, exportedAt, exportCount, ownStamped, stampedCells}
+use Rattle.part_start_lists.specs.Starting.{numbersOf, countAt, endsBy, Tallied, Got, Sent, OwnersFew, sentEnds, sentList, exportedAt, exportCount, ownStamped, stampedCells}
 
 cleared : (n k : ℕ) (counts : List ℕ) → counts ≡ replicate n 0 → countAt counts k ≡ 0
 unfolding countAt
@@ -262,12 +262,28 @@ module _ (owners stamps : Bytes) (i j first : ℕ) where
       (add-end (ownStamped owners stamps i j first) a b s t q cells g h X)
 
 -- lists of which the later ones are empty
-blocks-short : (a n k : ℕ) (g : ℕ → List ℕ) → ((x : ℕ) → n ≤ x → g (a + x) ≡ []) → blocks a (n + k) g ≡ blocks a n g
+blocks-short : (a n k : ℕ) (g : ℕ → List ℕ) → ((x : ℕ) → n ≤ x → x < n + k → g (a + x) ≡ []) → blocks a (n + k) g ≡ blocks a n g
 unfolding blocks
 blocks-short a n zero g f = ap (λ x. blocks a x g) (add-zero n)
 blocks-short a n (suc k) g f =
     let e : n + suc k ≡ suc (n + k) = omega arith in
-    ap (λ x. blocks a x g) e ∙ ap₂ _++_ (blocks-short a n k g f) (f (n + k) (omega arith)) ∙ append-nil (blocks a n g)
+    ap (λ x. blocks a x g) e ∙ ap₂ _++_ (blocks-short a n k g (λ x l h. f x l (omega arith))) (f (n + k) (omega arith) (omega arith)) ∙ append-nil (blocks a n g)
+
+-- those after n, if the first n have all the members of the first n + k
+blocks-full : (a n k : ℕ) (g : ℕ → List ℕ) → total a n (λ x. length (g x)) ≡ total a (n + k) (λ x. length (g x)) → (x : ℕ) → n ≤ x → x < n + k → g (a + x) ≡ []
+blocks-full a n k g e x l h =
+    none (g (a + x))
+    (omega (
+      arith,
+      e,
+      total-grows a (λ y. length (g y)) n x l,
+      total-turn a (λ y. length (g y)) x,
+      total-grows a (λ y. length (g y)) (x + 1) (n + k) (omega arith),
+    ))
+  where
+    none : (xs : List ℕ) → length xs ≡ 0 → xs ≡ []
+    none [] z = refl
+    none (y ∷ ys) z = let no : ⊥ = omega (arith, z) in absurd no
 
 module _ (owners table : Bytes) (ends : List ℕ) (i first cells : ℕ) where
   pub sent-begin : (list : List ℕ) → Appended list list 0 0 (sentList owners table ends i first cells 0)
@@ -282,8 +298,47 @@ module _ (owners table : Bytes) (ends : List ℕ) (i first cells : ℕ) where
       let e : k ≡ parts = omega arith in
       subst (Appended a b 0 n)
       (ap (λ x. blocks 1 x (λ j. partCells owners table ends j first cells i)) e
-      ∙ sym (blocks-short 1 parts (16 - parts) (λ j. partCells owners table ends j first cells i) (λ x l. cells-none owners table ends i cells parts M (1 + x) (omega arith) first low))
+      ∙ sym (blocks-short 1 parts (16 - parts) (λ j. partCells owners table ends j first cells i) (λ x l w. cells-none owners table ends i cells parts M (1 + x) (omega arith) first low))
       ∙ ap (λ x. blocks 1 x (λ j. partCells owners table ends j first cells i)) z) X
+
+  -- once all exports are listed, the later parts take none
+  module _ (parts k n : ℕ) (a b : List ℕ) (l : k < parts) (few : parts ≤ 16) (e : n ≡ sentEnds owners table ends i first cells 16)
+      (X : Appended a b 0 n (sentList owners table ends i first cells k)) where
+    later-none : (x : ℕ) → k ≤ x → x < k + (16 - k) → partCells owners table ends (1 + x) first cells i ≡ []
+    unfolding sentEnds sentList
+    later-none =
+        let z : k + (16 - k) ≡ 16 = omega arith in
+        blocks-full 1 k (16 - k) (λ j. partCells owners table ends j first cells i)
+        (sym (blocks-length 1 (λ j. partCells owners table ends j first cells i) k)
+        ∙ (let c : length (blocks 1 k (λ j. partCells owners table ends j first cells i)) ≡ n = omega (arith, X .count) in c)
+        ∙ e
+        ∙ ap (λ y. total 1 y (λ j. length (partCells owners table ends j first cells i))) (sym z))
+
+    pub sent-full : Appended a b 0 n (sentList owners table ends i first cells 16)
+    unfolding sentList
+    sent-full =
+        let z : k + (16 - k) ≡ 16 = omega arith in
+        subst (Appended a b 0 n)
+        (sym (blocks-short 1 k (16 - k) (λ j. partCells owners table ends j first cells i) later-none)
+        ∙ ap (λ x. blocks 1 x (λ j. partCells owners table ends j first cells i)) z) X
+
+    pub sent-filled : (sent : List ℕ) → Sent owners table ends i cells k sent → Sent owners table ends i cells 16 sent
+    sent-filled sent Y = record {
+      size = Y .size;
+      each = λ f j low high. told f j low high (ltb k j) refl;
+      rest = λ j h. past j 17 sent (Y .size) (omega arith);
+    }
+      where
+        told : (f j : ℕ) → 1 ≤ j → j ≤ 16 → (c : Bool) → ltb k j ≡ c → countAt sent j ≡ length (partCells owners table ends j f cells i)
+        told f j low high true w =
+            let p : 1 + (j - 1) ≡ j = omega arith in
+            let g : k < j = ltb-true k j w in
+            Y .rest j g
+            ∙ sym (ap length (later-none (j - 1) (omega arith) (omega arith)))
+            ∙ ap (λ x. length (partCells owners table ends x first cells i)) p
+            ∙ cells-many owners table ends i cells j first i
+            ∙ sym (cells-many owners table ends i cells j f i)
+        told f j low high false w = Y .each f j low (omega (arith, ltb-false k j w))
 
   module _ (low : 1 ≤ i) (high : i ≤ 16) (few : cells ≤ 2000) (k : ℕ) (s h s₁ h₁ : Bytes) (F : Few k s) (P : Raised (k + 1) s h s₁ h₁ (reachedAt owners table ends (k + 1) cells)) where
     -- of the cells that are not its own, part k + 1 imports those from i that part i owns and it reaches

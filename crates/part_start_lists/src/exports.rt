@@ -9,7 +9,7 @@ ghost use mathlib.Core.Path.{_≡_};
 ghost use Prim.Native.Nat.{_+_, _≤_, _<_};
 ghost use lib.ListN.{length, replicate};
 ghost use Rattle.split.specs.Classes.{Appended};
-ghost use Rattle.part_start_lists.specs.Starting.{ownStamped, stampedCells, sentList, OwnersFew, Sent};
+ghost use Rattle.part_start_lists.specs.Starting.{ownStamped, stampedCells, sentEnds, sentList, OwnersFew, Sent};
 
 // Adds the cell at place q to the list, if the part owns it and it bears the stamp j.
 fn add_export(
@@ -52,7 +52,8 @@ fn add_exports(owners: &[u8], stamps: &[u8], plan: Plan, j: u8, list: &mut [u16]
     t
 }
 
-// Lists what the part exports to each part, one part after another, and counts it in a cleared array. The rows are work space.
+// Lists what the part exports to each part, one part after another, and counts it in a cleared array. The rows are work space. Once all exports are found, the
+// later parts take none.
 pub fn find_sent(
     owners: &[u8],
     table: &[u8],
@@ -73,6 +74,7 @@ pub fn find_sent(
         × (length (now stamps) ≡ 2000)
         × (length (now holders) ≡ 2000)
         × (now sent ≡ replicate 17 0)
+        × (plan .sent ≡ sentEnds (now owners) (now table) (now ends) (plan .part) (plan .first) (plan .cells) 16)
         ⌝ }
     ensures { λ n. ⌜
         Appended (now (list .entry)) (now (list .exit)) 0 n (sentList (now (owners .entry)) (now (table .entry)) (now (ends .entry)) (plan .part) (plan .first)
@@ -84,6 +86,9 @@ pub fn find_sent(
     clear_row(holders);
     let mut n = 0;
     for j in 0..plan.parts {
+        if n == plan.sent {
+            return n;
+        }
         let k = (j + 1) as u8;
         add_part(owners, table, ends, plan.cells, k, stamps, holders);
         let t = add_exports(owners, stamps, plan, k, list, n);

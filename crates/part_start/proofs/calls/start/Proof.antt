@@ -216,7 +216,8 @@ find-sent-requires c κs =
     let first = told .2 ∙ asked .2 in
     let cells = told .3 ∙ asked .3 in
     let map = plan-mapped _ _ _ _ _ _ _ _ sn zn (prepared .1 zero) _ _ _ _ part parts first cells in
-    (map .0, map .1, map .2, map .3, map .4, map .5, omega (arith, at-class4 .class4 .given, at-class2 .class2 .given), omega (arith, at-holders2 .holders2 .given), refl)
+    let sent = plan-sent _ _ _ _ _ _ _ _ sn zn (prepared .1 zero) _ _ _ _ part parts first cells _ _ _ _ _ (told .4) in
+    (map .0, map .1, map .2, map .3, map .4, map .5, omega (arith, at-class4 .class4 .given, at-class2 .class2 .given), omega (arith, at-holders2 .holders2 .given), refl, sent .0)
 
 slice-aggregate-number-order-2 : tie.Need-slice-aggregate-number-order-2
 slice-aggregate-number-order-2 c =

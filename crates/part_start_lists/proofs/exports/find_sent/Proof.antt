@@ -1,12 +1,12 @@
 -- `part_start_lists::exports::find_sent` meets its contract. The invariant: the exports to the first j parts are listed and counted. Assumes nothing.
-use mathlib.Core.Path.{_≡_}
+use mathlib.Core.Path.{_≡_, _∙_}
 use Prim.Native.Nat.{_-_, _*_, _≤_}
 use native.Mathlib.Omega.{arith}
 use lib.ListN.{length}
 use Rattle.split.specs.Classes.{Few, Appended}
 use Rattle.split.proofs.HolderLaws.{few-start, few-more, raised-few, raised-stamps}
 use Rattle.part_start_lists.specs.Starting.{sentList, Sent}
-use Rattle.part_start_lists.proofs.CountLaws.{sent-begin, sent-start, sent-more, sent-counted, sent-all, sent-end}
+use Rattle.part_start_lists.proofs.CountLaws.{sent-begin, sent-start, sent-more, sent-counted, sent-full, sent-filled, sent-all, sent-end}
 use borrow.Author.Needs.{needs}
 use Rattle.part_start_lists.proofs.exports.find_sent.Statement.{statement}
 use Rattle.part_start_lists.proofs.exports.find_sent.Tie as tie
@@ -30,15 +30,30 @@ find-sent-spec =
     (λ c. (search needs, search few-start, search few-start, search needs, search needs, search needs, search sent-begin, search sent-start))
     (λ c. search needs)
     (λ c. search needs)
-    (λ c κs.
-    let at-loop = c .before .before .before in
+    (λ c. search needs)
+    (λ c. search needs)
+    (λ c.
+    let at-loop-test = c .before .before in
+    let at-loop = at-loop-test .before in
     let start-way = at-loop .before .before .before .before .before .before .before .before .before .before .before .before in
     let start = start-way .before .before .before .before in
     let pre = start .pre in
     let inv = at-loop .loop .inv in
-    (pre .3, inv .1 .room, few-more _ 15 _ (omega (arith, c .before .before .loop-test .taken, pre .4)) (inv .2)))
+    let taken = at-loop-test .loop-test .taken in
+    let all = c .if1 .taken ∙ pre .9 in
+    (sent-full _ _ _ _ _ _ _ _ _ _ _ taken (pre .4) all (inv .6), sent-filled _ _ _ _ _ _ _ _ _ _ _ taken (pre .4) all (inv .6) _ (inv .7)))
+    (λ c. search needs)
+    (λ c. search needs)
     (λ c κs.
-    let at-loop-test = c .before .before .before .before .before .before .before .before .before in
+    let at-loop-test = c .before .before .before .before in
+    let at-loop = at-loop-test .before in
+    let start-way = at-loop .before .before .before .before .before .before .before .before .before .before .before .before in
+    let start = start-way .before .before .before .before in
+    let pre = start .pre in
+    let inv = at-loop .loop .inv in
+    (pre .3, inv .1 .room, few-more _ 15 _ (omega (arith, at-loop-test .loop-test .taken, pre .4)) (inv .2)))
+    (λ c κs.
+    let at-loop-test = c .before .before .before .before .before .before .before .before .before .before .before in
     let at-loop = at-loop-test .before in
     let start-way = at-loop .before .before .before .before .before .before .before .before .before .before .before .before in
     let start = start-way .before .before .before .before in
@@ -53,7 +68,7 @@ find-sent-spec =
     let at-add-exports = c .before .before .before in
     let start-way = at-add-exports .before .before .before .before .before .before .before .before .before .before .before .before in
     let start-way2 = start-way .before .before .before .before .before .before .before .before .before .before .before .before in
-    let start = start-way2 .before .before .before in
+    let start = start-way2 .before .before .before .before .before in
     omega (arith, at-add-exports .add-exports .ensures .1, start .pre .3))
     (λ c κs. search needs)
     (λ c. search needs)
@@ -61,7 +76,7 @@ find-sent-spec =
     (λ c.
     let at-add-exports = c .before .before .before .before .before .before in
     let at-add-part = at-add-exports .before .before .before .before .before .before .before in
-    let at-loop-test = at-add-part .before .before .before in
+    let at-loop-test = at-add-part .before .before .before .before .before in
     let at-loop = at-loop-test .before in
     let start-way = at-loop .before .before .before .before .before .before .before .before .before .before .before .before in
     let start = start-way .before .before .before .before in
