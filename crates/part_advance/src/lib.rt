@@ -10,6 +10,7 @@ use part_calls::inner::all_taken;
 use part_calls::inner::all_written;
 use part_calls::inner::clear;
 use part_state::inner::DEPTHS;
+use part_state::inner::LENGTH;
 use part_state::inner::Sizes;
 use part_state::inner::sizes_of;
 use part_state::is_state;
@@ -114,6 +115,6 @@ pub fn advance(b: &mut [u8]) -> Answer
     if !is_state(b) {
         return Answer::Refused(20);
     }
-    let changes = 2 * word_at(b, 0);
+    let changes = 2 * word_at(b, LENGTH);
     advance_in(b, changes)
 }

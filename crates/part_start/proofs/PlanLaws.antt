@@ -34,7 +34,7 @@ use Rattle.split_cells.proofs.ClassLists.{row-cells, interior-is, halo-is, orde
 use Rattle.part_start.specs.Start.{ownedIn, exportEnds, reachEnds, listsLong, stateSize, sizeNumber, sizeAnswer, firstState, lastTests, startNumber, startAnswer, startState, inputs, Inputs}
 use Rattle.word_lists.specs.Putting.{Put}
 use Rattle.part_state.specs.State.{exportsWord, depthsPlace, stateLength}
-use Rattle.part_start_lists.specs.Starting.{rowEnds, sentEnds, startWords, startDepth, Fit, FieldCells, OwnersFew, exportedAt, exportCount, partOrder, partOwned, Fitting, Drawn}
+use Rattle.part_start_lists.specs.Starting.{rowEnds, sentEnds, startWords, startDepth, Fit, FieldCells, OwnersFew, exportedAt, exportTally, partOrder, partOwned, TablesFit, Drawn}
 use Rattle.part_start.specs.Planning.{Planned}
 use Rattle.part_start_lists.proofs.StartLists.{row-order}
 use Rattle.part_start.proofs.StartFit.{fit-from, cells-from}
@@ -97,7 +97,7 @@ module _ (m : Bytes) (parts : ℕ) (owners : Bytes) (i : ℕ) (st table : Bytes)
         fit-from m parts owners st table ends holders R i (P .i-in .0) (P .i-in .1) (firstCell m) (cellCount m) refl refl order n owned order-is held-is (we ∙ owned-told) there
         twelve thirteen
 
-  fitting : Fitting owners table ends i (firstCell m) (cellCount m) parts
+  fitting : TablesFit owners table ends i (firstCell m) (cellCount m) parts
   fitting = record {
     cells-fit = cells-fit m (firstCell m) (cellCount m) (P .mesh) refl refl;
     cells-few = few;
@@ -106,8 +106,8 @@ module _ (m : Bytes) (parts : ℕ) (owners : Bytes) (i : ℕ) (st table : Bytes)
     fit = λ order n there oe. fits order n (partOwned owners table ends i (firstCell m) (cellCount m)) there oe refl;
   }
 
-  sent-told : exportCount owners holders i (cellCount m) ≡ sentEnds owners table ends i (firstCell m) (cellCount m) 16
-  unfolding exportCount exportedAt
+  sent-told : exportTally owners holders i (cellCount m) ≡ sentEnds owners table ends i (firstCell m) (cellCount m) 16
+  unfolding exportTally exportedAt
   sent-told =
       total-cong 0 (λ q. cond (ownsAt owners i q) (byteAt holders q - 1) 0) (λ q. cond (ownsAt owners i q) (holderCount (splitOf m parts owners st) (firstCell m + q) - 1) 0) (cellCount m)
       (λ q h. ap (λ x. cond (ownsAt owners i (0 + q)) (x - 1) 0) (R .held (0 + q) (omega arith)))
@@ -117,10 +117,10 @@ module _ (m : Bytes) (parts : ℕ) (owners : Bytes) (i : ℕ) (st table : Bytes)
 
   -- by the numbers that the code has
   module _ (part count first cells : ℕ) (pe : part ≡ i) (qe : count ≡ parts) (fe : first ≡ firstCell m) (ce : cells ≡ cellCount m) where
-    pub plan-fitting : Fitting owners table ends part first cells count
+    pub plan-fitting : TablesFit owners table ends part first cells count
     plan-fitting =
-        subst₂ (λ x y. Fitting owners table ends x first cells y) (sym pe) (sym qe)
-        (subst₂ (λ x y. Fitting owners table ends i x y parts) (sym fe) (sym ce) fitting)
+        subst₂ (λ x y. TablesFit owners table ends x first cells y) (sym pe) (sym qe)
+        (subst₂ (λ x y. TablesFit owners table ends i x y parts) (sym fe) (sym ce) fitting)
 
     pub plan-mapped : (1 ≤ part) × (part ≤ 16) × (first + cells ≤ 65536) × (cells ≤ 2000) × (count ≤ 16) × OwnersFew owners cells count
     plan-mapped = (

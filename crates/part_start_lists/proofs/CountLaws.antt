@@ -19,7 +19,7 @@ use Rattle.split.specs.Classes.{ownsAt, insideAt, reachHas, reachedAt, classAt,
 use Rattle.vocabulary.specs.Lists.{Zeros}
 use Rattle.split_cells.proofs.AddLaws.{add-none, add-one, add-both, add-end, count-start, count-turn, place-one, place-none, class-count, class-few}
 use Rattle.split_cells.proofs.ClassLists.{row-cells}
-use Rattle.part_start_lists.specs.Starting.{numbersOf, countAt, endsBy, Tallied, Got, Sent, OwnersFew, sentEnds, sentList, exportedAt, exportCount, ownStamped, stampedCells}
+use Rattle.part_start_lists.specs.Starting.{numbersOf, countAt, endsBy, Tallied, Got, Sent, OwnersFew, sentEnds, sentList, exportedAt, exportTally, ownStamped, stampedCells}
 
 cleared : (n k : ℕ) (counts : List ℕ) → counts ≡ replicate n 0 → countAt counts k ≡ 0
 unfolding countAt
@@ -215,16 +215,16 @@ module _ (owners holders : Bytes) (i : ℕ) where
       pub exported-none : x ≡ 0 → 0 ≡ exportedAt owners holders i q
       exported-none z = (let n : 0 ≡ x - 1 = omega arith in n) ∙ exported-own
 
-  pub exports-start : 0 ≡ exportCount owners holders i 0
-  unfolding exportCount
+  pub exports-start : 0 ≡ exportTally owners holders i 0
+  unfolding exportTally
   exports-start = sym (total-start 0 (exportedAt owners holders i))
 
-  pub exports-turn : (q n x : ℕ) → n ≡ exportCount owners holders i q → x ≡ exportedAt owners holders i q → n + x ≡ exportCount owners holders i (q + 1)
-  unfolding exportCount
+  pub exports-turn : (q n x : ℕ) → n ≡ exportTally owners holders i q → x ≡ exportedAt owners holders i q → n + x ≡ exportTally owners holders i (q + 1)
+  unfolding exportTally
   exports-turn q n x e f = ap₂ _+_ e (f ∙ ap (exportedAt owners holders i) (sym (zero-add q))) ∙ sym (total-turn 0 (exportedAt owners holders i) q)
 
-  pub exports-end : (q cells n : ℕ) → q ≤ cells → cells ≤ q → n ≡ exportCount owners holders i q → n ≡ exportCount owners holders i cells
-  exports-end q cells n g h e = at-last (λ k. n ≡ exportCount owners holders i k) q cells g h e
+  pub exports-end : (q cells n : ℕ) → q ≤ cells → cells ≤ q → n ≡ exportTally owners holders i q → n ≡ exportTally owners holders i cells
+  exports-end q cells n g h e = at-last (λ k. n ≡ exportTally owners holders i k) q cells g h e
 
 -- ---- the exports by stamps
 

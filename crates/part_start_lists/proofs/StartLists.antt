@@ -19,7 +19,7 @@ use Rattle.depths.specs.DepthLaws.{length-four, fours-store}
 use Rattle.part_state.specs.State.{importWord, reachWord, exportsWord}
 use Rattle.word_lists.specs.Putting.{Put}
 use Rattle.part_start_lists.specs.Starting.{localIn, numbersOf, startWords, gotEnds, sentEnds, sentList, sentWords, rowEnds, rowWords, numberedWords, startDepth, FieldCells}
-use Rattle.part_start_lists.specs.Starting.{gotFrom, sentFrom, countAt, endsBy, Tallied, Got, Sent, exportCount, Fit, Fitting, Drawn, partOrder, partOwned}
+use Rattle.part_start_lists.specs.Starting.{gotFrom, sentFrom, countAt, endsBy, Tallied, Got, Sent, exportTally, Fit, TablesFit, Drawn, partOrder, partOwned}
 use Rattle.part_calls.proofs.OpenedLaws.{four-cut}
 use Rattle.word_lists.proofs.PutLaws.{put-as, put-both}
 use Rattle.word_lists.proofs.RegionLaws.{joined-length, joined-append, regions-two, regions-three, regions-four}
@@ -148,7 +148,7 @@ row-order owners table ends i first cells parts class few C =
     (ap₂ _++_ (row-cells owners table ends i first cells 18 class few C)
     (blocks-cong 1 (classCells class first cells) (partCells owners table ends i first cells) parts (λ j h. row-cells owners table ends i first cells (1 + j) class few C)))
 
-module _ (owners table : Bytes) (ends : List ℕ) (i first cells parts : ℕ) (F : Fitting owners table ends i first cells parts) (class : Bytes) (C : Classed owners table ends i cells class)
+module _ (owners table : Bytes) (ends : List ℕ) (i first cells parts : ℕ) (F : TablesFit owners table ends i first cells parts) (class : Bytes) (C : Classed owners table ends i cells class)
     (a order : List ℕ) (n : ℕ) (X : Appended a order 0 n (classOrder class first cells parts)) (room : 2000 ≤ length a) where
   order-same : classOrder class first cells parts ≡ partOrder owners table ends i first cells parts
   order-same = row-order owners table ends i first cells parts class (F .cells-few) C
@@ -172,7 +172,7 @@ module _ (owners table : Bytes) (ends : List ℕ) (i first cells parts : ℕ) (F
     pub plan-fit : Fit owners table ends i first cells order n (inner + outer)
     plan-fit = subst (Fit owners table ends i first cells order n) (sym owned-is) (F .fit order n there order-is)
 
-    pub plan-drawn : (holders : Bytes) (sent long : ℕ) → sent ≡ exportCount owners holders i cells → long ≡ exportsWord n (inner + outer) (rowEnds table ends first order (inner + outer)) + sent
+    pub plan-drawn : (holders : Bytes) (sent long : ℕ) → sent ≡ exportTally owners holders i cells → long ≡ exportsWord n (inner + outer) (rowEnds table ends first order (inner + outer)) + sent
         → Drawn owners table ends holders i first cells parts order n (inner + outer) sent long
     plan-drawn holders sent long se le = record { there = there; order-is = order-is; owned-is = owned-is; sent-is = se; long-is = le }
 

@@ -115,8 +115,8 @@ pub record Sent (owners table : Bytes) (ends : List ℕ) (i cells n : ℕ) (sent
 unfoldable pub exportedAt : Bytes → Bytes → ℕ → ℕ → ℕ
 exportedAt owners holders i q = cond (ownsAt owners i q) (byteAt holders q - 1) 0
 
-unfoldable pub exportCount : Bytes → Bytes → ℕ → ℕ → ℕ
-exportCount owners holders i n = total 0 n (exportedAt owners holders i)
+unfoldable pub exportTally : Bytes → Bytes → ℕ → ℕ → ℕ
+exportTally owners holders i n = total 0 n (exportedAt owners holders i)
 
 -- the cell at place q, if part i owns it and it bears the stamp j; all such cells, where j is another part
 unfoldable pub ownStamped : Bytes → Bytes → ℕ → ℕ → ℕ → ℕ → List ℕ
@@ -162,7 +162,7 @@ unfoldable pub partOwned : Bytes → Bytes → List ℕ → ℕ → ℕ → ℕ 
 partOwned owners table ends i first cells = length (partCells owners table ends i first cells 17) + length (partCells owners table ends i first cells 18)
 
 -- tables whose lists keep to that, in whatever array the order stands
-pub record Fitting (owners table : Bytes) (ends : List ℕ) (i first cells parts : ℕ) : Type 0 where
+pub record TablesFit (owners table : Bytes) (ends : List ℕ) (i first cells parts : ℕ) : Type 0 where
   pub cells-fit : first + cells ≤ 65536
   pub cells-few : cells ≤ 2000
   pub parts-few : parts ≤ 16
@@ -175,7 +175,7 @@ pub record Drawn (owners table : Bytes) (ends : List ℕ) (holders : Bytes) (i f
   pub there : n ≤ length order
   pub order-is : take n order ≡ partOrder owners table ends i first cells parts
   pub owned-is : owned ≡ partOwned owners table ends i first cells
-  pub sent-is : sent ≡ exportCount owners holders i cells
+  pub sent-is : sent ≡ exportTally owners holders i cells
   pub long-is : long ≡ exportsWord n owned (rowEnds table ends first order owned) + sent
 
 -- the depth of local cell l in a field

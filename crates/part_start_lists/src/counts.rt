@@ -6,7 +6,7 @@ use split::inner::owner_of;
 ghost use mathlib.Core.Path.{_≡_};
 ghost use Prim.Native.Nat.{_≤_, _<_};
 ghost use lib.ListN.{replicate};
-ghost use Rattle.part_start_lists.specs.Starting.{Tallied, exportedAt, exportCount};
+ghost use Rattle.part_start_lists.specs.Starting.{Tallied, exportedAt, exportTally};
 
 // How many classes there are: none, the parts, interior and halo.
 pub const CLASSES: usize = 19;
@@ -37,7 +37,7 @@ fn exported_at(owners: &[u8], holders: &[u8], i: usize, q: usize) -> usize
 // How many cells part i exports to all parts together.
 pub fn count_exports(owners: &[u8], holders: &[u8], i: usize, cells: usize) -> usize
     requires { ⌜ cells ≤ 2000 ⌝ }
-    ensures { λ n. ⌜ (n ≡ exportCount (now (owners .entry)) (now (holders .entry)) i cells) × (n ≤ 512000) ⌝ }
+    ensures { λ n. ⌜ (n ≡ exportTally (now (owners .entry)) (now (holders .entry)) i cells) × (n ≤ 512000) ⌝ }
 {
     let mut n = 0;
     for q in 0..cells {

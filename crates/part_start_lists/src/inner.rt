@@ -40,7 +40,7 @@ ghost use Rattle.layout.specs.Words.{wordAt};
 ghost use Rattle.part_state.specs.State.{importWord, reachWord, exportsWord};
 ghost use Rattle.word_lists.specs.Putting.{Put};
 ghost use Rattle.part_start_lists.specs.Starting.{localIn, numbersOf, rowSize, endsBy, Got, entryWords, rowEnds, rowWords, ReachRow, ReachRows, startDepth, FieldCells};
-ghost use Rattle.part_start_lists.specs.Starting.{Fitting, Drawn};
+ghost use Rattle.part_start_lists.specs.Starting.{TablesFit, Drawn};
 
 // Whose lists are made: the part, how many parts there are, and the mesh's cells.
 pub struct Asked {
@@ -339,7 +339,7 @@ pub fn make_plan(
     got: &mut [u16],
 ) -> Plan
     requires { ⌜
-        Fitting (now owners) (now table) (now ends) (asked .part) (asked .first) (asked .cells) (asked .parts)
+        TablesFit (now owners) (now table) (now ends) (asked .part) (asked .first) (asked .cells) (asked .parts)
         × (length (now class) ≡ 2000)
         × (2000 ≤ length (now order))
         × (now got ≡ replicate 19 0)

@@ -1,6 +1,7 @@
 // Whether bytes begin with a part's state (20).
 use crate::lists::lists_fine;
 use crate::places::DEPTHS;
+use crate::places::LENGTH;
 use crate::places::TAKEN;
 use crate::places::WRITTEN;
 use crate::places::sizes_of;
@@ -77,7 +78,7 @@ fn state_fine(lists: &[u8], b: &[u8], changes: usize) -> bool
 pub fn is_state(b: &[u8]) -> bool
     ensures { λ r. ⌜ r ≡ isState (now (b .entry)) ⌝ }
 {
-    let changes = 2 * word_at(b, 0);
+    let changes = 2 * word_at(b, LENGTH);
     if b.len() < changes {
         return false;
     }

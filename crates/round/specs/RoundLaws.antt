@@ -20,7 +20,7 @@ use Rattle.layout.specs.Words.{word}
 use Rattle.depths.specs.Depths.{deepest, Valid, four, numberFrom, signed, depthFrom, depthOf, rangedAt}
 use Rattle.depths.specs.DepthLaws.{length-four, four-same, depth-same, depth-four, fours-length, fours-at, range-intro, ranged-size}
 use Rattle.mesh.specs.Walks.{Near}
-use Rattle.round_rule.specs.RuleLaws.{Small, new-small, new-length}
+use Rattle.round_rule.specs.RuleLaws.{SmallSum, new-small, new-length}
 use Rattle.round.specs.Rounds.{bad14, Scheme, schemeOf, depthIn, oldsIn, newIn, round, undivided}
 use Rattle.round_rule.specs.Update.{oldsAt}
 
@@ -87,7 +87,7 @@ module _ (m st : Bytes) (kind : ℕ) (v f : Bytes) where
       let S : Scheme = schemeOf m st kind v in
       fours-at (S .first) (S .cells) (newIn S f) (λ i _. new-four (S .first + i)) j h
 
-  olds-small : (e : bad14 (schemeOf m st kind v .cells) f ≡ false) (ns : List Near) → All (Small deepest) (oldsIn (schemeOf m st kind v) f ns)
+  olds-small : (e : bad14 (schemeOf m st kind v .cells) f ≡ false) (ns : List Near) → All (SmallSum deepest) (oldsIn (schemeOf m st kind v) f ns)
   unfolding oldsIn depthIn
   olds-small e [] = tt
   olds-small e (x ∷ ns) = (rw depth-four (field-depth _ f e _), olds-small e ns)

@@ -76,14 +76,14 @@ size-more w x s a m h k =
 
 -- ---- of depths of size at most m the new depth has size at most m
 
-abbrev pub Small : ℕ → Old → Type 0
-Small m o = natAbs (depthOf (o .depth)) ≤ m
+abbrev pub SmallSum : ℕ → Old → Type 0
+SmallSum m o = natAbs (depthOf (o .depth)) ≤ m
 
 kept : (m : ℕ) → m < 2147483648 → (z : ℤ) → natAbs z ≤ m → natAbs (depthOf (depthBytes z)) ≤ m
 kept m l z k = subst (λ y. natAbs y ≤ m) (sym (depth-back z (omega arith))) k
 
 module _ (v : Bytes) (m : ℕ) where
-  pub sum-small : (os : List Old) → All (Small m) os → natAbs (depthSum v os) ≤ weightSum v os * m
+  pub sum-small : (os : List Old) → All (SmallSum m) os → natAbs (depthSum v os) ≤ weightSum v os * m
   unfolding depthSum weightSum
   sum-small [] a = zero-le
   sum-small (o ∷ os) a =
@@ -91,11 +91,11 @@ module _ (v : Bytes) (m : ℕ) where
       let p : weight v o * natAbs x ≤ weight v o * m = mul-le-mul-left (weight v o) (a .0) in
       omega (arith, size-add (pos (weight v o) *ℤ x) (depthSum v os), size-times (weight v o) x, sum-small os (a .1))
 
-  pub mean-small : (os : List Old) → All (Small m) os → natAbs (quotient (depthSum v os) (weightSum v os)) ≤ m
+  pub mean-small : (os : List Old) → All (SmallSum m) os → natAbs (quotient (depthSum v os) (weightSum v os)) ≤ m
   mean-small os a =
       subst (λ n. n ≤ m) (sym (size-quotient (depthSum v os) (weightSum v os))) (div-le-of-le-mul (weightSum v os) (sum-small os a))
 
-  pub least-small : (z : ℤ) (os : List Old) → natAbs z ≤ m → All (Small m) os → natAbs (least z os) ≤ m
+  pub least-small : (z : ℤ) (os : List Old) → natAbs z ≤ m → All (SmallSum m) os → natAbs (least z os) ≤ m
   unfolding least
   least-small z [] h a = h
   least-small z (o ∷ os) h a =
@@ -103,7 +103,7 @@ module _ (v : Bytes) (m : ℕ) where
       least-small (lesser y z) os (cond-has (λ x. natAbs x ≤ m) (ltZ y z) y z (λ e. a .0) (λ e. h)) (a .1)
 
   -- whatever the kind
-  pub new-small : (kind : ℕ) (own : Bytes) (os : List Old) → m < 2147483648 → natAbs (depthOf own) ≤ m → All (Small m) os
+  pub new-small : (kind : ℕ) (own : Bytes) (os : List Old) → m < 2147483648 → natAbs (depthOf own) ≤ m → All (SmallSum m) os
       → natAbs (depthOf (newDepth kind v own os)) ≤ m
   unfolding newDepth
   new-small zero own os l h a = h
@@ -120,7 +120,7 @@ new-length (suc zero) v own os l = length-depthBytes (quotient (depthSum v os) (
 new-length (suc (suc zero)) v own os l = length-depthBytes (least (depthOf own) os)
 new-length (suc (suc (suc kind))) v own os l = l
 
-pub new-bytes : (kind : ℕ) (v own : Bytes) (os : List Old) (m : ℕ) → m < 2147483648 → natAbs (depthOf own) ≤ m → All (Small m) os → All (λ x. x < 256) own
+pub new-bytes : (kind : ℕ) (v own : Bytes) (os : List Old) (m : ℕ) → m < 2147483648 → natAbs (depthOf own) ≤ m → All (SmallSum m) os → All (λ x. x < 256) own
     → All (λ x. x < 256) (newDepth kind v own os)
 unfolding newDepth
 new-bytes zero v own os m l h a w = w

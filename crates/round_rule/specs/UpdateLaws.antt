@@ -18,7 +18,7 @@ use Rattle.layout.specs.Words.{word, wordAt}
 use Rattle.depths.specs.Depths.{depthFrom, rangedAt}
 use Rattle.depths.specs.DepthLaws.{depth-four, ranged-size}
 use Rattle.round_rule.specs.Rules.{bad11, weight, depthSum, weightSum, lesser, least}
-use Rattle.round_rule.specs.RuleLaws.{Small, rule-light, rule-first, depthSum-snoc, weightSum-snoc, least-snoc}
+use Rattle.round_rule.specs.RuleLaws.{SmallSum, rule-light, rule-first, depthSum-snoc, weightSum-snoc, least-snoc}
 use Rattle.round_rule.specs.Update.{tableEntry, tableEntries, oldAt, oldsAt, UpdateReady}
 
 module _ (b : Bytes) (at : ℕ) (f : Bytes) (base : ℕ) where
@@ -33,11 +33,11 @@ module _ (b : Bytes) (at : ℕ) (f : Bytes) (base : ℕ) where
   unfolding oldsAt tableEntries listed
   olds-start = refl
 
-  pub olds-small : (m n : ℕ) → ((t : ℕ) → t < n → natAbs (depthFrom f (base + 4 * word b (at + 4 * t))) ≤ m) → All (Small m) (oldsAt f base (tableEntries b at n))
+  pub olds-small : (m n : ℕ) → ((t : ℕ) → t < n → natAbs (depthFrom f (base + 4 * word b (at + 4 * t))) ≤ m) → All (SmallSum m) (oldsAt f base (tableEntries b at n))
   olds-small m zero h = rw olds-start tt
   olds-small m (suc n) h =
       rw (← add-one n, olds-turn)
-      (All-append (Small m) (oldsAt f base (tableEntries b at n)) (oldAt f base (tableEntry b at n) ∷ []) (olds-small m n (λ t k. h t (omega arith)))
+      (All-append (SmallSum m) (oldsAt f base (tableEntries b at n)) (oldAt f base (tableEntry b at n) ∷ []) (olds-small m n (λ t k. h t (omega arith)))
       (rw depth-four (h n (omega arith)), tt))
 
   -- what one more entry adds

@@ -20,7 +20,7 @@ use Rattle.layout.specs.WordLaws.{word-set}
 use Rattle.depths.specs.Depths.{deepest, Valid, four, depthFrom, depthOf, rangedAt}
 use Rattle.depths.specs.DepthLaws.{length-four, four-set, depth-four, range-intro, ranged-size}
 use Rattle.round_rule.specs.Rules.{Old}
-use Rattle.round_rule.specs.RuleLaws.{Small, new-small, new-length}
+use Rattle.round_rule.specs.RuleLaws.{SmallSum, new-small, new-length}
 use Rattle.messages.specs.Messages.{headSize, depthStart, depthsOf, fromIn, countIn}
 use Rattle.part_state.specs.State.{LocalNear, listsIn, listsOf, dynamic, ruleKind, weights, heldCount, ownedCount}
 use Rattle.part_state.specs.State.{localReach, isState, roundAt, takenPlace, writtenPlace, depthPlace, depthsPlace}
@@ -147,7 +147,7 @@ module _ (b : Bytes) (s : isState b ≡ true) where
       let old : LocalNear → Old = λ e. record { layer = e .layer; depth = depthAt (dynamic b) b (e .local) } in
       new-small (weights (take (dynamic b) b)) deepest (ruleKind (take (dynamic b) b)) (depthAt (dynamic b) b l) (map old es) (omega arith)
       (fine l h (omega (arith, whole .ends 0 16 (omega arith) (omega arith))))
-      (All-of-map (Small deepest) old es (All-map es (λ e q. fine (e .local) (q .0) (q .1)) (near-whole (take (dynamic b) b) (dynamic b) b whole l h k)))
+      (All-of-map (SmallSum deepest) old es (All-map es (λ e q. fine (e .local) (q .0) (q .1)) (near-whole (take (dynamic b) b) (dynamic b) b whole l h k)))
 
   advanced-depth : (l : ℕ) → 1 ≤ l → l ≤ heldCount (take (dynamic b) b) → Place 0 (listsOf b .owned + 1) l → InRange (depthAt (dynamic b) (advancedIn (listsOf b) (dynamic b) b) l)
   unfolding listsOf listsIn

@@ -22,7 +22,7 @@ use Rattle.walk_steps.specs.Walking.{Ground, Sized, Arrays, layerMark, walkedFr
 use Rattle.walk_steps.specs.declared.steps.MeshSizes.{MeshSizes}
 use Rattle.walk_steps.proofs.WalkLaws.{marked-by, cell-layer, walk-fresh}
 use Rattle.walk_steps.proofs.StepLaws.{step-from, step-to}
-use Rattle.walk_part_reach.specs.Rows.{walkedTo, rowCells, Rowed, Space, layerOne, layerCount, rowReachCount, Counted}
+use Rattle.walk_part_reach.specs.Rows.{walkedTo, rowCells, Rowed, Space, layerOne, layerCount, rowReachCount, ReachCounted}
 use Rattle.walk_steps.proofs.GroundLaws.{steps-is}
 
 -- ---- the cells of a row
@@ -181,8 +181,8 @@ module _ (m st : Bytes) (cell prev last : List ℕ) (sizes : MeshSizes) (n : ℕ
           ∙ reach-some m st (take s from) cell prev last n (firstCell m + q) G (row-starts m sizes (G .mesh) S rows i s from R .each) (record { low = omega arith; high = omega arith }) ne
           ∙ ap (λ cs. someOf cs (λ c. walkedTo m st c (firstCell m + q))) row)
 
-pub counted-turn : (m st rows : Bytes) (n i v : ℕ) (marks from found layers marks′ from′ found′ layers′ : List ℕ) (s k : ℕ) → n ≤ 8 → Counted m st rows i v marks from found layers s
-    → k ≡ rowReachCount m st rows (i + 1) → k ≤ 2000 → Space (v + (n + 1)) marks′ from′ found′ layers′ → Counted m st rows (i + 1) (v + (n + 1)) marks′ from′ found′ layers′ (s + k)
+pub counted-turn : (m st rows : Bytes) (n i v : ℕ) (marks from found layers marks′ from′ found′ layers′ : List ℕ) (s k : ℕ) → n ≤ 8 → ReachCounted m st rows i v marks from found layers s
+    → k ≡ rowReachCount m st rows (i + 1) → k ≤ 2000 → Space (v + (n + 1)) marks′ from′ found′ layers′ → ReachCounted m st rows (i + 1) (v + (n + 1)) marks′ from′ found′ layers′ (s + k)
 counted-turn m st rows n i v marks from found layers marks′ from′ found′ layers′ s k few C ke kl sp = record {
   turns = omega (arith, C .turns);
   space = sp;
@@ -190,9 +190,9 @@ counted-turn m st rows n i v marks from found layers marks′ from′ found′ l
   few = omega (arith, C .few);
 }
 
-pub counted-start : (m st rows : Bytes) (marks from found layers : List ℕ) → Space 1 marks from found layers → Counted m st rows 0 1 marks from found layers 0
+pub counted-start : (m st rows : Bytes) (marks from found layers : List ℕ) → Space 1 marks from found layers → ReachCounted m st rows 0 1 marks from found layers 0
 counted-start m st rows marks from found layers s = record { turns = omega arith; space = s; told = sym (total-start 1 (rowReachCount m st rows)); few = omega arith }
 
-pub counted-end : (m st rows : Bytes) (i v count : ℕ) (marks from found layers : List ℕ) (s : ℕ) → i ≤ count → count ≤ i → Counted m st rows i v marks from found layers s
+pub counted-end : (m st rows : Bytes) (i v count : ℕ) (marks from found layers : List ℕ) (s : ℕ) → i ≤ count → count ≤ i → ReachCounted m st rows i v marks from found layers s
     → s ≡ total 1 count (rowReachCount m st rows)
 counted-end m st rows i v count marks from found layers s g h C = at-last (λ k. s ≡ total 1 k (rowReachCount m st rows)) i count g h (C .told)

@@ -45,7 +45,7 @@ unfoldable pub rowReachCount : Bytes → Bytes → Bytes → ℕ → ℕ
 rowReachCount m st rows i = total 0 (cellCount m) (λ q. cond (someOf (rowCells (firstCell m) rows i (cellCount m)) (λ c. walkedTo m st c (firstCell m + q))) 1 0)
 
 -- the first n rows are counted
-pub record Counted (m st rows : Bytes) (n v : ℕ) (marks from found layers : List ℕ) (s : ℕ) : Type 0 where
+pub record ReachCounted (m st rows : Bytes) (n v : ℕ) (marks from found layers : List ℕ) (s : ℕ) : Type 0 where
   pub turns : v ≤ 1 + 9 * n
   pub space : Space v marks from found layers
   pub told : s ≡ total 1 n (rowReachCount m st rows)

@@ -15,26 +15,26 @@ use Rattle.layout.specs.Words.{word, wordAt, bytesOf}
 use Rattle.layout.specs.WordLaws.{length-bytesOf, wordAt-first}
 use Rattle.mesh.specs.Mesh.{firstCell, cellCount}
 use Rattle.mesh.specs.Walks.{Near, reach}
-use Rattle.walk_reach_table.specs.Tables.{placedWords, cellWords, tableWords, entryCount, Tabled}
+use Rattle.walk_reach_table.specs.Tables.{placedWords, reachEntries, tableWords, entryCount, Tabled}
 use Rattle.walk_reach_table.proofs.TableLaws.{capped-few}
 
 -- ---- the words of the first cells
 
 module _ (m st : Bytes) where
-  row-length : (c : ℕ) → length (cellWords m st c) ≡ 2 * length (reach m st c)
-  unfolding cellWords placedWords
+  row-length : (c : ℕ) → length (reachEntries m st c) ≡ 2 * length (reach m st c)
+  unfolding reachEntries placedWords
   row-length c = pairs-length (λ (e : Near). e .cell - firstCell m) (λ (e : Near). e .layer) (reach m st c)
 
   row-pair : (c t : ℕ) (none : Near) → t < length (reach m st c)
-      → (getD (cellWords m st c) (2 * t) 0 ≡ getD (reach m st c) t none .cell - firstCell m) × (getD (cellWords m st c) (2 * t + 1) 0 ≡ getD (reach m st c) t none .layer)
-  unfolding cellWords placedWords
+      → (getD (reachEntries m st c) (2 * t) 0 ≡ getD (reach m st c) t none .cell - firstCell m) × (getD (reachEntries m st c) (2 * t + 1) 0 ≡ getD (reach m st c) t none .layer)
+  unfolding reachEntries placedWords
   row-pair c t none h = pairs-at (λ (e : Near). e .cell - firstCell m) (λ (e : Near). e .layer) (reach m st c) t none h
 
   words-length : (n : ℕ) → length (tableWords m st n) ≡ 2 * entryCount m st n
   unfolding tableWords entryCount
   words-length n =
-      blocks-length (firstCell m) (cellWords m st) n
-      ∙ total-double (firstCell m) n (λ c. length (cellWords m st c)) (λ c. length (reach m st c)) row-length
+      blocks-length (firstCell m) (reachEntries m st) n
+      ∙ total-double (firstCell m) n (λ c. length (reachEntries m st c)) (λ c. length (reach m st c)) row-length
 
   -- one cell more
   pub count-more : (j : ℕ) → entryCount m st (j + 1) ≡ entryCount m st j + length (reach m st (firstCell m + j))
@@ -45,11 +45,11 @@ module _ (m st : Bytes) where
   unfolding entryCount
   count-fits n j h = total-fit (firstCell m) (λ c. length (reach m st c)) n j h
 
-  word-in-row : (n j s : ℕ) → j < n → s < 2 * length (reach m st (firstCell m + j)) → getD (tableWords m st n) (length (tableWords m st j) + s) 0 ≡ getD (cellWords m st (firstCell m + j)) s 0
+  word-in-row : (n j s : ℕ) → j < n → s < 2 * length (reach m st (firstCell m + j)) → getD (tableWords m st n) (length (tableWords m st j) + s) 0 ≡ getD (reachEntries m st (firstCell m + j)) s 0
   unfolding tableWords
-  word-in-row n j s h k = blocks-at (firstCell m) (cellWords m st) n j s 0 h (omega (arith, row-length (firstCell m + j)))
+  word-in-row n j s h k = blocks-at (firstCell m) (reachEntries m st) n j s 0 h (omega (arith, row-length (firstCell m + j)))
 
-  word-of : (n j s : ℕ) → j < n → s < 2 * length (reach m st (firstCell m + j)) → getD (tableWords m st n) (2 * entryCount m st j + s) 0 ≡ getD (cellWords m st (firstCell m + j)) s 0
+  word-of : (n j s : ℕ) → j < n → s < 2 * length (reach m st (firstCell m + j)) → getD (tableWords m st n) (2 * entryCount m st j + s) 0 ≡ getD (reachEntries m st (firstCell m + j)) s 0
   word-of n j s h k =
       ap (λ x. getD (tableWords m st n) (x + s) 0) (sym (words-length j))
       ∙ word-in-row n j s h k
@@ -58,7 +58,7 @@ module _ (m st : Bytes) where
 
 module _ (m st before after : Bytes) (text : after ≡ over before 0 (bytesOf (tableWords m st (cellCount m)))) where
   -- a word of a cell's reach stands in the table
-  word-is : (j s x : ℕ) → j < cellCount m → s < 2 * length (reach m st (firstCell m + j)) → x ≡ 2 * entryCount m st j + s → wordAt after x ≡ getD (cellWords m st (firstCell m + j)) s 0
+  word-is : (j s x : ℕ) → j < cellCount m → s < 2 * length (reach m st (firstCell m + j)) → x ≡ 2 * entryCount m st j + s → wordAt after x ≡ getD (reachEntries m st (firstCell m + j)) s 0
   word-is j s x h k xe =
       let ws : List ℕ = tableWords m st (cellCount m) in
       ap (λ (b : Bytes). wordAt b x) (text ∙ over-front before (bytesOf ws))

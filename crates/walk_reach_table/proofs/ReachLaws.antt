@@ -23,7 +23,7 @@ use Rattle.walk_near_cells.proofs.RowLaws.{under-more}
 use Rattle.walk_steps.proofs.WalkLaws.{cell-layer}
 use Rattle.walk_steps.proofs.GroundLaws.{steps-is}
 use Rattle.mesh.specs.Accepted.{Accepted, Cell}
-use Rattle.walk_reach_table.specs.Tables.{placedWords, cellWords, tableWords, entryCount, capped, row, Cleared, Emitted, EndTable, Tabled}
+use Rattle.walk_reach_table.specs.Tables.{placedWords, reachEntries, tableWords, entryCount, capped, row, Cleared, Emitted, EndTable, Tabled}
 use Rattle.walk_reach_table.proofs.TableLaws.{capped-low, capped-high, capped-few, emit-none, emit-both}
 
 pub joined-append : {A : Type 0} (xs ys : List (List A)) → joined (xs ++ ys) ≡ joined xs ++ joined ys
@@ -91,8 +91,8 @@ module _ (m st : Bytes) (cell prev last : List ℕ) (c n low high first : ℕ) (
       ∙ cell-layer m st cell prev last (c ∷ []) n z G (C, tt) (omega arith) (record { low = omega arith; high = omega arith })
       ∙ (unfold stepsTo in ap firstMark (picked-cong 0 _ _ (n + 1) (λ j h. ap (isIn z) (one-start m st c (0 + j))) ∙ ap (λ x. picked 0 (x + 1) (λ j. isIn z (walked m st c j))) (steps-is st n h)))
 
-  words-are : blocks (low - first) (high - low) (row layers first) ≡ cellWords m st c
-  unfolding cellWords reach
+  words-are : blocks (low - first) (high - low) (row layers first) ≡ reachEntries m st c
+  unfolding reachEntries reach
   words-are =
       sym (blocks-part (row layers first) (low - first) (high - low) (cellCount m) fits (λ i h. bare i (I .before (first + i) (omega (arith, I .starts))))
       (λ i h l. bare i (I .after (first + i) (omega (arith, I .starts)))))
@@ -105,7 +105,7 @@ module _ (m st : Bytes) (cell prev last : List ℕ) (c n low high first : ℕ) (
       bare : (i : ℕ) → getD layers (first + i) 0 ≡ 0 → row layers first i ≡ []
       bare i e = unfold row in ap (λ b. cond b [] (i ∷ (getD layers (first + i) 0 - 1) ∷ [])) (eq-eqb (getD layers (first + i) 0) 0 e)
 
-  pub emitted-cell : (s t : ℕ) (before after : Bytes) → Emitted before after s t (blocks (low - first) (high - low) (row layers first)) → Emitted before after s t (cellWords m st c)
+  pub emitted-cell : (s t : ℕ) (before after : Bytes) → Emitted before after s t (blocks (low - first) (high - low) (row layers first)) → Emitted before after s t (reachEntries m st c)
   emitted-cell s t before after E = subst (Emitted before after s t) words-are E
 
 -- and its layers are cleared
@@ -146,14 +146,14 @@ unfolding joined placedWords
 words-length first [] = refl
 words-length first (e ∷ es) = omega (arith, words-length first es)
 
-pub cell-count : (m st : Bytes) (c : ℕ) → length (cellWords m st c) ≡ 2 * length (reach m st c)
-unfolding cellWords
+pub cell-count : (m st : Bytes) (c : ℕ) → length (reachEntries m st c) ≡ 2 * length (reach m st c)
+unfolding reachEntries
 cell-count m st c = words-length (firstCell m) (reach m st c)
 
 pub table-count : (m st : Bytes) (n : ℕ) → length (tableWords m st n) ≡ 2 * entryCount m st n
 unfolding tableWords entryCount blocks total
 table-count m st zero = refl
-table-count m st (suc n) = omega (arith, length-append (blocks (firstCell m) n (cellWords m st)) (cellWords m st (firstCell m + n)), cell-count m st (firstCell m + n), table-count m st n)
+table-count m st (suc n) = omega (arith, length-append (blocks (firstCell m) n (reachEntries m st)) (reachEntries m st (firstCell m + n)), cell-count m st (firstCell m + n), table-count m st n)
 
 -- ---- what the calls suppose
 
@@ -170,7 +170,7 @@ cell-is m first cells x fe ce l h = record { low = omega arith; high = omega ari
 
 pub table-start : (m st b : Bytes) (first : ℕ) → Emitted b b 0 0 (tableWords m st (first - first))
 unfolding tableWords blocks
-table-start m st b first = let z : first - first ≡ 0 = omega arith in subst (λ k. Emitted b b 0 0 (blocks (firstCell m) k (cellWords m st))) (sym z) (emit-none b 0 (omega arith))
+table-start m st b first = let z : first - first ≡ 0 = omega arith in subst (λ k. Emitted b b 0 0 (blocks (firstCell m) k (reachEntries m st))) (sym z) (emit-none b 0 (omega arith))
 
 pub ends-start : (m st : Bytes) (first : ℕ) (ends after : List ℕ) → length ends ≡ 2001 → after ≡ set ends 0 0 → EndTable m st after (first - first)
 ends-start m st first ends after r f = record { each = λ j h. let z : j ≡ 0 = omega arith in subst (λ k. getD after k 0 ≡ entryCount m st k) (sym z) (ap (λ (l : List ℕ). getD l 0 0) f ∙ getD-set-same ends 0 0 0 (omega arith) ∙ none) }
@@ -179,20 +179,20 @@ ends-start m st first ends after r f = record { each = λ j h. let z : j ≡ 0 =
     none = unfold entryCount total in refl
 
 module _ (m st : Bytes) (first x : ℕ) (fe : first ≡ firstCell m) (l : first ≤ x) where
-  next : tableWords m st (x + 1 - first) ≡ tableWords m st (x - first) ++ cellWords m st x
+  next : tableWords m st (x + 1 - first) ≡ tableWords m st (x - first) ++ reachEntries m st x
   unfolding tableWords
   next =
       let q : x + 1 - first ≡ x - first + 1 = omega arith in
       let p : firstCell m + (x - first) ≡ x = omega arith in
-      ap (λ k. blocks (firstCell m) k (cellWords m st)) q ∙ blocks-turn (firstCell m) (cellWords m st) (x - first) ∙ ap (λ c. blocks (firstCell m) (x - first) (cellWords m st) ++ cellWords m st c) p
+      ap (λ k. blocks (firstCell m) k (reachEntries m st)) q ∙ blocks-turn (firstCell m) (reachEntries m st) (x - first) ∙ ap (λ c. blocks (firstCell m) (x - first) (reachEntries m st) ++ reachEntries m st c) p
 
-  pub table-turn : (a b c : Bytes) (t s : ℕ) → length a ≡ 32000 → Emitted a b 0 t (tableWords m st (x - first)) → Emitted b c t s (cellWords m st x) → Emitted a c 0 s (tableWords m st (x + 1 - first))
+  pub table-turn : (a b c : Bytes) (t s : ℕ) → length a ≡ 32000 → Emitted a b 0 t (tableWords m st (x - first)) → Emitted b c t s (reachEntries m st x) → Emitted a c 0 s (tableWords m st (x + 1 - first))
   table-turn a b c t s r E F = subst (Emitted a c 0 s) (sym next) (emit-both a b c 0 t s _ _ r E F)
 
   counted : (a b : Bytes) (s j : ℕ) → Emitted a b 0 s (tableWords m st j) → s ≡ capped (entryCount m st j)
   counted a b s j E = E .count ∙ ap capped (let q : 0 + length (tableWords m st j) / 2 ≡ entryCount m st j = omega (arith, table-count m st j) in q)
 
-  pub ends-turn : (a b c : Bytes) (t s : ℕ) (ends after : List ℕ) (cells : ℕ) → Accepted m → cells ≡ cellCount m → x < first + cells → length a ≡ 32000 → length ends ≡ 2001 → Emitted a b 0 t (tableWords m st (x - first)) → Emitted b c t s (cellWords m st x)
+  pub ends-turn : (a b c : Bytes) (t s : ℕ) (ends after : List ℕ) (cells : ℕ) → Accepted m → cells ≡ cellCount m → x < first + cells → length a ≡ 32000 → length ends ≡ 2001 → Emitted a b 0 t (tableWords m st (x - first)) → Emitted b c t s (reachEntries m st x)
       → s ≤ 8000 → EndTable m st ends (x - first) → after ≡ set ends (x + 1 - first) s → EndTable m st after (x + 1 - first)
   ends-turn a b c t s ends after cells A ce xh r re E F h N f = record { each = λ j k. ap (λ (q : List ℕ). getD q j 0) f ∙ go j k (eqb j (x + 1 - first)) refl }
     where
@@ -208,7 +208,7 @@ module _ (m st : Bytes) (first x : ℕ) (fe : first ≡ firstCell m) (l : first 
           getD-set-other ends (x + 1 - first) j s 0 n ∙ N .each j (omega arith)
 
   -- too many already
-  pub table-over : (a b c : Bytes) (t s cells : ℕ) (ends : List ℕ) → length a ≡ 32000 → cells ≡ cellCount m → x < first + cells → Emitted a b 0 t (tableWords m st (x - first)) → Emitted b c t s (cellWords m st x)
+  pub table-over : (a b c : Bytes) (t s cells : ℕ) (ends : List ℕ) → length a ≡ 32000 → cells ≡ cellCount m → x < first + cells → Emitted a b 0 t (tableWords m st (x - first)) → Emitted b c t s (reachEntries m st x)
       → 8000 < s → Tabled m st a c ends s
   table-over a b c t s cells ends r ce h E F k = record {
     count = all;

@@ -18,12 +18,12 @@ unfoldable pub placedWords : ℕ → Near → List ℕ
 placedWords first e = (e .cell - first) ∷ e .layer ∷ []
 
 -- the words of a cell's reach
-unfoldable pub cellWords : Bytes → Bytes → ℕ → List ℕ
-cellWords m st c = joined (map (placedWords (firstCell m)) (reach m st c))
+unfoldable pub reachEntries : Bytes → Bytes → ℕ → List ℕ
+reachEntries m st c = joined (map (placedWords (firstCell m)) (reach m st c))
 
 -- the words of the reaches of the first n cells, and how many entries those are
 unfoldable pub tableWords : Bytes → Bytes → ℕ → List ℕ
-tableWords m st n = blocks (firstCell m) n (cellWords m st)
+tableWords m st n = blocks (firstCell m) n (reachEntries m st)
 
 unfoldable pub entryCount : Bytes → Bytes → ℕ → ℕ
 entryCount m st n = total (firstCell m) n (λ c. length (reach m st c))

@@ -22,7 +22,7 @@ ghost use Rattle.vocabulary.specs.Bytes.{over};
 ghost use Rattle.vocabulary.specs.Lists.{Zeros};
 ghost use Rattle.vocabulary.specs.Intervals.{blocks};
 ghost use Rattle.layout.specs.Words.{bytesOf};
-ghost use Rattle.walk_reach_table.specs.Tables.{row, Cleared, Emitted, cellWords, Tabled};
+ghost use Rattle.walk_reach_table.specs.Tables.{row, Cleared, Emitted, reachEntries, Tabled};
 ghost use Rattle.walk_steps.specs.Walking.{Ground, Sized, Arrays, throughOne};
 ghost use Rattle.walk_near_cells.specs.NearCells.{WalksReady};
 ghost use Rattle.mesh.specs.Meet.{Under};
@@ -105,7 +105,7 @@ fn reach_of(
 ) -> usize
     requires { ⌜ Ground (now m) (now stencil) (now cell) (now prev) (now last) × Sized (now m) sizes × Cell (now m) c × (n + 1 ≡ length (now stencil)) × (single ≡ throughOne (now stencil)) × (n ≤ 8)
         × WalksReady (now m) (now stencil) w mark (now marks) (now from) (now found) (now near) × (mark ≤ 60000) × (length (now table) ≡ 32000) × (t ≤ 8001) ⌝ }
-    ensures { λ s. ⌜ Emitted (now (table .entry)) (now (table .exit)) t s (cellWords (now (m .entry)) (now (stencil .entry)) c) × (s ≤ 8001)
+    ensures { λ s. ⌜ Emitted (now (table .entry)) (now (table .exit)) t s (reachEntries (now (m .entry)) (now (stencil .entry)) c) × (s ≤ 8001)
         × WalksReady (now (m .entry)) (now (stencil .entry)) w (mark + (n + 1)) (now (marks .exit)) (now (from .exit)) (now (found .exit)) (now (near .exit)) ⌝ }
 {
     if w != 0 {

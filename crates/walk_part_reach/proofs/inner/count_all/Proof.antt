@@ -3,14 +3,14 @@ use mathlib.Core.Path.{sym, _∙_}
 use Prim.Native.Nat.{_-_, _≤_}
 use native.Mathlib.Omega.{arith}
 use Rattle.mesh.specs.WalkLaws.{stencil-parts}
-use Rattle.walk_part_reach.specs.Rows.{Counted}
+use Rattle.walk_part_reach.specs.Rows.{ReachCounted}
 use Rattle.walk_part_reach.proofs.RowLaws.{space-start, counted-start, counted-turn, counted-end}
 use borrow.Author.Needs.{needs}
 use Rattle.walk_part_reach.proofs.inner.count_all.Statement.{statement}
 use Rattle.walk_part_reach.proofs.inner.count_all.Tie as tie
 
 abbrev Inv-loop : tie.InvT-loop
-Inv-loop m sizes st cell prev last rows count marks₀ from₀ found₀ layers₀ n single v₀ s₀ i₀ marks from found layers v s i = (i ≤ count) × Counted m st rows i v marks from found layers s
+Inv-loop m sizes st cell prev last rows count marks₀ from₀ found₀ layers₀ n single v₀ s₀ i₀ marks from found layers v s i = (i ≤ count) × ReachCounted m st rows i v marks from found layers s
 
 abbrev μ-loop : tie.MeasureT-loop
 μ-loop m sizes st cell prev last rows count marks₀ from₀ found₀ layers₀ n single v₀ s₀ i₀ marks from found layers v s i = count - i
