@@ -47,7 +47,8 @@ module _ (lists b : Bytes) (changes : ℕ) (u : Bool) (ue : u ≡ allTaken (list
 
 -- ---- what is stored
 
-pub round-put : (b x y z new : Bytes) (changes round owned : ℕ) → stateLength changes owned ≤ length b → 4 * owned ≤ length new → x ≡ over b changes (wordBytes round) → y ≡ over x (changes + 2) (replicate 32 0)
+pub round-put : (b x y z new : Bytes) (changes round owned : ℕ) → stateLength changes owned ≤ length b → 4 * owned ≤ length new
+    → x ≡ over b changes (wordBytes round) → y ≡ over x (changes + 2) (replicate 32 0)
     → z ≡ over y (depthsPlace changes) (take (4 * owned) (drop 0 new)) → z ≡ over b changes (wordBytes round ++ (replicate 32 0 ++ take (4 * owned) new))
 round-put b x y z new changes round owned room there xe ye ze =
     let l : length (wordBytes round) ≡ 2 = length-wordBytes round in
@@ -76,7 +77,8 @@ module _ (b : Bytes) where
   unfolding advanceAnswer advanceState
   done = accepts (advanceNumber b) 0 (advancedIn (listsOf b) (dynamic b) b) b
 
-  here : (lists : Bytes) (changes round : ℕ) → round ≡ word b changes + 1 → over b changes (wordBytes round ++ (replicate 32 0 ++ blocks 1 (ownedCount lists) (newAt (listsIn lists) changes b))) ≡ advancedIn (listsIn lists) changes b
+  here : (lists : Bytes) (changes round : ℕ) → round ≡ word b changes + 1
+      → over b changes (wordBytes round ++ (replicate 32 0 ++ blocks 1 (ownedCount lists) (newAt (listsIn lists) changes b))) ≡ advancedIn (listsIn lists) changes b
   unfolding advancedIn listsIn
   here lists changes round e = ap (λ r. over b changes (wordBytes r ++ (replicate 32 0 ++ blocks 1 (ownedCount lists) (newAt (listsIn lists) changes b)))) e
 
@@ -100,7 +102,8 @@ module _ (b : Bytes) where
         → x ≡ over new 0 (blocks 1 owned (newAt (listsIn (take changes b)) changes b)) → y ≡ over b changes (wordBytes (r + 1) ++ (replicate 32 0 ++ take (4 * owned) x))
         → y ≡ advancedIn (listsIn (take changes b)) changes b
     next-put owned oe r re new x y xe ye =
-        let l : length (blocks 1 owned (newAt (listsIn (take changes b)) changes b)) ≡ 4 * owned = fours-length 1 owned (newAt (listsIn (take changes b)) changes b) (λ t c. new-four (take changes b) changes b (1 + t)) in
+        let l : length (blocks 1 owned (newAt (listsIn (take changes b)) changes b)) ≡ 4 * owned =
+        fours-length 1 owned (newAt (listsIn (take changes b)) changes b) (λ t c. new-four (take changes b) changes b (1 + t)) in
         let t : take (4 * owned) x ≡ blocks 1 owned (newAt (listsIn (take changes b)) changes b) =
         ap (take (4 * owned)) (xe ∙ over-front new (blocks 1 owned (newAt (listsIn (take changes b)) changes b)))
         ∙ take-at (blocks 1 owned (newAt (listsIn (take changes b)) changes b)) (drop (length (blocks 1 owned (newAt (listsIn (take changes b)) changes b))) new) (4 * owned) l in
@@ -136,5 +139,6 @@ counts-cut b changes z C = subst (λ (x : Bytes). Counts x z) (sym (cut b change
 pub counts-whole : (b : Bytes) (changes : ℕ) (z : Sizes) → Counts (take (changes - 0) (drop 0 b)) z → Counts (take changes b) z
 counts-whole b changes z C = subst (λ (x : Bytes). Counts x z) (cut b changes) C
 
-pub renewed-cut : (b new x : Bytes) (changes owned : ℕ) → x ≡ over new 0 (blocks 1 owned (newAt (listsIn (take (changes - 0) (drop 0 b))) changes b)) → x ≡ over new 0 (blocks 1 owned (newAt (listsIn (take changes b)) changes b))
+pub renewed-cut : (b new x : Bytes) (changes owned : ℕ) → x ≡ over new 0 (blocks 1 owned (newAt (listsIn (take (changes - 0) (drop 0 b))) changes b))
+    → x ≡ over new 0 (blocks 1 owned (newAt (listsIn (take changes b)) changes b))
 renewed-cut b new x changes owned e = e ∙ ap (λ (y : Bytes). over new 0 (blocks 1 owned (newAt (listsIn y) changes b))) (cut b changes)
