@@ -29,7 +29,8 @@ returns-3 c =
     let at-bad-rule = at-rule .before in
     let at-passed = at-bad-rule .before in
     let at-split-number = at-passed .before .before .before in
-    start-sizes _ _ _ _ _ _ _ _ _ (sym (at-split-number .split-number .ensures) ∙ at-passed .if1 .left) (rule-good _ _ _ _ (at-bad-rule .bad-rule .ensures) (at-rule .if2 .left)) _ (at-prepare .prepare .ensures .0) (c .if3 .taken)
+    start-sizes _ _ _ _ _ _ _ _ _ (sym (at-split-number .split-number .ensures) ∙ at-passed .if1 .left)
+    (rule-good _ _ _ _ (at-bad-rule .bad-rule .ensures) (at-rule .if2 .left)) _ (at-prepare .prepare .ensures .0) (c .if3 .taken)
 
 returns-4 : tie.Need-returns-4
 returns-4 c =
