@@ -219,7 +219,10 @@ fn put_locals(b: &mut [u8], s: usize, list: &[u16], n: usize, local: &[u16]) -> 
 // Writes what stands before the tables: the length of the lists, the part, the stencil's steps, the rule, and the mesh's cells.
 fn put_head(b: &mut [u8], plan: Plan, steps: usize, kind: usize, weights: &[u8]) -> usize
     requires { ⌜ (2 * importWord ≤ length (now b)) × (plan .long < 65536) × (plan .part < 65536) × (steps < 65536) × (kind < 65536) × (plan .first < 65536) × (plan .cells < 65536) ⌝ }
-    ensures { λ t. ⌜ Put (now (b .entry)) (now (b .exit)) 0 t (((plan .long) ∷ (plan .part) ∷ steps ∷ kind ∷ []) ++ (listed 0 5 (wordAt (now (weights .entry))) ++ ((plan .first) ∷ (plan .cells) ∷ []))) ⌝ }
+    ensures { λ t. ⌜
+        Put (now (b .entry)) (now (b .exit)) 0 t (((plan .long) ∷ (plan .part) ∷ steps ∷ kind ∷ []) ++ (listed 0 5 (wordAt (now (weights .entry))) ++
+        ((plan .first) ∷ (plan .cells) ∷ [])))
+        ⌝ }
 {
     put_one(b, LENGTH, plan.long);
     put_one(b, PART, plan.part);

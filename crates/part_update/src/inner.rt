@@ -61,7 +61,13 @@ fn renew(
     sizes: Sizes,
     new: &mut [u8],
 )
-    requires { ⌜ Opened (now lists) changes (now b) × (kindNumber kind ≡ ruleKind (now lists)) × (now weighting ≡ weights (now lists)) × Counts (now lists) sizes × (4 * sizes .owned ≤ length (now new)) ⌝ }
+    requires { ⌜
+        Opened (now lists) changes (now b)
+        × (kindNumber kind ≡ ruleKind (now lists))
+        × (now weighting ≡ weights (now lists))
+        × Counts (now lists) sizes
+        × (4 * sizes .owned ≤ length (now new))
+        ⌝ }
     ensures { λ _. ⌜ now (new .exit) ≡ over (now (new .entry)) 0 (blocks 1 (sizes .owned) (newAt (listsIn (now (lists .entry))) changes (now (b .entry)))) ⌝ }
 {
     for l in 1..sizes.owned + 1 {
