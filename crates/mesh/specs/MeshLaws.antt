@@ -1,13 +1,14 @@
 -- Laws of the tests of a mesh, so that no other crate opens their list. Assumes nothing.
-use mathlib.Core.Path.{_≡_, refl}
+use mathlib.Core.Path.{_≡_, refl, sym, _∙_}
 use mathlib.Core.Logic.{_≢_}
 use mathlib.Core.Bool.{true, false}
-use mathlib.Core.List.{List, _++_}
+use mathlib.Core.List.{List, [], _∷_, _++_}
+use Prim.Native.Nat.{ℕ}
 use lib.Dec.{T}
 use Rattle.vocabulary.specs.Bytes.{Bytes}
-use Rattle.vocabulary.specs.Tests.{Test, firstOf}
+use Rattle.vocabulary.specs.Tests.{Test, refuse, firstOf}
 use Rattle.vocabulary.specs.TestLaws.{numbered, small, passed-by, passed-append, firstOf-after, firstOf-left}
-use Rattle.mesh.specs.Mesh.{bad1, bad2, meshTests, meshNumber}
+use Rattle.mesh.specs.Mesh.{bad1, bad2, bad3, chainTests, meshTests, meshNumber}
 
 module _ (m : Bytes) where
   pub mesh-numbered : T (numbered (meshTests m))
@@ -36,3 +37,16 @@ module _ (m : Bytes) where
     pub mesh-refuses : meshNumber m ≢ 0 → firstOf (meshTests m ++ us) ≡ meshNumber m
     unfolding meshNumber
     mesh-refuses n = firstOf-left (meshTests m) us n
+
+  -- the tests of the sizes, which come before those of the chains
+  abbrev pub sizesTests : List Test
+  sizesTests = refuse 1 (bad1 m) ∷ refuse 2 (bad2 m) ∷ refuse 3 (bad3 m) ∷ []
+
+  module _ (k : ℕ) (e : k ≡ firstOf sizesTests) where
+    pub sizes-refuse : (k ≡ 0 → ⊥) → k ≡ meshNumber m
+    unfolding meshNumber meshTests
+    sizes-refuse n = e ∙ sym (firstOf-left sizesTests (chainTests m) (λ q. n (e ∙ q)))
+
+    pub sizes-pass : k ≡ 0 → (x : ℕ) → x ≡ firstOf (chainTests m) → x ≡ meshNumber m
+    unfolding meshNumber meshTests
+    sizes-pass z x f = f ∙ sym (firstOf-after sizesTests (chainTests m) tt (sym e ∙ z))

@@ -11,14 +11,14 @@ use borrow.Author.Tests.{le-leb, lt-leb, eq-eqb, ne-eqb, eqb-true, eqb-false}
 use Rattle.vocabulary.specs.Bytes.{Bytes}
 use Rattle.vocabulary.specs.Intervals.{isUpTo, some, blocks}
 use Rattle.vocabulary.specs.IntervalLaws.{blocks-turn, blocks-split, blocks-length, total-cong}
-use Rattle.vocabulary.specs.Lists.{repeats, someOf, Zeros}
+use Rattle.vocabulary.specs.Lists.{repeats, someOf}
 use Rattle.vocabulary.specs.ListLaws.{and-right, not-both}
-use Rattle.mesh.specs.Mesh.{counted, below, elements, nextOf, headOf, elementIn, follow, records, chain, allRecords, headed}
+use Rattle.mesh.specs.Mesh.{counted, below, elements, nextOf, headOf, elementIn, recordCount, follow, records, chain, allRecords, headed}
 use Rattle.mesh.specs.Meet.{Met, met, meet, Sizes}
 use Rattle.mesh.proofs.MeetLaws.{meet-on, meet-stays}
 use Rattle.mesh.proofs.FollowLaws.{chain-ended, chain-spent, chain-more}
-use Rattle.mesh_chains.specs.Written.{ChainNotes, noted, note, chains, Wrote, Written}
-use Rattle.mesh_chains.proofs.RecordLaws.{records-positive, unmarked, meeting-told, met-few, records-told}
+use Rattle.mesh_chains.specs.Written.{ChainNotes, noted, note, chains, Places, MarksBelow, Wrote, Written}
+use Rattle.mesh_chains.proofs.RecordLaws.{records-positive, meeting-told, met-few, records-told}
 
 -- ---- the loop over a chain: w is what noting the whole chain gives
 
@@ -110,8 +110,8 @@ note-writes m r s t items (i ∷ is) s′ t′ items′ e =
 
 -- ---- one chain more
 
-module _ (m : Bytes) (k : ℕ) (items ends : List ℕ) (W : Wrote m k items ends) (few : k < 2000) (t : ℕ) (items′ : List ℕ)
-    (te : t ≡ length (chains m k) + length (chain m (1 + k))) (room : t ≤ 12000) (ie : items′ ≡ sets items (length (chains m k)) (chain m (1 + k))) where
+module _ (m : Bytes) (k : ℕ) (items ends : List ℕ) (W : Wrote m k items ends) (few : k < elements m) (t : ℕ) (items′ : List ℕ)
+    (te : t ≡ length (chains m k) + length (chain m (1 + k))) (room : t ≤ recordCount m) (ie : items′ ≡ sets items (length (chains m k)) (chain m (1 + k))) where
   more : chains m (k + 1) ≡ chains m k ++ chain m (1 + k)
   unfolding chains
   more = blocks-turn 1 (chain m) k
@@ -132,7 +132,7 @@ module _ (m : Bytes) (k : ℕ) (items ends : List ℕ) (W : Wrote m k items ends
   pub wrote-more : Wrote m (k + 1) items′ (set ends (1 + k) t)
   wrote-more = record {
     items-long = omega (arith, ap length ie, length-sets items (length (chains m k)) (chain m (1 + k)), W .items-long);
-    ends-long = length-set ends (1 + k) t ∙ W .ends-long;
+    ends-long = omega (arith, length-set ends (1 + k) t, W .ends-long);
     room = omega (arith, more-length);
     items-are = more-items;
     ends-are = λ j h. go j h (eqb j (1 + k)) refl;
@@ -149,23 +149,23 @@ module _ (m : Bytes) (k : ℕ) (items ends : List ℕ) (W : Wrote m k items ends
 
 -- ---- the loop over the elements
 
--- the chains of the elements 1 to k are met and written down, up to place t, with nothing amiss
-pub record Noting (m : Bytes) (r k : ℕ) (seen : List ℕ) (t : ℕ) (items ends : List ℕ) : Type 0 where
-  pub met-is : met false seen ≡ meet 1 r unmarked (blocks 1 k (records m))
+-- the chains of the elements 1 to k are met, from the marks in blank on, and written down, up to place t, with nothing amiss
+pub record Noting (m : Bytes) (r : ℕ) (blank : List ℕ) (k : ℕ) (seen : List ℕ) (t : ℕ) (items ends : List ℕ) : Type 0 where
+  pub met-is : met false seen ≡ meet 1 r blank (blocks 1 k (records m))
   pub place-is : t ≡ length (chains m k)
   pub wrote : Wrote m k items ends
 
-pub noting-start : (m : Bytes) (r : ℕ) (items ends : List ℕ) → 12000 ≤ length items → Zeros 2001 ends → Noting m r (1 - 1) unmarked 0 items ends
+pub noting-start : (m : Bytes) (d n r : ℕ) (blank items ends : List ℕ) → Sizes m d n r → Places n r items ends → Noting m r blank (1 - 1) blank 0 items ends
 unfolding blocks meet chains
-noting-start m r items ends h z = record {
+noting-start m d n r blank items ends z p = record {
   met-is = refl;
   place-is = refl;
   wrote = record {
-    items-long = h;
-    ends-long = z .size;
+    items-long = omega (arith, z .r-is, p .items-long);
+    ends-long = omega (arith, z .n-is, p .ends-long);
     room = omega arith;
     items-are = refl;
-    ends-are = λ j l. let q : j ≡ 0 = omega arith in rw q (z .each 0);
+    ends-are = λ j l. let q : j ≡ 0 = omega arith in rw q (p .none);
   };
 }
 
@@ -175,27 +175,28 @@ unfolding chains chain
 chains-records m k =
     blocks-length 1 (chain m) k ∙ total-cong 1 _ _ k (λ j h. length-map (records m (1 + j)) (elementIn m)) ∙ sym (blocks-length 1 (records m) k)
 
-module _ (m : Bytes) (d n r : ℕ) (z : Sizes m d n r) (k : ℕ) (s : List ℕ) (t : ℕ) (items ends : List ℕ) (N : Noting m r k s t items ends) where
+module _ (m : Bytes) (d n r : ℕ) (z : Sizes m d n r) (blank : List ℕ) (B : MarksBelow r 1 blank) (k : ℕ) (s : List ℕ) (t : ℕ) (items ends : List ℕ)
+    (N : Noting m r blank k s t items ends) where
   module _ (h : ℕ) (he : h ≡ headOf m (1 + k)) (b : Bool) (s′ : List ℕ) (t′ : ℕ) (items′ : List ℕ)
       (f : noted b s′ t′ items′ ≡ note m r s t items (follow m (r + 1) h)) where
     here : follow m (r + 1) h ≡ records m (1 + k)
     unfolding records
     here = rw (← z .r-is, ← he)
 
-    meets : met b s′ ≡ meet 1 r unmarked (blocks 1 (k + 1) (records m))
+    meets : met b s′ ≡ meet 1 r blank (blocks 1 (k + 1) (records m))
     meets =
         ap metOf f ∙ note-meets m r s t items (follow m (r + 1) h) ∙ ap (meet 1 r s) here
-        ∙ sym (meet-on 1 r unmarked (blocks 1 k (records m)) s (records m (1 + k)) (N .met-is)) ∙ ap (meet 1 r unmarked) (sym (blocks-turn 1 (records m) k))
+        ∙ sym (meet-on 1 r blank (blocks 1 k (records m)) s (records m (1 + k)) (N .met-is)) ∙ ap (meet 1 r blank) (sym (blocks-turn 1 (records m) k))
 
     amiss-told : b ≡ true → k < n → true ≡ someOf (allRecords m) (ltb r) || repeats (allRecords m)
     unfolding allRecords
-    amiss-told q l = meeting-told r (z .r-high) (allRecords m) (records-positive m (elements m)) s′ true (sym split)
+    amiss-told q l = meeting-told r blank B (allRecords m) (records-positive m (elements m)) s′ true (sym split)
       where
-        split : meet 1 r unmarked (allRecords m) ≡ met true s′
+        split : meet 1 r blank (allRecords m) ≡ met true s′
         split =
             let p : elements m ≡ k + 1 + (n - (k + 1)) = omega (arith, z .n-is) in
             rw (p, blocks-split 1 (records m) (k + 1) (n - (k + 1)))
-            (meet-stays 1 r unmarked (blocks 1 (k + 1) (records m)) s′ (blocks (1 + (k + 1)) (n - (k + 1)) (records m)) (ap (λ x. met x s′) (sym q) ∙ meets))
+            (meet-stays 1 r blank (blocks 1 (k + 1) (records m)) s′ (blocks (1 + (k + 1)) (n - (k + 1)) (records m)) (ap (λ x. met x s′) (sym q) ∙ meets))
 
     module _ (q : b ≡ false) where
       writes : (t′ ≡ t + length (records m (1 + k))) × (items′ ≡ sets items t (chain m (1 + k)))
@@ -206,33 +207,34 @@ module _ (m : Bytes) (d n r : ℕ) (z : Sizes m d n r) (k : ℕ) (s : List ℕ) 
       unfolding chain
       place = omega (arith, writes .0, N .place-is, length-map (records m (1 + k)) (elementIn m))
 
-      noted-few : t′ ≤ 12000
+      noted-few : t′ ≤ r
       unfolding chains
-      noted-few = omega (arith, more, met-few r (z .r-high) (blocks 1 (k + 1) (records m)) (records-positive m (k + 1)) s′ (ap (λ x. met x s′) (sym q) ∙ meets), z .r-high)
+      noted-few = omega (arith, more, met-few r blank B (blocks 1 (k + 1) (records m)) (records-positive m (k + 1)) s′ (ap (λ x. met x s′) (sym q) ∙ meets))
         where
           more : t′ ≡ length (blocks 1 (k + 1) (records m))
           more =
               place ∙ sym (ap length (blocks-turn 1 (chain m) k) ∙ length-append (chains m k) (chain m (1 + k))) ∙ chains-records m (k + 1)
 
-      next : k < n → Noting m r (k + 1) s′ t′ items′ (set ends (1 + k) t′)
+      next : k < n → Noting m r blank (k + 1) s′ t′ items′ (set ends (1 + k) t′)
       next l =
           let ie : items′ ≡ sets items (length (chains m k)) (chain m (1 + k)) = writes .1 ∙ ap (λ x. sets items x (chain m (1 + k))) (N .place-is) in
           record {
             met-is = ap (λ x. met x s′) (sym q) ∙ meets;
-            place-is = more-length m k items ends (N .wrote) (omega (arith, z .n-high)) t′ items′ place noted-few ie;
-            wrote = wrote-more m k items ends (N .wrote) (omega (arith, z .n-high)) t′ items′ place noted-few ie;
+            place-is = more-length m k items ends (N .wrote) (omega (arith, z .n-is)) t′ items′ place (omega (arith, noted-few, z .r-is)) ie;
+            wrote = wrote-more m k items ends (N .wrote) (omega (arith, z .n-is)) t′ items′ place (omega (arith, noted-few, z .r-is)) ie;
           }
 
 -- the same for the element e, which is next
-module _ (m : Bytes) (d n r : ℕ) (z : Sizes m d n r) (e : ℕ) (low : 1 ≤ e) (s : List ℕ) (t : ℕ) (items ends : List ℕ) (N : Noting m r (e - 1) s t items ends) where
+module _ (m : Bytes) (d n r : ℕ) (z : Sizes m d n r) (blank : List ℕ) (B : MarksBelow r 1 blank) (e : ℕ) (low : 1 ≤ e) (s : List ℕ) (t : ℕ) (items ends : List ℕ)
+    (N : Noting m r blank (e - 1) s t items ends) where
   pub noting-room : t ≤ 12000
-  noting-room = omega (arith, N .place-is, N .wrote .room)
+  noting-room = omega (arith, N .place-is, N .wrote .room, z .r-is, z .r-high)
 
   pub noting-end : e ≤ 1 + n → 1 + n ≤ e → false ≡ someOf (allRecords m) (ltb r) || repeats (allRecords m)
   unfolding allRecords
   noting-end g h =
       let q : e - 1 ≡ elements m = omega (arith, z .n-is) in
-      meeting-told r (z .r-high) (allRecords m) (records-positive m (elements m)) s false (rw q at (N .met-is))
+      meeting-told r blank B (allRecords m) (records-positive m (elements m)) s false (rw q at (N .met-is))
 
   pub noting-wrote : e ≤ 1 + n → 1 + n ≤ e → Wrote m n items ends
   noting-wrote g h = let q : e - 1 ≡ n = omega arith in rw q at (N .wrote)
@@ -242,16 +244,16 @@ module _ (m : Bytes) (d n r : ℕ) (z : Sizes m d n r) (e : ℕ) (low : 1 ≤ e)
     head-is = let q : 1 + (e - 1) ≡ e = omega arith in rw q he
 
     pub noting-found : b ≡ true → e < 1 + n → true ≡ someOf (allRecords m) (ltb r) || repeats (allRecords m)
-    noting-found q g = amiss-told m d n r z (e - 1) s t items ends N h head-is b s′ t′ items′ f q (omega arith)
+    noting-found q g = amiss-told m d n r z blank B (e - 1) s t items ends N h head-is b s′ t′ items′ f q (omega arith)
 
     pub noting-fits : b ≡ false → t′ < 65536
-    noting-fits q = omega (arith, noted-few m d n r z (e - 1) s t items ends N h head-is b s′ t′ items′ f q)
+    noting-fits q = omega (arith, noted-few m d n r z blank B (e - 1) s t items ends N h head-is b s′ t′ items′ f q, z .r-high)
 
-    pub noting-turn : b ≡ false → e < 1 + n → Noting m r (e + 1 - 1) s′ t′ items′ (set ends e t′)
+    pub noting-turn : b ≡ false → e < 1 + n → Noting m r blank (e + 1 - 1) s′ t′ items′ (set ends e t′)
     noting-turn q g =
         let x : 1 + (e - 1) ≡ e = omega arith in
         let y : e - 1 + 1 ≡ e + 1 - 1 = omega arith in
-        rw (x, y) at (next m d n r z (e - 1) s t items ends N h head-is b s′ t′ items′ f q (omega arith))
+        rw (x, y) at (next m d n r z blank B (e - 1) s t items ends N h head-is b s′ t′ items′ f q (omega arith))
 
 -- what test 4 leaves
 pub written : (m : Bytes) (d n r : ℕ) (items ends : List ℕ) (b c : Bool) (points : ℕ) → Sizes m d n r → points ≡ counted m 0 → b ≡ some 1 points (headed m) → b ≡ false

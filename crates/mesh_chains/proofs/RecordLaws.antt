@@ -5,17 +5,18 @@ use mathlib.Core.List.{List}
 use Prim.Native.Nat.{ℕ, _≤_}
 use native.Mathlib.Omega.{arith}
 use lib.Dec.{ltb, leb}
-use lib.ListN.{length, replicate, length-replicate}
+use lib.ListN.{length}
 use borrow.Author.Tests.{le-leb, lt-leb, ltb-true, ltb-false}
 use Rattle.vocabulary.specs.Bytes.{Bytes}
 use Rattle.vocabulary.specs.Intervals.{isUpTo, some, blocks}
 use Rattle.vocabulary.specs.IntervalLaws.{blocks-all}
 use Rattle.vocabulary.specs.Lists.{repeats, someOf, All}
-use Rattle.vocabulary.specs.ListLaws.{or-false, someOf-cong, someOf-false, All-map, All-both, once-few, zeros-at}
+use Rattle.vocabulary.specs.ListLaws.{or-false, someOf-cong, someOf-false, All-map, All-both, once-few}
 use Rattle.mesh.specs.Mesh.{counted, recordCount, records, allRecords, headed, bad4}
 use Rattle.mesh.specs.Meet.{met, meet}
 use Rattle.mesh.proofs.FollowLaws.{follow-positive}
 use Rattle.mesh.proofs.MeetLaws.{outside, fresh-tells}
+use Rattle.mesh_chains.specs.Written.{MarksBelow}
 
 pub records-positive : (m : Bytes) (k : ℕ) → All (λ x. 1 ≤ x) (blocks 1 k (records m))
 unfolding records
@@ -30,18 +31,16 @@ above-outside r x h = go (ltb r x) refl
     go true e = simp (le-leb _ _ h, lt-leb x r (ltb-true r x e))
     go false e = simp (le-leb _ _ h, le-leb x r (ltb-false r x e))
 
-abbrev pub unmarked : List ℕ
-unmarked = replicate 12001 0
-
-module _ (r : ℕ) (small : r ≤ 12000) (xs : List ℕ) (positive : All (λ x. 1 ≤ x) xs) (t : List ℕ) where
+-- from an array without marks
+module _ (r : ℕ) (blank : List ℕ) (B : MarksBelow r 1 blank) (xs : List ℕ) (positive : All (λ x. 1 ≤ x) xs) (t : List ℕ) where
   -- what meeting the numbers tells
-  pub meeting-told : (b : Bool) → met b t ≡ meet 1 r unmarked xs → b ≡ someOf xs (ltb r) || repeats xs
+  pub meeting-told : (b : Bool) → met b t ≡ meet 1 r blank xs → b ≡ someOf xs (ltb r) || repeats xs
   meeting-told b e =
-      fresh-tells 1 r unmarked xs t b (λ i q. let z : ⊥ = omega (arith, zeros-at 12001 i) in z) (omega (arith, length-replicate {A = ℕ} 12001 0)) e
+      fresh-tells 1 r blank xs t b (λ i q. let z : ⊥ = omega (arith, B .each i) in z) (B .long) e
       ∙ ap (λ x. x || repeats xs) (someOf-cong (outside r) (ltb r) xs (All-map xs (λ x h. above-outside r x h) positive))
 
   -- with nothing amiss they are no more than r
-  pub met-few : met false t ≡ meet 1 r unmarked xs → length xs ≤ r
+  pub met-few : met false t ≡ meet 1 r blank xs → length xs ≤ r
   met-few e =
       let a = or-false (someOf xs (ltb r)) (repeats xs) (sym (meeting-told false e)) in
       once-few r xs

@@ -3,7 +3,7 @@
 use mathlib.Core.Path.{_≡_}
 use mathlib.Core.Bool.{Bool, true, false}
 use mathlib.Core.List.{List, [], _∷_}
-use Prim.Native.Nat.{ℕ, _+_, _-_, _≤_}
+use Prim.Native.Nat.{ℕ, _+_, _-_, _≤_, _<_}
 use lib.Dec.{eqb}
 use lib.ListN.{length, getD, set, take, drop}
 use Rattle.vocabulary.specs.Bytes.{Bytes}
@@ -32,11 +32,22 @@ stretch items a b = take (b - a) (drop a items)
 unfoldable pub chains : Bytes → ℕ → List ℕ
 chains m k = blocks 1 k (chain m)
 
--- these chains stand in items, and ends has the place after each of them; that of element 0, which is none, is 0
+-- places for the chains of n elements with r records, and for where they end; that of element 0, which is none, is 0
+pub record Places (n r : ℕ) (items ends : List ℕ) : Type 0 where
+  pub items-long : r ≤ length items
+  pub ends-long : n < length ends
+  pub none : getD ends 0 0 ≡ 0
+
+-- marks of the numbers up to n, each below v
+pub record MarksBelow (n v : ℕ) (s : List ℕ) : Type 0 where
+  pub long : n < length s
+  pub each : (i : ℕ) → getD s i 0 < v
+
+-- these chains stand in items, and ends has the place after each of them
 pub record Wrote (m : Bytes) (k : ℕ) (items ends : List ℕ) : Type 0 where
-  pub items-long : 12000 ≤ length items
-  pub ends-long : length ends ≡ 2001
-  pub room : length (chains m k) ≤ 12000
+  pub items-long : recordCount m ≤ length items
+  pub ends-long : elements m < length ends
+  pub room : length (chains m k) ≤ recordCount m
   pub items-are : take (length (chains m k)) items ≡ chains m k
   pub ends-are : (j : ℕ) → j ≤ k → getD ends j 0 ≡ length (chains m j)
 

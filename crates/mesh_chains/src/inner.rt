@@ -1,5 +1,4 @@
 // The tests 4 and 5: records and elements of the chains. Each function answers true where the mesh is to be refused.
-use layout::limits::ELEMENT_PLACES;
 use layout::limits::RECORD_PLACES;
 use layout::put_number_at;
 use mesh::inner::count_of;
@@ -12,10 +11,15 @@ ghost use Prim.Native.Nat.{_+_, _<_, _≤_};
 ghost use lib.Dec.{ltb};
 ghost use lib.ListN.{length, getD};
 ghost use Rattle.vocabulary.specs.Intervals.{some};
-ghost use Rattle.vocabulary.specs.Lists.{repeats, someOf, Zeros};
+ghost use Rattle.vocabulary.specs.Lists.{repeats, someOf};
 ghost use Rattle.mesh.specs.Mesh.{top, counted, below, elements, follow, allRecords, headed, wrongAt, bad4, bad5};
-ghost use Rattle.mesh.specs.Meet.{Met, meet, Sizes, Under};
-ghost use Rattle.mesh_chains.specs.Written.{ChainNotes, note, stretch, Wrote, Written};
+ghost use Rattle.mesh.specs.Meet.{Met, meet, Sizes};
+ghost use Rattle.mesh_chains.specs.Written.{ChainNotes, note, stretch, Places, MarksBelow, Wrote, Written};
+
+// What a small mesh has at most: its arrays are small, since to clear them costs time at every call.
+pub const FEW_ELEMENTS: usize = 255;
+
+pub const FEW_RECORDS: usize = 511;
 
 fn point_headed(m: &[u8], points: usize) -> bool
     requires { ⌜ points < 65536 ⌝ }
@@ -43,10 +47,10 @@ fn write_chain(
     r: usize,
     h: usize,
     from: usize,
-    seen: &mut [u8; RECORD_PLACES],
+    seen: &mut [u8],
     items: &mut [u16],
 ) -> Followed
-    requires { ⌜ (n ≡ elements (now m)) × (n ≤ 2000) × (r ≤ 12000) × (h < 65536) × (from ≤ 12000) ⌝ }
+    requires { ⌜ (n ≡ elements (now m)) × (n ≤ 2000) × (r ≤ 12000) × (h < 65536) × (from ≤ 12000) × (r < length (now seen)) ⌝ }
     ensures { λ f. ⌜ ChainNotes.noted (f .amiss) (now (seen .exit)) (f .end) (now (items .exit))
         ≡ note (now (m .entry)) r (now (seen .entry)) from (now (items .entry)) (follow (now (m .entry)) (r + 1) h) ⌝ }
 {
@@ -82,16 +86,24 @@ fn write_chain(
 }
 
 // Whether some chain meets a record above r, or one that it or another chain met before. Where none does, all chains are written down.
-fn write_all(m: &[u8], d: usize, n: usize, r: usize, items: &mut [u16], ends: &mut [u16]) -> bool
-    requires { ⌜ Sizes (now m) d n r × (12000 ≤ length (now items)) × Zeros 2001 (now ends) ⌝ }
+// `seen` is for the marks of the records.
+fn write_marked(
+    m: &[u8],
+    d: usize,
+    n: usize,
+    r: usize,
+    items: &mut [u16],
+    ends: &mut [u16],
+    seen: &mut [u8],
+) -> bool
+    requires { ⌜ Sizes (now m) d n r × Places n r (now items) (now ends) × MarksBelow r 1 (now seen) ⌝ }
     ensures { λ b. ⌜ (b ≡ someOf (allRecords (now (m .entry))) (ltb r) || repeats (allRecords (now (m .entry))))
         × (b ≡ false → Wrote (now (m .entry)) n (now (items .exit)) (now (ends .exit))) ⌝ }
 {
-    let mut seen = [0u8; RECORD_PLACES];
     let mut end = 0;
     for e in 1..1 + n {
         let h = head_of(m, e);
-        let chain = write_chain(m, n, r, h, end, &mut seen, items);
+        let chain = write_chain(m, n, r, h, end, seen, items);
         if chain.amiss {
             return true;
         }
@@ -101,8 +113,23 @@ fn write_all(m: &[u8], d: usize, n: usize, r: usize, items: &mut [u16], ends: &m
     false
 }
 
+// The same with marks of its own: few where few records are counted, since to clear them costs time at every call.
+fn write_all(m: &[u8], d: usize, n: usize, r: usize, items: &mut [u16], ends: &mut [u16]) -> bool
+    requires { ⌜ Sizes (now m) d n r × Places n r (now items) (now ends) ⌝ }
+    ensures { λ b. ⌜ (b ≡ someOf (allRecords (now (m .entry))) (ltb r) || repeats (allRecords (now (m .entry))))
+        × (b ≡ false → Wrote (now (m .entry)) n (now (items .exit)) (now (ends .exit))) ⌝ }
+{
+    if r <= FEW_RECORDS {
+        let mut few = [0u8; FEW_RECORDS + 1];
+        write_marked(m, d, n, r, items, ends, &mut few)
+    } else {
+        let mut seen = [0u8; RECORD_PLACES];
+        write_marked(m, d, n, r, items, ends, &mut seen)
+    }
+}
+
 pub fn bad4(m: &[u8], d: usize, n: usize, r: usize, items: &mut [u16], ends: &mut [u16]) -> bool
-    requires { ⌜ Sizes (now m) d n r × (12000 ≤ length (now items)) × Zeros 2001 (now ends) ⌝ }
+    requires { ⌜ Sizes (now m) d n r × Places n r (now items) (now ends) ⌝ }
     ensures { λ b. ⌜ (b ≡ bad4 (now (m .entry))) × (b ≡ false → Written (now (m .entry)) (now (items .exit)) (now (ends .exit))) ⌝ }
 {
     let points = count_of(m, 0);
@@ -127,9 +154,9 @@ fn wrong_items(
     to: usize,
     low: usize,
     mark: u16,
-    marks: &mut [u16; ELEMENT_PLACES],
+    marks: &mut [u16],
 ) -> bool
-    requires { ⌜ (to ≤ length (now items)) × (low ≤ 2000) ⌝ }
+    requires { ⌜ (to ≤ length (now items)) × (low < length (now marks)) ⌝ }
     ensures { λ b. ⌜ Met.met b (now (marks .exit)) ≡ meet mark low (now (marks .entry)) (stretch (now (items .entry)) from to) ⌝ }
 {
     for t in from..to {
@@ -155,10 +182,12 @@ fn wrong_dimension(
     low: usize,
     items: &[u16],
     ends: &[u16],
-    marks: &mut [u16; ELEMENT_PLACES],
+    marks: &mut [u16],
 ) -> bool
-    requires { ⌜ Written (now m) (now items) (now ends) × (1 ≤ k) × (k ≤ top (now m)) × (low ≡ below (now m) k) × (low ≤ 2000) × Under (low + 1) (now marks) ⌝ }
-    ensures { λ b. ⌜ (b ≡ some (low + 1) (counted (now (m .entry)) k) (wrongAt (now (m .entry)))) × Under (below (now (m .entry)) (k + 1) + 1) (now (marks .exit)) ⌝ }
+    requires { ⌜ Written (now m) (now items) (now ends) × (1 ≤ k) × (k ≤ top (now m)) × (low ≡ below (now m) k) × (low ≤ 2000)
+        × MarksBelow (elements (now m)) (low + 1) (now marks) ⌝ }
+    ensures { λ b. ⌜ (b ≡ some (low + 1) (counted (now (m .entry)) k) (wrongAt (now (m .entry))))
+        × MarksBelow (elements (now (m .entry))) (below (now (m .entry)) (k + 1) + 1) (now (marks .exit)) ⌝ }
 {
     let count = count_of(m, k);
     for e in low + 1..low + 1 + count {
@@ -171,15 +200,15 @@ fn wrong_dimension(
     false
 }
 
-// Points have no chains.
-pub fn bad5(m: &[u8], d: usize, items: &[u16], ends: &[u16]) -> bool
-    requires { ⌜ Written (now m) (now items) (now ends) × (d ≡ top (now m)) ⌝ }
-    ensures { λ b. ⌜ b ≡ bad5 (now (m .entry)) ⌝ }
+// Points have no chains. The marks that are left are numbers of elements.
+pub fn bad5(m: &[u8], d: usize, items: &[u16], ends: &[u16], marks: &mut [u16]) -> bool
+    requires { ⌜ Written (now m) (now items) (now ends) × (d ≡ top (now m)) × MarksBelow (elements (now m)) 1 (now marks) ⌝ }
+    ensures { λ b. ⌜ (b ≡ bad5 (now (m .entry)))
+        × (b ≡ false → MarksBelow (elements (now (m .entry))) (elements (now (m .entry)) + 1) (now (marks .exit))) ⌝ }
 {
-    let mut marks = [0u16; ELEMENT_PLACES];
     let mut low = count_of(m, 0);
     for k in 1..1 + d {
-        if wrong_dimension(m, k, low, items, ends, &mut marks) {
+        if wrong_dimension(m, k, low, items, ends, marks) {
             return true;
         }
         low += count_of(m, k);

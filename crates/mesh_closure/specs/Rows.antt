@@ -13,14 +13,14 @@ use Rattle.mesh_chains.specs.Written.{stretch}
 unfoldable pub leavesBy : List ℕ → List ℕ → ℕ → List ℕ → ℕ → Bool
 leavesBy items ends v s f = someOf (stretch items (getD ends (f - 1) 0) (getD ends f 0)) (unlike v s)
 
--- the items before place `to` are numbers of elements
-pub record Named (items : List ℕ) (to : ℕ) : Type 0 where
+-- the items before place `to` are numbers of elements, below k
+pub record Named (k : ℕ) (items : List ℕ) (to : ℕ) : Type 0 where
   pub there : to ≤ length items
   pub low : (t : ℕ) → t < to → 1 ≤ getD items t 0
-  pub high : (t : ℕ) → t < to → getD items t 0 < 2001
+  pub high : (t : ℕ) → t < to → getD items t 0 < k
 
 -- their chains stand in items too
-pub record ChainRows (items ends : List ℕ) (to : ℕ) : Type 0 where
-  pub names : Named items to
-  pub long : length ends ≡ 2001
-  pub row : (t : ℕ) → t < to → Named items (getD ends (getD items t 0) 0)
+pub record ChainRows (k : ℕ) (items ends : List ℕ) (to : ℕ) : Type 0 where
+  pub names : Named k items to
+  pub ended : (t : ℕ) → t < to → getD items t 0 < length ends
+  pub row : (t : ℕ) → t < to → Named k items (getD ends (getD items t 0) 0)

@@ -1,5 +1,5 @@
--- What the tests 1 to 3 answer, by the tests that the code makes one after the other. Assumes nothing.
-use mathlib.Core.Path.{_≡_, sym}
+-- What the tests 1 to 3 answer, by the tests that the code makes one after the other, and what they leave. Assumes nothing.
+use mathlib.Core.Path.{_≡_, refl, sym, _∙_}
 use mathlib.Core.Bool.{Bool, true, false, not}
 use Prim.Native.Nat.{ℕ, _+_, _*_, _≤_, _<_}
 use lib.Dec.{ltb, eqb}
@@ -7,7 +7,12 @@ use lib.ListN.{length}
 use borrow.Author.Tests.{le-leb, lt-leb, lt-ltb, le-ltb}
 use Rattle.vocabulary.specs.Bytes.{Bytes}
 use Rattle.vocabulary.specs.Intervals.{some}
+use Rattle.vocabulary.specs.Tests.{firstOf}
+use Rattle.vocabulary.specs.TestLaws.{passed}
 use Rattle.mesh.specs.Mesh.{top, counted, elements, recordCount, meshLength, wrongCount, bad1, bad2, bad3}
+use Rattle.mesh.specs.MeshLaws.{sizesTests}
+use Rattle.mesh.specs.Meet.{Sizes}
+use Rattle.mesh.proofs.NumberLaws.{sized}
 
 pub too-short : (m : Bytes) → length m < 12 → true ≡ bad1 m
 unfolding bad1
@@ -48,3 +53,11 @@ module _ (m : Bytes) (b : Bool) (f : b ≡ some 0 4 (wrongCount m)) where
 pub wrong-length : (m : Bytes) (n r : ℕ) → n ≡ elements m → r ≡ recordCount m → not (eqb (length m) (2 * (6 + n + 2 * r))) ≡ bad3 m
 unfolding bad3 meshLength
 wrong-length m n r e f = simp (sym e, sym f)
+
+-- ---- the three together
+
+module _ (m : Bytes) (k : ℕ) (e : k ≡ firstOf (sizesTests m)) (z : k ≡ 0) where
+  pub head-sizes : (d n r : ℕ) → d ≡ top m → n ≡ elements m → r ≡ recordCount m → Sizes m d n r
+  head-sizes d n r p q t =
+      let a = passed (sizesTests m) tt (sym e ∙ z) in
+      sized m (bad1 m) (bad2 m) d n r refl (a .0) refl (a .1 .0) p q t

@@ -6,11 +6,13 @@ use mesh::inner::elements_of;
 use mesh::inner::record_count;
 use mesh::inner::top_of;
 ghost use mathlib.Core.Path.{_≡_};
+ghost use mathlib.Core.List.{[], _∷_};
 ghost use Prim.Native.Nat.{_+_, _*_, _<_};
 ghost use Rattle.vocabulary.specs.Intervals.{some};
+ghost use Rattle.vocabulary.specs.Tests.{refuse, firstOf};
 ghost use Rattle.mesh.specs.Mesh.{wrongCount, bad1, bad2, bad3};
 
-pub fn bad1(m: &[u8]) -> bool
+fn bad1(m: &[u8]) -> bool
     ensures { λ r. ⌜ r ≡ bad1 (now (m .entry)) ⌝ }
 {
     if m.len() < 12 {
@@ -44,7 +46,7 @@ fn wrong_counts(m: &[u8]) -> bool
     false
 }
 
-pub fn bad2(m: &[u8]) -> bool
+fn bad2(m: &[u8]) -> bool
     ensures { λ r. ⌜ r ≡ bad2 (now (m .entry)) ⌝ }
 {
     if wrong_counts(m) {
@@ -58,10 +60,26 @@ pub fn bad2(m: &[u8]) -> bool
     MOST_RECORDS < r
 }
 
-pub fn bad3(m: &[u8]) -> bool
+fn bad3(m: &[u8]) -> bool
     ensures { λ r. ⌜ r ≡ bad3 (now (m .entry)) ⌝ }
 {
     let n = elements_of(m);
     let r = record_count(m);
     m.len() != 2 * (6 + n + 2 * r)
+}
+
+// The number of the first of them that refuses the mesh, and 0 where none does.
+pub fn head_number(m: &[u8]) -> u32
+    ensures { λ k. ⌜ k ≡ firstOf (refuse 1 (bad1 (now (m .entry))) ∷ refuse 2 (bad2 (now (m .entry))) ∷ refuse 3 (bad3 (now (m .entry))) ∷ []) ⌝ }
+{
+    if bad1(m) {
+        return 1;
+    }
+    if bad2(m) {
+        return 2;
+    }
+    if bad3(m) {
+        return 3;
+    }
+    0
 }

@@ -1,8 +1,6 @@
 // The tests 1 to 7 in lent space, for calls that have arrays of that size anyway.
 use crate::chains::chain_number;
-use crate::head::bad1;
-use crate::head::bad2;
-use crate::head::bad3;
+use crate::head::head_number;
 use mesh::inner::elements_of;
 use mesh::inner::record_count;
 use mesh::inner::top_of;
@@ -17,14 +15,9 @@ pub fn mesh_number_in(m: &[u8], items: &mut [u16], ends: &mut [u16]) -> u32
     requires { ⌜ (12000 ≤ length (now items)) × Zeros 2001 (now ends) ⌝ }
     ensures { λ r. ⌜ r ≡ meshNumber (now (m .entry)) ⌝ }
 {
-    if bad1(m) {
-        return 1;
-    }
-    if bad2(m) {
-        return 2;
-    }
-    if bad3(m) {
-        return 3;
+    let number = head_number(m);
+    if number != 0 {
+        return number;
     }
     let d = top_of(m);
     let n = elements_of(m);

@@ -3,11 +3,13 @@ mod chains;
 mod head;
 pub mod inner;
 
-use inner::mesh_number_in;
+use chains::own_number;
+use head::head_number;
 use layout::Answer;
-use layout::limits::ELEMENT_PLACES;
-use layout::limits::MOST_RECORDS;
 use mesh::inner::cell_count;
+use mesh::inner::elements_of;
+use mesh::inner::record_count;
+use mesh::inner::top_of;
 ghost use mathlib.Core.Path.{_≡_};
 ghost use Rattle.mesh.specs.Mesh.{meshNumber, checkAnswer};
 
@@ -15,9 +17,14 @@ ghost use Rattle.mesh.specs.Mesh.{meshNumber, checkAnswer};
 pub fn mesh_number(m: &[u8]) -> u32
     ensures { λ r. ⌜ r ≡ meshNumber (now (m .entry)) ⌝ }
 {
-    let mut items = [0u16; MOST_RECORDS];
-    let mut ends = [0u16; ELEMENT_PLACES];
-    mesh_number_in(m, &mut items, &mut ends)
+    let number = head_number(m);
+    if number != 0 {
+        return number;
+    }
+    let d = top_of(m);
+    let n = elements_of(m);
+    let r = record_count(m);
+    own_number(m, d, n, r)
 }
 
 // Whether the bytes are a mesh: the count of its cells, or its refusal.

@@ -1,8 +1,6 @@
 -- `mesh_valid::mesh_number` meets its contract. Assumes nothing.
-use native.Mathlib.Omega.{arith}
-use Prim.Native.Nat.{ℕ}
-use lib.ListN.{length-replicate}
-use Rattle.vocabulary.specs.ListLaws.{zeros}
+use Rattle.mesh.specs.MeshLaws.{sizes-refuse, sizes-pass}
+use Rattle.mesh_valid.proofs.HeadLaws.{head-sizes}
 use borrow.Author.Needs.{needs}
 use Rattle.mesh_valid.proofs.mesh_number.Statement.{statement}
 use Rattle.mesh_valid.proofs.mesh_number.Tie as tie
@@ -11,7 +9,10 @@ pub mesh-number-spec : {M : Type 1} → statement M
 mesh-number-spec =
     tie.close
     (tie.spec
-    (λ c. search needs)
-    (λ c. search needs)
-    (λ c κs. (omega (arith, length-replicate {A = ℕ} 12000 0), zeros 2001))
-    (λ c. search needs))
+    (λ c κs. search needs)
+    (λ c. search sizes-refuse)
+    (λ c κs. search needs)
+    (λ c κs. search needs)
+    (λ c κs. search needs)
+    (λ c κs. search head-sizes)
+    (λ c. search sizes-pass))

@@ -10,7 +10,7 @@ use Rattle.mesh_chains.proofs.inner.write_chain.Statement.{statement}
 use Rattle.mesh_chains.proofs.inner.write_chain.Tie as tie
 
 abbrev Inv-loop : tie.InvT-loop
-Inv-loop m n r h from seen₀ items₀ i₀ t₀ t-end seen items i t = (t-end ≡ from + r + 1) × (t ≤ t-end) × (i < 65536) × (length items ≡ length items₀)
+Inv-loop m n r h from seen₀ items₀ i₀ t₀ t-end seen items i t = (t-end ≡ from + r + 1) × (t ≤ t-end) × (i < 65536) × (length items ≡ length items₀) × (length seen ≡ length seen₀)
     × (note m r seen t items (follow m (t-end - t) i) ≡ note m r seen₀ from items₀ (follow m (r + 1) h))
 
 abbrev μ-loop : tie.MeasureT-loop
@@ -24,11 +24,14 @@ write-chain-spec =
     μ-loop
     (λ c. search needs)
     (λ c. search needs)
-    (λ c. (search needs, search needs, search needs, refl, search note-begin))
+    (λ c. (search needs, search needs, search needs, refl, refl, search note-begin))
+    (λ c. search needs)
     (λ c. search needs)
     (λ c. search note-done)
     (λ c. search needs)
+    (λ c. search needs)
     (λ c. search note-above)
+    (λ c. search needs)
     (λ c. search needs)
     (λ c. search needs)
     (λ c. search note-again)
@@ -38,7 +41,8 @@ write-chain-spec =
     (λ c κs. search needs)
     (λ c. search needs)
     (λ c. search needs)
-    (λ c. (search needs, search needs, search needs, search needs, search note-turn))
+    (λ c. (search needs, search needs, search needs, search needs, search needs, search note-turn))
+    (λ c. search needs)
     (λ c. search needs)
     (λ c. search needs)
     (λ c. search needs)
