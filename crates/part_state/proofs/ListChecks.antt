@@ -210,6 +210,18 @@ module _ (b : Bytes) (good : allOf (endTests b) ≡ true) where
         ∙ ap (λ x. every (reachEnd b (l - 1)) (reachEnd b l - reachEnd b (l - 1)) (entryFine b) && x)
         (sym (someOf-listed (λ (e : LocalNear). eqb (e .local) l && eqb (e .layer) 0) (entryAt b) (reachEnd b (l - 1)) (reachEnd b l - reachEnd b (l - 1))))
 
+  pub row-above : (z : Sizes) (F : Fitting b z) (ends l from : ℕ) → ends ≡ reachStart z → 1 ≤ l → l < 1 + z .owned → from ≡ reachEnd b (l - 1) → from ≤ wordAt b (ends + l)
+  row-above z F ends l from ee low high fe = row-rises z F ends ee l from (wordAt b (ends + l)) low high refl fe
+
+-- ---- the end of a row, as the greater of two numbers
+
+module _ (b : Bytes) (i from end : ℕ) (e : end ≡ wordAt b i) (h : from ≤ wordAt b i) where
+  pub end-fallen : end < from → from ≡ wordAt b i
+  end-fallen g = let z : ⊥ = omega arith in absurd z
+
+  pub end-bounded : end < from → from < 65536
+  end-bounded g = let z : ⊥ = omega arith in absurd z
+
 -- ---- the exports
 
 module _ (b : Bytes) (z : Sizes) (C : Counts b z) (at : ℕ) (ae : at ≡ exportStart z) (t l : ℕ) (le : l ≡ wordAt b (at + t)) where

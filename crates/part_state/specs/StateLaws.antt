@@ -1,7 +1,7 @@
 -- Laws of the form of a state: what the test 20 says of a state, and that it goes by the lists and by what calls change. Assumes nothing.
 use mathlib.Core.Path.{_≡_, refl, sym, ap, _∙_, subst}
 use mathlib.Core.Logic.{⊎-elim}
-use mathlib.Core.Bool.{Bool, true, false, _&&_}
+use mathlib.Core.Bool.{Bool, true, false, not, _&&_}
 use Prim.Native.Nat.{ℕ, zero, suc, _+_, _-_, _*_, _%_, _<_, _≤_}
 use native.Mathlib.Nat.{zero-add}
 use native.Mathlib.Numerals.{add-one}
@@ -21,8 +21,10 @@ use Rattle.layout.specs.Words.{wordAt}
 use Rattle.layout.specs.WordLaws.{word-same}
 use Rattle.depths.specs.Depths.{rangedAt}
 use Rattle.round_rule.specs.Rules.{bad11}
-use Rattle.part_state.specs.State.{stepCount, ruleKind, weights, firstOfMesh, cellsOfMesh, globalAt, exportEnd, exportCount, exportAt, globalFine, entryFine, ownFound, exportFine, reachEnd, reachCount}
-use Rattle.part_state.specs.State.{entryAt, localReach, dynamic, importEnd, ownedCount, heldCount, rises, listsLength, listsTests, dynamicTests, isState, roundAt, takenPlace, writtenPlace, stateLength, depthsPlace}
+use Rattle.part_state.specs.State.{stepCount, ruleKind, weights, firstOfMesh, cellsOfMesh, globalAt, exportEnd, exportCount, exportAt, globalFine}
+use Rattle.part_state.specs.State.{entryFine, ownFound, exportFine, reachEnd, reachCount}
+use Rattle.part_state.specs.State.{entryAt, localReach, dynamic, importEnd, ownedCount, heldCount, rises, listsLength, listsTests, flagsFine, dynamicTests, isState}
+use Rattle.part_state.specs.State.{roundAt, takenPlace, writtenPlace, stateLength, depthsPlace}
 
 -- a table of ends that never falls
 pub rises-grow : (n : ℕ) (end : ℕ → ℕ) → rises n end ≡ true → (i j : ℕ) → i ≤ j → j ≤ n → end i ≤ end j
@@ -77,44 +79,60 @@ whole-is lists changes b e =
     let q = and-true (eqb changes (listsLength lists)) (allOf (listsTests lists)) (p .0) in
     let l = allOf-true (listsTests lists) (q .1) in
     let c = allOf-true (dynamicTests b changes (heldCount lists)) (p .1) in
+    -- each test is found by what it says, and not by its place among them
+    let steps-pass : eqb (stepCount lists % 2) 0 && leb (stepCount lists) 8 ≡ true = search l in
+    let rule-pass : not (bad11 (ruleKind lists) (stepCount lists) (weights lists)) ≡ true = search l in
+    let held-pass : leb (heldCount lists) 2000 ≡ true = search l in
+    let imports-pass : rises 16 (importEnd lists) ≡ true = search l in
+    let exports-pass : eqb (exportEnd lists 0) 0 && rises 16 (exportEnd lists) ≡ true = search l in
+    let reaches-pass : eqb (reachEnd lists 0) 0 && rises (ownedCount lists) (reachEnd lists) ≡ true = search l in
+    let globals-pass : every 1 (heldCount lists) (globalFine lists) ≡ true = search l in
+    let entries-pass : every 0 (reachCount lists) (entryFine lists) ≡ true = search l in
+    let own-pass : every 1 (ownedCount lists) (ownFound lists) ≡ true = search l in
+    let exported-pass : every 0 (exportCount lists) (exportFine lists) ≡ true = search l in
+    let long-pass : leb (stateLength changes (heldCount lists)) (length b) ≡ true = search c in
+    let round-pass : leb (roundAt b changes) 60000 ≡ true = search c in
+    let flags-pass : every 1 16 (flagsFine b changes) ≡ true = search c in
+    let depths-pass : every 0 (heldCount lists) (rangedAt b (depthsPlace changes)) ≡ true = search c in
     record {
       lists-fit = eqb-true _ _ (q .0);
-      long = leb-true _ _ (c .0);
-      few = leb-true _ _ (l .1 .1 .1 .0);
-      ends = λ i j h k. rises-grow 16 (importEnd lists) (l .1 .1 .1 .1 .0) i j h k;
-      early = leb-true _ _ (c .1 .0);
+      long = leb-true _ _ long-pass;
+      few = leb-true _ _ held-pass;
+      ends = λ i j h k. rises-grow 16 (importEnd lists) imports-pass i j h k;
+      early = leb-true _ _ round-pass;
       flags = λ j h k.
           let r = and-true (leb (byteAt b (takenPlace changes j)) 1) (leb (byteAt b (writtenPlace changes j)) 1)
-          (every-in 1 (λ j. leb (byteAt b (takenPlace changes j)) 1 && leb (byteAt b (writtenPlace changes j)) 1) 16 j (c .1 .1 .0) h (omega arith)) in
+          (every-in 1 (flagsFine b changes) 16 j flags-pass h (omega arith)) in
           (leb-true _ _ (r .0), leb-true _ _ (r .1));
-      ranged = c .1 .1 .1 .0;
-      reach-ends = λ i j h k. rises-grow (ownedCount lists) (reachEnd lists) (and-true (eqb (reachEnd lists 0) 0) (rises (ownedCount lists) (reachEnd lists)) (l .1 .1 .1 .1 .1 .1 .0) .1) i j h k;
+      ranged = depths-pass;
+      reach-ends = λ i j h k. rises-grow (ownedCount lists) (reachEnd lists) (and-true (eqb (reachEnd lists 0) 0) (rises (ownedCount lists) (reachEnd lists)) reaches-pass .1) i j h k;
       entries = λ t h.
-          let x = every-in 0 (entryFine lists) (reachCount lists) t (l .1 .1 .1 .1 .1 .1 .1 .1 .0) (omega arith) (omega arith) in
+          let x = every-in 0 (entryFine lists) (reachCount lists) t entries-pass (omega arith) (omega arith) in
           let p = isUpTo (heldCount lists) ((entryAt lists t) .local) in
           let q = eqb ((entryAt lists t) .layer % 2) 0 in
           let r = leb ((entryAt lists t) .layer) (stepCount lists) in
           upTo-true (heldCount lists) ((entryAt lists t) .local) (and-true p q (and-true (p && q) r x .0) .0);
-      steps-few = leb-true _ _ (and-true (eqb (stepCount lists % 2) 0) (leb (stepCount lists) 8) (l .1 .0) .1);
-      rule = not-true _ (l .1 .1 .0);
+      steps-few = leb-true _ _ (and-true (eqb (stepCount lists % 2) 0) (leb (stepCount lists) 8) steps-pass .1);
+      rule = not-true _ rule-pass;
       globals = λ x h k.
           let r = and-true (leb (firstOfMesh lists) (globalAt lists x)) (ltb (globalAt lists x) (firstOfMesh lists + cellsOfMesh lists))
-          (every-in 1 (globalFine lists) (heldCount lists) x (l .1 .1 .1 .1 .1 .1 .1 .0) h (omega arith)) in
+          (every-in 1 (globalFine lists) (heldCount lists) x globals-pass h (omega arith)) in
           (leb-true _ _ (r .0), ltb-true _ _ (r .1));
       layers = λ t h.
-          let x = every-in 0 (entryFine lists) (reachCount lists) t (l .1 .1 .1 .1 .1 .1 .1 .1 .0) (omega arith) (omega arith) in
+          let x = every-in 0 (entryFine lists) (reachCount lists) t entries-pass (omega arith) (omega arith) in
           let p = isUpTo (heldCount lists) ((entryAt lists t) .local) in
           let q = eqb ((entryAt lists t) .layer % 2) 0 in
           let r = leb ((entryAt lists t) .layer) (stepCount lists) in
           leb-true _ _ (and-true (p && q) r x .1);
-      owns = λ x h k. every-in 1 (ownFound lists) (ownedCount lists) x (l .1 .1 .1 .1 .1 .1 .1 .1 .1 .0) h (omega arith);
-      export-ends = λ i j h k. rises-grow 16 (exportEnd lists) (and-true (eqb (exportEnd lists 0) 0) (rises 16 (exportEnd lists)) (l .1 .1 .1 .1 .1 .0) .1) i j h k;
+      owns = λ x h k. every-in 1 (ownFound lists) (ownedCount lists) x own-pass h (omega arith);
+      export-ends = λ i j h k. rises-grow 16 (exportEnd lists) (and-true (eqb (exportEnd lists 0) 0) (rises 16 (exportEnd lists)) exports-pass .1) i j h k;
       exported = λ t h.
-          upTo-true (ownedCount lists) (exportAt lists t) (every-in 0 (exportFine lists) (exportCount lists) t (l .1 .1 .1 .1 .1 .1 .1 .1 .1 .1 .0) (omega arith) (omega arith));
+          upTo-true (ownedCount lists) (exportAt lists t) (every-in 0 (exportFine lists) (exportCount lists) t exported-pass (omega arith) (omega arith));
     }
 
 -- every entry of an owned cell's reach is held
-pub near-whole : (lists : Bytes) (changes : ℕ) (b : Bytes) → Whole lists changes b → (l : ℕ) → 1 ≤ l → l ≤ ownedCount lists → All (λ e. (1 ≤ e .local) × (e .local ≤ heldCount lists)) (localReach lists l)
+pub near-whole : (lists : Bytes) (changes : ℕ) (b : Bytes) → Whole lists changes b → (l : ℕ) → 1 ≤ l → l ≤ ownedCount lists
+    → All (λ e. (1 ≤ e .local) × (e .local ≤ heldCount lists)) (localReach lists l)
 unfolding localReach
 near-whole lists changes b w l h k =
     listed-all (λ e. (1 ≤ e .local) × (e .local ≤ heldCount lists)) (reachEnd lists (l - 1)) (reachEnd lists l - reachEnd lists (l - 1)) (entryAt lists)

@@ -92,7 +92,8 @@ fn globals_fine(lists: &[u8], held: usize) -> bool
     let first = word_there(lists, FIRST);
     let cells = word_there(lists, CELLS);
     for l in 1..1 + held {
-        if !is_cell(global_of(lists, Local(l as u16)), first, cells) {
+        let number = word_there(lists, GLOBALS + l);
+        if !is_cell(Global(number as u16), first, cells) {
             return false;
         }
     }
@@ -162,6 +163,16 @@ fn row_fine(
     false
 }
 
+// The end at word i, which is no less than `from`. The compiler keeps the greater of two numbers in one place, where it adds up a word's two bytes at each
+// turn of a loop that runs to it.
+fn end_there(lists: &[u8], i: usize, from: usize) -> usize
+    requires { ⌜ (2 * i + 1 < length (now lists)) × (from ≤ wordAt (now lists) i) ⌝ }
+    ensures { λ r. ⌜ (r ≡ wordAt (now (lists .entry)) i) × (r < 65536) ⌝ }
+{
+    let end = word_there(lists, i);
+    if end < from { from } else { end }
+}
+
 // The reaches of the owned cells, row by row. Their ends rise from 0 to the count of all, so the rows have all the entries.
 fn rows_fine(lists: &[u8], sizes: Sizes) -> bool
     requires { ⌜ Fitting (now lists) sizes × (allOf (endTests (now lists)) ≡ true) ⌝ }
@@ -172,7 +183,7 @@ fn rows_fine(lists: &[u8], sizes: Sizes) -> bool
     let at = sizes.entry_word();
     let mut from = 0;
     for l in 1..1 + sizes.owned {
-        let to = word_there(lists, ends + l);
+        let to = end_there(lists, ends + l, from);
         if !row_fine(lists, at, sizes.held, n, l, from, to) {
             return false;
         }

@@ -29,6 +29,7 @@ globals-fine-spec =
     (λ c. (refl, search needs, search needs, search every-start-from))
     (λ c. search needs)
     (λ c κs. search needs)
+    (λ c. search needs)
     (λ c κs. search needs)
     (λ c. search (every-stop-from, global-told))
     (λ c. search needs)

@@ -6,7 +6,7 @@ use Rattle.vocabulary.specs.Intervals.{every}
 use Rattle.vocabulary.specs.ScanLaws.{every-start-from, every-stop-from, every-turn-from, every-end-from}
 use Rattle.part_state.specs.State.{reachEnd}
 use Rattle.part_state.specs.Checks.{rowFine}
-use Rattle.part_state.proofs.ListChecks.{rows-start, rows-next, row-tested, row-rises, row-room, row-told}
+use Rattle.part_state.proofs.ListChecks.{rows-start, rows-next, row-above, row-tested, row-rises, row-room, row-told}
 use borrow.Author.Needs.{needs}
 use Rattle.part_state.proofs.lists.rows_fine.Statement.{statement}
 use Rattle.part_state.proofs.lists.rows_fine.Tie as tie
@@ -30,7 +30,7 @@ rows-fine-spec =
     (λ c. search needs)
     (λ c. (refl, search needs, search needs, search rows-start, search every-start-from))
     (λ c. search needs)
-    (λ c κs. search needs)
+    (λ c κs. (search needs, search row-above))
     (λ c κs. (search row-tested, search row-rises, search row-room))
     (λ c. search (every-stop-from, row-told))
     (λ c. search needs)
