@@ -132,11 +132,15 @@ module _ (m : Bytes) (parts : ℕ) (owners : Bytes) (i : ℕ) (st table : Bytes)
       record { each = λ q h. omega (arith, map-facts m parts owners [] (R .map) .owner-in q (omega arith) .1) },
     )
 
-    module _ (order : List ℕ) (n owned sent long : ℕ) (D : Drawn owners table ends holders part first cells count order n owned sent long) where
-      drawn : Drawn owners table ends holders i (firstCell m) (cellCount m) parts order n owned sent long
+    module _ (order : List ℕ) (n owned sent long : ℕ) (D : Drawn owners table ends part first cells count order n owned sent long)
+        (x y : ℕ) (xe : x ≡ i) (ye : y ≡ cellCount m) (te : sent ≡ exportTally owners holders x y) where
+      drawn : Drawn owners table ends i (firstCell m) (cellCount m) parts order n owned sent long
       drawn =
-          subst₂ (λ x y. Drawn owners table ends holders i x y parts order n owned sent long) fe ce
-          (subst₂ (λ x y. Drawn owners table ends holders x first cells y order n owned sent long) pe qe D)
+          subst₂ (λ x y. Drawn owners table ends i x y parts order n owned sent long) fe ce
+          (subst₂ (λ x y. Drawn owners table ends x first cells y order n owned sent long) pe qe D)
+
+      sent-is : sent ≡ sentEnds owners table ends i (firstCell m) (cellCount m) 16
+      sent-is = te ∙ ap₂ (exportTally owners holders) xe ye ∙ sent-told
 
       pub plan-made : Planned m parts owners i st table ends order n owned long
       plan-made = record {
@@ -144,15 +148,14 @@ module _ (m : Bytes) (parts : ℕ) (owners : Bytes) (i : ℕ) (st table : Bytes)
         held-is = held-is order n owned (drawn .there) (drawn .order-is) (drawn .owned-is);
         owned-is = drawn .owned-is ∙ owned-told;
         fit = fits order n owned (drawn .there) (drawn .order-is) (drawn .owned-is);
-        long-is = drawn .long-is ∙ ap (λ x. exportsWord n owned (rowEnds table ends (firstCell m) order owned) + x) (drawn .sent-is ∙ sent-told);
+        long-is = drawn .long-is ∙ ap (λ x. exportsWord n owned (rowEnds table ends (firstCell m) order owned) + x) sent-is;
       }
 
       pub plan-sent : (sent ≡ sentEnds owners table ends part first cells 16) × (sent ≤ 4096)
-      plan-sent =
-          let e : sent ≡ sentEnds owners table ends i (firstCell m) (cellCount m) 16 = drawn .sent-is ∙ sent-told in (
-            e ∙ ap₂ (λ x y. sentEnds owners table ends i x y 16) (sym fe) (sym ce) ∙ ap (λ x. sentEnds owners table ends x first cells 16) (sym pe),
-            omega (arith, sent-few m parts owners st table ends holders R i (P .i-in .0) (P .i-in .1) (firstCell m) (cellCount m) refl refl twelve 16 (omega arith)),
-          )
+      plan-sent = (
+        sent-is ∙ ap₂ (λ x y. sentEnds owners table ends i x y 16) (sym fe) (sym ce) ∙ ap (λ x. sentEnds owners table ends x first cells 16) (sym pe),
+        omega (arith, sent-is, sent-few m parts owners st table ends holders R i (P .i-in .0) (P .i-in .1) (firstCell m) (cellCount m) refl refl twelve 16 (omega arith)),
+      )
 
 -- ---- the bytes
 

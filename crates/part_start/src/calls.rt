@@ -9,8 +9,8 @@ use mesh::inner::cell_count;
 use mesh::inner::first_cell;
 use part_calls::inner::clear;
 use part_start_lists::inner::Asked;
-use part_start_lists::inner::CLASSES;
 use part_start_lists::inner::Plan;
+use part_start_lists::inner::count_exports;
 use part_start_lists::inner::find_sent;
 use part_start_lists::inner::make_plan;
 use part_start_lists::inner::number_order;
@@ -20,6 +20,7 @@ use part_start_lists::inner::put_front;
 use part_state::inner::DEPTHS;
 use round::bad_field;
 use round_rule::bad_rule;
+use split::inner::CLASSES;
 use split::inner::prepare;
 use split::inner::split_number;
 ghost use mathlib.Core.Path.{_≡_};
@@ -95,12 +96,14 @@ pub fn state_size(m: &[u8], parts: u32, owners: &[u8], i: u32, stencil: &[u8]) -
     if number != 0 {
         return Answer::Refused(number);
     }
+    let asked = asked_of(m, parts, i);
+    let sent = count_exports(owners, &holders, asked.part, asked.cells);
     let p = make_plan(
-        asked_of(m, parts, i),
+        asked,
+        sent,
         owners,
         &table,
         &ends,
-        &holders,
         &mut class,
         &mut prev,
         &mut got,
@@ -162,12 +165,13 @@ pub fn start(
     if bad_field(asked.cells, f) {
         return Answer::Refused(14);
     }
+    let count = count_exports(owners, &holders, asked.part, asked.cells);
     let p = make_plan(
         asked,
+        count,
         owners,
         &table,
         &ends,
-        &holders,
         &mut class,
         &mut prev,
         &mut got,
@@ -182,7 +186,7 @@ pub fn start(
         &ends,
         p,
         &mut class,
-        &mut holders,
+        &mut last,
         &mut cell,
         &mut sent,
     );

@@ -10,16 +10,19 @@ use lib.ListN.{List·getD-eq-default, length, getD, set, take, replicate, length
 use lib.Seq.{getD-set-same, getD-set-other, ext-getD}
 use borrow.Author.Tests.{eqb-true, eqb-false, eq-eqb, ne-eqb, ltb-true, ltb-false}
 use Rattle.vocabulary.specs.Bytes.{Bytes, byteAt}
+use Rattle.layout.proofs.Laws.{number-past}
 use Rattle.vocabulary.specs.ListLaws.{zeros-at, and-left, and-right}
 use Rattle.vocabulary.specs.Intervals.{some, blocks, total}
 use Rattle.vocabulary.specs.IntervalLaws.{at-last, blocks-empty, blocks-length, blocks-start, blocks-turn, blocks-cong, some-none, total-cong, total-start, total-turn, total-grows}
 use Rattle.split.specs.Split.{ownerAt}
 use Rattle.split.specs.Numbering.{numbering}
-use Rattle.split.specs.Classes.{ownsAt, insideAt, reachHas, reachedAt, classAt, classCount, partCells, Classed, Raised, Few, Appended}
+use Rattle.split.specs.Classes.{ownsAt, insideAt, reachHas, reachedAt, classAt, classCount, partCells, Classed, Few, Appended}
+use Rattle.split.specs.Groups.{group, Grouped}
 use Rattle.vocabulary.specs.Lists.{Zeros}
-use Rattle.split_cells.proofs.AddLaws.{add-none, add-one, add-both, add-end, count-start, count-turn, place-one, place-none, class-count, class-few}
+use Rattle.split_cells.proofs.AddLaws.{add-none, add-both, count-start, count-turn, place-one, place-none, class-count, class-few}
 use Rattle.split_cells.proofs.ClassLists.{row-cells}
-use Rattle.part_start_lists.specs.Starting.{numbersOf, countAt, endsBy, Tallied, Got, Sent, OwnersFew, sentEnds, sentList, exportedAt, exportTally, ownStamped, stampedCells}
+use Rattle.part_start_lists.specs.Starting.{numbersOf, countAt, endsBy, Tallied, Got, Sent, OwnersFew, sentEnds, sentList, exportedAt, exportTally, Stamped, reachedFrom, classAmong}
+use Rattle.part_start_lists.proofs.FollowLaws.{group-stamps, group-among}
 
 cleared : (n k : ℕ) (counts : List ℕ) → counts ≡ replicate n 0 → countAt counts k ≡ 0
 unfolding countAt
@@ -228,39 +231,6 @@ module _ (owners holders : Bytes) (i : ℕ) where
 
 -- ---- the exports by stamps
 
-module _ (owners stamps : Bytes) (i j first : ℕ) where
-  module _ (q x : ℕ) (xe : x ≡ byteAt stamps q) (list : List ℕ) (s : ℕ) where
-    pub export-unstamped : (x ≡ j → ⊥) → Appended list list s s (ownStamped owners stamps i j first q)
-    unfolding ownStamped
-    export-unstamped ne =
-        subst (λ b. Appended list list s s (cond b ((first + q) ∷ []) []))
-        (sym (and-right (ownsAt owners i q) (eqb (byteAt stamps q) j) (ne-eqb (byteAt stamps q) j (λ e. ne (xe ∙ e))))) (add-none list s)
-
-    module _ (o : ℕ) (st : x ≡ j) (oe : o ≡ ownerAt owners q) where
-      pub export-other : (o ≡ i → ⊥) → Appended list list s s (ownStamped owners stamps i j first q)
-      unfolding ownStamped ownsAt
-      export-other ne =
-          subst (λ b. Appended list list s s (cond b ((first + q) ∷ []) []))
-          (sym (and-left (eqb (ownerAt owners q) i) (eqb (byteAt stamps q) j) (ne-eqb (ownerAt owners q) i (λ e. ne (oe ∙ e))))) (add-none list s)
-
-      pub export-added : (after : List ℕ) → o ≡ i → after ≡ set list s (first + q) → Appended list after s (s + 1) (ownStamped owners stamps i j first q)
-      unfolding ownStamped ownsAt
-      export-added after own e =
-          subst (λ b. Appended list after s (s + 1) (cond b ((first + q) ∷ []) []))
-          (sym (ap₂ (λ a b. a && b) (eq-eqb (ownerAt owners q) i (sym oe ∙ own)) (eq-eqb (byteAt stamps q) j (sym xe ∙ st)))) (add-one list after s (first + q) e)
-
-  pub stamped-own : (cells : ℕ) (list : List ℕ) (s : ℕ) → j ≡ i → Appended list list s s (stampedCells owners stamps i j first cells)
-  unfolding stampedCells
-  stamped-own cells list s e =
-      subst (λ b. Appended list list s s (cond b [] (blocks 0 cells (ownStamped owners stamps i j first)))) (sym (eq-eqb j i e)) (add-none list s)
-
-  pub stamped-end : (cells : ℕ) (a b : List ℕ) (s t q : ℕ) → (j ≡ i → ⊥) → q ≤ cells → cells ≤ q → Appended a b s t (blocks 0 q (ownStamped owners stamps i j first))
-      → Appended a b s t (stampedCells owners stamps i j first cells)
-  unfolding stampedCells
-  stamped-end cells a b s t q ne g h X =
-      subst (λ c. Appended a b s t (cond c [] (blocks 0 cells (ownStamped owners stamps i j first)))) (sym (ne-eqb j i ne))
-      (add-end (ownStamped owners stamps i j first) a b s t q cells g h X)
-
 -- lists of which the later ones are empty
 blocks-short : (a n k : ℕ) (g : ℕ → List ℕ) → ((x : ℕ) → n ≤ x → x < n + k → g (a + x) ≡ []) → blocks a (n + k) g ≡ blocks a n g
 unfolding blocks
@@ -340,49 +310,86 @@ module _ (owners table : Bytes) (ends : List ℕ) (i first cells : ℕ) where
             ∙ sym (cells-many owners table ends i cells j f i)
         told f j low high false w = Y .each f j low (omega (arith, ltb-false k j w))
 
-  module _ (low : 1 ≤ i) (high : i ≤ 16) (few : cells ≤ 2000) (k : ℕ) (s h s₁ h₁ : Bytes) (F : Few k s) (P : Raised (k + 1) s h s₁ h₁ (reachedAt owners table ends (k + 1) cells)) where
-    -- of the cells that are not its own, part k + 1 imports those from i that part i owns and it reaches
-    imports-one : (o : ℕ) (l t r : Bool) → (k + 1 ≡ i → ⊥) → eqb (cond (eqb o (k + 1)) (cond l (cond t 17 18) 0) (cond r o 0)) i ≡ eqb o i && r
-    imports-one o l t r ne = go (eqb o (k + 1)) refl r
+  -- to itself the part exports nothing
+  module _ (low : 1 ≤ i) (high : i ≤ 16) (k : ℕ) (own : k + 1 ≡ i) where
+    pub sent-pass : (n : ℕ) (a b : List ℕ) → Appended a b 0 n (sentList owners table ends i first cells k) → Appended a b 0 n (sentList owners table ends i first cells (k + 1))
+    unfolding sentList
+    sent-pass n a b X =
+        let z : 1 + k ≡ k + 1 = omega arith in
+        subst (Appended a b 0 n)
+        (sym (append-nil (blocks 1 k (λ j. partCells owners table ends j first cells i)))
+        ∙ ap (λ (xs : List ℕ). blocks 1 k (λ j. partCells owners table ends j first cells i) ++ xs) (sym (own-none owners table ends i cells (1 + k) first low high (z ∙ own)))
+        ∙ sym (blocks-turn 1 (λ j. partCells owners table ends j first cells i) k)) X
+
+    pub sent-passed : (sent : List ℕ) → Sent owners table ends i cells k sent → Sent owners table ends i cells (k + 1) sent
+    sent-passed sent X = record {
+      size = X .size;
+      each = λ f j a b. told f j a b (ltb k j) refl;
+      rest = λ j h. X .rest j (omega arith);
+    }
       where
-        own : (l t : Bool) → eqb (cond l (cond t 17 18) 0) i ≡ false
-        own true true = ne-eqb 17 i (λ z. let no : ⊥ = omega arith in no)
-        own true false = ne-eqb 18 i (λ z. let no : ⊥ = omega arith in no)
-        own false t = ne-eqb 0 i (λ z. let no : ⊥ = omega arith in no)
+        told : (f j : ℕ) → 1 ≤ j → j ≤ k + 1 → (c : Bool) → ltb k j ≡ c → countAt sent j ≡ length (partCells owners table ends j f cells i)
+        told f j a b true w =
+            let g : k < j = ltb-true k j w in
+            X .rest j g ∙ sym (ap length (own-none owners table ends i cells j f low high (omega arith)))
+        told f j a b false w = X .each f j a (omega (arith, ltb-false k j w))
+
+  -- one part more, which is another
+  module _ (low : 1 ≤ i) (high : i ≤ 16) (few : cells ≤ 2000) (k : ℕ) (small : k < 16) (ne : k + 1 ≡ i → ⊥) (start next : List ℕ) (G : Grouped owners cells start next)
+      (own other : ℕ) (oe : own ≡ getD start i 0) (te : other ≡ getD start (k + 1) 0) (s s₁ : Bytes) (F : Few k s)
+      (P : Stamped (k + 1) s s₁ (reachedFrom table ends (group next cells other))) where
+    reached : Stamped (k + 1) s s₁ (reachedAt owners table ends (k + 1) cells)
+    reached = group-stamps owners cells start next G (k + 1) other (omega arith) te table ends (k + 1) s s₁ P
+
+    pub stamps-few : Few (k + 1) s₁
+    stamps-few = record { room = P .room; each = λ x. go x (ltb x 2000) refl }
+      where
+        most : (b : Bool) (x : ℕ) → x ≤ k → cond b (k + 1) x ≤ k + 1
+        most true x l = omega arith
+        most false x l = omega arith
+
+        go : (x : ℕ) (t : Bool) → ltb x 2000 ≡ t → byteAt s₁ x ≤ k + 1
+        go x true e = omega (arith, reached .each x (ltb-true x 2000 e), most (reachedAt owners table ends (k + 1) cells x) (byteAt s x) (F .each x))
+        go x false e = let l : 2000 ≤ x = ltb-false x 2000 e in omega (arith, number-past s₁ x (omega (arith, P .room)))
+
+    -- of the cells that are not its own, part k + 1 imports those from i that part i owns and it reaches
+    imports-one : (o : ℕ) (l t r : Bool) → eqb (cond (eqb o (k + 1)) (cond l (cond t 17 18) 0) (cond r o 0)) i ≡ eqb o i && r
+    imports-one o l t r = go (eqb o (k + 1)) refl r
+      where
+        own-class : (l t : Bool) → eqb (cond l (cond t 17 18) 0) i ≡ false
+        own-class true true = ne-eqb 17 i (λ z. let no : ⊥ = omega arith in no)
+        own-class true false = ne-eqb 18 i (λ z. let no : ⊥ = omega arith in no)
+        own-class false t = ne-eqb 0 i (λ z. let no : ⊥ = omega arith in no)
 
         all : (b : Bool) → b ≡ b && true
         all true = refl
         all false = refl
 
         go : (a : Bool) → eqb o (k + 1) ≡ a → (r : Bool) → eqb (cond a (cond l (cond t 17 18) 0) (cond r o 0)) i ≡ eqb o i && r
-        go true e r = own l t ∙ sym (and-left (eqb o i) r (ne-eqb o i (λ z. ne (sym (eqb-true o (k + 1) e) ∙ z))))
+        go true e r = own-class l t ∙ sym (and-left (eqb o i) r (ne-eqb o i (λ z. ne (sym (eqb-true o (k + 1) e) ∙ z))))
         go false e true = all (eqb o i)
         go false e false = ne-eqb 0 i (λ z. let no : ⊥ = omega arith in no) ∙ sym (and-right (eqb o i) false refl)
 
     stamped-is : (q : ℕ) → q < cells → eqb (byteAt s₁ q) (k + 1) ≡ reachedAt owners table ends (k + 1) cells q
-    stamped-is q l = ap (λ x. eqb x (k + 1)) (P .stamp q (omega arith)) ∙ go (reachedAt owners table ends (k + 1) cells q)
+    stamped-is q l = ap (λ x. eqb x (k + 1)) (reached .each q (omega arith)) ∙ go (reachedAt owners table ends (k + 1) cells q)
       where
         go : (b : Bool) → eqb (cond b (k + 1) (byteAt s q)) (k + 1) ≡ b
         go true = eq-eqb (k + 1) (k + 1) refl
         go false = ne-eqb (byteAt s q) (k + 1) (λ e. let no : ⊥ = omega (arith, F .each q) in no)
 
-    stamped-cells : stampedCells owners s₁ i (k + 1) first cells ≡ partCells owners table ends (k + 1) first cells i
-    unfolding stampedCells
-    stamped-cells = go (eqb (k + 1) i) refl
-      where
-        go : (b : Bool) → eqb (k + 1) i ≡ b → cond b [] (blocks 0 cells (ownStamped owners s₁ i (k + 1) first)) ≡ partCells owners table ends (k + 1) first cells i
-        go true e = sym (own-none owners table ends i cells (k + 1) first low high (eqb-true (k + 1) i e))
-        go false e =
-            unfold ownStamped partCells classAt ownsAt in blocks-cong 0 (λ q. cond (eqb (ownerAt owners q) i && eqb (byteAt s₁ q) (k + 1)) ((first + q) ∷ []) [])
-            (λ q. cond (eqb (cond (eqb (ownerAt owners q) (k + 1)) (cond (ltb q cells) (cond (insideAt owners table ends (k + 1) q) 17 18) 0)
-            (cond (reachedAt owners table ends (k + 1) cells q) (ownerAt owners q) 0)) i) ((first + q) ∷ []) []) cells
-            (λ q l.
-            ap (λ b. cond b ((first + (0 + q)) ∷ []) [])
-            (ap (λ b. eqb (ownerAt owners (0 + q)) i && b) (stamped-is (0 + q) (omega arith))
-            ∙ sym (imports-one (ownerAt owners (0 + q)) (ltb (0 + q) cells) (insideAt owners table ends (k + 1) (0 + q))
-            (reachedAt owners table ends (k + 1) cells (0 + q)) (eqb-false (k + 1) i e))))
+    stamped-cells : classAmong s₁ first (k + 1) (group next cells own) ≡ partCells owners table ends (k + 1) first cells i
+    unfolding partCells classAt ownsAt
+    stamped-cells =
+        group-among owners cells start next G i own (omega arith) oe s₁ first (k + 1)
+        ∙ blocks-cong 0 (λ q. cond (eqb (ownerAt owners q) i && eqb (byteAt s₁ q) (k + 1)) ((first + q) ∷ []) [])
+        (λ q. cond (eqb (cond (eqb (ownerAt owners q) (k + 1)) (cond (ltb q cells) (cond (insideAt owners table ends (k + 1) q) 17 18) 0)
+        (cond (reachedAt owners table ends (k + 1) cells q) (ownerAt owners q) 0)) i) ((first + q) ∷ []) []) cells
+        (λ q l.
+        ap (λ b. cond b ((first + (0 + q)) ∷ []) [])
+        (ap (λ b. eqb (ownerAt owners (0 + q)) i && b) (stamped-is (0 + q) (omega arith))
+        ∙ sym (imports-one (ownerAt owners (0 + q)) (ltb (0 + q) cells) (insideAt owners table ends (k + 1) (0 + q)) (reachedAt owners table ends (k + 1) cells (0 + q)))))
 
-    module _ (n t : ℕ) (b c : List ℕ) (Y : Appended b c n t (stampedCells owners s₁ i (k + 1) first cells)) where
+    module _ (n t : ℕ) (b c : List ℕ) (Y : Appended b c n t (classAmong s₁ first (k + 1) (group next cells own))) where
       pub sent-more : (a : List ℕ) → Appended a b 0 n (sentList owners table ends i first cells k) → Appended a c 0 t (sentList owners table ends i first cells (k + 1))
       unfolding sentList
       sent-more a X =
@@ -390,12 +397,12 @@ module _ (owners table : Bytes) (ends : List ℕ) (i first cells : ℕ) where
           subst (Appended a c 0 t)
           (ap (λ (xs : List ℕ). blocks 1 k (λ j. partCells owners table ends j first cells i) ++ xs) (stamped-cells ∙ ap (λ j. partCells owners table ends j first cells i) z)
           ∙ sym (blocks-turn 1 (λ j. partCells owners table ends j first cells i) k))
-          (add-both a b c 0 n t (blocks 1 k (λ j. partCells owners table ends j first cells i)) (stampedCells owners s₁ i (k + 1) first cells) X Y)
+          (add-both a b c 0 n t (blocks 1 k (λ j. partCells owners table ends j first cells i)) (classAmong s₁ first (k + 1) (group next cells own)) X Y)
 
       pub sent-counted : (parts : ℕ) (sent after : List ℕ) → k < parts → parts ≤ 16 → Sent owners table ends i cells k sent → after ≡ set sent (k + 1) (t - n)
           → Sent owners table ends i cells (k + 1) after
-      sent-counted parts sent after l small X e =
-          sent-turn owners table ends i cells k parts (t - n) sent after l small X
+      sent-counted parts sent after l most X e =
+          sent-turn owners table ends i cells k parts (t - n) sent after l most X
           (omega (arith, Y .count, ap length stamped-cells, cells-many owners table ends i cells (k + 1) first i)) e
 
 -- ---- a cleared array

@@ -2,3 +2,4 @@ pub mod HeadLaws
 pub mod CountLaws
 pub mod StartCounts
 pub mod StartLists
+pub mod FollowLaws

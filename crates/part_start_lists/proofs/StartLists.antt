@@ -19,7 +19,7 @@ use Rattle.depths.specs.DepthLaws.{length-four, fours-store}
 use Rattle.part_state.specs.State.{importWord, reachWord, exportsWord}
 use Rattle.word_lists.specs.Putting.{Put}
 use Rattle.part_start_lists.specs.Starting.{localIn, numbersOf, startWords, gotEnds, sentEnds, sentList, sentWords, rowEnds, rowWords, numberedWords, startDepth, FieldCells}
-use Rattle.part_start_lists.specs.Starting.{gotFrom, sentFrom, countAt, endsBy, Tallied, Got, Sent, exportTally, Fit, TablesFit, Drawn, partOrder, partOwned}
+use Rattle.part_start_lists.specs.Starting.{gotFrom, sentFrom, countAt, endsBy, Tallied, Got, Sent, Fit, TablesFit, Drawn, partOrder, partOwned}
 use Rattle.part_calls.proofs.OpenedLaws.{four-cut}
 use Rattle.word_lists.proofs.PutLaws.{put-as, put-both}
 use Rattle.word_lists.proofs.RegionLaws.{joined-length, joined-append, regions-two, regions-three, regions-four}
@@ -172,9 +172,9 @@ module _ (owners table : Bytes) (ends : List ℕ) (i first cells parts : ℕ) (F
     pub plan-fit : Fit owners table ends i first cells order n (inner + outer)
     plan-fit = subst (Fit owners table ends i first cells order n) (sym owned-is) (F .fit order n there order-is)
 
-    pub plan-drawn : (holders : Bytes) (sent long : ℕ) → sent ≡ exportTally owners holders i cells → long ≡ exportsWord n (inner + outer) (rowEnds table ends first order (inner + outer)) + sent
-        → Drawn owners table ends holders i first cells parts order n (inner + outer) sent long
-    plan-drawn holders sent long se le = record { there = there; order-is = order-is; owned-is = owned-is; sent-is = se; long-is = le }
+    pub plan-drawn : (sent long : ℕ) → long ≡ exportsWord n (inner + outer) (rowEnds table ends first order (inner + outer)) + sent
+        → Drawn owners table ends i first cells parts order n (inner + outer) sent long
+    plan-drawn sent long le = record { there = there; order-is = order-is; owned-is = owned-is; long-is = le }
 
 -- ---- the depths
 

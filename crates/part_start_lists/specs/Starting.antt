@@ -1,18 +1,17 @@
 -- How start finds the lists of a part: from the owners, the table of the reaches with its ends, and the part's
 -- local order. No public contract rests on this page; the laws in proofs/ tie it to the definitions of Start. Assumes nothing.
 use mathlib.Core.Path.{_≡_}
-use mathlib.Core.Bool.{_&&_, cond}
+use mathlib.Core.Bool.{Bool, cond}
 use mathlib.Core.List.{List, [], _∷_, _++_, map}
 use Prim.Native.Nat.{ℕ, _+_, _-_, _*_, _≤_, _<_}
-use lib.Dec.{eqb}
 use lib.ListN.{length, getD, take, replicate}
 use Rattle.vocabulary.specs.Bytes.{Bytes, byteAt}
-use Rattle.vocabulary.specs.Lists.{joined}
+use Rattle.vocabulary.specs.Lists.{joined, someOf, All}
 use Rattle.vocabulary.specs.Intervals.{listed, blocks, total}
 use Rattle.layout.specs.Words.{wordAt}
 use Rattle.depths.specs.Depths.{four}
 use Rattle.split.specs.Numbering.{numbering}
-use Rattle.split.specs.Classes.{ownsAt, partCells, classCount}
+use Rattle.split.specs.Classes.{ownsAt, reachHas, ofClass, partCells, classCount}
 use Rattle.part_state.specs.State.{exportsWord}
 
 -- the local number of a cell, in the array that has them
@@ -118,12 +117,23 @@ exportedAt owners holders i q = cond (ownsAt owners i q) (byteAt holders q - 1) 
 unfoldable pub exportTally : Bytes → Bytes → ℕ → ℕ → ℕ
 exportTally owners holders i n = total 0 n (exportedAt owners holders i)
 
--- the cell at place q, if part i owns it and it bears the stamp j; all such cells, where j is another part
-unfoldable pub ownStamped : Bytes → Bytes → ℕ → ℕ → ℕ → ℕ → List ℕ
-ownStamped owners stamps i j first q = cond (ownsAt owners i q && eqb (byteAt stamps q) j) ((first + q) ∷ []) []
+-- the places that pass bear the stamp k afterwards
+pub record Stamped (k : ℕ) (before after : Bytes) (p : ℕ → Bool) : Type 0 where
+  pub room : length after ≡ 2000
+  pub each : (x : ℕ) → x < 2000 → byteAt after x ≡ cond (p x) k (byteAt before x)
 
-unfoldable pub stampedCells : Bytes → Bytes → ℕ → ℕ → ℕ → ℕ → List ℕ
-stampedCells owners stamps i j first cells = cond (eqb j i) [] (blocks 0 cells (ownStamped owners stamps i j first))
+-- one of the cells at the places qs reaches the cell at place x
+unfoldable pub reachedFrom : Bytes → List ℕ → List ℕ → ℕ → Bool
+reachedFrom table ends qs x = someOf qs (λ q. reachHas table ends q x)
+
+-- the places of a list are below n
+pub record Below (n : ℕ) (qs : List ℕ) : Type 0 where
+  pub each : All (λ q. q < n) qs
+
+-- of the places of a list, those where the row has the class k, as numbers counted from `first`
+unfoldable pub classAmong : Bytes → ℕ → ℕ → List ℕ → List ℕ
+classAmong class first k [] = []
+classAmong class first k (q ∷ qs) = ofClass class first k q ++ classAmong class first k qs
 
 -- no cell has an owner above `parts`
 pub record OwnersFew (owners : Bytes) (cells parts : ℕ) : Type 0 where
@@ -170,12 +180,11 @@ pub record TablesFit (owners table : Bytes) (ends : List ℕ) (i first cells par
   pub fit : (order : List ℕ) (n : ℕ) → n ≤ length order → take n order ≡ partOrder owners table ends i first cells parts
       → Fit owners table ends i first cells order n (partOwned owners table ends i first cells)
 
--- the plan of a part by the tables: its local order, how many cells it holds, owns and exports, and how long its lists are
-pub record Drawn (owners table : Bytes) (ends : List ℕ) (holders : Bytes) (i first cells parts : ℕ) (order : List ℕ) (n owned sent long : ℕ) : Type 0 where
+-- the plan of a part by the tables: its local order, how many cells it holds and owns, and how long its lists are if it exports `sent` cells
+pub record Drawn (owners table : Bytes) (ends : List ℕ) (i first cells parts : ℕ) (order : List ℕ) (n owned sent long : ℕ) : Type 0 where
   pub there : n ≤ length order
   pub order-is : take n order ≡ partOrder owners table ends i first cells parts
   pub owned-is : owned ≡ partOwned owners table ends i first cells
-  pub sent-is : sent ≡ exportTally owners holders i cells
   pub long-is : long ≡ exportsWord n owned (rowEnds table ends first order owned) + sent
 
 -- the depth of local cell l in a field

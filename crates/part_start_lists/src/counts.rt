@@ -8,9 +8,6 @@ ghost use Prim.Native.Nat.{_≤_, _<_};
 ghost use lib.ListN.{replicate};
 ghost use Rattle.part_start_lists.specs.Starting.{Tallied, exportedAt, exportTally};
 
-// How many classes there are: none, the parts, interior and halo.
-pub const CLASSES: usize = 19;
-
 // Counts the cells of each class in a row, in a cleared array.
 pub fn count_classes(class: &[u8], cells: usize, counts: &mut [u16])
     requires { ⌜ (cells ≤ 2000) × (now counts ≡ replicate 19 0) ⌝ }

@@ -1,7 +1,6 @@
 // The lists of a part as the words of its state, from the owners, the table of the reaches with its ends, and the part's local order.
-pub use crate::counts::CLASSES;
 use crate::counts::count_classes;
-use crate::counts::count_exports;
+pub use crate::counts::count_exports;
 pub use crate::exports::find_sent;
 use cell_numbers::Global;
 use cell_numbers::Local;
@@ -330,19 +329,21 @@ fn lists_length(
     sizes.words()
 }
 
-// The local order of the part, and what comes of it, with the counts of its imports in a cleared array. The row is work space.
+// The local order of the part, and what comes of it and of how many cells it exports, with the counts of its imports in a cleared array. The row is work
+// space.
 pub fn make_plan(
     asked: Asked,
+    sent: usize,
     owners: &[u8],
     table: &[u8],
     ends: &[u16],
-    holders: &[u8],
     class: &mut [u8],
     order: &mut [u16],
     got: &mut [u16],
 ) -> Plan
     requires { ⌜
         TablesFit (now owners) (now table) (now ends) (asked .part) (asked .first) (asked .cells) (asked .parts)
+        × (sent ≤ 512000)
         × (length (now class) ≡ 2000)
         × (2000 ≤ length (now order))
         × (now got ≡ replicate 19 0)
@@ -352,8 +353,9 @@ pub fn make_plan(
         × (p .parts ≡ asked .parts)
         × (p .first ≡ asked .first)
         × (p .cells ≡ asked .cells)
-        × Drawn (now (owners .entry)) (now (table .entry)) (now (ends .entry)) (now (holders .entry)) (p .part) (p .first) (p .cells) (p .parts)
-        (now (order .exit)) (p .held) (p .owned) (p .sent) (p .long)
+        × (p .sent ≡ sent)
+        × Drawn (now (owners .entry)) (now (table .entry)) (now (ends .entry)) (p .part) (p .first) (p .cells) (p .parts) (now (order .exit)) (p .held)
+        (p .owned) (p .sent) (p .long)
         × Got (now (owners .entry)) (now (table .entry)) (now (ends .entry)) (p .part) (p .cells) (now (got .exit))
         ⌝ }
 {
@@ -362,7 +364,6 @@ pub fn make_plan(
     count_classes(class, asked.cells, got);
     let inner = number_at(got, INTERIOR as usize) as usize;
     let owned = inner + number_at(got, HALO as usize) as usize;
-    let sent = count_exports(owners, holders, asked.part, asked.cells);
     let long = lists_length(table, ends, asked.first, order, held, owned, sent);
     Plan {
         part: asked.part,

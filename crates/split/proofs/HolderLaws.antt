@@ -2,7 +2,7 @@
 use mathlib.Core.Path.{_≡_, refl, sym, ap, ap₂, _∙_}
 use mathlib.Core.Logic.{_⊎_, ⊎-elim}
 use mathlib.Core.Bool.{Bool, true, false, not, _&&_, _||_, cond}
-use mathlib.Core.List.{List}
+use mathlib.Core.List.{List, [], _∷_, _++_}
 use Prim.Native.Nat.{ℕ, zero, suc, _+_, _-_, _*_, _≤_, _<_}
 use native.Mathlib.Nat.{zero-add}
 use native.Mathlib.Omega.{arith}
@@ -14,11 +14,14 @@ use Rattle.vocabulary.specs.Bytes.{Bytes, byteAt}
 use Rattle.vocabulary.specs.Intervals.{some, total}
 use Rattle.vocabulary.specs.IntervalLaws.{at-last, some-next, some-start, total-start, total-turn, total-cong}
 use Rattle.vocabulary.specs.CountLaws.{total-add, total-zero}
-use Rattle.vocabulary.specs.ListLaws.{and-left, and-right}
+use Rattle.vocabulary.specs.Lists.{someOf}
+use Rattle.vocabulary.specs.ListLaws.{and-left, and-right, or-nothing, someOf-append}
 use Rattle.layout.specs.Words.{wordAt}
 use Rattle.layout.proofs.Laws.{number-past}
 use Rattle.split.specs.Split.{ownerAt}
-use Rattle.split.specs.Classes.{ownsAt, hasEntry, reachHas, reachedAt, ownReach, RowCleared, Raised, Few, rowSum, heldBy, partHeld, Counted, Holders}
+use Rattle.split.specs.Classes.{ownsAt, hasEntry, reachHas, reachedAt, RowCleared, Raised, Few, rowSum, heldBy, partHeld, Counted, Holders}
+use Rattle.split.specs.Groups.{group, bytePlaces, Grouped, groupReach}
+use Rattle.split.proofs.GroupLaws.{left-start, left-turn, left-stop, left-end, someOf-picked}
 
 -- ---- one place
 
@@ -166,50 +169,73 @@ module _ (table : Bytes) (k a : ℕ) where
       next : t - a + 1 ≡ t + 1 - a
       next = omega arith
 
-module _ (owners table : Bytes) (ends : List ℕ) (q k o : ℕ) (oe : o ≡ ownerAt owners q) where
-  pub cell-skip : (stamps holders : Bytes) → (o ≡ k → ⊥) → length stamps ≡ 2000 → Few 16 holders → Raised k stamps holders stamps holders (ownReach owners table ends k q)
-  unfolding ownReach ownsAt
-  cell-skip stamps holders ne l F =
-      raised-none k stamps holders (λ x. eqb (ownerAt owners q) k && reachHas table ends q x) l (F .room)
-      (λ x. and-left (eqb (ownerAt owners q) k) (reachHas table ends q x) (ne-eqb (ownerAt owners q) k (λ e. ne (oe ∙ e))))
+pub reach-end : (table : Bytes) (ends : List ℕ) (q k : ℕ) (s h s₁ h₁ : Bytes) (a z t : ℕ) → a ≡ getD ends q 0 → z ≡ getD ends (q + 1) 0 → z ≤ t → (t ≤ z) ⊎ (t ≡ a)
+    → Raised k s h s₁ h₁ (hasEntry table a (t - a)) → Raised k s h s₁ h₁ (reachHas table ends q)
+unfolding reachHas
+reach-end table ends q k s h s₁ h₁ a z t ae ze l c P =
+    raised-as k s h s₁ h₁ (hasEntry table a (t - a)) (hasEntry table (getD ends q 0) (getD ends (q + 1) 0 - getD ends q 0)) (λ x. ap₂ (λ u n. hasEntry table u n x) ae whole) P
+  where
+    whole : t - a ≡ getD ends (q + 1) 0 - getD ends q 0
+    whole = ⊎-elim (λ g. omega arith) (λ g. omega arith) c
 
-  pub cell-end : (s h s₁ h₁ : Bytes) (a z t : ℕ) → o ≡ k → a ≡ getD ends q 0 → z ≡ getD ends (q + 1) 0 → z ≤ t → (t ≤ z) ⊎ (t ≡ a) → Raised k s h s₁ h₁ (hasEntry table a (t - a))
-      → Raised k s h s₁ h₁ (ownReach owners table ends k q)
-  unfolding ownReach ownsAt reachHas
-  cell-end s h s₁ h₁ a z t own ae ze l c P =
-      raised-as k s h s₁ h₁ (hasEntry table a (t - a))
-      (λ x. eqb (ownerAt owners q) k && hasEntry table (getD ends q 0) (getD ends (q + 1) 0 - getD ends q 0) x)
-      (λ x.
-      ap₂ (λ u n. hasEntry table u n x) ae whole
-      ∙ sym (ap (λ b. b && hasEntry table (getD ends q 0) (getD ends (q + 1) 0 - getD ends q 0) x) (eq-eqb (ownerAt owners q) k (sym oe ∙ own)))) P
-    where
-      whole : t - a ≡ getD ends (q + 1) 0 - getD ends q 0
-      whole = ⊎-elim (λ g. omega arith) (λ g. omega arith) c
+-- ---- the cells of a part by their links
 
--- ---- the cells of a part
+-- the places `done` of the group are counted, and link s leads on
+pub record Following (start next : List ℕ) (table : Bytes) (ends : List ℕ) (cells k : ℕ) (stamps holders stamped raised : Bytes) (t s : ℕ) : Type 0 where
+  pub done : List ℕ
+  pub left : group next cells (getD start k 0) ≡ done ++ group next (cells - t) s
+  pub counted : Raised k stamps holders stamped raised (λ x. someOf done (λ q. reachHas table ends q x))
 
-module _ (owners table : Bytes) (ends : List ℕ) (k : ℕ) where
-  pub part-start : (stamps holders : Bytes) → length stamps ≡ 2000 → Few 15 holders → Raised k stamps holders stamps holders (reachedAt owners table ends k 0)
-  unfolding reachedAt
-  part-start stamps holders l F =
-      raised-none k stamps holders (λ x. some 0 0 (λ q. ownsAt owners k q && reachHas table ends q x)) l (F .room) (λ x. some-start 0 (λ q. ownsAt owners k q && reachHas table ends q x))
+module _ (start next : List ℕ) (table : Bytes) (ends : List ℕ) (cells k : ℕ) where
+  pub follow-start : (s : ℕ) (stamps holders : Bytes) → s ≡ getD start k 0 → length stamps ≡ 2000 → Few 15 holders
+      → Following start next table ends cells k stamps holders stamps holders 0 s
+  unfolding someOf
+  follow-start s stamps holders e l F = record {
+    done = [];
+    left = left-start next (group next cells (getD start k 0)) cells s (ap (group next cells) e);
+    counted = raised-none k stamps holders (λ x. false) l (F .room) (λ x. refl);
+  }
 
-  pub part-room : (q cells : ℕ) (s h s₁ h₁ : Bytes) → q < cells → cells ≤ 2000 → Few 15 h → Raised k s h s₁ h₁ (reachedAt owners table ends k q) → (q < 65536) × (length s₁ ≡ 2000) × Few 16 h₁
-  part-room q cells s h s₁ h₁ l few F P = (omega arith, P .stamp-room, raised-few k 15 s h s₁ h₁ (reachedAt owners table ends k q) F P)
+  module _ (t s : ℕ) (stamps holders s₁ h₁ : Bytes) (P : Following start next table ends cells k stamps holders s₁ h₁ t s) where
+    pub follow-room : s < 65536 → Few 15 holders → (s - 1 < 65536) × (length s₁ ≡ 2000) × Few 16 h₁
+    follow-room h F = (omega arith, P .counted .stamp-room, raised-few k 15 stamps holders s₁ h₁ _ F (P .counted))
 
-  pub part-turn : (q : ℕ) (s h s₁ h₁ s₂ h₂ : Bytes) → Raised k s h s₁ h₁ (reachedAt owners table ends k q) → Raised k s₁ h₁ s₂ h₂ (ownReach owners table ends k q)
-      → Raised k s h s₂ h₂ (reachedAt owners table ends k (q + 1))
-  unfolding reachedAt ownReach
-  part-turn q s h s₁ h₁ s₂ h₂ P Q =
-      raised-as k s h s₂ h₂ (λ x. some 0 q (λ q. ownsAt owners k q && reachHas table ends q x) || (ownsAt owners k q && reachHas table ends q x))
-      (λ x. some 0 (q + 1) (λ q. ownsAt owners k q && reachHas table ends q x))
-      (λ x.
-      ap (λ y. some 0 q (λ q. ownsAt owners k q && reachHas table ends q x) || (ownsAt owners k y && reachHas table ends y x)) (sym (zero-add q))
-      ∙ sym (some-next 0 q (λ q. ownsAt owners k q && reachHas table ends q x)))
-      (raised-both k s h s₁ h₁ s₂ h₂ (λ x. some 0 q (λ q. ownsAt owners k q && reachHas table ends q x)) (λ x. ownsAt owners k q && reachHas table ends q x) P Q)
+    pub follow-turn : (r : ℕ) (s₂ h₂ : Bytes) → t < cells → 1 ≤ s → Raised k s₁ h₁ s₂ h₂ (reachHas table ends (s - 1)) → r ≡ getD next (s - 1) 0
+        → Following start next table ends cells k stamps holders s₂ h₂ (t + 1) r
+    unfolding someOf
+    follow-turn r s₂ h₂ h l Q e = record {
+      done = P .done ++ ((s - 1) ∷ []);
+      left =
+          left-turn next (group next cells (getD start k 0)) cells t s (P .done) (P .left) h l
+          ∙ ap (λ x. (P .done ++ ((s - 1) ∷ [])) ++ group next (cells - (t + 1)) x) (sym e);
+      counted =
+          raised-as k stamps holders s₂ h₂ (λ x. someOf (P .done) (λ q. reachHas table ends q x) || reachHas table ends (s - 1) x)
+          (λ x. someOf (P .done ++ ((s - 1) ∷ [])) (λ q. reachHas table ends q x))
+          (λ x.
+          ap (λ b. someOf (P .done) (λ q. reachHas table ends q x) || b) (sym (or-nothing (reachHas table ends (s - 1) x)))
+          ∙ sym (someOf-append (λ q. reachHas table ends q x) (P .done) ((s - 1) ∷ [])))
+          (raised-both k stamps holders s₁ h₁ s₂ h₂ (λ x. someOf (P .done) (λ q. reachHas table ends q x)) (reachHas table ends (s - 1)) (P .counted) Q);
+    }
 
-  pub part-end : (q cells : ℕ) (s h s₁ h₁ : Bytes) → q ≤ cells → cells ≤ q → Raised k s h s₁ h₁ (reachedAt owners table ends k q) → Raised k s h s₁ h₁ (reachedAt owners table ends k cells)
-  part-end q cells s h s₁ h₁ g l P = at-last (λ n. Raised k s h s₁ h₁ (reachedAt owners table ends k n)) q cells g l P
+    all-done : group next cells (getD start k 0) ≡ P .done → Raised k stamps holders s₁ h₁ (groupReach start next table ends cells k)
+    unfolding groupReach
+    all-done e =
+        raised-as k stamps holders s₁ h₁ (λ x. someOf (P .done) (λ q. reachHas table ends q x)) (λ x. someOf (group next cells (getD start k 0)) (λ q. reachHas table ends q x))
+        (λ x. ap (λ xs. someOf xs (λ q. reachHas table ends q x)) (sym e)) (P .counted)
+
+    pub follow-stop : s < 1 → Raised k stamps holders s₁ h₁ (groupReach start next table ends cells k)
+    follow-stop h = all-done (left-stop next (group next cells (getD start k 0)) cells t s (P .done) (P .left) h)
+
+    pub follow-end : cells ≤ t → Raised k stamps holders s₁ h₁ (groupReach start next table ends cells k)
+    follow-end h = all-done (left-end next (group next cells (getD start k 0)) cells t s (P .done) (P .left) h)
+
+-- the linked cells of owner k are those that part k owns
+pub raised-owned : (owners table : Bytes) (ends : List ℕ) (cells k : ℕ) (start next : List ℕ) (s h s₁ h₁ : Bytes) → Grouped owners cells start next → k < 19
+    → Raised k s h s₁ h₁ (groupReach start next table ends cells k) → Raised k s h s₁ h₁ (reachedAt owners table ends k cells)
+unfolding groupReach reachedAt ownsAt bytePlaces
+raised-owned owners table ends cells k start next s h s₁ h₁ G l P =
+    raised-as k s h s₁ h₁ (λ x. someOf (group next cells (getD start k 0)) (λ q. reachHas table ends q x)) (λ x. some 0 cells (λ q. eqb (ownerAt owners q) k && reachHas table ends q x))
+    (λ x. ap (λ xs. someOf xs (λ q. reachHas table ends q x)) (G .each k l) ∙ someOf-picked 0 cells (λ q. eqb (byteAt owners q) k) (λ q. reachHas table ends q x)) P
 
 -- ---- all parts
 
@@ -226,9 +252,9 @@ module _ (owners table : Bytes) (ends : List ℕ) (cells : ℕ) where
       let F = few-start holders C in
       record { few = F; each = λ q h. (let z : byteAt holders q ≡ 0 = omega (arith, F .each q) in z) ∙ sym (total-start 1 (heldBy owners table ends cells q)) }
 
-  pub count-room : (k parts : ℕ) (stamps holders : Bytes) → k < parts → parts ≤ 16 → cells ≤ 2000 → Few k stamps → Counted owners table ends cells k holders
-      → (cells ≤ 2000) × (length stamps ≡ 2000) × Few 15 holders
-  count-room k parts stamps holders h few small T C = (small, T .room, few-more k 15 holders (omega arith) (C .few))
+  pub count-room : (k parts : ℕ) (stamps holders : Bytes) → k < parts → parts ≤ 16 → Few k stamps → Counted owners table ends cells k holders
+      → (length stamps ≡ 2000) × Few 15 holders
+  count-room k parts stamps holders h few T C = (T .room, few-more k 15 holders (omega arith) (C .few))
 
   module _ (k : ℕ) (small : cells ≤ 2000) (s h s₁ h₁ : Bytes) (T : Few k s) (C : Counted owners table ends cells k h) (P : Raised (k + 1) s h s₁ h₁ (reachedAt owners table ends (k + 1) cells)) where
     pub count-turn : Counted owners table ends cells (k + 1) h₁

@@ -1,5 +1,6 @@
 pub mod MapLaws
 pub mod ClassLaws
+pub mod GroupLaws
 pub mod HolderLaws
 pub mod HoldLaws
 pub mod PreparedLaws

@@ -6,20 +6,21 @@ use Prim.Native.Nat.{ℕ, _+_, _-_, _≤_, _<_}
 use native.Mathlib.Nat.{zero-add}
 use native.Mathlib.Omega.{arith}
 use lib.Dec.{eqb, leb}
-use lib.ListN.{length, getD}
-use borrow.Author.Tests.{le-leb, lt-leb, eq-eqb, ne-eqb, not-true, not-false}
-use Rattle.vocabulary.specs.Bytes.{Bytes}
+use lib.ListN.{length, getD, set, length-set, replicate, length-replicate}
+use lib.Seq.{getD-set-same, getD-set-other}
+use borrow.Author.Tests.{le-leb, lt-leb, eq-eqb, ne-eqb, eqb-true, eqb-false, not-true, not-false}
+use Rattle.vocabulary.specs.Bytes.{Bytes, byteAt}
 use Rattle.vocabulary.specs.Intervals.{isUpTo, every, some, picked}
-use Rattle.vocabulary.specs.IntervalLaws.{every-at, every-intro, some-has, some-witness, some-at, some-more, picked-none, picked-at, every-stop, every-turn, some-stop, some-turn, at-last}
+use Rattle.vocabulary.specs.IntervalLaws.{every-at, every-intro, some-start, some-next, some-has, some-witness, some-at, some-more, picked-none, picked-at, every-stop, every-turn, at-last}
 use Rattle.vocabulary.specs.Lists.{everyOf}
-use Rattle.vocabulary.specs.ListLaws.{everyOf-at, everyOf-fails, everyOf-intro, All-intro, same-test}
+use Rattle.vocabulary.specs.ListLaws.{everyOf-at, everyOf-fails, everyOf-intro, All-intro, same-test, or-right, or-nothing, zeros-at}
 use Rattle.vocabulary.specs.Tests.{firstOf}
 use Rattle.mesh.specs.Mesh.{top, firstCell, cellCount, meshNumber}
 use Rattle.mesh.specs.MeshLaws.{mesh-then, mesh-refuses}
 use Rattle.mesh.specs.Walks.{bad10}
 use Rattle.split.specs.Split.{splitOf, ownerAt, owns, owned}
 use Rattle.split.specs.Lists.{bad8, bad9, mapTests, splitTests, splitNumber, splitInput}
-use Rattle.split.specs.Classes.{ownerRight, ownsAt}
+use Rattle.split.specs.Classes.{ownerRight, ownsAt, OwnersSeen}
 
 pub part-told : (parts i : ℕ) → 1 ≤ i → leb i parts ≡ isUpTo parts i
 unfolding isUpTo
@@ -67,14 +68,37 @@ module _ (m : Bytes) (parts : ℕ) (owners : Bytes) (a : Bool) (p : a ≡ isUpTo
 
 -- ---- 9
 
-module _ (owners : Bytes) (i k w : ℕ) (q : w ≡ ownerAt owners k) where
-  pub owns-found : (n : ℕ) → k < n → w ≡ i → true ≡ some 0 n (ownsAt owners i)
-  unfolding ownsAt
-  owns-found n h e = some-stop (ownsAt owners i) n k (ownsAt owners i k) h refl (eq-eqb (ownerAt owners k) i (sym q ∙ e))
+pub seen-start : (owners seen : Bytes) → seen ≡ replicate 256 0 → OwnersSeen owners 0 seen
+seen-start owners seen e = record {
+  room = ap length e ∙ length-replicate {A = ℕ} 256 0;
+  each = λ i. ap (λ (b : Bytes). byteAt b i) e ∙ zeros-at 256 i ∙ sym (ap (λ b. cond b 1 0) (some-start 0 (ownsAt owners i)));
+}
 
-  pub owns-turn : some 0 k (ownsAt owners i) ≡ false → (w ≡ i → ⊥) → some 0 (k + 1) (ownsAt owners i) ≡ false
-  unfolding ownsAt
-  owns-turn s n = some-turn (ownsAt owners i) k k (ownsAt owners i k) s refl (ne-eqb (ownerAt owners k) i (λ e. n (q ∙ e)))
+pub seen-turn : (owners : Bytes) (q w : ℕ) (seen seen₁ : Bytes) → OwnersSeen owners q seen → w ≡ ownerAt owners q → w < 256 → seen₁ ≡ set seen w 1 → OwnersSeen owners (q + 1) seen₁
+unfolding ownsAt
+seen-turn owners q w seen seen₁ M we small e = record {
+  room = ap length e ∙ length-set seen w 1 ∙ M .room;
+  each = λ i.
+      ap (λ (b : Bytes). byteAt b i) e
+      ∙ go i (eqb w i) refl
+      ∙ sym (ap (λ b. cond b 1 0) (some-next 0 q (λ k. eqb (ownerAt owners k) i) ∙ ap (λ x. some 0 q (λ k. eqb (ownerAt owners k) i) || eqb x i) (here ∙ sym we)));
+}
+  where
+    here : ownerAt owners (0 + q) ≡ ownerAt owners q
+    here = ap (ownerAt owners) (zero-add q)
+
+    go : (i : ℕ) (b : Bool) → eqb w i ≡ b → byteAt (set seen w 1) i ≡ cond (some 0 q (λ k. eqb (ownerAt owners k) i) || eqb w i) 1 0
+    go i true f =
+        ap (byteAt (set seen w 1)) (sym (eqb-true w i f))
+        ∙ getD-set-same seen w 1 0 (omega (arith, M .room))
+        ∙ sym (ap (λ b. cond b 1 0) (or-right (some 0 q (λ k. eqb (ownerAt owners k) i)) (eqb w i) f))
+    go i false f =
+        getD-set-other seen w i 1 0 (λ z. eqb-false w i f (sym z))
+        ∙ M .each i
+        ∙ sym (ap (λ b. cond b 1 0) (ap (λ b. some 0 q (λ k. eqb (ownerAt owners k) i) || b) f ∙ or-nothing (some 0 q (λ k. eqb (ownerAt owners k) i))))
+
+pub seen-end : (owners : Bytes) (q n : ℕ) (seen : Bytes) → q ≤ n → n ≤ q → OwnersSeen owners q seen → OwnersSeen owners n seen
+seen-end owners q n seen g h M = at-last (λ k. OwnersSeen owners k seen) q n g h M
 
 -- part i owns none of the cells
 unfoldable pub ownsNone : Bytes → ℕ → Bytes → ℕ → Bool
@@ -105,12 +129,31 @@ module _ (m : Bytes) (parts : ℕ) (owners : Bytes) where
         let q : 1 + k ≡ k + 1 = omega arith in
         ap (ownsNone m parts owners) q ∙ none-told (k + 1) ∙ ap not (ap (λ x. some 0 x (ownsAt owners (k + 1))) (sym ce) ∙ sym e)
 
-    pub share-none : k < parts → not b ≡ true → true ≡ bad9 (splitOf m parts owners [])
+    share-none : k < parts → not b ≡ true → true ≡ bad9 (splitOf m parts owners [])
     unfolding bad9 ownsNone splitOf
     share-none h t = sym (some-has 1 (ownsNone m parts owners) parts k h (told ∙ t))
 
-    pub share-turn : some 1 k (ownsNone m parts owners) ≡ false → not b ≡ false → some 1 (k + 1) (ownsNone m parts owners) ≡ false
-    share-turn s t = some-more 1 (ownsNone m parts owners) k s (told ∙ t)
+    share-more : some 1 k (ownsNone m parts owners) ≡ false → not b ≡ false → some 1 (k + 1) (ownsNone m parts owners) ≡ false
+    share-more s t = some-more 1 (ownsNone m parts owners) k s (told ∙ t)
+
+  -- by the marks
+  module _ (n : ℕ) (ce : n ≡ cellCount m) (seen : Bytes) (M : OwnersSeen owners n seen) (k x : ℕ) (xe : x ≡ byteAt seen (k + 1)) where
+    mark : x ≡ cond (some 0 n (ownsAt owners (k + 1))) 1 0
+    mark = xe ∙ M .each (k + 1)
+
+    pub share-missing : k < parts → x ≡ 0 → true ≡ bad9 (splitOf m parts owners [])
+    share-missing h z = share-none n ce k false (go (some 0 n (ownsAt owners (k + 1))) (sym z ∙ mark)) h refl
+      where
+        go : (b : Bool) → _≡_ {A = ℕ} 0 (cond b 1 0) → false ≡ b
+        go true e = absurd (let no : ⊥ = omega arith in no)
+        go false e = refl
+
+    pub share-turn : some 1 k (ownsNone m parts owners) ≡ false → (x ≡ 0 → ⊥) → some 1 (k + 1) (ownsNone m parts owners) ≡ false
+    share-turn s z = share-more n ce k true (go (some 0 n (ownsAt owners (k + 1))) mark) s refl
+      where
+        go : (b : Bool) → x ≡ cond b 1 0 → true ≡ b
+        go true e = refl
+        go false e = absurd (z e)
 
   pub share-end : (k : ℕ) → k ≤ parts → parts ≤ k → some 1 k (ownsNone m parts owners) ≡ false → false ≡ bad9 (splitOf m parts owners [])
   unfolding bad9 ownsNone splitOf

@@ -33,6 +33,11 @@ ownerRight parts owners k = isUpTo parts (ownerAt owners k)
 unfoldable pub ownsAt : Bytes → ℕ → ℕ → Bool
 ownsAt owners i k = eqb (ownerAt owners k) i
 
+-- exactly the bytes that own one of the first n cells are marked
+pub record OwnersSeen (owners : Bytes) (n : ℕ) (seen : Bytes) : Type 0 where
+  pub room : length seen ≡ 256
+  pub each : (i : ℕ) → byteAt seen i ≡ cond (some 0 n (ownsAt owners i)) 1 0
+
 -- the cell of entry t of the table belongs to part i
 unfoldable pub entryOwned : Bytes → Bytes → ℕ → ℕ → Bool
 entryOwned owners table i t = ownsAt owners i (wordAt table (2 * t))
@@ -81,10 +86,6 @@ pub record OwnersMarked (owners : Bytes) (i : ℕ) (before after : Bytes) (p : �
 -- 1 where a row says that its part holds the cell at place q
 unfoldable pub heldOne : Bytes → ℕ → ℕ
 heldOne class q = cond (eqb (byteAt class q) 0) 0 1
-
--- the cell at place q belongs to part k and reaches the cell at place x
-unfoldable pub ownReach : Bytes → Bytes → List ℕ → ℕ → ℕ → ℕ → Bool
-ownReach owners table ends k q x = ownsAt owners k q && reachHas table ends q x
 
 -- the places that pass bear the stamp k afterwards, and those of them that did not bear it before are counted once more
 pub record Raised (k : ℕ) (stamps holders stamped raised : Bytes) (p : ℕ → Bool) : Type 0 where

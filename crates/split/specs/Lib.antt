@@ -3,3 +3,4 @@ pub mod Numbering
 pub mod Lists
 pub mod SplitLaws
 pub mod Classes
+pub mod Groups

@@ -15,6 +15,9 @@ pub const INTERIOR: u8 = 17;
 
 pub const HALO: u8 = 18;
 
+// How many classes there are: none, the parts, interior and halo.
+pub const CLASSES: usize = 19;
+
 // Clears a row.
 pub fn clear_row(class: &mut [u8])
     requires { ⌜ length (now class) ≡ 2000 ⌝ }

@@ -1,8 +1,9 @@
 // How many parts hold each cell. One part after another is counted at the cells that its own cells reach; a row of stamps has the last part that was
 // counted at each cell, so that none is counted twice.
+use crate::classes::CLASSES;
 use crate::classes::clear_row;
 use crate::classes::put_class;
-use crate::owners::owner_of;
+use crate::groups::group_cells;
 use layout::byte_at;
 use layout::number_at;
 use layout::word_at;
@@ -11,7 +12,8 @@ ghost use Prim.Native.Nat.{_*_, _≤_, _<_};
 ghost use lib.Dec.{eqb};
 ghost use lib.ListN.{length};
 ghost use Rattle.vocabulary.specs.Bytes.{byteAt};
-ghost use Rattle.split.specs.Classes.{reachedAt, ownReach, Raised, Few, rowSum, Holders};
+ghost use Rattle.split.specs.Classes.{reachHas, Raised, Few, rowSum, Holders};
+ghost use Rattle.split.specs.Groups.{groupReach};
 
 // Counts part k at the cell at place x, unless the stamp there says that it is.
 fn add_holder(x: usize, k: u8, stamps: &mut [u8], holders: &mut [u8])
@@ -26,25 +28,13 @@ fn add_holder(x: usize, k: u8, stamps: &mut [u8], holders: &mut [u8])
     put_class(holders, x, count + 1);
 }
 
-// Counts part k at the cells in the reach of the cell at place q, if that is its own.
-fn add_cell(
-    owners: &[u8],
-    table: &[u8],
-    ends: &[u16],
-    q: usize,
-    k: u8,
-    stamps: &mut [u8],
-    holders: &mut [u8],
-)
+// Counts part k at the cells in the reach of the cell at place q.
+fn add_reach(table: &[u8], ends: &[u16], q: usize, k: u8, stamps: &mut [u8], holders: &mut [u8])
     requires { ⌜ (q < 65536) × (length (now stamps) ≡ 2000) × Few 16 (now holders) ⌝ }
     ensures { λ _. ⌜
-        Raised k (now (stamps .entry)) (now (holders .entry)) (now (stamps .exit)) (now (holders .exit)) (ownReach (now (owners .entry)) (now (table .entry))
-        (now (ends .entry)) k q)
+        Raised k (now (stamps .entry)) (now (holders .entry)) (now (stamps .exit)) (now (holders .exit)) (reachHas (now (table .entry)) (now (ends .entry)) q)
         ⌝ }
 {
-    if owner_of(owners, q) != k {
-        return;
-    }
     let from = number_at(ends, q) as usize;
     let to = number_at(ends, q + 1) as usize;
     for t in from..to {
@@ -52,9 +42,10 @@ fn add_cell(
     }
 }
 
-// Counts part k at all cells that it holds.
-pub fn add_part(
-    owners: &[u8],
+// Counts part k at all cells that it holds: at those that its own cells, which are linked, reach.
+fn count_part(
+    start: &[u16],
+    next: &[u16],
     table: &[u8],
     ends: &[u16],
     cells: usize,
@@ -62,14 +53,19 @@ pub fn add_part(
     stamps: &mut [u8],
     holders: &mut [u8],
 )
-    requires { ⌜ (cells ≤ 2000) × (length (now stamps) ≡ 2000) × Few 15 (now holders) ⌝ }
+    requires { ⌜ (length (now stamps) ≡ 2000) × Few 15 (now holders) ⌝ }
     ensures { λ _. ⌜
-        Raised k (now (stamps .entry)) (now (holders .entry)) (now (stamps .exit)) (now (holders .exit)) (reachedAt (now (owners .entry)) (now (table .entry))
-        (now (ends .entry)) k cells)
+        Raised k (now (stamps .entry)) (now (holders .entry)) (now (stamps .exit)) (now (holders .exit)) (groupReach (now (start .entry)) (now (next .entry))
+        (now (table .entry)) (now (ends .entry)) cells k)
         ⌝ }
 {
-    for q in 0..cells {
-        add_cell(owners, table, ends, q, k, stamps, holders);
+    let mut s = number_at(start, k as usize) as usize;
+    for _t in 0..cells {
+        if s < 1 {
+            return;
+        }
+        add_reach(table, ends, s - 1, k, stamps, holders);
+        s = number_at(next, s - 1) as usize;
     }
 }
 
@@ -85,7 +81,7 @@ fn sum_holders(holders: &[u8], cells: usize) -> usize
     s
 }
 
-// Counts at each cell the parts that hold it, and gives how many cells the parts hold together. The row of stamps is work space.
+// Counts at each cell the parts that hold it, and gives how many cells the parts hold together. The row of stamps is work space, and so is the array of links.
 pub fn count_holders(
     owners: &[u8],
     table: &[u8],
@@ -94,14 +90,26 @@ pub fn count_holders(
     parts: usize,
     stamps: &mut [u8],
     holders: &mut [u8],
+    next: &mut [u16],
 ) -> usize
-    requires { ⌜ (cells ≤ 2000) × (parts ≤ 16) × (length (now stamps) ≡ 2000) × (length (now holders) ≡ 2000) ⌝ }
+    requires { ⌜ (cells ≤ 2000) × (parts ≤ 16) × (length (now stamps) ≡ 2000) × (length (now holders) ≡ 2000) × (2000 ≤ length (now next)) ⌝ }
     ensures { λ s. ⌜ Holders (now (owners .entry)) (now (table .entry)) (now (ends .entry)) cells parts (now (holders .exit)) s ⌝ }
 {
     clear_row(stamps);
     clear_row(holders);
+    let mut start = [0u16; CLASSES];
+    group_cells(owners, cells, &mut start, next);
     for k in 0..parts {
-        add_part(owners, table, ends, cells, (k + 1) as u8, stamps, holders);
+        count_part(
+            &start,
+            next,
+            table,
+            ends,
+            cells,
+            (k + 1) as u8,
+            stamps,
+            holders,
+        );
     }
     sum_holders(holders, cells)
 }

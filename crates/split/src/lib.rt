@@ -1,5 +1,6 @@
 // Part maps and what the parts hold. Here stand the tests that take any bytes and numbers; what supposes an accepted mesh is in `inner`.
 mod classes;
+mod groups;
 mod holders;
 pub mod inner;
 mod maps;

@@ -1,5 +1,7 @@
 // The tests 8 and 9, and the number of a call by the tests up to 10.
+use crate::classes::put_class;
 use crate::owners::owner_of;
+use layout::byte_at;
 use layout::limits::MOST_PARTS;
 use mesh::inner::cell_count;
 use mesh::inner::top_of;
@@ -8,15 +10,18 @@ use walk_stencil::bad_stencil;
 ghost use mathlib.Core.Path.{_≡_};
 ghost use mathlib.Core.List.{[], _∷_};
 ghost use Prim.Native.Nat.{_≤_};
-ghost use lib.ListN.{length};
+ghost use lib.ListN.{length, replicate};
 ghost use Rattle.vocabulary.specs.Lists.{Zeros};
-ghost use Rattle.vocabulary.specs.Intervals.{isUpTo, every, some};
+ghost use Rattle.vocabulary.specs.Intervals.{isUpTo, every};
 ghost use Rattle.split.specs.Split.{splitOf};
 ghost use Rattle.split.specs.Lists.{bad8, bad9, splitNumber};
-ghost use Rattle.split.specs.Classes.{ownerRight, ownsAt};
+ghost use Rattle.split.specs.Classes.{ownerRight, OwnersSeen};
 
 // The most parts, as the number that calls are given.
 const PARTS: u32 = MOST_PARTS as u32;
+
+// How many values a byte has.
+const BYTE_VALUES: usize = 256;
 
 // Whether i is one of the parts.
 pub fn is_part(parts: u32, i: u32) -> bool
@@ -49,25 +54,25 @@ pub fn bad_map(m: &[u8], parts: u32, owners: &[u8]) -> bool
     !owners_right(parts, owners)
 }
 
-// Whether part i owns one of the first n cells.
-fn owns_some(owners: &[u8], n: usize, i: u32) -> bool
-    ensures { λ b. ⌜ b ≡ some 0 n (ownsAt (now (owners .entry)) i) ⌝ }
+// Marks the owners of the first n cells, in a cleared array.
+fn mark_owners(owners: &[u8], n: usize, seen: &mut [u8])
+    requires { ⌜ now seen ≡ replicate 256 0 ⌝ }
+    ensures { λ _. ⌜ OwnersSeen (now (owners .entry)) n (now (seen .exit)) ⌝ }
 {
-    for k in 0..n {
-        if owner_of(owners, k) as u32 == i {
-            return true;
-        }
+    for q in 0..n {
+        put_class(seen, owner_of(owners, q) as usize, 1);
     }
-    false
 }
 
-// Whether a part owns no cell, number 9. The stencil does not matter to it.
+// Whether a part owns no cell, number 9. The stencil does not matter to it. A part above 255 owns none.
 pub fn bad_shares(m: &[u8], parts: u32, owners: &[u8]) -> bool
     ensures { λ b. ⌜ b ≡ bad9 (splitOf (now (m .entry)) parts (now (owners .entry)) []) ⌝ }
 {
     let cells = cell_count(m);
+    let mut seen = [0u8; BYTE_VALUES];
+    mark_owners(owners, cells, &mut seen);
     for k in 0..parts {
-        if !owns_some(owners, cells, k + 1) {
+        if byte_at(&seen, (k + 1) as usize) == 0 {
             return true;
         }
     }

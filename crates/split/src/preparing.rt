@@ -153,6 +153,7 @@ pub fn prepare(
             parts as usize,
             class,
             holders,
+            &mut marks,
         )
     {
         return 12;

@@ -1,18 +1,21 @@
 -- Lists to which numbers are added, and the numbers of a class. Assumes nothing.
 use mathlib.Core.Path.{_≡_, refl, sym, ap, ap₂, _∙_, subst}
 use mathlib.Core.Bool.{Bool, true, false, cond}
-use mathlib.Core.List.{List, [], _∷_, _++_}
-use Prim.Native.Nat.{ℕ, _+_, _≤_}
+use mathlib.Core.List.{List, [], _∷_, _++_, map}
+use Prim.Native.Nat.{ℕ, _+_, _-_, _≤_, _<_}
 use native.Mathlib.Nat.{zero-add}
 use native.Mathlib.Omega.{arith}
 use lib.Dec.{eqb}
-use lib.ListN.{length, set, length-append, length-set, take, drop}
+use lib.ListN.{length, getD, set, length-append, length-set, take, drop}
 use borrow.Author.Tests.{eq-eqb, ne-eqb}
 use Rattle.vocabulary.specs.Bytes.{Bytes, byteAt, over}
 use Rattle.vocabulary.specs.ByteLaws.{over-none, over-more, over-one, over-front}
 use Rattle.vocabulary.specs.Intervals.{blocks}
+use Rattle.vocabulary.specs.ListLaws.{map-append}
 use Rattle.vocabulary.specs.IntervalLaws.{blocks-turn, blocks-start, at-last, blocks-length, total-bound, total-start, total-turn, total-cong}
 use Rattle.split.specs.Classes.{ofClass, classCells, placeCount, classCount, classOrder, Appended}
+use Rattle.split.specs.Groups.{group, Grouped, groupCells, groupOrder, Linked}
+use Rattle.split.proofs.GroupLaws.{left-start, left-turn, left-all, left-stop, left-end, grouped-order}
 use lib.Seq.{take-append-seam}
 
 -- ---- adding to a list
@@ -54,31 +57,77 @@ module _ (x y k v : ℕ) (e : x ≡ y) (b : List ℕ) (s : ℕ) where
   pub sort-adds : (a : List ℕ) → x ≡ k → a ≡ set b s v → Appended b a s (s + 1) (cond (eqb y k) (v ∷ []) [])
   sort-adds a n f = subst (λ c. Appended b a s (s + 1) (cond c (v ∷ []) [])) (sym (eq-eqb y k (sym e ∙ n))) (add-one b a s v f)
 
--- ---- the numbers of a class, and the local order by classes
+-- ---- the numbers of a class
 
-module _ (class : Bytes) (first cells : ℕ) where
-  pub class-end : (k : ℕ) (a b : List ℕ) (s t q : ℕ) → q ≤ cells → cells ≤ q → Appended a b s t (blocks 0 q (ofClass class first k)) → Appended a b s t (classCells class first cells k)
-  unfolding classCells
-  class-end k a b s t q h l X = add-end (ofClass class first k) a b s t q cells h l X
+pub class-end : (class : Bytes) (first cells k : ℕ) (a b : List ℕ) (s t q : ℕ) → q ≤ cells → cells ≤ q → Appended a b s t (blocks 0 q (ofClass class first k))
+    → Appended a b s t (classCells class first cells k)
+unfolding classCells
+class-end class first cells k a b s t q h l X = add-end (ofClass class first k) a b s t q cells h l X
 
-  pub imported-start : (b : List ℕ) (s : ℕ) → Appended b b s s (blocks 1 0 (classCells class first cells))
-  imported-start b s = subst (Appended b b s s) (sym (blocks-start 1 (classCells class first cells))) (add-none b s)
+-- ---- the local order by the links
 
-  pub imported-turn : (a b c : List ℕ) (s t u j : ℕ) → Appended a b s t (blocks 1 j (classCells class first cells)) → Appended b c t u (classCells class first cells (j + 1))
-      → Appended a c s u (blocks 1 (j + 1) (classCells class first cells))
+-- the places `done` of the group are added, and link i leads on
+pub record Adding (start next : List ℕ) (k first cells : ℕ) (before after : List ℕ) (s t n i : ℕ) : Type 0 where
+  pub done : List ℕ
+  pub left : group next cells (getD start k 0) ≡ done ++ group next (cells - n) i
+  pub added : Appended before after s t (map (λ q. first + q) done)
+
+module _ (start next : List ℕ) (k first cells : ℕ) where
+  pub adding-start : (b : List ℕ) (s i : ℕ) → i ≡ getD start k 0 → Adding start next k first cells b b s s 0 i
+  adding-start b s i e = record { done = []; left = left-start next (group next cells (getD start k 0)) cells i (ap (group next cells) e); added = add-none b s }
+
+  module _ (a b : List ℕ) (s t n i : ℕ) (X : Adding start next k first cells a b s t n i) where
+    -- the cell that is met is one of the cells
+    pub adding-number : Linked cells start next → k < 19 → first + cells ≤ 65536 → n < cells → 1 ≤ i → first + (i - 1) < 65536
+    adding-number L h f l g =
+        let m : i - 1 < cells = left-all next (group next cells (getD start k 0)) cells n i (X .done) (X .left) l g (λ q. q < cells) (L .each k h) in
+        omega arith
+
+    pub adding-turn : (c : List ℕ) (j : ℕ) → n < cells → 1 ≤ i → c ≡ set b t (first + (i - 1)) → j ≡ getD next (i - 1) 0 → Adding start next k first cells a c s (t + 1) (n + 1) j
+    adding-turn c j l g e f = record {
+      done = X .done ++ ((i - 1) ∷ []);
+      left =
+          left-turn next (group next cells (getD start k 0)) cells n i (X .done) (X .left) l g
+          ∙ ap (λ x. (X .done ++ ((i - 1) ∷ [])) ++ group next (cells - (n + 1)) x) (sym f);
+      added =
+          subst (Appended a c s (t + 1)) (sym (map-append (λ q. first + q) (X .done) ((i - 1) ∷ [])))
+          (add-both a b c s t (t + 1) (map (λ q. first + q) (X .done)) ((first + (i - 1)) ∷ []) (X .added) (add-one b c t (first + (i - 1)) e));
+    }
+
+    all-added : group next cells (getD start k 0) ≡ X .done → Appended a b s t (groupCells start next first cells k)
+    unfolding groupCells
+    all-added e = subst (Appended a b s t) (ap (map (λ q. first + q)) (sym e)) (X .added)
+
+    pub adding-stop : i < 1 → Appended a b s t (groupCells start next first cells k)
+    adding-stop h = all-added (left-stop next (group next cells (getD start k 0)) cells n i (X .done) (X .left) h)
+
+    pub adding-end : cells ≤ n → Appended a b s t (groupCells start next first cells k)
+    adding-end h = all-added (left-end next (group next cells (getD start k 0)) cells n i (X .done) (X .left) h)
+
+module _ (start next : List ℕ) (first cells : ℕ) where
+  pub imported-start : (b : List ℕ) (s : ℕ) → Appended b b s s (blocks 1 0 (groupCells start next first cells))
+  imported-start b s = subst (Appended b b s s) (sym (blocks-start 1 (groupCells start next first cells))) (add-none b s)
+
+  pub imported-turn : (a b c : List ℕ) (s t u j : ℕ) → Appended a b s t (blocks 1 j (groupCells start next first cells))
+      → Appended b c t u (groupCells start next first cells (j + 1)) → Appended a c s u (blocks 1 (j + 1) (groupCells start next first cells))
   imported-turn a b c s t u j X Y =
       let q : j + 1 ≡ 1 + j = omega arith in
-      subst (Appended a c s u) (ap (λ x. blocks 1 j (classCells class first cells) ++ classCells class first cells x) q ∙ sym (blocks-turn 1 (classCells class first cells) j))
-      (add-both a b c s t u (blocks 1 j (classCells class first cells)) (classCells class first cells (j + 1)) X Y)
+      subst (Appended a c s u)
+      (ap (λ x. blocks 1 j (groupCells start next first cells) ++ groupCells start next first cells x) q ∙ sym (blocks-turn 1 (groupCells start next first cells) j))
+      (add-both a b c s t u (blocks 1 j (groupCells start next first cells)) (groupCells start next first cells (j + 1)) X Y)
 
-  pub imported-end : (a b : List ℕ) (s t j parts : ℕ) → j ≤ parts → parts ≤ j → Appended a b s t (blocks 1 j (classCells class first cells)) → Appended a b s t
-      (blocks 1 parts (classCells class first cells))
-  imported-end a b s t j parts h k X = at-last (λ n. Appended a b s t (blocks 1 n (classCells class first cells))) j parts h k X
+  pub imported-end : (a b : List ℕ) (s t j parts : ℕ) → j ≤ parts → parts ≤ j → Appended a b s t (blocks 1 j (groupCells start next first cells))
+      → Appended a b s t (blocks 1 parts (groupCells start next first cells))
+  imported-end a b s t j parts h k X = at-last (λ n. Appended a b s t (blocks 1 n (groupCells start next first cells))) j parts h k X
 
-  pub order-added : (a b c d : List ℕ) (s t u parts : ℕ) → Appended a b 0 s (classCells class first cells 17) → Appended b c s t (classCells class first cells 18)
-      → Appended c d t u (blocks 1 parts (classCells class first cells)) → Appended a d 0 u (classOrder class first cells parts)
-  unfolding classOrder
-  order-added a b c d s t u parts X Y Z = add-both a b d 0 s u _ _ X (add-both b c d s t u _ _ Y Z)
+  pub groups-added : (a b c d : List ℕ) (s t u parts : ℕ) → Appended a b 0 s (groupCells start next first cells 17) → Appended b c s t (groupCells start next first cells 18)
+      → Appended c d t u (blocks 1 parts (groupCells start next first cells)) → Appended a d 0 u (groupOrder start next first cells parts)
+  unfolding groupOrder
+  groups-added a b c d s t u parts X Y Z = add-both a b d 0 s u _ _ X (add-both b c d s t u _ _ Y Z)
+
+pub order-added : (class : Bytes) (first cells parts : ℕ) (start next a b : List ℕ) (t : ℕ) → Grouped class cells start next → parts ≤ 16
+    → Appended a b 0 t (groupOrder start next first cells parts) → Appended a b 0 t (classOrder class first cells parts)
+order-added class first cells parts start next a b t G h X = subst (Appended a b 0 t) (grouped-order class first cells parts start next G h) X
 
 -- ---- how many there are
 

@@ -1,14 +1,19 @@
 // The lists of the cells of one class, by a row of classes.
 use layout::byte_at;
+use layout::limits::MOST_ELEMENTS;
+use layout::number_at;
 use layout::put_number_at;
+use split::inner::CLASSES;
 use split::inner::HALO;
 use split::inner::INTERIOR;
+use split::inner::group_cells;
 ghost use Prim.Native.Nat.{_+_, _≤_, _<_};
 ghost use Rattle.vocabulary.specs.Intervals.{blocks};
 ghost use Rattle.split.specs.Classes.{ofClass, classCells, classOrder, Appended};
+ghost use Rattle.split.specs.Groups.{groupCells, groupOrder, Linked};
 
 // Adds the number of place q, counted from `first`, to the list, if the row has the class k there.
-fn add_place(class: &[u8], first: usize, k: u8, q: usize, list: &mut [u16], s: usize) -> usize
+pub fn add_place(class: &[u8], first: usize, k: u8, q: usize, list: &mut [u16], s: usize) -> usize
     requires { ⌜ (first + q < 65536) × (s < 4294967296) ⌝ }
     ensures { λ t. ⌜ Appended (now (list .entry)) (now (list .exit)) s t (ofClass (now (class .entry)) first k q) × (t ≤ s + 1) ⌝ }
 {
@@ -38,31 +43,83 @@ pub fn add_class(
     t
 }
 
+// Adds the numbers of the linked cells of class k to the list, which has s numbers, and gives how many it has then.
+fn add_group(
+    start: &[u16],
+    next: &[u16],
+    k: usize,
+    first: usize,
+    cells: usize,
+    list: &mut [u16],
+    s: usize,
+) -> usize
+    requires { ⌜ (first + cells ≤ 65536) × (cells ≤ 2000) × Linked cells (now start) (now next) × (k < 19) × (s < 65536) ⌝ }
+    ensures { λ t. ⌜
+        Appended (now (list .entry)) (now (list .exit)) s t (groupCells (now (start .entry)) (now (next .entry)) first cells k)
+        × (t ≤ s + cells)
+        ⌝ }
+{
+    let mut t = s;
+    let mut i = number_at(start, k) as usize;
+    for _n in 0..cells {
+        if i < 1 {
+            return t;
+        }
+        put_number_at(list, t, (first + (i - 1)) as u16);
+        t += 1;
+        i = number_at(next, i - 1) as usize;
+    }
+    t
+}
+
 // Adds the imports by their owners.
 fn add_imported(
-    class: &[u8],
+    start: &[u16],
+    next: &[u16],
     first: usize,
     cells: usize,
     parts: usize,
     list: &mut [u16],
     s: usize,
 ) -> usize
-    requires { ⌜ (first + cells ≤ 65536) × (cells ≤ 2000) × (parts ≤ 16) × (s ≤ 4000) ⌝ }
-    ensures { λ t. ⌜ Appended (now (list .entry)) (now (list .exit)) s t (blocks 1 parts (classCells (now (class .entry)) first cells)) ⌝ }
+    requires { ⌜ (first + cells ≤ 65536) × (cells ≤ 2000) × Linked cells (now start) (now next) × (parts ≤ 16) × (s ≤ 4000) ⌝ }
+    ensures { λ t. ⌜
+        Appended (now (list .entry)) (now (list .exit)) s t (blocks 1 parts (groupCells (now (start .entry)) (now (next .entry)) first cells))
+        ⌝ }
 {
     let mut t = s;
     for j in 0..parts {
-        t = add_class(class, first, cells, (j + 1) as u8, list, t);
+        t = add_group(start, next, j + 1, first, cells, list, t);
     }
     t
 }
 
-// The local order of the part that the row is of, in the list from its start on.
+// Adds the linked cells in the local order: interior, halo, and the imports by their owners.
+fn add_groups(
+    start: &[u16],
+    next: &[u16],
+    first: usize,
+    cells: usize,
+    parts: usize,
+    list: &mut [u16],
+) -> usize
+    requires { ⌜ (first + cells ≤ 65536) × (cells ≤ 2000) × Linked cells (now start) (now next) × (parts ≤ 16) ⌝ }
+    ensures { λ t. ⌜
+        Appended (now (list .entry)) (now (list .exit)) 0 t (groupOrder (now (start .entry)) (now (next .entry)) first cells parts)
+        ⌝ }
+{
+    let inner = add_group(start, next, INTERIOR as usize, first, cells, list, 0);
+    let own = add_group(start, next, HALO as usize, first, cells, list, inner);
+    add_imported(start, next, first, cells, parts, list, own)
+}
+
+// The local order of the part that the row is of, in the list from its start on. The cells are linked by their class first, so that each is met once.
 pub fn add_order(class: &[u8], first: usize, cells: usize, parts: usize, list: &mut [u16]) -> usize
     requires { ⌜ (first + cells ≤ 65536) × (cells ≤ 2000) × (parts ≤ 16) ⌝ }
     ensures { λ t. ⌜ Appended (now (list .entry)) (now (list .exit)) 0 t (classOrder (now (class .entry)) first cells parts) ⌝ }
 {
-    let inner = add_class(class, first, cells, INTERIOR, list, 0);
-    let own = add_class(class, first, cells, HALO, list, inner);
-    add_imported(class, first, cells, parts, list, own)
+    let mut start = [0u16; CLASSES];
+    let mut next = [0u16; MOST_ELEMENTS];
+    group_cells(class, cells, &mut start, &mut next);
+    add_groups(&start, &next, first, cells, parts, list)
 }

@@ -17,7 +17,8 @@ state-size-spec =
     (λ c. search needs)
     (λ c. search needs)
     (λ c κs. (omega (arith, length-replicate {A = ℕ} 12001 0), zeros 2001))
-    (λ c. let at-split-number = c .before .before .before in
+    (λ c.
+    let at-split-number = c .before .before .before in
     size-split _ _ _ _ _ _ (at-split-number .split-number .ensures) (c .if1 .taken))
     (λ c. search needs)
     (λ c. search needs)
@@ -27,48 +28,54 @@ state-size-spec =
     (λ c. search needs)
     (λ c. search needs)
     (λ c κs.
-    let at-passed = c .before .before .before .before .before .before .before in
-    let at-split-number = at-passed .before .before .before in
-    let f = passed-facts _ _ _ _ _ _ (sym (at-split-number .split-number .ensures) ∙ at-passed .if1 .left) in
+    let at-if1 = c .before .before .before .before .before .before .before in
+    let at-split-number = at-if1 .before .before .before in
+    let f = passed-facts _ _ _ _ _ _ (sym (at-split-number .split-number .ensures) ∙ at-if1 .if1 .left) in
     (f .mesh, f .map, f .stencil, search needs, refl, refl, refl, search needs, refl, refl))
     (λ c.
     let at-prepare = c .before .before .before .before .before .before .before .before in
-    let at-passed = at-prepare .before .before .before .before .before .before .before .before in
-    let at-split-number = at-passed .before .before .before in
-    size-sizes _ _ _ _ _ (sym (at-split-number .split-number .ensures) ∙ at-passed .if1 .left) _ (at-prepare .prepare .ensures .0) (c .if2 .taken))
+    let at-if1 = at-prepare .before .before .before .before .before .before .before .before in
+    let at-split-number = at-if1 .before .before .before in
+    size-sizes _ _ _ _ _ (sym (at-split-number .split-number .ensures) ∙ at-if1 .if1 .left) _ (at-prepare .prepare .ensures .0) (c .if2 .taken))
+    (λ c κs. search needs)
+    (λ c. search needs)
     (λ c κs. search needs)
     (λ c. search needs)
     (λ c. search needs)
     (λ c. search needs)
     (λ c. search needs)
     (λ c. search needs)
-    (λ c. search needs)
     (λ c κs.
-    let at-asked-of = c .before .before .before .before .before .before in
-    let at-if1 = at-asked-of .before in
-    let at-prepare = at-if1 .before .before .before .before .before .before .before .before in
-    let at-passed = at-prepare .before .before .before .before .before .before .before .before in
-    let at-split-number = at-passed .before .before .before in
-    let sn = sym (at-split-number .split-number .ensures) ∙ at-passed .if1 .left in
+    let at-count-exports = c .before .before .before .before .before in
+    let at-asked-of = at-count-exports .before .before in
+    let at-if2 = at-asked-of .before in
+    let at-class2 = at-if2 .before in
+    let at-prev2 = at-class2 .before .before .before .before .before in
+    let at-prepare = at-prev2 .before .before in
+    let at-if1 = at-prepare .before .before .before .before .before .before .before .before in
+    let at-split-number = at-if1 .before .before .before in
+    let sn = sym (at-split-number .split-number .ensures) ∙ at-if1 .if1 .left in
     let prepared = at-prepare .prepare .ensures in
-    let zero = at-if1 .if2 .left in
+    let zero = at-if2 .if2 .left in
     let zn = sym (prepared .0) ∙ zero in
     let asked = at-asked-of .asked-of .ensures in (
       plan-fitting _ _ _ _ _ _ _ _ sn zn (prepared .1 zero) _ _ _ _ (asked .0) (asked .1) (asked .2) (asked .3),
-      omega (arith, at-if1 .before .class2 .given),
-      omega (arith, at-if1 .before .before .before .before .before .before .prev2 .given),
+      at-count-exports .count-exports .ensures .1,
+      omega (arith, at-class2 .class2 .given),
+      omega (arith, at-prev2 .prev2 .given),
       refl,
     ))
     (λ c.
     let at-make-plan = c .before .before .before .before in
-    let at-asked-of = at-make-plan .before .before .before .before .before .before .before in
-    let at-if1 = at-asked-of .before in
-    let at-prepare = at-if1 .before .before .before .before .before .before .before .before in
-    let at-passed = at-prepare .before .before .before .before .before .before .before .before in
-    let at-split-number = at-passed .before .before .before in
-    let sn = sym (at-split-number .split-number .ensures) ∙ at-passed .if1 .left in
+    let at-count-exports = at-make-plan .before .before .before .before .before .before in
+    let at-asked-of = at-count-exports .before .before in
+    let at-if2 = at-asked-of .before in
+    let at-prepare = at-if2 .before .before .before .before .before .before .before .before in
+    let at-if1 = at-prepare .before .before .before .before .before .before .before .before in
+    let at-split-number = at-if1 .before .before .before in
+    let sn = sym (at-split-number .split-number .ensures) ∙ at-if1 .if1 .left in
     let prepared = at-prepare .prepare .ensures in
-    let zero = at-if1 .if2 .left in
+    let zero = at-if2 .if2 .left in
     let zn = sym (prepared .0) ∙ zero in
     let asked = at-asked-of .asked-of .ensures in
     let told = at-make-plan .make-plan .ensures in
@@ -76,18 +83,20 @@ state-size-spec =
     let parts = told .1 ∙ asked .1 in
     let first = told .2 ∙ asked .2 in
     let cells = told .3 ∙ asked .3 in
-    let plan = plan-made _ _ _ _ _ _ _ _ sn zn (prepared .1 zero) _ _ _ _ part parts first cells _ _ _ _ _ (told .4) in
+    let count = told .4 ∙ at-count-exports .count-exports .ensures .0 in
+    let plan = plan-made _ _ _ _ _ _ _ _ sn zn (prepared .1 zero) _ _ _ _ part parts first cells _ _ _ _ _ (told .5) _ _ (asked .0) (asked .3) count in
     omega (arith, plan .long-is, plan .fit .long, plan .fit .order-few))
     (λ c.
     let at-make-plan = c .before .before .before .before in
-    let at-asked-of = at-make-plan .before .before .before .before .before .before .before in
-    let at-if1 = at-asked-of .before in
-    let at-prepare = at-if1 .before .before .before .before .before .before .before .before in
-    let at-passed = at-prepare .before .before .before .before .before .before .before .before in
-    let at-split-number = at-passed .before .before .before in
-    let sn = sym (at-split-number .split-number .ensures) ∙ at-passed .if1 .left in
+    let at-count-exports = at-make-plan .before .before .before .before .before .before in
+    let at-asked-of = at-count-exports .before .before in
+    let at-if2 = at-asked-of .before in
+    let at-prepare = at-if2 .before .before .before .before .before .before .before .before in
+    let at-if1 = at-prepare .before .before .before .before .before .before .before .before in
+    let at-split-number = at-if1 .before .before .before in
+    let sn = sym (at-split-number .split-number .ensures) ∙ at-if1 .if1 .left in
     let prepared = at-prepare .prepare .ensures in
-    let zero = at-if1 .if2 .left in
+    let zero = at-if2 .if2 .left in
     let zn = sym (prepared .0) ∙ zero in
     let asked = at-asked-of .asked-of .ensures in
     let told = at-make-plan .make-plan .ensures in
@@ -95,19 +104,21 @@ state-size-spec =
     let parts = told .1 ∙ asked .1 in
     let first = told .2 ∙ asked .2 in
     let cells = told .3 ∙ asked .3 in
-    let plan = plan-made _ _ _ _ _ _ _ _ sn zn (prepared .1 zero) _ _ _ _ part parts first cells _ _ _ _ _ (told .4) in
+    let count = told .4 ∙ at-count-exports .count-exports .ensures .0 in
+    let plan = plan-made _ _ _ _ _ _ _ _ sn zn (prepared .1 zero) _ _ _ _ part parts first cells _ _ _ _ _ (told .5) _ _ (asked .0) (asked .3) count in
     omega (arith, plan .long-is, plan .fit .long, plan .fit .order-few))
     (λ c. search needs)
     (λ c.
     let at-make-plan = c .before .before .before .before .before in
-    let at-asked-of = at-make-plan .before .before .before .before .before .before .before in
-    let at-if1 = at-asked-of .before in
-    let at-prepare = at-if1 .before .before .before .before .before .before .before .before in
-    let at-passed = at-prepare .before .before .before .before .before .before .before .before in
-    let at-split-number = at-passed .before .before .before in
-    let sn = sym (at-split-number .split-number .ensures) ∙ at-passed .if1 .left in
+    let at-count-exports = at-make-plan .before .before .before .before .before .before in
+    let at-asked-of = at-count-exports .before .before in
+    let at-if2 = at-asked-of .before in
+    let at-prepare = at-if2 .before .before .before .before .before .before .before .before in
+    let at-if1 = at-prepare .before .before .before .before .before .before .before .before in
+    let at-split-number = at-if1 .before .before .before in
+    let sn = sym (at-split-number .split-number .ensures) ∙ at-if1 .if1 .left in
     let prepared = at-prepare .prepare .ensures in
-    let zero = at-if1 .if2 .left in
+    let zero = at-if2 .if2 .left in
     let zn = sym (prepared .0) ∙ zero in
     let asked = at-asked-of .asked-of .ensures in
     let told = at-make-plan .make-plan .ensures in
@@ -115,18 +126,20 @@ state-size-spec =
     let parts = told .1 ∙ asked .1 in
     let first = told .2 ∙ asked .2 in
     let cells = told .3 ∙ asked .3 in
-    let plan = plan-made _ _ _ _ _ _ _ _ sn zn (prepared .1 zero) _ _ _ _ part parts first cells _ _ _ _ _ (told .4) in
+    let count = told .4 ∙ at-count-exports .count-exports .ensures .0 in
+    let plan = plan-made _ _ _ _ _ _ _ _ sn zn (prepared .1 zero) _ _ _ _ part parts first cells _ _ _ _ _ (told .5) _ _ (asked .0) (asked .3) count in
     omega (arith, plan .long-is, plan .fit .long, plan .fit .order-few))
     (λ c.
     let at-make-plan = c .before .before .before .before .before in
-    let at-asked-of = at-make-plan .before .before .before .before .before .before .before in
-    let at-if1 = at-asked-of .before in
-    let at-prepare = at-if1 .before .before .before .before .before .before .before .before in
-    let at-passed = at-prepare .before .before .before .before .before .before .before .before in
-    let at-split-number = at-passed .before .before .before in
-    let sn = sym (at-split-number .split-number .ensures) ∙ at-passed .if1 .left in
+    let at-count-exports = at-make-plan .before .before .before .before .before .before in
+    let at-asked-of = at-count-exports .before .before in
+    let at-if2 = at-asked-of .before in
+    let at-prepare = at-if2 .before .before .before .before .before .before .before .before in
+    let at-if1 = at-prepare .before .before .before .before .before .before .before .before in
+    let at-split-number = at-if1 .before .before .before in
+    let sn = sym (at-split-number .split-number .ensures) ∙ at-if1 .if1 .left in
     let prepared = at-prepare .prepare .ensures in
-    let zero = at-if1 .if2 .left in
+    let zero = at-if2 .if2 .left in
     let zn = sym (prepared .0) ∙ zero in
     let asked = at-asked-of .asked-of .ensures in
     let told = at-make-plan .make-plan .ensures in
@@ -134,18 +147,20 @@ state-size-spec =
     let parts = told .1 ∙ asked .1 in
     let first = told .2 ∙ asked .2 in
     let cells = told .3 ∙ asked .3 in
-    let plan = plan-made _ _ _ _ _ _ _ _ sn zn (prepared .1 zero) _ _ _ _ part parts first cells _ _ _ _ _ (told .4) in
+    let count = told .4 ∙ at-count-exports .count-exports .ensures .0 in
+    let plan = plan-made _ _ _ _ _ _ _ _ sn zn (prepared .1 zero) _ _ _ _ part parts first cells _ _ _ _ _ (told .5) _ _ (asked .0) (asked .3) count in
     omega (arith, plan .long-is, plan .fit .long, plan .fit .order-few))
     (λ c.
     let at-make-plan = c .before .before .before .before .before in
-    let at-asked-of = at-make-plan .before .before .before .before .before .before .before in
-    let at-if1 = at-asked-of .before in
-    let at-prepare = at-if1 .before .before .before .before .before .before .before .before in
-    let at-passed = at-prepare .before .before .before .before .before .before .before .before in
-    let at-split-number = at-passed .before .before .before in
-    let sn = sym (at-split-number .split-number .ensures) ∙ at-passed .if1 .left in
+    let at-count-exports = at-make-plan .before .before .before .before .before .before in
+    let at-asked-of = at-count-exports .before .before in
+    let at-if2 = at-asked-of .before in
+    let at-prepare = at-if2 .before .before .before .before .before .before .before .before in
+    let at-if1 = at-prepare .before .before .before .before .before .before .before .before in
+    let at-split-number = at-if1 .before .before .before in
+    let sn = sym (at-split-number .split-number .ensures) ∙ at-if1 .if1 .left in
     let prepared = at-prepare .prepare .ensures in
-    let zero = at-if1 .if2 .left in
+    let zero = at-if2 .if2 .left in
     let zn = sym (prepared .0) ∙ zero in
     let asked = at-asked-of .asked-of .ensures in
     let told = at-make-plan .make-plan .ensures in
@@ -153,5 +168,6 @@ state-size-spec =
     let parts = told .1 ∙ asked .1 in
     let first = told .2 ∙ asked .2 in
     let cells = told .3 ∙ asked .3 in
-    let plan = plan-made _ _ _ _ _ _ _ _ sn zn (prepared .1 zero) _ _ _ _ part parts first cells _ _ _ _ _ (told .4) in
+    let count = told .4 ∙ at-count-exports .count-exports .ensures .0 in
+    let plan = plan-made _ _ _ _ _ _ _ _ sn zn (prepared .1 zero) _ _ _ _ part parts first cells _ _ _ _ _ (told .5) _ _ (asked .0) (asked .3) count in
     size-done _ _ _ _ _ sn zn _ _ _ (prepared .1 zero) _ _ _ _ plan))

@@ -1,23 +1,24 @@
 -- `part_start_lists::exports::find_sent` meets its contract. The invariant: the exports to the first j parts are listed and counted. Assumes nothing.
-use mathlib.Core.Path.{_≡_, _∙_}
+use mathlib.Core.Path.{_≡_, refl, _∙_}
 use Prim.Native.Nat.{_-_, _*_, _≤_}
 use native.Mathlib.Omega.{arith}
 use lib.ListN.{length}
 use Rattle.split.specs.Classes.{Few, Appended}
-use Rattle.split.proofs.HolderLaws.{few-start, few-more, raised-few, raised-stamps}
+use Rattle.split.proofs.HolderLaws.{few-start, few-more}
 use Rattle.part_start_lists.specs.Starting.{sentList, Sent}
-use Rattle.part_start_lists.proofs.CountLaws.{sent-begin, sent-start, sent-more, sent-counted, sent-full, sent-filled, sent-all, sent-end}
+use Rattle.part_start_lists.proofs.FollowLaws.{group-below}
+use Rattle.part_start_lists.proofs.CountLaws.{sent-begin, sent-start, sent-pass, sent-passed, stamps-few, sent-more, sent-counted, sent-full, sent-filled, sent-all, sent-end}
 use borrow.Author.Needs.{needs}
 use Rattle.part_start_lists.proofs.exports.find_sent.Statement.{statement}
 use Rattle.part_start_lists.proofs.exports.find_sent.Tie as tie
 
 abbrev Inv-loop : tie.InvT-loop
-Inv-loop owners table ends plan stamps₀ holders₀ list₀ sent₀ n₀ j₀ j-end stamps holders list sent n j = (j ≤ plan .parts) × Few j stamps × Few j holders × (n ≤ 2000 * j) ×
+Inv-loop owners table ends plan stamps₀ next list₀ sent₀ start own n₀ j₀ j-end stamps list sent n j = (j ≤ plan .parts) × Few j stamps × (n ≤ 2000 * j) ×
     (length list ≡ length list₀) × (length sent ≡ length sent₀) ×
     Appended list₀ list 0 n (sentList owners table ends (plan .part) (plan .first) (plan .cells) j) × Sent owners table ends (plan .part) (plan .cells) j sent
 
 abbrev μ-loop : tie.MeasureT-loop
-μ-loop owners table ends plan stamps₀ holders₀ list₀ sent₀ n₀ j₀ j-end stamps holders list sent n j = plan .parts - j
+μ-loop owners table ends plan stamps₀ next list₀ sent₀ start own n₀ j₀ j-end stamps list sent n j = plan .parts - j
 
 pub find-sent-spec : {M : Type 1} → statement M
 find-sent-spec =
@@ -25,9 +26,14 @@ find-sent-spec =
     (tie.spec
     Inv-loop
     μ-loop
+    (λ c. search needs)
+    (λ c κs.
+    let start = c .before .before .before .before .before .before .before .before .before in
+    (start .pre .3, refl, start .pre .7))
     (λ c κs. search needs)
+    (λ c. search needs)
     (λ c κs. search needs)
-    (λ c. (search needs, search few-start, search few-start, search needs, search needs, search needs, search sent-begin, search sent-start))
+    (λ c. (search needs, search few-start, search needs, search needs, search needs, search sent-begin, search sent-start))
     (λ c. search needs)
     (λ c. search needs)
     (λ c. search needs)
@@ -36,72 +42,103 @@ find-sent-spec =
     let at-loop-test = c .before .before in
     let at-loop = at-loop-test .before in
     let start-way = at-loop .before .before .before .before .before .before .before .before .before .before .before .before in
-    let start = start-way .before .before .before .before in
+    let start = start-way .before .before .before .before .before .before .before .before in
     let pre = start .pre in
     let inv = at-loop .loop .inv in
     let taken = at-loop-test .loop-test .taken in
     let all = c .if1 .taken ∙ pre .9 in
-    (sent-full _ _ _ _ _ _ _ _ _ _ _ taken (pre .4) all (inv .6), sent-filled _ _ _ _ _ _ _ _ _ _ _ taken (pre .4) all (inv .6) _ (inv .7)))
+    (sent-full _ _ _ _ _ _ _ _ _ _ _ taken (pre .4) all (inv .5), sent-filled _ _ _ _ _ _ _ _ _ _ _ taken (pre .4) all (inv .5) _ (inv .6)))
+    (λ c. search needs)
+    (λ c. search needs)
+    (λ c. search needs)
+    (λ c.
+    let at-loop = c .before .before .before .before .before in
+    let start-way = at-loop .before .before .before .before .before .before .before .before .before .before .before .before in
+    let start = start-way .before .before .before .before .before .before .before .before in
+    let pre = start .pre in
+    let inv = at-loop .loop .inv in
+    let own = c .if2 .taken in (
+      search needs,
+      few-more _ _ _ (omega arith) (inv .1),
+      omega (arith, inv .2),
+      search needs,
+      search needs,
+      sent-pass _ _ _ _ _ _ (pre .0) (pre .1) _ own _ _ _ (inv .5),
+      sent-passed _ _ _ _ 0 _ (pre .0) (pre .1) _ own _ (inv .6),
+    ))
+    (λ c. search needs)
+    (λ c. search needs)
+    (λ c. search needs)
     (λ c. search needs)
     (λ c. search needs)
     (λ c κs.
-    let at-loop-test = c .before .before .before .before in
-    let at-loop = at-loop-test .before in
-    let start-way = at-loop .before .before .before .before .before .before .before .before .before .before .before .before in
-    let start = start-way .before .before .before .before in
-    let pre = start .pre in
-    let inv = at-loop .loop .inv in
-    (pre .3, inv .1 .room, few-more _ 15 _ (omega (arith, at-loop-test .loop-test .taken, pre .4)) (inv .2)))
+    let at-loop = c .before .before .before .before .before .before .before .before .before in
+    at-loop .loop .inv .1 .room)
     (λ c κs.
-    let at-loop-test = c .before .before .before .before .before .before .before .before .before .before .before in
+    let at-loop-test-way = c .before .before .before .before .before .before .before .before .before .before .before .before in
+    let at-loop-test = at-loop-test-way .before .before in
     let at-loop = at-loop-test .before in
-    let start-way = at-loop .before .before .before .before .before .before .before .before .before .before .before .before in
-    let start = start-way .before .before .before .before in
+    let at-number-at = at-loop .before in
+    let at-group-cells = at-number-at .before .before .before .before .before .before .before .before .before in
+    let start = at-group-cells .before .before .before .before .before .before .before .before .before .before in
     let pre = start .pre in
-    let inv = at-loop .loop .inv in
-    (pre .2, pre .3, omega (arith, inv .3, at-loop-test .loop-test .taken, pre .4)))
+    let links = at-group-cells .group-cells .ensures in (
+      pre .2,
+      pre .3,
+      omega (arith, at-loop .loop .inv .2, at-loop-test .loop-test .taken, pre .4),
+      group-below _ _ _ _ links _ _ (omega (arith, pre .1)) (at-number-at .number-at .ensures),
+    ))
     (λ c. search needs)
     (λ c.
-    let at-add-exports = c .before .before .before in
-    omega (arith, at-add-exports .add-exports .ensures .0 .count))
+    let at-add-stamped = c .before .before .before in
+    omega (arith, at-add-stamped .add-stamped .ensures .0 .count))
     (λ c.
-    let at-add-exports = c .before .before .before in
-    let start-way = at-add-exports .before .before .before .before .before .before .before .before .before .before .before .before in
+    let at-add-stamped = c .before .before .before in
+    let start-way = at-add-stamped .before .before .before .before .before .before .before .before .before .before .before .before in
     let start-way2 = start-way .before .before .before .before .before .before .before .before .before .before .before .before in
-    let start = start-way2 .before .before .before .before .before in
-    omega (arith, at-add-exports .add-exports .ensures .1, start .pre .3))
+    let start = start-way2 .before .before .before .before .before .before .before .before .before .before .before .before in
+    omega (arith, at-add-stamped .add-stamped .ensures .1, start .pre .3))
     (λ c κs. search needs)
     (λ c. search needs)
     (λ c. search needs)
     (λ c.
-    let at-add-exports = c .before .before .before .before .before .before in
-    let at-add-part = at-add-exports .before .before .before .before .before .before .before in
-    let at-loop-test = at-add-part .before .before .before .before .before in
+    let at-put-number-at = c .before .before in
+    let at-add-stamped = at-put-number-at .before .before .before .before in
+    let at-stamp-group = at-add-stamped .before .before .before .before .before .before in
+    let at-number-at2 = at-stamp-group .before .before .before in
+    let at-if2 = at-number-at2 .before .before in
+    let at-loop-test = at-if2 .before .before .before .before in
     let at-loop = at-loop-test .before in
-    let start-way = at-loop .before .before .before .before .before .before .before .before .before .before .before .before in
-    let start = start-way .before .before .before .before in
+    let at-number-at = at-loop .before in
+    let at-group-cells = at-number-at .before .before .before .before .before .before .before .before .before in
+    let start = at-group-cells .before .before .before .before .before .before .before .before .before .before in
     let pre = start .pre in
     let inv = at-loop .loop .inv in
     let taken = at-loop-test .loop-test .taken in
-    let raised = at-add-part .add-part .ensures in
-    let told = at-add-exports .add-exports .ensures in (
+    let other = at-if2 .if2 .left in
+    let links = at-group-cells .group-cells .ensures in
+    let here = at-number-at .number-at .ensures in
+    let there = at-number-at2 .number-at2 .ensures in
+    let stamped = at-stamp-group .stamp-group .ensures in
+    let told = at-add-stamped .add-stamped .ensures in (
       search needs,
-      raised-stamps _ _ _ _ _ _ (inv .1) raised,
-      raised-few _ _ _ _ _ _ _ (inv .2) raised,
-      omega (arith, told .1, inv .3, pre .3),
+      stamps-few _ _ _ _ 0 _ (pre .0) (pre .1) (pre .3) _ (omega (arith, taken, pre .4)) other _ _ links _ _ here there _ _ (inv .1) stamped,
+      omega (arith, told .1, inv .2, pre .3),
       search needs,
       search needs,
-      sent-more _ _ _ _ _ _ (pre .0) (pre .1) (pre .3) _ _ _ _ _ (inv .1) raised _ _ _ _ (told .0) _ (inv .6),
-      sent-counted _ _ _ _ _ _ (pre .0) (pre .1) (pre .3) _ _ _ _ _ (inv .1) raised _ _ _ _ (told .0) _ _ _ taken (pre .4) (inv .7) (c .before .before .put-number-at .ensures),
+      sent-more _ _ _ _ _ _ (pre .0) (pre .1) (pre .3) _ (omega (arith, taken, pre .4)) other _ _ links _ _ here there _ _ (inv .1) stamped _ _ _ _ (told .0) _ (inv .5),
+      sent-counted _ _ _ _ _ _ (pre .0) (pre .1) (pre .3) _ (omega (arith, taken, pre .4)) other _ _ links _ _ here there _ _ (inv .1) stamped _ _ _ _ (told .0)
+          _ _ _ taken (pre .4) (inv .6) (at-put-number-at .put-number-at .ensures),
     ))
     (λ c. search needs)
     (λ c. search needs)
     (λ c. search needs)
     (λ c. search needs)
     (λ c.
-    let start-way = c .before .before .before .before .before .before .before .before .before .before .before .before in
-    let start = start-way .before .before .before .before .before in
+    let at-loop = c .before in
+    let start-way = at-loop .before .before .before .before .before .before .before .before .before .before .before .before in
+    let start = start-way .before .before .before .before .before .before .before .before in
     let pre = start .pre in
-    let inv = c .before .loop .inv in
+    let inv = at-loop .loop .inv in
     let left = c .loop-test .left in
-    (sent-all _ _ _ _ _ _ _ _ _ _ _ (inv .0) left (pre .0) (pre .4) (pre .5) (inv .6), sent-end _ _ _ _ _ _ _ _ (inv .0) left (pre .0) (pre .4) (pre .5) (inv .7))))
+    (sent-all _ _ _ _ _ _ _ _ _ _ _ (inv .0) left (pre .0) (pre .4) (pre .5) (inv .5), sent-end _ _ _ _ _ _ _ _ (inv .0) left (pre .0) (pre .4) (pre .5) (inv .6))))

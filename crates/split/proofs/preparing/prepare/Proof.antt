@@ -73,34 +73,40 @@ prepare-spec =
     let midway = at-overflow-number .before .before .before .before .before .before .before .before .before .before .before .before .before .before .before .before in
     let at-link = midway .before .before .before .before .before .before .before .before .before .before .before .before .before .before .before .before .before in
     (at-overflow-number .overflow-number .ensures .0, λ z. let n : ⊥ = omega (arith, at-overflow-number .overflow-number .ensures .1) in absurd n, at-link .link .ensures))
+    (λ c. search needs)
     (λ c κs.
-    let midway = c .before .before .before .before .before .before .before .before .before .before .before .before .before .before .before .before in
-    let at-sizes-of = midway .before .before .before .before .before .before .before .before .before .before .before .before .before .before .before .before .before in
-    let start = at-sizes-of .before .before .before .before .before .before .before .before .before .before .before in
-    (cells-few _ _ (start .pre .0) (at-sizes-of .sizes-of .ensures .cells-is), map-facts _ _ _ [] (start .pre .1) .few, start .pre .9, start .pre .8))
+    let at-reach-all = c .before .before .before .before .before .before .before .before .before .before .before .before .before .before in
+    let at-sizes-of = at-reach-all .before .before .before .before .before .before .before .before .before .before .before .before .before .before .before .before .before .before .before .before in
+    let start = at-sizes-of .before .before .before .before .before .before .before .before .before .before .before in (
+      cells-few _ _ (start .pre .0) (at-sizes-of .sizes-of .ensures .cells-is),
+      map-facts _ _ _ [] (start .pre .1) .few,
+      start .pre .9,
+      start .pre .8,
+      omega (arith, at-reach-all .reach-all .ensures .1 .marks-room),
+    ))
     (λ c.
     let midway = c .before .before .before .before .before .before .before .before .before .before .before .before .before .before .before .before in
-    let at-link = midway .before .before .before .before .before .before .before .before .before .before .before .before .before .before .before .before .before .before .before in
+    let at-link = midway .before .before .before .before .before .before .before .before .before .before .before .before .before .before .before .before .before .before .before .before .before in
     at-link .link .kept .1 .1 .1 .0)
     (λ c.
     let midway = c .before .before .before .before .before .before .before .before .before .before .before .before .before .before .before .before in
-    let at-link = midway .before .before .before .before .before .before .before .before .before .before .before .before .before .before .before .before .before .before .before in
+    let at-link = midway .before .before .before .before .before .before .before .before .before .before .before .before .before .before .before .before .before .before .before .before .before in
     at-link .link .kept .1 .1 .1 .1 .0)
     (λ c.
     let midway = c .before .before .before .before .before .before .before .before .before .before .before .before .before .before .before .before in
-    let at-link = midway .before .before .before .before .before .before .before .before .before .before .before .before .before .before .before .before .before .before .before in
+    let at-link = midway .before .before .before .before .before .before .before .before .before .before .before .before .before .before .before .before .before .before .before .before .before in
     at-link .link .kept .1 .1 .1 .1 .1 .0)
     (λ c.
-    let at-reach-all = c .before .before .before .before .before .before .before .before .before .before .before .before .before .before .before .before .before .before .before in
+    let at-reach-all = c .before .before .before .before .before .before .before .before .before .before .before .before .before .before .before .before .before .before .before .before .before in
     at-reach-all .reach-all .kept .1 .1 .1 .1 .1 .1 .1 .1 .1 .1 .0)
     (λ c.
-    let at-reach-all = c .before .before .before .before .before .before .before .before .before .before .before .before .before .before .before .before .before .before .before in
+    let at-reach-all = c .before .before .before .before .before .before .before .before .before .before .before .before .before .before .before .before .before .before .before .before .before in
     at-reach-all .reach-all .kept .1 .1 .1 .1 .1 .1 .1 .1 .1 .1 .1 .0)
     (λ c. search needs)
     (λ c. search needs)
     (λ c.
-    let at-count-holders = c .before .before .before .before .before in
-    let at-if1 = at-count-holders .before .before .before .before .before in
+    let at-count-holders = c .before .before .before .before .before .before in
+    let at-if1 = at-count-holders .before .before .before .before .before .before in
     let at-reach-all = at-if1 .before .before .before .before .before .before .before .before .before in
     let at-link = at-reach-all .before .before .before .before .before .before .before .before .before .before .before .before .before .before .before .before in
     let at-sizes-of = at-link .before .before .before .before in
@@ -112,27 +118,27 @@ prepare-spec =
     ))
     (λ c.
     let midway = c .before .before .before .before .before .before .before .before .before .before .before .before .before .before .before .before in
-    let at-link = midway .before .before .before .before .before .before .before .before .before .before .before .before .before .before .before .before .before .before .before in
+    let at-link = midway .before .before .before .before .before .before .before .before .before .before .before .before .before .before .before .before .before .before .before .before .before in
     at-link .link .kept .1 .1 .1 .0)
     (λ c.
     let midway = c .before .before .before .before .before .before .before .before .before .before .before .before .before .before .before .before in
-    let at-link = midway .before .before .before .before .before .before .before .before .before .before .before .before .before .before .before .before .before .before .before in
+    let at-link = midway .before .before .before .before .before .before .before .before .before .before .before .before .before .before .before .before .before .before .before .before .before in
     at-link .link .kept .1 .1 .1 .1 .0)
     (λ c.
     let midway = c .before .before .before .before .before .before .before .before .before .before .before .before .before .before .before .before in
-    let at-link = midway .before .before .before .before .before .before .before .before .before .before .before .before .before .before .before .before .before .before .before in
+    let at-link = midway .before .before .before .before .before .before .before .before .before .before .before .before .before .before .before .before .before .before .before .before .before in
     at-link .link .kept .1 .1 .1 .1 .1 .0)
     (λ c.
-    let at-reach-all = c .before .before .before .before .before .before .before .before .before .before .before .before .before .before .before .before .before .before .before in
+    let at-reach-all = c .before .before .before .before .before .before .before .before .before .before .before .before .before .before .before .before .before .before .before .before .before in
     at-reach-all .reach-all .kept .1 .1 .1 .1 .1 .1 .1 .1 .1 .1 .0)
     (λ c.
-    let at-reach-all = c .before .before .before .before .before .before .before .before .before .before .before .before .before .before .before .before .before .before .before in
+    let at-reach-all = c .before .before .before .before .before .before .before .before .before .before .before .before .before .before .before .before .before .before .before .before .before in
     at-reach-all .reach-all .kept .1 .1 .1 .1 .1 .1 .1 .1 .1 .1 .1 .0)
     (λ c. search needs)
     (λ c. search needs)
     (λ c.
-    let at-count-holders = c .before .before .before .before .before in
-    let at-if1 = at-count-holders .before .before .before .before .before in
+    let at-count-holders = c .before .before .before .before .before .before in
+    let at-if1 = at-count-holders .before .before .before .before .before .before in
     let at-reach-all = at-if1 .before .before .before .before .before .before .before .before .before in
     let at-link = at-reach-all .before .before .before .before .before .before .before .before .before .before .before .before .before .before .before .before in
     let at-sizes-of = at-link .before .before .before .before in
