@@ -1,7 +1,7 @@
 -- The input cut into its pieces, and what is printed for them. Assumes nothing.
 use mathlib.Core.Path.{_≡_, sym, ap, ap₂, _∙_, subst}
 use mathlib.Core.Bool.{Bool, cond}
-use mathlib.Core.List.{[], _∷_}
+use mathlib.Core.List.{List, [], _∷_}
 use Prim.Native.Nat.{ℕ, _+_, _-_, _*_, _≤_, _<_}
 use native.Mathlib.Omega.{arith}
 use lib.Dec.{eqb}
@@ -14,7 +14,9 @@ use Rattle.vocabulary.specs.Lists.{joined}
 use Rattle.vocabulary.specs.Tests.{firstOf}
 use Rattle.vocabulary.specs.TestLaws.{firstOf-append}
 use Rattle.mesh.specs.Mesh.{elements, recordCount, cellCount, meshLength}
+use Rattle.walk_steps.specs.Walking.{Ground}
 use Rattle.split.specs.Split.{splitOf}
+use Rattle.split.specs.Classes.{Prepared}
 use Rattle.split.specs.Lists.{splitTests, sizeTests, splitNumber, sizesNumber, splitInput}
 use Rattle.split.proofs.PassedLaws.{tests-are}
 use Rattle.split.specs.SplitLaws.{split-numbered}
@@ -44,7 +46,8 @@ mesh-length-told b n r e f = ap₂ (λ x y. 2 * (6 + x + 2 * y)) e f
 
 module _ (a z : Bytes) (t : ℕ) where
   -- b is whether the stencil has n bytes
-  pub stencil-told : (n : ℕ) (m : Bytes) (parts : ℕ) (owners st : Bytes) (b : Bool) → eqb (length st) n ≡ b → Printed a z 0 t (piecesText m parts owners (cond b st [])) → Printed a z 0 t (stencilText n m parts owners st)
+  pub stencil-told : (n : ℕ) (m : Bytes) (parts : ℕ) (owners st : Bytes) (b : Bool) → eqb (length st) n ≡ b → Printed a z 0 t (piecesText m parts owners (cond b st []))
+      → Printed a z 0 t (stencilText n m parts owners st)
   unfolding stencilText
   stencil-told n m parts owners st b e X = subst (λ c. Printed a z 0 t (piecesText m parts owners (cond c st []))) (sym e) X
 
@@ -80,7 +83,8 @@ module _ (a z : Bytes) (t : ℕ) (b : Bytes) where
   pieces-are : length b ≤ 65536 → mapText (cellCount b) (take (meshLength b) b) (drop (meshLength b) b) ≡ listText b
   unfolding mapText ownersText lastText stencilText piecesText piecesNumber listText listingNumber meshPiece mapPiece partsPiece ownersPiece lastPiece stencilPiece
   pieces-are h =
-      ap (λ (l : Bytes). piecesText (take (meshLength b) b) (byteAt (drop (meshLength b) b) 0) (take (cellCount b) (drop 1 (drop (meshLength b) b))) (cond (eqb (length (drop 1 l)) (byteAt l 0)) (drop 1 l) []))
+      ap (λ (l : Bytes). piecesText (take (meshLength b) b) (byteAt (drop (meshLength b) b) 0) (take (cellCount b) (drop 1 (drop (meshLength b) b)))
+      (cond (eqb (length (drop 1 l)) (byteAt l 0)) (drop 1 l) []))
       (drop-drop (cellCount b) 1 (drop (meshLength b) b))
       ∙ sym (ap (λ c. cond c (line (ascii "too long") []) (piecesText (meshPiece b) (partsPiece b) (ownersPiece b) (stencilPiece b))) (le-ltb 65536 (length b) h))
 
@@ -88,6 +92,20 @@ module _ (a z : Bytes) (t : ℕ) (b : Bytes) where
       → Printed a z 0 t (mapText cells (take e b) (take (length b - e) (drop e b))) → Printed a z 0 t (listText b)
   text-told cells n e h c l k d X =
       subst (Printed a z 0 t) (ap₂ (λ i j. mapText i (take j b) (drop j b)) c l ∙ pieces-are h) (cut-told a z t (mapText cells) (take e b) (take n b) b e n k d X)
+
+-- ---- the tables
+
+-- prepared for a split of few parts, and as long as the arrays that hold them
+pub record Tables (m : Bytes) (parts : ℕ) (owners st : Bytes) (cell prev last : List ℕ) (table : Bytes) (ends : List ℕ) (holders : Bytes) : Type 0 where
+  pub prepared : Prepared m parts owners st table ends holders
+  pub ground : Ground m st cell prev last
+  pub few : parts ≤ 16
+  pub cell-places : length cell ≡ 12001
+  pub prev-places : length prev ≡ 12001
+  pub last-places : length last ≡ 2001
+  pub table-bytes : length table ≡ 32000
+  pub end-places : length ends ≡ 2001
+  pub holder-places : length holders ≡ 2000
 
 -- ---- the number
 
@@ -121,8 +139,10 @@ module _ (m : Bytes) (parts : ℕ) (owners st : Bytes) where
       unfolding piecesText
       passed-all n e h X =
           subst (Printed a z 0 t)
-          (sym (ap (λ (c : Bool). cond c (splitText m (splitOf m parts owners st)) (line (ascii "refused") (piecesNumber m parts owners st ∷ []))) (eq-eqb (piecesNumber m parts owners st) 0 (sizes-left ∙ sym e ∙ h)))) X
+          (sym (ap (λ (c : Bool). cond c (splitText m (splitOf m parts owners st)) (line (ascii "refused") (piecesNumber m parts owners st ∷ [])))
+          (eq-eqb (piecesNumber m parts owners st) 0 (sizes-left ∙ sym e ∙ h)))) X
 
-  pub split-told : (a b c : Bytes) (t u : ℕ) → Printed a b 0 t (line b-parts (parts ∷ [])) → Printed b c t u (blocks 1 parts (partOf m parts owners st)) → Printed a c 0 u (splitText m (splitOf m parts owners st))
+  pub split-told : (a b c : Bytes) (t u : ℕ) → Printed a b 0 t (line b-parts (parts ∷ [])) → Printed b c t u (blocks 1 parts (partOf m parts owners st))
+      → Printed a c 0 u (splitText m (splitOf m parts owners st))
   unfolding splitText splitOf partOf ascii
   split-told a b c t u X Y = print-both a b c 0 t u _ _ X Y

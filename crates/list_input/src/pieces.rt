@@ -1,72 +1,41 @@
 // The text of an input: it is cut into its pieces, one function a cut, and cut short they are as long as they are.
+use crate::accepted::list_accepted;
 use layout::byte_at;
 use layout::limits::ELEMENT_PLACES;
-use layout::limits::MOST_ELEMENTS;
 use layout::limits::RECORD_PLACES;
-use layout::limits::TABLE_BYTES;
-use list_parts::inner::put_parts;
 use list_text::inner::put_line;
 use list_text::inner::put_text;
 use mesh::inner::cell_count;
 use mesh::inner::elements_of;
 use mesh::inner::record_count;
-use split::inner::prepare;
 use split::inner::split_number;
 ghost use mathlib.Core.Path.{_≡_};
+ghost use mathlib.Core.List.{[], _∷_};
 ghost use Prim.Native.Nat.{_≤_};
 ghost use lib.ListN.{length, take, drop};
 ghost use Rattle.mesh.specs.Mesh.{meshLength};
+ghost use Rattle.split.specs.Lists.{splitNumber};
 ghost use Rattle.list_text.specs.Listing.{listText};
 ghost use Rattle.list_text.specs.Printing.{Printed};
 ghost use Rattle.list_input.specs.Pieces.{Listed, piecesText, stencilText, lastText, ownersText, mapText};
 
-// The tests up to 10 are asked for the parts 1 and 1, which any map has. The mesh is tested in arrays that hold the links and the ends of the reaches
-// afterwards.
-fn list_pieces(m: &[u8], parts: u32, owners: &[u8], stencil: &[u8], out: &mut [u8]) -> usize
-    ensures { λ t. ⌜ Printed (now (out .entry)) (now (out .exit)) 0 t (piecesText (now (m .entry)) parts (now (owners .entry)) (now (stencil .entry))) ⌝ }
+// The first of the tests up to 10 that refuses. They are asked for the parts 1 and 1, which any map has.
+fn tests_number(m: &[u8], parts: u32, owners: &[u8], stencil: &[u8]) -> u32
+    ensures { λ r. ⌜ r ≡ splitNumber (now (m .entry)) parts (now (owners .entry)) (1 ∷ 1 ∷ []) (now (stencil .entry)) ⌝ }
 {
     let mut cell = [0u16; RECORD_PLACES];
     let mut ends = [0u16; ELEMENT_PLACES];
-    let number = split_number(m, parts, owners, 1, 1, stencil, &mut cell, &mut ends);
+    split_number(m, parts, owners, 1, 1, stencil, &mut cell, &mut ends)
+}
+
+fn list_pieces(m: &[u8], parts: u32, owners: &[u8], stencil: &[u8], out: &mut [u8]) -> usize
+    ensures { λ t. ⌜ Printed (now (out .entry)) (now (out .exit)) 0 t (piecesText (now (m .entry)) parts (now (owners .entry)) (now (stencil .entry))) ⌝ }
+{
+    let number = tests_number(m, parts, owners, stencil);
     if number != 0 {
         return put_line(b"refused", number as usize, out, 0);
     }
-    let mut prev = [0u16; RECORD_PLACES];
-    let mut last = [0u16; ELEMENT_PLACES];
-    let mut table = [0u8; TABLE_BYTES];
-    let mut holders = [0u8; MOST_ELEMENTS];
-    let mut class = [0u8; MOST_ELEMENTS];
-    let number = prepare(
-        m,
-        parts,
-        owners,
-        stencil,
-        &mut cell,
-        &mut prev,
-        &mut last,
-        &mut table,
-        &mut ends,
-        &mut holders,
-        &mut class,
-    );
-    if number != 0 {
-        return put_line(b"refused", number as usize, out, 0);
-    }
-    let t = put_line(b"parts", parts as usize, out, 0);
-    put_parts(
-        m,
-        parts as usize,
-        owners,
-        stencil,
-        &cell,
-        &prev,
-        &last,
-        &table,
-        &ends,
-        &holders,
-        out,
-        t,
-    )
+    list_accepted(m, parts, owners, stencil, out)
 }
 
 // With a stencil that should have n bytes.

@@ -1,2 +1,4 @@
-// The lines of all parts.
-pub use crate::lists::put_parts;
+// The lines of a part's cells, and of what passes between it and the others.
+pub use crate::lists::put_exports;
+pub use crate::lists::put_imports;
+pub use crate::lists::put_own;

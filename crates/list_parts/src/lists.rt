@@ -1,7 +1,6 @@
-// The lines of a part, from prepared tables. The stencil stands beside the tables for the contracts, which speak of the split that it makes.
+// The lines of a part's cells, imports and exports: by the row of the part's classes, and for the exports by the rows of the others.
 use layout::limits::MOST_ELEMENTS;
 use list_ranges::inner::put_class;
-use list_ranges::inner::put_dimensions;
 use list_text::inner::put_line;
 use list_text::inner::put_numbers;
 use list_text::inner::put_spaced;
@@ -16,11 +15,12 @@ ghost use mathlib.Core.List.{_++_};
 ghost use Prim.Native.Nat.{_+_, _≤_};
 ghost use lib.ListN.{length, take};
 ghost use Rattle.vocabulary.specs.Intervals.{blocks};
-ghost use Rattle.walk_steps.specs.Walking.{Ground};
-ghost use Rattle.split.specs.Classes.{classCells, Prepared};
+ghost use Rattle.mesh.specs.Mesh.{firstCell, cellCount};
+ghost use Rattle.mesh.specs.Accepted.{Accepted};
+ghost use Rattle.split.specs.Classes.{classCells};
 ghost use Rattle.list_text.specs.Listing.{spaced, line, lineUnlessEmpty};
 ghost use Rattle.list_text.specs.Printing.{Printed};
-ghost use Rattle.list_ranges.specs.Lines.{passing, importLine, exportLine, ownLines, partOf};
+ghost use Rattle.list_ranges.specs.Lines.{passing, importLine, exportLine, ownLines};
 
 // The line of the cells of class k.
 fn put_cells(
@@ -40,7 +40,14 @@ fn put_cells(
 }
 
 // The lines of the cells of part i.
-fn put_own(class: &[u8], first: usize, cells: usize, i: usize, out: &mut [u8], at: usize) -> usize
+pub fn put_own(
+    class: &[u8],
+    first: usize,
+    cells: usize,
+    i: usize,
+    out: &mut [u8],
+    at: usize,
+) -> usize
     requires { ⌜ (first + cells ≤ 65536) × (cells ≤ 2000) ⌝ }
     ensures { λ t. ⌜ Printed (now (out .entry)) (now (out .exit)) at t (ownLines (now (class .entry)) first cells i) ⌝ }
 {
@@ -82,7 +89,7 @@ fn put_passing(
 }
 
 // The lines of the imports from each part, by rising part.
-fn put_imports(
+pub fn put_imports(
     class: &[u8],
     first: usize,
     cells: usize,
@@ -100,118 +107,29 @@ fn put_imports(
     t
 }
 
-// The line of the exports to part j, by the row of part j.
-fn put_export(
-    owners: &[u8],
-    table: &[u8],
-    ends: &[u16],
-    first: usize,
-    cells: usize,
-    i: usize,
-    j: usize,
-    out: &mut [u8],
-    at: usize,
-) -> usize
-    requires { ⌜ (first + cells ≤ 65536) × (cells ≤ 2000) × (i ≤ 16) ⌝ }
-    ensures { λ t. ⌜ Printed (now (out .entry)) (now (out .exit)) at t (exportLine (now (owners .entry)) (now (table .entry)) (now (ends .entry)) first cells i j) ⌝ }
-{
-    let mut class = [0u8; MOST_ELEMENTS];
-    classify(owners, table, ends, cells, j, &mut class);
-    put_passing(b"export", j, &class, first, cells, i as u8, out, at)
-}
-
-// The lines of the exports to each part, by rising part.
-fn put_exports(
-    owners: &[u8],
-    table: &[u8],
-    ends: &[u16],
-    first: usize,
-    cells: usize,
-    i: usize,
-    parts: usize,
-    out: &mut [u8],
-    at: usize,
-) -> usize
-    requires { ⌜ (first + cells ≤ 65536) × (cells ≤ 2000) × (i ≤ 16) × (parts ≤ 16) ⌝ }
-    ensures { λ t. ⌜ Printed (now (out .entry)) (now (out .exit)) at t (blocks 1 parts (exportLine (now (owners .entry)) (now (table .entry)) (now (ends .entry)) first cells i)) ⌝ }
-{
-    let mut t = at;
-    for j in 0..parts {
-        t = put_export(owners, table, ends, first, cells, i, j + 1, out, t);
-    }
-    t
-}
-
-// All lines of part i.
-fn put_part(
+// The lines of the exports of part i to each part, by rising part: each by the row of the part that they go to.
+pub fn put_exports(
     m: &[u8],
-    parts: usize,
     owners: &[u8],
-    stencil: &[u8],
-    cell: &[u16],
-    prev: &[u16],
-    last: &[u16],
     table: &[u8],
     ends: &[u16],
-    holders: &[u8],
     i: usize,
+    parts: usize,
     out: &mut [u8],
     at: usize,
 ) -> usize
-    requires { ⌜
-        Prepared (now m) parts (now owners) (now stencil) (now table) (now ends) (now holders)
-        × Ground (now m) (now stencil) (now cell) (now prev) (now last)
-        × (parts ≤ 16)
-        × (1 ≤ i)
-        × (i ≤ parts)
-        ⌝ }
-    ensures { λ t. ⌜ Printed (now (out .entry)) (now (out .exit)) at t (partOf (now (m .entry)) parts (now (owners .entry)) (now (stencil .entry)) i) ⌝ }
+    requires { ⌜ Accepted (now m) × (i ≤ 16) × (parts ≤ 16) ⌝ }
+    ensures { λ t. ⌜ Printed (now (out .entry)) (now (out .exit)) at t (blocks 1 parts (exportLine (now (owners .entry)) (now (table .entry)) (now (ends
+        .entry)) (firstCell (now (m .entry))) (cellCount (now (m .entry))) i)) ⌝ }
 {
     let first = first_cell(m);
     let cells = cell_count(m);
-    let mut class = [0u8; MOST_ELEMENTS];
-    classify(owners, table, ends, cells, i, &mut class);
-    let t = put_own(&class, first, cells, i, out, at);
-    let t = put_imports(&class, first, cells, parts, out, t);
-    let t = put_exports(owners, table, ends, first, cells, i, parts, out, t);
-    put_dimensions(m, cell, prev, last, &class, holders, out, t)
-}
-
-// The parts, rising.
-pub fn put_parts(
-    m: &[u8],
-    parts: usize,
-    owners: &[u8],
-    stencil: &[u8],
-    cell: &[u16],
-    prev: &[u16],
-    last: &[u16],
-    table: &[u8],
-    ends: &[u16],
-    holders: &[u8],
-    out: &mut [u8],
-    at: usize,
-) -> usize
-    requires { ⌜ Prepared (now m) parts (now owners) (now stencil) (now table) (now ends) (now holders) × Ground (now m) (now stencil) (now cell) (now prev) (now last) × (parts ≤ 16) ⌝ }
-    ensures { λ t. ⌜ Printed (now (out .entry)) (now (out .exit)) at t (blocks 1 parts (partOf (now (m .entry)) parts (now (owners .entry)) (now (stencil .entry)))) ⌝ }
-{
     let mut t = at;
-    for i in 0..parts {
-        t = put_part(
-            m,
-            parts,
-            owners,
-            stencil,
-            cell,
-            prev,
-            last,
-            table,
-            ends,
-            holders,
-            i + 1,
-            out,
-            t,
-        );
+    for j in 0..parts {
+        let other = j + 1;
+        let mut class = [0u8; MOST_ELEMENTS];
+        classify(owners, table, ends, cells, other, &mut class);
+        t = put_passing(b"export", other, &class, first, cells, i as u8, out, t);
     }
     t
 }

@@ -20,7 +20,7 @@ use Rattle.split_cells.proofs.ClassLists.{row-cells, interior-is, halo-is, impo
 use Rattle.split_ranges.proofs.LowerLaws.{Sorts, sort-tells, row-range, range-is}
 use Rattle.list_text.specs.Listing.{ascii, spaced, line, lineUnlessEmpty, dimensionText, partText}
 use Rattle.list_text.specs.Printing.{Printed, numbers}
-use Rattle.list_ranges.specs.Lines.{rangeLine, dimensionLines, passing, importLine, exportLine, ownLines, partOf}
+use Rattle.list_ranges.specs.Lines.{rangeLine, rowLines, dimensionLines, passing, importLine, exportLine, ownLines, partOf}
 use Rattle.list_text.proofs.PrintLaws.{print-none, print-both}
 
 -- ---- the labels in bytes
@@ -96,7 +96,8 @@ module _ (class : Bytes) (first cells k : ℕ) (few : cells ≤ 2000) (before af
       let e : [] ≡ classCells class first cells k = ap (λ x. take x after) (sym z) ∙ taken in
       subst (λ (xs : List ℕ). Printed b b s s (lineUnlessEmpty (label ++ spaced j) xs)) e (print-none b s)
 
-  pub passing-some : (label : Bytes) (j : ℕ) (a b : Bytes) (s t : ℕ) → Printed a b s t (lineUnlessEmpty (label ++ spaced j) (take n after)) → Printed a b s t (passing label j (classCells class first cells k))
+  pub passing-some : (label : Bytes) (j : ℕ) (a b : Bytes) (s t : ℕ) → Printed a b s t (lineUnlessEmpty (label ++ spaced j) (take n after))
+      → Printed a b s t (passing label j (classCells class first cells k))
   unfolding passing
   passing-some label j a b s t X = subst (λ (xs : List ℕ). Printed a b s t (lineUnlessEmpty (label ++ spaced j) xs)) taken X
 
@@ -125,24 +126,36 @@ unfolding rangeLine ascii
 range-told name a b c d e s t u v x k vs X Y Z W =
     line-told (b-dim ++ (spaced k ++ name)) a d e s v x vs (print-both a b d s t v b-dim (spaced k ++ name) X (print-both b c d t u v (spaced k) name Y Z)) W
 
-pub dimension-told : (m class holders : Bytes) (k lo n : ℕ) (lower : Bytes) (a b c d e : Bytes) (s t u v x : ℕ) → k < top m → lo ≡ below m k → n ≡ counted m k → Lowered m class holders k lower
+pub row-told : (m lower : Bytes) (k lo n : ℕ) (a b c d e : Bytes) (s t u v x : ℕ) → k < top m → lo ≡ below m k → n ≡ counted m k
     → Printed a b s t (rangeLine b-private k (classCells lower (lo + 1) n 1)) → Printed b c t u (rangeLine b-exposed k (classCells lower (lo + 1) n 2))
     → Printed c d u v (rangeLine b-shared k (classCells lower (lo + 1) n 3)) → Printed d e v x (rangeLine b-copied k (classCells lower (lo + 1) n 4))
-    → Printed a e s x (dimensionLines m class holders k)
-unfolding rangeLine dimensionLines ascii rowRange
-dimension-told m class holders k lo n lower a b c d e s t u v x h loe ne L X Y Z W =
-    print-both a b e s t x _ _ (of a b s t b-private 1 X) (print-both b c e t u x _ _ (of b c t u b-exposed 2 Y) (print-both c d e u v x _ _ (of c d u v b-shared 3 Z) (of d e v x b-copied 4 W)))
+    → Printed a e s x (rowLines m lower k)
+unfolding rangeLine rowLines ascii rowRange
+row-told m lower k lo n a b c d e s t u v x h loe ne X Y Z W =
+    print-both a b e s t x _ _ (of a b s t b-private 1 X)
+    (print-both b c e t u x _ _ (of b c t u b-exposed 2 Y) (print-both c d e u v x _ _ (of c d u v b-shared 3 Z) (of d e v x b-copied 4 W)))
   where
-    same : (sort : ℕ) → classCells lower (lo + 1) n sort ≡ rangeOf m class holders k sort
+    same : (sort : ℕ) → classCells lower (lo + 1) n sort ≡ rowRange m k lower sort
     same sort =
         ap₂ (λ l c. classCells lower (l + 1) c sort) loe ne
         ∙ sym (ap (λ c. cond c (classCells lower (below m k + 1) (counted m k) sort) []) (lt-ltb k (top m) h))
-        ∙ row-range m class holders k sort lower L
 
-    of : (a b : Bytes) (s t : ℕ) (name : Bytes) (sort : ℕ) → Printed a b s t (line (b-dim ++ (spaced k ++ name)) (classCells lower (lo + 1) n sort)) → Printed a b s t (line (b-dim ++ (spaced k ++ name)) (rangeOf m class holders k sort))
+    of : (a b : Bytes) (s t : ℕ) (name : Bytes) (sort : ℕ) → Printed a b s t (line (b-dim ++ (spaced k ++ name)) (classCells lower (lo + 1) n sort))
+        → Printed a b s t (line (b-dim ++ (spaced k ++ name)) (rowRange m k lower sort))
     of a b s t name sort X = subst (λ (vs : List ℕ). Printed a b s t (line (b-dim ++ (spaced k ++ name)) vs)) (same sort) X
 
-pub import-told : (class : Bytes) (first cells j k : ℕ) (a b : Bytes) (s t : ℕ) → k ≡ j → Printed a b s t (passing b-import j (classCells class first cells k)) → Printed a b s t (importLine class first cells j)
+pub dimension-told : (m class holders lower : Bytes) (k : ℕ) (a b : Bytes) (s t : ℕ) → Lowered m class holders k lower → Printed a b s t (rowLines m lower k)
+    → Printed a b s t (dimensionLines m class holders k)
+dimension-told m class holders lower k a b s t L X = subst (Printed a b s t) same X
+  where
+    of : (name : Bytes) (sort : ℕ) → rangeLine name k (rowRange m k lower sort) ≡ rangeLine name k (rangeOf m class holders k sort)
+    of name sort = ap (rangeLine name k) (row-range m class holders k sort lower L)
+
+    same : rowLines m lower k ≡ dimensionLines m class holders k
+    same = unfold rowLines dimensionLines in ap₂ _++_ (of (ascii " private") 1) (ap₂ _++_ (of (ascii " exposed") 2) (ap₂ _++_ (of (ascii " shared") 3) (of (ascii " copied") 4)))
+
+pub import-told : (class : Bytes) (first cells j k : ℕ) (a b : Bytes) (s t : ℕ) → k ≡ j → Printed a b s t (passing b-import j (classCells class first cells k))
+    → Printed a b s t (importLine class first cells j)
 unfolding importLine passing ascii
 import-told class first cells j k a b s t e X = subst (λ x. Printed a b s t (lineUnlessEmpty (b-import ++ spaced j) (classCells class first cells x))) e X
 
@@ -157,10 +170,17 @@ pub own-told : (class : Bytes) (first cells i : ℕ) (a b c d : Bytes) (s t u v 
 unfolding ownLines ascii
 own-told class first cells i a b c d s t u v X Y Z = print-both a b d s t v _ _ X (print-both b c d t u v _ _ Y Z)
 
+-- the lines to all parts are put, by the numbers that the code reads off the mesh
+pub exports-end : (m owners table : Bytes) (ends : List ℕ) (first cells i j parts : ℕ) (a b : Bytes) (s t : ℕ) → first ≡ firstCell m → cells ≡ cellCount m → j ≤ parts → parts ≤ j
+    → Printed a b s t (blocks 1 j (exportLine owners table ends first cells i)) → Printed a b s t (blocks 1 parts (exportLine owners table ends (firstCell m) (cellCount m) i))
+exports-end m owners table ends first cells i j parts a b s t fe ce h l X =
+    subst (Printed a b s t) (ap₂ (λ x y. blocks 1 parts (exportLine owners table ends x y i)) fe ce) (texts-end 1 (exportLine owners table ends first cells i) a b s t j parts h l X)
+
 -- ---- a part
 
-module _ (m : Bytes) (parts : ℕ) (owners st table : Bytes) (ends : List ℕ) (holders : Bytes) (R : Prepared m parts owners st table ends holders) (i : ℕ) (low : 1 ≤ i) (high : i ≤ parts) (fewp : parts ≤ 16)
-    (first cells : ℕ) (fe : first ≡ firstCell m) (ce : cells ≡ cellCount m) (class : Bytes) (C : Classed owners table ends i cells class) where
+module _ (m : Bytes) (parts : ℕ) (owners st table : Bytes) (ends : List ℕ) (holders : Bytes) (R : Prepared m parts owners st table ends holders)
+    (i : ℕ) (low : 1 ≤ i) (high : i ≤ parts) (fewp : parts ≤ 16) (first cells : ℕ) (fe : first ≡ firstCell m) (ce : cells ≡ cellCount m)
+    (class : Bytes) (C : Classed owners table ends i cells class) where
   abbrev S : Split
   S = splitOf m parts owners st
 
@@ -170,11 +190,12 @@ module _ (m : Bytes) (parts : ℕ) (owners st table : Bytes) (ends : List ℕ) (
       blocks-cong 1 (λ j. lineUnlessEmpty (ascii "import" ++ spaced j) (classCells class first cells j)) (λ j. lineUnlessEmpty (ascii "import" ++ spaced j) (imports S i j)) parts
       (λ j h. ap (lineUnlessEmpty (ascii "import" ++ spaced (1 + j))) (imports-are m parts owners st table ends holders R i first cells fe ce class C (1 + j) (omega arith) (omega arith)))
 
-  exports-told : blocks 1 parts (exportLine owners table ends first cells i) ≡ blocks 1 parts (λ j. lineUnlessEmpty (ascii "export" ++ spaced j) (exports S i j))
+  exports-told : blocks 1 parts (exportLine owners table ends (firstCell m) (cellCount m) i) ≡ blocks 1 parts (λ j. lineUnlessEmpty (ascii "export" ++ spaced j) (exports S i j))
   unfolding exportLine passing exports
   exports-told =
-      blocks-cong 1 (λ j. lineUnlessEmpty (ascii "export" ++ spaced j) (partCells owners table ends j first cells i)) (λ j. lineUnlessEmpty (ascii "export" ++ spaced j) (imports S j i)) parts
-      (λ j h. ap (lineUnlessEmpty (ascii "export" ++ spaced (1 + j))) (part-imports m parts owners st table ends holders R i (1 + j) first cells fe ce low (omega arith)))
+      blocks-cong 1 (λ j. lineUnlessEmpty (ascii "export" ++ spaced j) (partCells owners table ends j (firstCell m) (cellCount m) i))
+      (λ j. lineUnlessEmpty (ascii "export" ++ spaced j) (imports S j i)) parts
+      (λ j h. ap (lineUnlessEmpty (ascii "export" ++ spaced (1 + j))) (part-imports m parts owners st table ends holders R i (1 + j) (firstCell m) (cellCount m) refl refl low (omega arith)))
 
   sorts : (e : ℕ) → Sorts (touches S e i) (another S i (touches S e)) (another S i (λ j. holdsLower S j e)) (holdsLower S i e)
   sorts e = sort-tells (touches S e i) (another S i (touches S e)) (another S i (λ j. holdsLower S j e)) (holdsLower S i e)
@@ -188,14 +209,15 @@ module _ (m : Bytes) (parts : ℕ) (owners st table : Bytes) (ends : List ℕ) (
       (ap (line (ascii "dim" ++ (spaced k ++ ascii " copied"))) (range-is m parts owners st table ends holders R i low high cells ce class C k 4 _ (λ e. sorts e .3)))))
 
   pub part-told : (a d e f g : Bytes) (s v w x y : ℕ) → Printed a d s v (ownLines class first cells i) → Printed d e v w (blocks 1 parts (importLine class first cells))
-      → Printed e f w x (blocks 1 parts (exportLine owners table ends first cells i)) → Printed f g x y (blocks 0 (top m) (dimensionLines m class holders))
+      → Printed e f w x (blocks 1 parts (exportLine owners table ends (firstCell m) (cellCount m) i)) → Printed f g x y (blocks 0 (top m) (dimensionLines m class holders))
       → Printed a g s y (partOf m parts owners st i)
   part-told a d e f g s v w x y A D E F =
       subst (Printed a g s y) whole
       (print-both a d g s v y (ownLines class first cells i) _ A
-      (print-both d e g v w y (blocks 1 parts (importLine class first cells)) _ D (print-both e f g w x y (blocks 1 parts (exportLine owners table ends first cells i)) _ E F)))
+      (print-both d e g v w y (blocks 1 parts (importLine class first cells)) _ D (print-both e f g w x y (blocks 1 parts (exportLine owners table ends (firstCell m) (cellCount m) i)) _ E F)))
     where
-      whole : ownLines class first cells i ++ (blocks 1 parts (importLine class first cells) ++ (blocks 1 parts (exportLine owners table ends first cells i) ++ blocks 0 (top m) (dimensionLines m class holders)))
+      whole : ownLines class first cells i ++ (blocks 1 parts (importLine class first cells)
+          ++ (blocks 1 parts (exportLine owners table ends (firstCell m) (cellCount m) i) ++ blocks 0 (top m) (dimensionLines m class holders)))
           ≡ partOf m parts owners st i
       whole =
           ap₂ _++_ own

@@ -4,14 +4,22 @@ use Prim.Native.Nat.{ℕ}
 use Rattle.vocabulary.specs.Bytes.{Bytes}
 use Rattle.split.specs.Split.{splitOf}
 use Rattle.split.specs.Classes.{classCells, partCells}
-use Rattle.split_ranges.specs.Lowers.{rangeOf}
+use Rattle.split_ranges.specs.Lowers.{rangeOf, rowRange}
 use Rattle.list_text.specs.Listing.{ascii, spaced, line, lineUnlessEmpty, partText}
 
 -- the line of a range of dimension d
 unfoldable pub rangeLine : Bytes → ℕ → List ℕ → Bytes
 rangeLine name d vs = line (ascii "dim" ++ (spaced d ++ name)) vs
 
--- the lines of dimension d
+-- the lines of dimension d, by the row of its elements' classes
+unfoldable pub rowLines : Bytes → Bytes → ℕ → Bytes
+rowLines m lower d =
+    rangeLine (ascii " private") d (rowRange m d lower 1)
+    ++ (rangeLine (ascii " exposed") d (rowRange m d lower 2)
+    ++ (rangeLine (ascii " shared") d (rowRange m d lower 3)
+    ++ rangeLine (ascii " copied") d (rowRange m d lower 4)))
+
+-- the lines of dimension d, by the row of cells
 unfoldable pub dimensionLines : Bytes → Bytes → Bytes → ℕ → Bytes
 dimensionLines m class holders d =
     rangeLine (ascii " private") d (rangeOf m class holders d 1)

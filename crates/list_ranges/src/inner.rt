@@ -16,10 +16,11 @@ ghost use mathlib.Core.List.{[], _∷_};
 ghost use Prim.Native.Nat.{_+_, _≤_, _<_};
 ghost use Rattle.vocabulary.specs.Intervals.{blocks};
 ghost use Rattle.mesh.specs.Mesh.{top};
+ghost use Rattle.mesh.specs.Accepted.{Accepted};
 ghost use Rattle.walk_steps.specs.Walking.{Ground};
 ghost use Rattle.split.specs.Classes.{classCells};
 ghost use Rattle.list_text.specs.Printing.{Printed, numbers};
-ghost use Rattle.list_ranges.specs.Lines.{rangeLine, dimensionLines};
+ghost use Rattle.list_ranges.specs.Lines.{rangeLine, rowLines, dimensionLines};
 
 // The numbers of class k, and the end of their line.
 pub fn put_class(
@@ -58,50 +59,29 @@ fn put_range(
     put_class(lower, first, count, k, out, v)
 }
 
-// The ranges of one dimension for the part that the row of cells is of.
-fn put_dimension(
-    m: &[u8],
-    cell: &[u16],
-    prev: &[u16],
-    last: &[u16],
-    class: &[u8],
-    holders: &[u8],
-    dimension: usize,
-    out: &mut [u8],
-    at: usize,
-) -> usize
-    requires { ⌜ Ground (now m) (top (now m) ∷ []) (now cell) (now prev) (now last) × (dimension < top (now m)) ⌝ }
-    ensures { λ t. ⌜ Printed (now (out .entry)) (now (out .exit)) at t (dimensionLines (now (m .entry)) (now (class .entry)) (now (holders .entry)) dimension) ⌝ }
+// The ranges of one dimension, by the row of its elements' classes.
+fn put_ranges(m: &[u8], lower: &[u8], dimension: usize, out: &mut [u8], at: usize) -> usize
+    requires { ⌜ Accepted (now m) × (dimension < top (now m)) ⌝ }
+    ensures { λ t. ⌜ Printed (now (out .entry)) (now (out .exit)) at t (rowLines (now (m .entry)) (now (lower .entry)) dimension) ⌝ }
 {
-    let mut lower = [0u8; MOST_ELEMENTS];
-    classify_lowers(m, cell, prev, last, class, holders, dimension, &mut lower);
     let first = below_of(m, dimension) + 1;
     let count = count_of(m, dimension);
     let t = put_range(
         b" private",
         dimension,
-        &lower,
+        lower,
         first,
         count,
         PRIVATE,
         out,
         at,
     );
-    let u = put_range(
-        b" exposed",
-        dimension,
-        &lower,
-        first,
-        count,
-        EXPOSED,
-        out,
-        t,
-    );
-    let v = put_range(b" shared", dimension, &lower, first, count, SHARED, out, u);
-    put_range(b" copied", dimension, &lower, first, count, COPIED, out, v)
+    let u = put_range(b" exposed", dimension, lower, first, count, EXPOSED, out, t);
+    let v = put_range(b" shared", dimension, lower, first, count, SHARED, out, u);
+    put_range(b" copied", dimension, lower, first, count, COPIED, out, v)
 }
 
-// The dimensions, rising.
+// The ranges of the dimensions, rising, for the part that the row of cells is of.
 pub fn put_dimensions(
     m: &[u8],
     cell: &[u16],
@@ -117,7 +97,9 @@ pub fn put_dimensions(
 {
     let mut t = at;
     for dimension in 0..top_of(m) {
-        t = put_dimension(m, cell, prev, last, class, holders, dimension, out, t);
+        let mut lower = [0u8; MOST_ELEMENTS];
+        classify_lowers(m, cell, prev, last, class, holders, dimension, &mut lower);
+        t = put_ranges(m, &lower, dimension, out, t);
     }
     t
 }

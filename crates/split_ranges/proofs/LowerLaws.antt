@@ -33,7 +33,7 @@ use Rattle.split_cells.proofs.AddLaws.{add-none}
 use Rattle.split_cells.proofs.ClassLists.{class-at}
 use Rattle.split_ranges.specs.declared.inner.Side.{Side}
 use Rattle.split_ranges.specs.declared.inner.Side.the-variants.{Mine, Anothers, Held, HeldByAnother}
-use Rattle.split_ranges.specs.Lowers.{sideAt, someSide, lowerClass, trailClass, elementClass, Trailed, Lowered, rangeOf, rowRange}
+use Rattle.split_ranges.specs.Lowers.{sideAt, someSide, lowerClass, trailClass, elementClass, Lowered, rangeOf, rowRange}
 
 -- the stencil (d), which is always right: the chains turned round do not depend on the stencil
 alone-right : (d : ℕ) → bad10 d (d ∷ []) ≡ false
@@ -44,6 +44,11 @@ pub alone : (m st : Bytes) (cell prev last : List ℕ) → Ground m st cell prev
 alone m st cell prev last G = record { mesh = G .mesh; stencil = alone-right (top m); told = G .told }
 
 -- ---- a row of classes
+
+-- the first n elements after lo have their classes in a row
+pub record Trailed (cell prev last : List ℕ) (first : ℕ) (class holders : Bytes) (lo n : ℕ) (lower : Bytes) : Type 0 where
+  pub room : length lower ≡ 2000
+  pub each : (q : ℕ) → q < n → byteAt lower q ≡ trailClass cell prev last first class holders (lo + 1 + q)
 
 pub trailed-start : (cell prev last : List ℕ) (first : ℕ) (class holders : Bytes) (lo : ℕ) (lower : Bytes) → length lower ≡ 2000 → Trailed cell prev last first class holders lo 0 lower
 trailed-start cell prev last first class holders lo lower l = record { room = l; each = λ q h. let n : ⊥ = omega arith in absurd n }

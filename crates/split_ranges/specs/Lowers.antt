@@ -41,12 +41,7 @@ trailClass cell prev last first class holders e = lowerClass (trail cell prev 12
 unfoldable pub elementClass : Bytes → Bytes → Bytes → ℕ → ℕ
 elementClass m class holders e = lowerClass (cellsAt m e) (firstCell m) class holders
 
--- the first n elements after lo have their classes in a row
-pub record Trailed (cell prev last : List ℕ) (first : ℕ) (class holders : Bytes) (lo n : ℕ) (lower : Bytes) : Type 0 where
-  pub room : length lower ≡ 2000
-  pub each : (q : ℕ) → q < n → byteAt lower q ≡ trailClass cell prev last first class holders (lo + 1 + q)
-
--- the elements of dimension k have, where they are lower elements
+-- the elements of dimension k have their classes in a row, where they are lower elements
 pub record Lowered (m class holders : Bytes) (k : ℕ) (lower : Bytes) : Type 0 where
   pub room : length lower ≡ 2000
   pub each : (q : ℕ) → k < top m → q < counted m k → byteAt lower q ≡ elementClass m class holders (below m k + 1 + q)

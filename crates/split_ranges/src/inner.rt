@@ -10,7 +10,7 @@ use split::inner::INTERIOR;
 use split_cells::inner::add_class;
 ghost use mathlib.Core.Path.{_≡_};
 ghost use mathlib.Core.List.{[], _∷_};
-ghost use Prim.Native.Nat.{_+_, _-_, _≤_, _<_};
+ghost use Prim.Native.Nat.{_-_, _≤_};
 ghost use lib.ListN.{length};
 ghost use Rattle.mesh.specs.Mesh.{top};
 ghost use Rattle.mesh.specs.Accepted.{Accepted};
@@ -18,7 +18,7 @@ ghost use Rattle.walk_incidence.specs.Links.{trail};
 ghost use Rattle.walk_steps.specs.Walking.{Ground};
 ghost use Rattle.split.specs.Classes.{heldOne};
 ghost use Rattle.split.specs.Classes.{Appended};
-ghost use Rattle.split_ranges.specs.Lowers.{sideAt, someSide, trailClass, Trailed, Lowered, rowRange};
+ghost use Rattle.split_ranges.specs.Lowers.{sideAt, someSide, trailClass, Lowered, rowRange};
 
 // The classes of a lower element.
 pub const PRIVATE: u8 = 1;
@@ -120,26 +120,6 @@ fn lower_class(
     0
 }
 
-// The classes of the n elements after lo, in a row.
-fn classify_after(
-    cell: &[u16],
-    prev: &[u16],
-    last: &[u16],
-    first: usize,
-    class: &[u8],
-    holders: &[u8],
-    lo: usize,
-    n: usize,
-    lower: &mut [u8],
-)
-    requires { ⌜ (lo + n < 65535) × (n ≤ 2000) × (length (now lower) ≡ 2000) ⌝ }
-    ensures { λ _. ⌜ Trailed (now (cell .entry)) (now (prev .entry)) (now (last .entry)) first (now (class .entry)) (now (holders .entry)) lo n (now (lower .exit)) ⌝ }
-{
-    for q in 0..n {
-        lower[q] = lower_class(cell, prev, last, first, class, holders, lo + 1 + q);
-    }
-}
-
 // The classes of the lower elements of dimension k for the part that the row of cells is of. There are none from the cells' dimension on.
 pub fn classify_lowers(
     m: &[u8],
@@ -157,17 +137,12 @@ pub fn classify_lowers(
     if top_of(m) <= k {
         return;
     }
-    classify_after(
-        cell,
-        prev,
-        last,
-        first_cell(m),
-        class,
-        holders,
-        below_of(m, k),
-        count_of(m, k),
-        lower,
-    );
+    let first = first_cell(m);
+    let below = below_of(m, k);
+    let n = count_of(m, k);
+    for q in 0..n {
+        lower[q] = lower_class(cell, prev, last, first, class, holders, below + 1 + q);
+    }
 }
 
 // The range of dimension k and of one class, in the list from its start on, by the classes of the elements.
