@@ -13,6 +13,7 @@ use Rattle.vocabulary.specs.Intervals.{blocks}
 use Rattle.vocabulary.specs.Lists.{joined}
 use Rattle.vocabulary.specs.Tests.{firstOf}
 use Rattle.vocabulary.specs.TestLaws.{firstOf-append}
+use Rattle.layout.specs.Limits.{elementPlaces, mostElements, mostParts, recordPlaces, tableBytes}
 use Rattle.mesh.specs.Mesh.{elements, recordCount, cellCount, meshLength}
 use Rattle.walk_steps.specs.Walking.{Ground}
 use Rattle.split.specs.Split.{splitOf}
@@ -99,13 +100,13 @@ module _ (a z : Bytes) (t : ℕ) (b : Bytes) where
 pub record Tables (m : Bytes) (parts : ℕ) (owners st : Bytes) (cell prev last : List ℕ) (table : Bytes) (ends : List ℕ) (holders : Bytes) : Type 0 where
   pub prepared : Prepared m parts owners st table ends holders
   pub ground : Ground m st cell prev last
-  pub few : parts ≤ 16
-  pub cell-places : length cell ≡ 12001
-  pub prev-places : length prev ≡ 12001
-  pub last-places : length last ≡ 2001
-  pub table-bytes : length table ≡ 32000
-  pub end-places : length ends ≡ 2001
-  pub holder-places : length holders ≡ 2000
+  pub few : parts ≤ mostParts
+  pub cell-places : length cell ≡ recordPlaces
+  pub prev-places : length prev ≡ recordPlaces
+  pub last-places : length last ≡ elementPlaces
+  pub table-bytes : length table ≡ tableBytes
+  pub end-places : length ends ≡ elementPlaces
+  pub holder-places : length holders ≡ mostElements
 
 -- ---- the number
 

@@ -17,6 +17,7 @@ use Rattle.vocabulary.specs.Lists.{All, joined}
 use Rattle.vocabulary.specs.ListLaws.{and-true}
 use Rattle.vocabulary.specs.Tests.{Test, firstOf}
 use Rattle.vocabulary.specs.TestLaws.{first-small, small-append}
+use Rattle.layout.specs.Limits.{mostElements, mostHeld, mostParts}
 use Rattle.mesh.specs.Mesh.{top, counted, below, firstCell, cellCount}
 use Rattle.mesh.specs.WalkLaws.{below-grows}
 use Rattle.mesh.specs.Accepted.{Accepted}
@@ -24,7 +25,8 @@ use Rattle.split.specs.Split.{Split, splitOf, held, holds, owns, inside as insi
 use Rattle.split.specs.SplitLaws.{split-parted, split-small, sizes-fine, sizes-small, map-facts, own-count, order-length, local-held, split-reach, split-own, split-owner}
 use Rattle.split.specs.Lists.{bad8, bad12, splitTests, sizeTests, splitNumber, sizesNumber, splitInput}
 use Rattle.split.proofs.PassedLaws.{tests-are, passed-facts}
-use Rattle.list_text.specs.Listing.{ascii, digits, decimal, spaced, line, lineUnlessEmpty, dimensionText, partText, splitText, meshPiece, partsPiece, ownersPiece, stencilPiece, listingNumber, listText}
+use Rattle.list_text.specs.Listing.{ascii, digits, decimal, spaced, line, lineUnlessEmpty, dimensionText, partText, splitText, meshPiece, partsPiece, ownersPiece}
+use Rattle.list_text.specs.Listing.{stencilPiece, listingNumber, listText}
 use Rattle.list_text.specs.Printing.{fitting, Printed}
 use Rattle.list_input.specs.Pieces.{Listed, piecesNumber, piecesText}
 use Rattle.list_text.proofs.PrintLaws.{room}
@@ -73,7 +75,8 @@ picked-fewer : (a : ℕ) (p q : ℕ → Bool) → ((x : ℕ) → p x ≡ true �
 unfolding picked
 picked-fewer a p q f zero = omega arith
 picked-fewer a p q f (suc n) =
-    omega (arith, length-append (picked a n p) (cond (p (a + n)) ((a + n) ∷ []) []), length-append (picked a n q) (cond (q (a + n)) ((a + n) ∷ []) []), picked-fewer a p q f n, go (p (a + n)) (q (a + n)) (f (a + n)))
+    omega (arith, length-append (picked a n p) (cond (p (a + n)) ((a + n) ∷ []) []), length-append (picked a n q) (cond (q (a + n)) ((a + n) ∷ []) []), picked-fewer a p q f n, go (p (a + n))
+    (q (a + n)) (f (a + n)))
   where
     go : (b c : Bool) → (b ≡ true → c ≡ true) → length (cond b ((a + n) ∷ []) []) ≤ length (cond c ((a + n) ∷ []) [])
     go true true g = omega arith
@@ -83,7 +86,7 @@ picked-fewer a p q f (suc n) =
 abbrev ones : Bool → ℕ
 ones b = cond b 1 0
 
--- four sorts of which a number has one at most
+-- four classes-told of which a number has one at most
 four-few : (a : ℕ) (p q r s : ℕ → Bool) → ((x : ℕ) → ones (p x) + ones (q x) + ones (r x) + ones (s x) ≤ 1) → (n : ℕ)
     → length (picked a n p) + length (picked a n q) + length (picked a n r) + length (picked a n s) ≤ n
 unfolding picked
@@ -120,18 +123,18 @@ module _ (m : Bytes) (parts : ℕ) (owners st : Bytes) (A : Accepted m) (right :
   abbrev S : Split
   S = splitOf m parts owners st
 
-  few : parts ≤ 16
+  few : parts ≤ mostParts
   few = map-facts m parts owners [] right .few
 
-  held-few : total 1 parts (λ i. length (held S i)) ≤ 4096
-  held-few = ltb-false 4096 (total 1 parts (λ i. length (held S i))) (unfold bad12 splitOf in sized)
+  held-few : total 1 parts (λ i. length (held S i)) ≤ mostHeld
+  held-few = ltb-false mostHeld (total 1 parts (λ i. length (held S i))) (unfold bad12 splitOf in sized)
 
   cells-small : (p : ℕ → Bool) → All (λ v. v < 10000) (picked (S .first) (S .cells) p)
   unfolding splitOf
   cells-small p = picked-all (firstCell m) p (λ v. v < 10000) (cellCount m) (λ i h e. omega (arith, A .cells-in, A .sizes .n-high))
 
   -- the cells of a part
-  own-few : (i : ℕ) → length (interior S i) + length (halo S i) + total 1 parts (λ j. length (imports S i j)) ≤ 2000
+  own-few : (i : ℕ) → length (interior S i) + length (halo S i) + total 1 parts (λ j. length (imports S i j)) ≤ mostElements
   own-few i =
       omega (
         arith,
@@ -146,14 +149,14 @@ module _ (m : Bytes) (parts : ℕ) (owners st : Bytes) (A : Accepted m) (right :
       same : total 1 parts (λ j. length (imports S i j)) ≡ total 1 (S .parts) (λ j. length (imports S i j))
       same = unfold splitOf in refl
 
-      few-held : length (held S i) ≤ 2000
+      few-held : length (held S i) ≤ mostElements
       few-held = unfold held splitOf in omega (arith, picked-length-le (firstCell m) (holds S i) (cellCount m), A .cells-in, A .sizes .n-high)
 
   imports-small : (i j : ℕ) → All (λ v. v < 10000) (imports S i j)
   unfolding imports
   imports-small i j = cells-small (λ c. not (eqb i j) && owns S j c && holds S i c)
 
-  exports-few : (i : ℕ) → total 1 parts (λ j. length (exports S i j)) ≤ 4096
+  exports-few : (i : ℕ) → total 1 parts (λ j. length (exports S i j)) ≤ mostHeld
   unfolding exports imports held
   exports-few i = omega (arith, total-mono 1 (λ j. length (exports S i j)) (λ j. length (held S j)) parts (λ x h. fewer (1 + x)), held-few)
     where
@@ -181,7 +184,7 @@ module _ (m : Bytes) (parts : ℕ) (owners st : Bytes) (A : Accepted m) (right :
     abbrev n : ℕ
     n = counted m k
 
-    inside : below m k + counted m k ≤ 2000
+    inside : below m k + counted m k ≤ mostElements
     inside =
         let q : k + 1 ≡ suc k = omega arith in
         let more : below m (k + 1) ≡ below m k + counted m k = ap (below m) q ∙ (unfold below in refl) in
@@ -195,9 +198,9 @@ module _ (m : Bytes) (parts : ℕ) (owners st : Bytes) (A : Accepted m) (right :
     range-small p =
         subst (All (λ v. v < 10000)) (sym (range-picked p)) (picked-all (below m k + 1) p (λ v. v < 10000) (counted m k) (λ x l e. omega (arith, inside)))
 
-    one-sort : (e : ℕ) → ones (isPrivate S i e) + ones (isExposed S i e) + ones (isShared S i e) + ones (isCopied S i e) ≤ 1
+    one-class : (e : ℕ) → ones (isPrivate S i e) + ones (isExposed S i e) + ones (isShared S i e) + ones (isCopied S i e) ≤ 1
     unfolding isPrivate isExposed isShared isCopied
-    one-sort e = go (touches S e i) (another S i (touches S e)) (another S i (λ j. holdsLower S j e)) (holdsLower S i e)
+    one-class e = go (touches S e i) (another S i (touches S e)) (another S i (λ j. holdsLower S j e)) (holdsLower S i e)
       where
         go : (t a o l : Bool) → ones (t && not a && not o) + ones (t && not a && o) + ones (t && a) + ones (l && not t) ≤ 1
         go true true true true = omega arith
@@ -214,7 +217,7 @@ module _ (m : Bytes) (parts : ℕ) (owners st : Bytes) (A : Accepted m) (right :
     ranges-few : length (range m k (isPrivate S i)) + length (range m k (isExposed S i)) + length (range m k (isShared S i)) + length (range m k (isCopied S i)) ≤ counted m k
     ranges-few =
         rw (range-picked (isPrivate S i), range-picked (isExposed S i), range-picked (isShared S i), range-picked (isCopied S i))
-        (four-few (below m k + 1) (isPrivate S i) (isExposed S i) (isShared S i) (isCopied S i) one-sort (counted m k))
+        (four-few (below m k + 1) (isPrivate S i) (isExposed S i) (isShared S i) (isCopied S i) one-class (counted m k))
 
     range-length : (name : Bytes) → length name ≤ 8 → (p : ℕ → Bool) → length (line (ascii "dim" ++ (spaced k ++ name)) (range m k p)) ≤ 17 + 5 * length (range m k p)
     unfolding ascii
@@ -257,7 +260,7 @@ module _ (m : Bytes) (parts : ℕ) (owners st : Bytes) (A : Accepted m) (right :
         A .sizes .d-high,
       )
 
-  part-length : (i : ℕ) → i ≤ 16 → length (partText m S i) ≤ 41092
+  part-length : (i : ℕ) → i ≤ mostParts → length (partText m S i) ≤ 41092
   unfolding partText
   part-length i h =
       omega (

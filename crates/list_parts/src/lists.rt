@@ -15,6 +15,7 @@ ghost use mathlib.Core.List.{_++_};
 ghost use Prim.Native.Nat.{_+_, _≤_};
 ghost use lib.ListN.{length, take};
 ghost use Rattle.vocabulary.specs.Intervals.{blocks};
+ghost use Rattle.layout.specs.Limits.{mostElements, mostParts};
 ghost use Rattle.mesh.specs.Mesh.{firstCell, cellCount};
 ghost use Rattle.mesh.specs.Accepted.{Accepted};
 ghost use Rattle.split.specs.Classes.{classCells};
@@ -32,7 +33,7 @@ fn put_cells(
     out: &mut [u8],
     at: usize,
 ) -> usize
-    requires { ⌜ (first + cells ≤ 65536) × (cells ≤ 2000) ⌝ }
+    requires { ⌜ (first + cells ≤ 65536) × (cells ≤ mostElements) ⌝ }
     ensures { λ t. ⌜ Printed (now (out .entry)) (now (out .exit)) at t (line (now (label .entry)) (classCells (now (class .entry)) first cells k)) ⌝ }
 {
     let t = put_text(label, out, at);
@@ -48,7 +49,7 @@ pub fn put_own(
     out: &mut [u8],
     at: usize,
 ) -> usize
-    requires { ⌜ (first + cells ≤ 65536) × (cells ≤ 2000) ⌝ }
+    requires { ⌜ (first + cells ≤ 65536) × (cells ≤ mostElements) ⌝ }
     ensures { λ t. ⌜ Printed (now (out .entry)) (now (out .exit)) at t (ownLines (now (class .entry)) first cells i) ⌝ }
 {
     let t = put_line(b"part", i, out, at);
@@ -77,7 +78,7 @@ fn put_passing(
     out: &mut [u8],
     at: usize,
 ) -> usize
-    requires { ⌜ (first + cells ≤ 65536) × (cells ≤ 2000) ⌝ }
+    requires { ⌜ (first + cells ≤ 65536) × (cells ≤ mostElements) ⌝ }
     ensures { λ t. ⌜ Printed (now (out .entry)) (now (out .exit)) at t (passing (now (label .entry)) j (classCells (now (class .entry)) first cells k)) ⌝ }
 {
     let mut list = [0u16; MOST_ELEMENTS];
@@ -97,7 +98,7 @@ pub fn put_imports(
     out: &mut [u8],
     at: usize,
 ) -> usize
-    requires { ⌜ (first + cells ≤ 65536) × (cells ≤ 2000) × (parts ≤ 16) ⌝ }
+    requires { ⌜ (first + cells ≤ 65536) × (cells ≤ mostElements) × (parts ≤ mostParts) ⌝ }
     ensures { λ t. ⌜ Printed (now (out .entry)) (now (out .exit)) at t (blocks 1 parts (importLine (now (class .entry)) first cells)) ⌝ }
 {
     let mut t = at;
@@ -118,7 +119,7 @@ pub fn put_exports(
     out: &mut [u8],
     at: usize,
 ) -> usize
-    requires { ⌜ Accepted (now m) × (i ≤ 16) × (parts ≤ 16) ⌝ }
+    requires { ⌜ Accepted (now m) × (i ≤ mostParts) × (parts ≤ mostParts) ⌝ }
     ensures { λ t. ⌜ Printed (now (out .entry)) (now (out .exit)) at t (blocks 1 parts (exportLine (now (owners .entry)) (now (table .entry)) (now (ends
         .entry)) (firstCell (now (m .entry))) (cellCount (now (m .entry))) i)) ⌝ }
 {

@@ -10,6 +10,7 @@ use Rattle.vocabulary.specs.Bytes.{Bytes}
 use Rattle.vocabulary.specs.Intervals.{blocks}
 use Rattle.vocabulary.specs.IntervalLaws.{blocks-turn, blocks-start, blocks-cong, at-last}
 use Rattle.vocabulary.specs.Lists.{joined}
+use Rattle.layout.specs.Limits.{mostElements, mostParts}
 use Rattle.mesh.specs.Mesh.{top, counted, below, firstCell, cellCount}
 use Rattle.split.specs.Split.{Split, splitOf, interior, halo, imports, exports, holdsLower, touches, another, isCopied, isShared, isExposed, isPrivate}
 use Rattle.split.specs.Classes.{Appended}
@@ -17,7 +18,7 @@ use Rattle.split.specs.Classes.{Classed, Prepared, classCells, partCells}
 use Rattle.split_ranges.specs.Lowers.{Lowered, rangeOf, rowRange}
 use Rattle.split_cells.proofs.AddLaws.{added-fits, added-take, class-few}
 use Rattle.split_cells.proofs.ClassLists.{row-cells, interior-is, halo-is, imports-are, part-imports}
-use Rattle.split_ranges.proofs.LowerLaws.{Sorts, sort-tells, row-range, range-is}
+use Rattle.split_ranges.proofs.LowerLaws.{RangeClasses, range-classes, row-range, range-is}
 use Rattle.list_text.specs.Listing.{ascii, spaced, line, lineUnlessEmpty, dimensionText, partText}
 use Rattle.list_text.specs.Printing.{Printed, numbers}
 use Rattle.list_ranges.specs.Lines.{rangeLine, rowLines, dimensionLines, passing, importLine, exportLine, ownLines, partOf}
@@ -76,8 +77,9 @@ full-told label a b c d s t u w j (suc n) (x ∷ xs) h l X Y Z =
 
 -- ---- lists by class
 
-module _ (class : Bytes) (first cells k : ℕ) (few : cells ≤ 2000) (before after : List ℕ) (n : ℕ) (A : Appended before after 0 n (classCells class first cells k)) (l : length before ≡ 2000) where
-  short : length (classCells class first cells k) ≤ 2000
+module _ (class : Bytes) (first cells k : ℕ) (few : cells ≤ mostElements) (before after : List ℕ) (n : ℕ) (A : Appended before after 0 n (classCells class first cells k))
+    (l : length before ≡ mostElements) where
+  short : length (classCells class first cells k) ≤ mostElements
   short = omega (arith, class-few class first cells k)
 
   pub list-room : n ≤ length after
@@ -135,21 +137,21 @@ row-told m lower k lo n a b c d e s t u v x h loe ne X Y Z W =
     print-both a b e s t x _ _ (of a b s t b-private 1 X)
     (print-both b c e t u x _ _ (of b c t u b-exposed 2 Y) (print-both c d e u v x _ _ (of c d u v b-shared 3 Z) (of d e v x b-copied 4 W)))
   where
-    same : (sort : ℕ) → classCells lower (lo + 1) n sort ≡ rowRange m k lower sort
-    same sort =
-        ap₂ (λ l c. classCells lower (l + 1) c sort) loe ne
-        ∙ sym (ap (λ c. cond c (classCells lower (below m k + 1) (counted m k) sort) []) (lt-ltb k (top m) h))
+    same : (wanted : ℕ) → classCells lower (lo + 1) n wanted ≡ rowRange m k lower wanted
+    same wanted =
+        ap₂ (λ l c. classCells lower (l + 1) c wanted) loe ne
+        ∙ sym (ap (λ c. cond c (classCells lower (below m k + 1) (counted m k) wanted) []) (lt-ltb k (top m) h))
 
-    of : (a b : Bytes) (s t : ℕ) (name : Bytes) (sort : ℕ) → Printed a b s t (line (b-dim ++ (spaced k ++ name)) (classCells lower (lo + 1) n sort))
-        → Printed a b s t (line (b-dim ++ (spaced k ++ name)) (rowRange m k lower sort))
-    of a b s t name sort X = subst (λ (vs : List ℕ). Printed a b s t (line (b-dim ++ (spaced k ++ name)) vs)) (same sort) X
+    of : (a b : Bytes) (s t : ℕ) (name : Bytes) (wanted : ℕ) → Printed a b s t (line (b-dim ++ (spaced k ++ name)) (classCells lower (lo + 1) n wanted))
+        → Printed a b s t (line (b-dim ++ (spaced k ++ name)) (rowRange m k lower wanted))
+    of a b s t name wanted X = subst (λ (vs : List ℕ). Printed a b s t (line (b-dim ++ (spaced k ++ name)) vs)) (same wanted) X
 
 pub dimension-told : (m class holders lower : Bytes) (k : ℕ) (a b : Bytes) (s t : ℕ) → Lowered m class holders k lower → Printed a b s t (rowLines m lower k)
     → Printed a b s t (dimensionLines m class holders k)
 dimension-told m class holders lower k a b s t L X = subst (Printed a b s t) same X
   where
-    of : (name : Bytes) (sort : ℕ) → rangeLine name k (rowRange m k lower sort) ≡ rangeLine name k (rangeOf m class holders k sort)
-    of name sort = ap (rangeLine name k) (row-range m class holders k sort lower L)
+    of : (name : Bytes) (wanted : ℕ) → rangeLine name k (rowRange m k lower wanted) ≡ rangeLine name k (rangeOf m class holders k wanted)
+    of name wanted = ap (rangeLine name k) (row-range m class holders k wanted lower L)
 
     same : rowLines m lower k ≡ dimensionLines m class holders k
     same = unfold rowLines dimensionLines in ap₂ _++_ (of (ascii " private") 1) (ap₂ _++_ (of (ascii " exposed") 2) (ap₂ _++_ (of (ascii " shared") 3) (of (ascii " copied") 4)))
@@ -159,7 +161,7 @@ pub import-told : (class : Bytes) (first cells j k : ℕ) (a b : Bytes) (s t : �
 unfolding importLine passing ascii
 import-told class first cells j k a b s t e X = subst (λ x. Printed a b s t (lineUnlessEmpty (b-import ++ spaced j) (classCells class first cells x))) e X
 
-pub export-told : (owners table : Bytes) (ends : List ℕ) (first cells i j : ℕ) (class : Bytes) (a b : Bytes) (s t : ℕ) → cells ≤ 2000 → Classed owners table ends j cells class
+pub export-told : (owners table : Bytes) (ends : List ℕ) (first cells i j : ℕ) (class : Bytes) (a b : Bytes) (s t : ℕ) → cells ≤ mostElements → Classed owners table ends j cells class
     → Printed a b s t (passing b-export j (classCells class first cells i)) → Printed a b s t (exportLine owners table ends first cells i j)
 unfolding exportLine passing ascii
 export-told owners table ends first cells i j class a b s t few C X =
@@ -179,7 +181,7 @@ exports-end m owners table ends first cells i j parts a b s t fe ce h l X =
 -- ---- a part
 
 module _ (m : Bytes) (parts : ℕ) (owners st table : Bytes) (ends : List ℕ) (holders : Bytes) (R : Prepared m parts owners st table ends holders)
-    (i : ℕ) (low : 1 ≤ i) (high : i ≤ parts) (fewp : parts ≤ 16) (first cells : ℕ) (fe : first ≡ firstCell m) (ce : cells ≡ cellCount m)
+    (i : ℕ) (low : 1 ≤ i) (high : i ≤ parts) (fewp : parts ≤ mostParts) (first cells : ℕ) (fe : first ≡ firstCell m) (ce : cells ≡ cellCount m)
     (class : Bytes) (C : Classed owners table ends i cells class) where
   abbrev S : Split
   S = splitOf m parts owners st
@@ -197,16 +199,16 @@ module _ (m : Bytes) (parts : ℕ) (owners st table : Bytes) (ends : List ℕ) (
       (λ j. lineUnlessEmpty (ascii "export" ++ spaced j) (imports S j i)) parts
       (λ j h. ap (lineUnlessEmpty (ascii "export" ++ spaced (1 + j))) (part-imports m parts owners st table ends holders R i (1 + j) (firstCell m) (cellCount m) refl refl low (omega arith)))
 
-  sorts : (e : ℕ) → Sorts (touches S e i) (another S i (touches S e)) (another S i (λ j. holdsLower S j e)) (holdsLower S i e)
-  sorts e = sort-tells (touches S e i) (another S i (touches S e)) (another S i (λ j. holdsLower S j e)) (holdsLower S i e)
+  classes-told : (e : ℕ) → RangeClasses (touches S e i) (another S i (touches S e)) (another S i (λ j. holdsLower S j e)) (holdsLower S i e)
+  classes-told e = range-classes (touches S e i) (another S i (touches S e)) (another S i (λ j. holdsLower S j e)) (holdsLower S i e)
 
   dimension-is : (k : ℕ) → dimensionLines m class holders k ≡ dimensionText m S i k
   unfolding dimensionLines dimensionText rangeLine isPrivate isExposed isShared isCopied
   dimension-is k =
-      ap₂ _++_ (ap (line (ascii "dim" ++ (spaced k ++ ascii " private"))) (range-is m parts owners st table ends holders R i low high cells ce class C k 1 _ (λ e. sorts e .0)))
-      (ap₂ _++_ (ap (line (ascii "dim" ++ (spaced k ++ ascii " exposed"))) (range-is m parts owners st table ends holders R i low high cells ce class C k 2 _ (λ e. sorts e .1)))
-      (ap₂ _++_ (ap (line (ascii "dim" ++ (spaced k ++ ascii " shared"))) (range-is m parts owners st table ends holders R i low high cells ce class C k 3 _ (λ e. sorts e .2)))
-      (ap (line (ascii "dim" ++ (spaced k ++ ascii " copied"))) (range-is m parts owners st table ends holders R i low high cells ce class C k 4 _ (λ e. sorts e .3)))))
+      ap₂ _++_ (ap (line (ascii "dim" ++ (spaced k ++ ascii " private"))) (range-is m parts owners st table ends holders R i low high cells ce class C k 1 _ (λ e. classes-told e .0)))
+      (ap₂ _++_ (ap (line (ascii "dim" ++ (spaced k ++ ascii " exposed"))) (range-is m parts owners st table ends holders R i low high cells ce class C k 2 _ (λ e. classes-told e .1)))
+      (ap₂ _++_ (ap (line (ascii "dim" ++ (spaced k ++ ascii " shared"))) (range-is m parts owners st table ends holders R i low high cells ce class C k 3 _ (λ e. classes-told e .2)))
+      (ap (line (ascii "dim" ++ (spaced k ++ ascii " copied"))) (range-is m parts owners st table ends holders R i low high cells ce class C k 4 _ (λ e. classes-told e .3)))))
 
   pub part-told : (a d e f g : Bytes) (s v w x y : ℕ) → Printed a d s v (ownLines class first cells i) → Printed d e v w (blocks 1 parts (importLine class first cells))
       → Printed e f w x (blocks 1 parts (exportLine owners table ends (firstCell m) (cellCount m) i)) → Printed f g x y (blocks 0 (top m) (dimensionLines m class holders))

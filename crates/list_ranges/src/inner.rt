@@ -15,6 +15,7 @@ use split_ranges::inner::classify_lowers;
 ghost use mathlib.Core.List.{[], _∷_};
 ghost use Prim.Native.Nat.{_+_, _≤_, _<_};
 ghost use Rattle.vocabulary.specs.Intervals.{blocks};
+ghost use Rattle.layout.specs.Limits.{mostElements};
 ghost use Rattle.mesh.specs.Mesh.{top};
 ghost use Rattle.mesh.specs.Accepted.{Accepted};
 ghost use Rattle.walk_steps.specs.Walking.{Ground};
@@ -31,7 +32,7 @@ pub fn put_class(
     out: &mut [u8],
     at: usize,
 ) -> usize
-    requires { ⌜ (first + count ≤ 65536) × (count ≤ 2000) ⌝ }
+    requires { ⌜ (first + count ≤ 65536) × (count ≤ mostElements) ⌝ }
     ensures { λ t. ⌜ Printed (now (out .entry)) (now (out .exit)) at t (numbers (classCells (now (class .entry)) first count k)) ⌝ }
 {
     let mut list = [0u16; MOST_ELEMENTS];
@@ -50,7 +51,7 @@ fn put_range(
     out: &mut [u8],
     at: usize,
 ) -> usize
-    requires { ⌜ (first + count ≤ 65536) × (count ≤ 2000) ⌝ }
+    requires { ⌜ (first + count ≤ 65536) × (count ≤ mostElements) ⌝ }
     ensures { λ t. ⌜ Printed (now (out .entry)) (now (out .exit)) at t (rangeLine (now (name .entry)) dimension (classCells (now (lower .entry)) first count k)) ⌝ }
 {
     let t = put_text(b"dim", out, at);

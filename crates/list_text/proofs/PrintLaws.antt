@@ -160,7 +160,8 @@ pub spaced-start : (list : List ℕ) (b : Bytes) (s : ℕ) → Printed b b s s (
 unfolding spacedTo joined
 spaced-start list b s = print-none b s
 
-pub spaced-turn : (list : List ℕ) (a b c : Bytes) (s t u k n x : ℕ) → k < n → n ≤ length list → x ≡ getD list k 0 → Printed a b s t (spacedTo k list) → Printed b c t u (spaced x) → Printed a c s u (spacedTo (k + 1) list)
+pub spaced-turn : (list : List ℕ) (a b c : Bytes) (s t u k n x : ℕ) → k < n → n ≤ length list → x ≡ getD list k 0 → Printed a b s t (spacedTo k list) → Printed b c t u (spaced x)
+    → Printed a c s u (spacedTo (k + 1) list)
 spaced-turn list a b c s t u k n x g l e X Y = subst (Printed a c s u) (sym more) (print-both a b c s t u (spacedTo k list) (spaced (getD list k 0)) X (rw e at Y))
   where
     longer : take (k + 1) list ≡ take k list ++ (getD list k 0 ∷ [])

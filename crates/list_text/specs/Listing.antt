@@ -15,7 +15,7 @@ use Rattle.vocabulary.specs.Tests.{firstOf}
 use Rattle.vocabulary.specs.Bytes.{Bytes, byteAt}
 use Rattle.mesh.specs.Mesh.{top, cellCount, meshLength}
 use Rattle.split.specs.Split.{Split, splitOf, interior, halo, imports, exports, range, isPrivate, isExposed, isShared, isCopied}
-use Rattle.split.specs.Lists.{splitTests, sizeTests, splitInput}
+use Rattle.split.specs.Lists.{SplitInput, splitTests, sizeTests, splitInput, splitIn}
 
 -- ---- text
 
@@ -96,16 +96,18 @@ module _ (b : Bytes) where
   unfoldable pub stencilPiece : Bytes
   stencilPiece = cond (eqb (length (drop 1 lastPiece)) (byteAt lastPiece 0)) (drop 1 lastPiece) []
 
+  abbrev pub pieces : SplitInput
+  pieces = splitInput meshPiece partsPiece ownersPiece stencilPiece
+
   -- "input cut short is 1, 3, 8 or 10 by the first piece that isn't whole (P and the owners 8, the length byte and the stencil 10), unless a
   -- smaller number holds; bytes after the stencil are 10": a
   -- mesh cut short is 1 or 3 by its length, a missing P is 0 and owners cut short are too few
   unfoldable pub listingNumber : ℕ
-  listingNumber =
-      firstOf (splitTests (splitInput meshPiece partsPiece ownersPiece stencilPiece) [] ++ sizeTests (splitInput meshPiece partsPiece ownersPiece stencilPiece))
+  listingNumber = firstOf (splitTests pieces [] ++ sizeTests pieces)
 
   -- "On a refusal it prints `refused` and the number. Input past 65,536 bytes prints `too long`."
   unfoldable pub listText : Bytes
   listText =
       cond (ltb 65536 (length b)) (line (ascii "too long") [])
-      (cond (eqb listingNumber 0) (splitText meshPiece (splitOf meshPiece partsPiece ownersPiece stencilPiece))
+      (cond (eqb listingNumber 0) (splitText meshPiece (splitIn pieces))
       (line (ascii "refused") (listingNumber ∷ [])))

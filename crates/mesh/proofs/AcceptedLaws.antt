@@ -13,8 +13,9 @@ use Rattle.vocabulary.specs.IntervalLaws.{some-at, some-witness, blocks-each, b
 use Rattle.vocabulary.specs.Lists.{isIn, repeats, someOf, All}
 use Rattle.vocabulary.specs.ListLaws.{or-false, and-true, All-map, All-split, All-both, All-getD, someOf-false, isIn-at, once-few, repeats-parts}
 use Rattle.vocabulary.specs.TestLaws.{holdsOf, passed-by}
+use Rattle.layout.specs.Limits.{mostElements}
 use Rattle.mesh.specs.Mesh.{top, counted, below, elements, recordCount, firstCell, cellCount, dimension, headOf, elementIn, follow, records, chain, allRecords, headed}
-use Rattle.mesh.specs.Mesh.{wrongIn, wrongAt, leaves, unclosed, bare, bad1, bad2, bad3, bad4, bad5, bad6, bad7, meshLength, meshTests, meshNumber}
+use Rattle.mesh.specs.Mesh.{badItem, badChain, leaves, unclosed, bare, bad1, bad2, bad3, bad4, bad5, bad6, bad7, meshLength, meshTests, meshNumber}
 use Rattle.mesh.specs.Meet.{Sizes}
 use Rattle.mesh.specs.Accepted.{Element, Cell, Accepted}
 use Rattle.mesh.proofs.MeetLaws.{outside}
@@ -90,9 +91,9 @@ module _ (m : Bytes) (four : bad4 m ≡ false) where
 
 -- what test 5 leaves
 module _ (m : Bytes) (high : top m ≤ 3) (five : bad5 m ≡ false) where
-  right-chain : (e : ℕ) → Element m e → (someOf (chain m e) (wrongIn m e) ≡ false) × (repeats (chain m e) ≡ false)
-  unfolding bad5 wrongAt
-  right-chain e x = or-false (someOf (chain m e) (wrongIn m e)) (repeats (chain m e)) (at-one (wrongAt m) (elements m) e five (x .low) (x .high))
+  right-chain : (e : ℕ) → Element m e → (someOf (chain m e) (badItem m e) ≡ false) × (repeats (chain m e) ≡ false)
+  unfolding bad5 badChain
+  right-chain e x = or-false (someOf (chain m e) (badItem m e)) (repeats (chain m e)) (at-one (badChain m) (elements m) e five (x .low) (x .high))
 
   pub lower-chain : (e : ℕ) → Element m e → All (λ g. (1 ≤ g) × (g ≤ below m (dimension m e))) (chain m e)
   unfolding outside isUpTo
@@ -101,7 +102,7 @@ module _ (m : Bytes) (high : top m ≤ 3) (five : bad5 m ≡ false) where
       (λ g q.
       let w = and-true (leb 1 g) (leb g (below m (dimension m e))) (not-false _ (lower-right m e g high ∙ q)) in
       (leb-true 1 g (w .0), leb-true g (below m (dimension m e)) (w .1)))
-      (someOf-false (wrongIn m e) (chain m e) (right-chain e x .0))
+      (someOf-false (badItem m e) (chain m e) (right-chain e x .0))
 
 module _ (m : Bytes) (p : Passed m) where
   fine-sizes : Sizes m (top m) (elements m) (recordCount m)
@@ -160,7 +161,7 @@ accepted-mesh m e =
       covered = in-cell m p;
     }
 
-pub cells-few : (m : Bytes) (cells : ℕ) → Accepted m → cells ≡ cellCount m → cells ≤ 2000
+pub cells-few : (m : Bytes) (cells : ℕ) → Accepted m → cells ≡ cellCount m → cells ≤ mostElements
 cells-few m cells A e = omega (arith, A .cells-in, A .sizes .n-high)
 
 pub cells-fit : (m : Bytes) (first cells : ℕ) → Accepted m → first ≡ firstCell m → cells ≡ cellCount m → first + cells ≤ 65536

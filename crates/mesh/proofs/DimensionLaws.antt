@@ -12,7 +12,7 @@ use Rattle.vocabulary.specs.Bytes.{Bytes}
 use Rattle.vocabulary.specs.Intervals.{isUpTo, picked}
 use Rattle.vocabulary.specs.IntervalLaws.{picked-length-le}
 use Rattle.mesh.specs.WalkLaws.{below-grows}
-use Rattle.mesh.specs.Mesh.{top, counted, below, elements, dimension, wrongIn}
+use Rattle.mesh.specs.Mesh.{top, counted, below, elements, dimension, badItem}
 use Rattle.mesh.proofs.MeetLaws.{outside}
 
 -- ---- thresholds that never fall: those below e are the first ones
@@ -93,8 +93,8 @@ lower-small m d low k le g h = omega (arith, below-grows m k 4 (omega arith))
 
 -- ---- what may stand in the chain of e: the elements below its dimension
 
-pub lower-right : (m : Bytes) (e g : ℕ) → top m ≤ 3 → outside (below m (dimension m e)) g ≡ wrongIn m e g
-unfolding outside isUpTo wrongIn
+pub lower-right : (m : Bytes) (e g : ℕ) → top m ≤ 3 → outside (below m (dimension m e)) g ≡ badItem m e g
+unfolding outside isUpTo badItem
 lower-right m e g high = go (eqb g 0) refl (ltb (below m (dimension m e)) g) refl
   where
     within : below m (dimension m e) ≤ elements m
@@ -121,7 +121,8 @@ lower-right m e g high = go (eqb g 0) refl (ltb (below m (dimension m e)) g) ref
         let q : g ≡ 0 → ⊥ = eqb-false g 0 z in
         let l : 1 ≤ g = omega arith in
         let k : g ≤ below m (dimension m e) = ltb-false _ _ t in
-        simp (le-leb 1 g l, le-leb g (below m (dimension m e)) k, le-ltb (elements m) g (omega (arith, within)), lt-leb (dimension m e) (dimension m g) (down l k (ltb (dimension m g) (dimension m e)) refl))
+        simp (le-leb 1 g l, le-leb g (below m (dimension m e)) k, le-ltb (elements m) g (omega (arith, within)), lt-leb (dimension m e) (dimension m g)
+        (down l k (ltb (dimension m g) (dimension m e)) refl))
       where
         zero-below : below m 0 ≡ 0
         zero-below = unfold below in refl

@@ -11,11 +11,12 @@ use borrow.Author.Tests.{leb-true, eqb-true, eqb-false, eq-eqb, ne-eqb}
 use Rattle.vocabulary.specs.Intervals.{isUpTo}
 use Rattle.vocabulary.specs.Lists.{isIn, repeats, someOf}
 use Rattle.vocabulary.specs.ListLaws.{eqb-swap, and-true, or-right, zeros}
+use Rattle.layout.specs.Limits.{elementPlaces}
 use Rattle.mesh.specs.Meet.{Met, met, meet, Under}
 
 -- no marks
-pub under-none : Under 1 (replicate 2001 0)
-under-none = record { size = zeros 2001 .size; each = λ i. omega (arith, zeros 2001 .each i) }
+pub under-none : Under 1 (replicate elementPlaces 0)
+under-none = record { size = zeros elementPlaces .size; each = λ i. omega (arith, zeros elementPlaces .each i) }
 
 abbrev pub told : Met → Bool
 told (met b s) = b

@@ -12,29 +12,30 @@ use Rattle.vocabulary.specs.Bytes.{Bytes}
 use Rattle.vocabulary.specs.ListLaws.{or-false}
 use Rattle.layout.specs.Answers.{answer}
 use Rattle.layout.specs.declared.Answer.the-variants.{Done, Refused}
-use Rattle.mesh.specs.Mesh.{top, counted, below, elements, recordCount, cellCount, wrongCount, bad1, bad2, meshNumber, checkAnswer}
+use Rattle.layout.specs.Limits.{mostElements, mostRecords}
+use Rattle.mesh.specs.Mesh.{top, counted, below, elements, recordCount, cellCount, badCount, bad1, bad2, meshNumber, checkAnswer}
 use Rattle.mesh.specs.Meet.{Sizes}
 use Rattle.mesh.proofs.DimensionLaws.{below-next}
 
 -- what test 2 leaves of the counts
 module _ (m : Bytes) (two : bad2 m ≡ false) where
-  count-right : (k : ℕ) → k < 4 → wrongCount m k ≡ false
+  count-right : (k : ℕ) → k < 4 → badCount m k ≡ false
   unfolding bad2
   count-right k h =
-      let a = or-false (some 0 4 (wrongCount m) || ltb 2000 (elements m)) (ltb 12000 (recordCount m)) two in
-      let b = or-false (some 0 4 (wrongCount m)) (ltb 2000 (elements m)) (a .0) in
+      let a = or-false (some 0 4 (badCount m) || ltb mostElements (elements m)) (ltb mostRecords (recordCount m)) two in
+      let b = or-false (some 0 4 (badCount m)) (ltb mostElements (elements m)) (a .0) in
       let q : 0 + k ≡ k = omega arith in
-      rw q at (some-at 0 (wrongCount m) 4 k (b .0) h)
+      rw q at (some-at 0 (badCount m) 4 k (b .0) h)
 
   pub counts : (k : ℕ) → k ≤ top m → k < 4 → 1 ≤ counted m k
-  unfolding wrongCount
+  unfolding badCount
   counts k h l =
       let w : eqb (counted m k) 0 ≡ false = rw (le-leb k (top m) h) at (count-right k l) in
       let n : counted m k ≡ 0 → ⊥ = eqb-false (counted m k) 0 w in
       omega arith
 
   pub no-counts : (k : ℕ) → top m < k → k < 4 → counted m k ≡ 0
-  unfolding wrongCount
+  unfolding badCount
   no-counts k h l =
       let w : ltb 0 (counted m k) ≡ false = rw (lt-leb k (top m) h) at (count-right k l) in
       omega (arith, ltb-false 0 (counted m k) w)
@@ -54,16 +55,16 @@ pub sized : (m : Bytes) (a b : Bool) (d n r : ℕ) → a ≡ bad1 m → a ≡ fa
 unfolding bad1 bad2
 sized m a b d n r e f g h p q t =
     let x = or-false (ltb (length m) 12 || ltb (top m) 1) (ltb 3 (top m)) (sym e ∙ f) in
-    let y = or-false (some 0 4 (wrongCount m) || ltb 2000 (elements m)) (ltb 12000 (recordCount m)) (sym g ∙ h) in
-    let w = or-false (some 0 4 (wrongCount m)) (ltb 2000 (elements m)) (y .0) in
+    let y = or-false (some 0 4 (badCount m) || ltb mostElements (elements m)) (ltb mostRecords (recordCount m)) (sym g ∙ h) in
+    let w = or-false (some 0 4 (badCount m)) (ltb mostElements (elements m)) (y .0) in
     record {
       d-is = p;
       d-high = omega (arith, ltb-false 3 (top m) (x .1));
       n-is = q;
-      n-high = omega (arith, ltb-false 2000 (elements m) (w .1));
+      n-high = omega (arith, ltb-false mostElements (elements m) (w .1));
       n-last = ap (λ x. below m (x + 1)) p ∙ last-below m (sym g ∙ h) (ltb-false 3 (top m) (x .1)) ∙ sym q;
       r-is = t;
-      r-high = omega (arith, ltb-false 12000 (recordCount m) (y .1));
+      r-high = omega (arith, ltb-false mostRecords (recordCount m) (y .1));
     }
 
 -- the answer of the call

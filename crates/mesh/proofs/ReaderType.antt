@@ -118,8 +118,11 @@ module _ {M : Type 1} {𝓤 : URA M} {H : Heap 𝓤} {A : Atoms 𝓤} (W : Given
 
   -- of a reader its slice is taken
   pub opened : {Γ : List (Item 𝓤)} {G : Goal 𝓤 H} (c : ChainReader) → Step (Go {0}) W (‵ (OwnSlice κs (c .mesh)) ∷ Γ) G (‵ (Own κs c) ∷ Γ) G
-  opened c = step (λ s. use1 W (given (T′.lowered c ∷ [] ≡ T′.lowered c ∷ []) (‵ (all-own (D κs .parts) (L κs) (c .mesh, (c .index, tt))))) (own-open 𝓤 H A W (D κs) (L κs) (c .mesh, (c .index, tt)) (T′.lowered c)) $ learn ! (λ _.
-      use1 W (‵ (ownAt (D κs .parts) (L κs) 0 (c .mesh)) ⊛ ‵ (rest (D κs .parts) (L κs) 0 (c .mesh, (c .index, tt)))) (own-out 𝓤 H A W (D κs .parts) (L κs) 0 (c .mesh, (c .index, tt))) $ split ! $ move ! (1 ∷ []) $ drop ! $ s))
+  opened c =
+      step (λ s. use1 W (given (T′.lowered c ∷ [] ≡ T′.lowered c ∷ []) (‵ (all-own (D κs .parts) (L κs) (c .mesh, (c .index, tt)))))
+      (own-open 𝓤 H A W (D κs) (L κs) (c .mesh, (c .index, tt)) (T′.lowered c)) $ learn ! (λ _.
+      use1 W (‵ (ownAt (D κs .parts) (L κs) 0 (c .mesh)) ⊛ ‵ (rest (D κs .parts) (L κs) 0 (c .mesh, (c .index, tt))))
+      (own-out 𝓤 H A W (D κs .parts) (L κs) 0 (c .mesh, (c .index, tt))) $ split ! $ move ! (1 ∷ []) $ drop ! $ s))
 
   -- to a function over the bytes it lends its slice and its index, with the number n between them
   pub lends : {Γ : List (Item 𝓤)} {G : Goal 𝓤 H} (c : ChainReader) (n : ℕ) → c .index < 2 ^ 64 → Step (Go {0}) W (‵ (Lent κs c n) ∷ Γ) G (‵ (With (Own κs c) n) ∷ Γ) G

@@ -22,7 +22,8 @@ use contract.Lifetimes.{Lfts, Shares, AllOutlive}
 use contract.Monad.{Fun}
 use contract.Running.{Running, GhostRules, givenOf, tables, tablesOf}
 use sound.WpLaws.{FmC, fmOf, WpFn-mono}
-use types.Kit.{Given, Item, ‵, raw, some as any, later, _⊛_, ⋆, mean, nth, put, push, pop, ++⊢, ⊢++, Post, Goal, prop, runs, lands, allocs, params′, passes, atRet, aim, Go, Sq, Step, step, _$_, _∵_, !, qed, by, move, use0, use1, use2, split, split3, join, group, pick, drop, suffices, frame, await, done}
+use types.Kit.{Given, Item, ‵, raw, some as any, later, _⊛_, ⋆, mean, nth, put, push, pop, ++⊢, ⊢++, Post, Goal, prop, runs, lands, allocs, params′, passes, atRet, aim}
+use types.Kit.{Go, Sq, Step, step, _$_, _∵_, !, qed, by, move, use0, use1, use2, split, split3, join, group, pick, drop, suffices, frame, await, done}
 use types.Part.{Part, whole, sub, look-in}
 use types.Run.{Opd as Operand, Opds, Rv as Value, look, init, forget, stop, fld, from, load, of-opd, assigns, land, returns, enter, alloc1, alloc0, pass1, pass0}
 use denote.RattleType.{RattleType, Denots, Valss, flat, owns}
@@ -78,7 +79,8 @@ module _ {n : ℕ} where
   Each (s ∷ ss) ts κs Q = (x : s .row κs .Denot) → Typed (s .row κs .mir) (ts .0 .vals κs x) → Each ss (ts .1) κs (λ a. Q (x, a))
 
 module _ {M : Type 1} (𝓤 : URA M) (H : Heap 𝓤) (A : Atoms 𝓤) (W : Given 𝓤 H A) {n : ℕ} where
-  none-had : (ss : List (Slot n)) (ks : Kepts ss) (κs : Lfts n) (a : Denots (typesAt ss κs)) (ws : Fins κs ss ks a) (vss : Valss (typesAt ss κs)) → ent 𝓤 (emp 𝓤) (sem 𝓤 H A (hasOf κs ss ks (dropped ss ks) a ws vss))
+  none-had : (ss : List (Slot n)) (ks : Kepts ss) (κs : Lfts n) (a : Denots (typesAt ss κs)) (ws : Fins κs ss ks a) (vss : Valss (typesAt ss κs))
+      → ent 𝓤 (emp 𝓤) (sem 𝓤 H A (hasOf κs ss ks (dropped ss ks) a ws vss))
   none-had [] ks κs a ws vss = id⊢ 𝓤 (emp 𝓤)
   none-had (s ∷ ss) ks κs a ws vss = via 𝓤 (sem 𝓤 H A (hasOf κs ss (ks .1) (dropped ss (ks .1)) (a .1) (ws .1) (vss .1))) (none-had ss (ks .1) κs (a .1) (ws .1) (vss .1)) (emp∗ 𝓤 _)
 
@@ -114,7 +116,8 @@ module _ {M : Type 1} {𝓤 : URA M} {H : Heap 𝓤} {A : Atoms 𝓤} (W : Given
         (allocs (f .locals) (λ E. params′ E (flat (typesAt ss κs) (passed κs a)) (runs C Λ E (f .body) (atRet E Post))))
 
   abbrev Walk : Calls 𝓤 H → Loops 𝓤 H → Fn → Type 2
-  Walk C Λ f = (κs : Lfts (T .signature .lifetimes)) (qs : Shares (T .signature .lifetimes)) → Each ss ts κs (λ a. (g : c κs a .ghost) (Post : Val → SProp 𝓤) → Ends κs qs a g Post → Runs κs qs a g Post C Λ f)
+  Walk C Λ f =
+      (κs : Lfts (T .signature .lifetimes)) (qs : Shares (T .signature .lifetimes)) → Each ss ts κs (λ a. (g : c κs a .ghost) (Post : Val → SProp 𝓤) → Ends κs qs a g Post → Runs κs qs a g Post C Λ f)
 
   met : (𝓣 : Tables 𝓤 H) (f : Fn) → Walk (𝓣 .C) (𝓣 .Λ) f → Meets 𝓤 H A (T .signature) (WpFn 𝓤 H (𝓣 .C) (𝓣 .Λ) f) (closing 𝓤 H A T c)
   met 𝓣 f walk =
@@ -127,7 +130,8 @@ module _ {M : Type 1} {𝓤 : URA M} {H : Heap 𝓤} {A : Atoms 𝓤} (W : Given
       use0 W (‵ (hasOf κs ss (T .kept) (dropped ss (T .kept)) a (ended κs a) (passed κs a))) (none-had 𝓤 H A W ss (T .kept) κs a (ended κs a) (passed κs a)) $
       move ! (0 ∷ 2 ∷ []) $ join ! $ move ! (2 ∷ 0 ∷ []) $ join ! $ frame ! $ done !)))
 
-module _ {M : Type 1} (𝓤 : URA M) (H : Heap 𝓤) (𝓜 : Model 𝓤 H) (𝓖 : GhostRules 𝓤 H) (𝓡 : Running 𝓤 H 𝓜) (γ : Env) (k : Name) (f : Fn) (closed : Closed 𝓤 H (tables 𝓤 H 𝓜 𝓡 γ .C) (tables 𝓤 H 𝓜 𝓡 γ .Λ) k f) where
+module _ {M : Type 1} (𝓤 : URA M) (H : Heap 𝓤) (𝓜 : Model 𝓤 H) (𝓖 : GhostRules 𝓤 H) (𝓡 : Running 𝓤 H 𝓜) (γ : Env) (k : Name) (f : Fn)
+    (closed : Closed 𝓤 H (tables 𝓤 H 𝓜 𝓡 γ .C) (tables 𝓤 H 𝓜 𝓡 γ .Λ) k f) where
   -- a function's theorem, by a walk of its MIR
   pub by-walk : (T : Ended) (ts : Tolds (T .signature .params)) (c : (A : Atoms 𝓤) (mem : Memory → SProp 𝓤) (run : Routine → Fun 𝓤) → Clauses 𝓤 T)
       → ((W : Given 𝓤 H (𝓖 .A)) → FmC 𝓤 H (W .laws) (tables 𝓤 H 𝓜 𝓡 γ .C) → Walk W T ts (c (𝓖 .A) (𝓜 .mem) (𝓡 .run)) (tables 𝓤 H 𝓜 𝓡 γ .C) (tables 𝓤 H 𝓜 𝓡 γ .Λ) f)
@@ -146,7 +150,8 @@ module _ {M : Type 1} {𝓤 : URA M} {H : Heap 𝓤} {A : Atoms 𝓤} (W : Given
   abbrev c : Clauses 𝓤 T
   c = cs A (𝓜 .mem) (𝓡 .run)
 
-  module _ (κs : Lfts (T .signature .lifetimes)) (qs : Shares (T .signature .lifetimes)) (bounds : AllOutlive (T .signature .lifetimes) (T .signature .outlives) κs) (a : Args (T .signature) κs) (g : c κs a .ghost) where
+  module _ (κs : Lfts (T .signature .lifetimes)) (qs : Shares (T .signature .lifetimes)) (bounds : AllOutlive (T .signature .lifetimes) (T .signature .outlives) κs) (a : Args (T .signature) κs)
+      (g : c κs a .ghost) where
     abbrev tokens : Item 𝓤
     tokens = raw (alive 𝓤 H A (T .signature) κs qs)
 
@@ -165,13 +170,16 @@ module _ {M : Type 1} {𝓤 : URA M} {H : Heap 𝓤} {A : Atoms 𝓤} (W : Given
 
     module _ {Γ : List (Item 𝓤)} {E : Places 𝓤 H} {q : Post 𝓤 H} {f : Name} {xs : List Opd} {d : Place} {rest : Body} where
       -- of a function of which the contract alone is known. From [what its parameters own; the tokens; ..] to [what its clause says; what its result owns; the tokens; ..]
-      pub calls-met : {r : Routine} → γ f ≡ r → Triple 𝓤 (𝓡 .run r) (Asked 𝓤 H A T c) → ent 𝓤 (emp 𝓤) (c κs a .requires g) → Opds (Go {0}) W (asks ∷ Γ) E xs (flat (typesAt (T .signature .params) κs) lent)
-          → ((x : result .Denot) (ws : Lasts T κs a) → Typed (result .mir) (t .vals κs x) → Sq W (answers x ws (t .vals κs x) Γ) (lands (tables 𝓤 H 𝓜 𝓡 γ .C) (tables 𝓤 H 𝓜 𝓡 γ .Λ) E d (only (t .vals κs x)) rest q))
+      pub calls-met : {r : Routine} → γ f ≡ r → Triple 𝓤 (𝓡 .run r) (Asked 𝓤 H A T c) → ent 𝓤 (emp 𝓤) (c κs a .requires g)
+          → Opds (Go {0}) W (asks ∷ Γ) E xs (flat (typesAt (T .signature .params) κs) lent)
+          → ((x : result .Denot) (ws : Lasts T κs a) → Typed (result .mir) (t .vals κs x) → Sq W (answers x ws (t .vals κs x) Γ)
+          (lands (tables 𝓤 H 𝓜 𝓡 γ .C) (tables 𝓤 H 𝓜 𝓡 γ .Λ) E d (only (t .vals κs x)) rest q))
           → Sq W (‵ (owns (typesAt (T .signature .params) κs) a lent) ∷ tokens ∷ Γ) (runs (tables 𝓤 H 𝓜 𝓡 γ .C) (tables 𝓤 H 𝓜 𝓡 γ .Λ) E (seq (call f xs d) rest) q)
       calls-met {r} is met ok os k =
           move ! (1 ∷ 0 ∷ []) $ join ! $ use0 W (raw (c κs a .requires g)) ok $ move ! (1 ∷ 0 ∷ []) $ join ! $ use1 W asks (id⊢ 𝓤 _) $
           calls-at ! fm (Asked 𝓤 H A T c) (cited 𝓤 H (Asked 𝓤 H A T c) 𝓜 𝓡 γ f r is met) ((κs, qs, bounds, a, lent), g) os (λ u.
-          use1 W (later (any (λ (x : result .Denot). (tokens ⊛ ‵ (result .own x (u ∷ []))) ⊛ any (λ (ws : Lasts T κs a). ‵ (lasts T κs a ws) ⊛ raw (c κs a .ensures g x (atExit T κs a ws)))))) (id⊢ 𝓤 _) $ await ! tt $ pick ! (λ x.
+          use1 W (later (any (λ (x : result .Denot). (tokens ⊛ ‵ (result .own x (u ∷ []))) ⊛ any (λ (ws : Lasts T κs a). ‵ (lasts T κs a ws) ⊛ raw (c κs a .ensures g x (atExit T κs a ws))))))
+          (id⊢ 𝓤 _) $ await ! tt $ pick ! (λ x.
           split ! $ split ! $ move ! (2 ∷ []) $ pick ! (λ ws. split ! $ drop ! $ move ! (2 ∷ []) $ peeks ! result (Is result) (shows 𝓤 H A result) x (u ∷ []) (λ it. move ! (1 ∷ 0 ∷ []) $
           subst (λ (vs : List Val). Sq W (answers x ws vs Γ) (lands (tables 𝓤 H 𝓜 𝓡 γ .C) (tables 𝓤 H 𝓜 𝓡 γ .Λ) E d (only vs) rest q)) (sym (t .tells κs x (u ∷ []) it))
           (k x ws (subst (Typed (result .mir)) (t .tells κs x (u ∷ []) it) (t .lawful 𝓤 H A W κs .typed x (u ∷ []) it)))))))
@@ -236,13 +244,16 @@ module _ {M : Type 1} {𝓤 : URA M} where
 module _ {M : Type 1} (𝓤 : URA M) (H : Heap 𝓤) (A : Atoms 𝓤) (W : Given 𝓤 H A) where
   -- two entries that P has are put back in front
   put-back : (P : SProp 𝓤) (i j : Item 𝓤) (Γ : List (Item 𝓤)) (Q : SProp 𝓤) → ent 𝓤 (sep 𝓤 P (⋆ 𝓤 H A (i ∷ j ∷ Γ))) Q → ent 𝓤 (sep 𝓤 (sep 𝓤 P (sep 𝓤 (mean 𝓤 H A i) (mean 𝓤 H A j))) (⋆ 𝓤 H A Γ)) Q
-  put-back P i j Γ Q h = qed W ((raw P ⊛ i ⊛ j) ∷ raw (⋆ 𝓤 H A Γ) ∷ []) ∵ split3 ! $ move ! (2 ∷ 3 ∷ []) $ use2 W (raw (⋆ 𝓤 H A (j ∷ Γ))) (push 𝓤 H A j Γ) $ move ! (2 ∷ 0 ∷ []) $ join ! $ move ! (1 ∷ 0 ∷ []) $ by ! h
+  put-back P i j Γ Q h =
+      qed W ((raw P ⊛ i ⊛ j) ∷ raw (⋆ 𝓤 H A Γ) ∷ []) ∵ split3 ! $ move ! (2 ∷ 3 ∷ []) $ use2 W (raw (⋆ 𝓤 H A (j ∷ Γ))) (push 𝓤 H A j Γ) $ move ! (2 ∷ 0 ∷ []) $ join ! $ move ! (1 ∷ 0 ∷ []) $ by ! h
 
   -- beside what P has: room for the locals, the values passed in the parameters, and all given back
-  room-for : (ls : List Local) (Kt : Places 𝓤 H → Goal 𝓤 H) (P : SProp 𝓤) (Γ : List (Item 𝓤)) → ((bs : Blocks ls) → ent 𝓤 (sep 𝓤 P (⋆ 𝓤 H A (rooms ls bs Γ))) (aim 𝓤 H (Kt (places ls bs)))) → Sq W (raw P ∷ raw (⋆ 𝓤 H A Γ) ∷ []) (allocs ls Kt)
+  room-for : (ls : List Local) (Kt : Places 𝓤 H → Goal 𝓤 H) (P : SProp 𝓤) (Γ : List (Item 𝓤)) → ((bs : Blocks ls) → ent 𝓤 (sep 𝓤 P (⋆ 𝓤 H A (rooms ls bs Γ))) (aim 𝓤 H (Kt (places ls bs))))
+      → Sq W (raw P ∷ raw (⋆ 𝓤 H A Γ) ∷ []) (allocs ls Kt)
   room-for [] Kt P Γ k = alloc0 ! $ by ! (k tt)
   room-for (local τ h ∷ ls) Kt P Γ k = alloc1 ! (λ b. move ! (2 ∷ 0 ∷ 1 ∷ []) $ group ! 3 $ use1 W (raw (sep 𝓤 P (sep 𝓤 (H .room τ b 0) (H .dies τ b)))) (id⊢ 𝓤 _) $
-      room-for ls (λ E. Kt ((τ, b) ∷ E)) (sep 𝓤 P (sep 𝓤 (H .room τ b 0) (H .dies τ b))) Γ (λ bs. put-back P (‵ (froom τ b 0)) (‵ (fdies τ b)) (rooms ls bs Γ) (aim 𝓤 H (Kt ((τ, b) ∷ places ls bs))) (k (b, bs))))
+      room-for ls (λ E. Kt ((τ, b) ∷ E)) (sep 𝓤 P (sep 𝓤 (H .room τ b 0) (H .dies τ b))) Γ
+      (λ bs. put-back P (‵ (froom τ b 0)) (‵ (fdies τ b)) (rooms ls bs Γ) (aim 𝓤 H (Kt ((τ, b) ∷ places ls bs))) (k (b, bs))))
 
   pass-in : (ls : List Local) (bs : Blocks ls) (vs : List Val) → Passes ls vs → (G : Goal 𝓤 H) (P : SProp 𝓤) (Γ : List (Item 𝓤)) → ent 𝓤 (sep 𝓤 P (⋆ 𝓤 H A (passed-in ls bs vs Γ))) (aim 𝓤 H G)
       → Sq W (raw P ∷ raw (⋆ 𝓤 H A (rooms ls bs Γ)) ∷ []) (passes (places ls bs) vs G)
@@ -252,13 +263,15 @@ module _ {M : Type 1} (𝓤 : URA M) (H : Heap 𝓤) (A : Atoms 𝓤) (W : Given
       move ! (1 ∷ []) $ use1 W (‵ (froom τ (bs .0) 0) ⊛ raw (⋆ 𝓤 H A (‵ (fdies τ (bs .0)) ∷ rooms ls (bs .1) Γ))) (id⊢ 𝓤 _) $ split ! $ pass1 ! (init ! 0 refl (ok .0)) $
       move ! (1 ∷ []) $ use1 W (‵ (fdies τ (bs .0)) ⊛ raw (⋆ 𝓤 H A (rooms ls (bs .1) Γ))) (pop 𝓤 H A (‵ (fdies τ (bs .0))) (rooms ls (bs .1) Γ)) $ split ! $
       move ! (3 ∷ 2 ∷ 0 ∷ []) $ group ! 3 $ use1 W (raw (sep 𝓤 P (sep 𝓤 (H .at fullShare τ (bs .0) 0 v) (H .dies τ (bs .0))))) (id⊢ 𝓤 _) $
-      pass-in ls (bs .1) vs (ok .1) G (sep 𝓤 P (sep 𝓤 (H .at fullShare τ (bs .0) 0 v) (H .dies τ (bs .0)))) Γ (put-back P (‵ (fat fullShare τ (bs .0) 0 v)) (‵ (fdies τ (bs .0))) (passed-in ls (bs .1) vs Γ) (aim 𝓤 H G) h)
+      pass-in ls (bs .1) vs (ok .1) G (sep 𝓤 P (sep 𝓤 (H .at fullShare τ (bs .0) 0 v) (H .dies τ (bs .0)))) Γ
+      (put-back P (‵ (fat fullShare τ (bs .0) 0 v)) (‵ (fdies τ (bs .0))) (passed-in ls (bs .1) vs Γ) (aim 𝓤 H G) h)
 
   let-go : (E : List (Ty × ℕ)) (vs : Held E) (P Q : SProp 𝓤) (Γ : List (Item 𝓤)) → ent 𝓤 (sep 𝓤 P (⋆ 𝓤 H A Γ)) Q → ent 𝓤 (sep 𝓤 P (⋆ 𝓤 H A (held-in E vs Γ))) (release 𝓤 H E Q)
   let-go [] vs P Q Γ h = h
   let-go (e ∷ E) vs P Q Γ h =
       qed W (raw P ∷ (‵ (fat fullShare (e .0) (e .1) 0 (vs .0)) ⊛ raw (⋆ 𝓤 H A (‵ (fdies (e .0) (e .1)) ∷ held-in E (vs .1) Γ))) ∷ []) ∵ move ! (1 ∷ []) $ split ! $ forget ! 0 refl $ move ! (1 ∷ []) $
-      use1 W (‵ (fdies (e .0) (e .1)) ⊛ raw (⋆ 𝓤 H A (held-in E (vs .1) Γ))) (pop 𝓤 H A (‵ (fdies (e .0) (e .1))) (held-in E (vs .1) Γ)) $ split ! $ move ! (2 ∷ 0 ∷ []) $ join ! $ frame ! $ move ! (1 ∷ 0 ∷ []) $
+      use1 W (‵ (fdies (e .0) (e .1)) ⊛ raw (⋆ 𝓤 H A (held-in E (vs .1) Γ))) (pop 𝓤 H A (‵ (fdies (e .0) (e .1))) (held-in E (vs .1) Γ)) $ split ! $ move ! (2 ∷ 0 ∷ []) $ join ! $ frame ! $ move !
+      (1 ∷ 0 ∷ []) $
       by ! (let-go E (vs .1) P Q Γ h)
 
 module _ {M : Type 1} {𝓤 : URA M} {H : Heap 𝓤} {A : Atoms 𝓤} {W : Given 𝓤 H A} {Γ : List (Item 𝓤)} where
@@ -281,7 +294,8 @@ module _ {M : Type 1} {𝓤 : URA M} {H : Heap 𝓤} {A : Atoms 𝓤} {W : Given
       → (vs : Held E) → behind n Γ ≡ held-in E vs (past E (behind n Γ)) → Step (Go {0}) W (ahead n Γ ++ past E (behind n Γ)) (prop (Post v)) Γ (runs C Λ E return (atRet E Post))
   leaves t n {E} {Post = Post} {v = v} at vs e = step (λ s. returns ! (look ! n at) $ record {
     prf = subst (λ (Γ′ : List (Item 𝓤)). ent 𝓤 (⋆ 𝓤 H A Γ′) (release 𝓤 H E (Post v))) (sym (whole-again n Γ ∙ ap (λ (Γ′ : List (Item 𝓤)). ahead n Γ ++ Γ′) e))
-        (via 𝓤 _ (⊢++ 𝓤 H A (ahead n Γ) (held-in E vs (past E (behind n Γ)))) (let-go 𝓤 H A W E vs (⋆ 𝓤 H A (ahead n Γ)) (Post v) (past E (behind n Γ)) (via 𝓤 _ (++⊢ 𝓤 H A (ahead n Γ) (past E (behind n Γ))) (s .prf))));
+        (via 𝓤 _ (⊢++ 𝓤 H A (ahead n Γ) (held-in E vs (past E (behind n Γ))))
+        (let-go 𝓤 H A W E vs (⋆ 𝓤 H A (ahead n Γ)) (Post v) (past E (behind n Γ)) (via 𝓤 _ (++⊢ 𝓤 H A (ahead n Γ) (past E (behind n Γ))) (s .prf))));
   })
 
 module _ {M : Type 1} {𝓤 : URA M} {H : Heap 𝓤} {A : Atoms 𝓤} {W : Given 𝓤 H A} {Γ : List (Item 𝓤)} {E : Places 𝓤 H} {i : ℕ} where
@@ -293,11 +307,13 @@ module _ {M : Type 1} {𝓤 : URA M} {H : Heap 𝓤} {A : Atoms 𝓤} {W : Given
   pub part-of : Go {0} → (n k : ℕ) {q : Share} {ν : Sym} {τs : Tys} {vs : Struct} {τ : Ty} {d : ℕ} → nth 𝓤 H A n Γ ≡ ‵ (fat q (tyStruct ν τs) (spotOf 𝓤 H E i .1) (spotOf 𝓤 H E i .2) (vstruct vs))
       → spotOf 𝓤 H E i .0 ≡ tyStruct ν τs → fieldAt 0 τs k ≡ some (τ, d) → Value (Go {0}) W Γ E (rvOpd (copy (place i (field k ∷ [])))) (getV vs k)
   part-of t n k {q} {ν} {τs} {vs} {τ} {d} at is e = of-opd ! (load ! (from ! (fld ! (ap (λ (σ : Ty). fieldOf σ k) is ∙ e) (stop !)))
-      (look-in ! n (sub ! k e (subst (λ (j : Item 𝓤). Part (Go {0}) W j q (tyStruct ν τs) (spotOf 𝓤 H E i .1) (spotOf 𝓤 H E i .2) (vstruct vs) (λ u. ‵ (fat q (tyStruct ν τs) (spotOf 𝓤 H E i .1) (spotOf 𝓤 H E i .2) u))) (sym at) (whole !)))))
+      (look-in ! n (sub ! k e (subst (λ (j : Item 𝓤). Part (Go {0}) W j q (tyStruct ν τs) (spotOf 𝓤 H E i .1) (spotOf 𝓤 H E i .2) (vstruct vs)
+      (λ u. ‵ (fat q (tyStruct ν τs) (spotOf 𝓤 H E i .1) (spotOf 𝓤 H E i .2) u))) (sym at) (whole !)))))
 
   module _ {C : Calls 𝓤 H} {Λ : Loops 𝓤 H} {q : Post 𝓤 H} {rest : Body} where
     -- entry n is room for a local, and what is assigned or was answered goes there
-    pub sets : Go {0} → (n : ℕ) {rv : Rv} {v : Val} → Value (Go {0}) W Γ E rv v → nth 𝓤 H A n Γ ≡ ‵ (froom (spotOf 𝓤 H E i .0) (spotOf 𝓤 H E i .1) (spotOf 𝓤 H E i .2)) → Holds (hasTy (spotOf 𝓤 H E i .0) v) × WT v
+    pub sets : Go {0} → (n : ℕ) {rv : Rv} {v : Val} → Value (Go {0}) W Γ E rv v → nth 𝓤 H A n Γ ≡ ‵ (froom (spotOf 𝓤 H E i .0) (spotOf 𝓤 H E i .1) (spotOf 𝓤 H E i .2))
+        → Holds (hasTy (spotOf 𝓤 H E i .0) v) × WT v
         → Step (Go {0}) W (put 𝓤 H A n (‵ (fat fullShare (spotOf 𝓤 H E i .0) (spotOf 𝓤 H E i .1) (spotOf 𝓤 H E i .2) v)) Γ) (runs C Λ E rest q) Γ (runs C Λ E (seq (assign (place i []) rv) rest) q)
     sets t n value e typed = assigns ! value (from ! (stop !)) (init ! n e typed)
 

@@ -8,6 +8,7 @@ use lib.Dec.{eqb}
 use lib.ListN.{length, getD, set}
 use Rattle.vocabulary.specs.Intervals.{isUpTo}
 use Rattle.vocabulary.specs.Bytes.{Bytes}
+use Rattle.layout.specs.Limits.{elementPlaces, mostElements, mostRecords}
 use Rattle.mesh.specs.Mesh.{top, below, elements, recordCount}
 
 -- what the tests 1 to 3 leave of a mesh's sizes: d, N and R
@@ -15,15 +16,15 @@ pub record Sizes (m : Bytes) (d n r : ℕ) : Type 0 where
   pub d-is : d ≡ top m
   pub d-high : d ≤ 3
   pub n-is : n ≡ elements m
-  pub n-high : n ≤ 2000
+  pub n-high : n ≤ mostElements
   -- no element is of a dimension above d
   pub n-last : below m (d + 1) ≡ n
   pub r-is : r ≡ recordCount m
-  pub r-high : r ≤ 12000
+  pub r-high : r ≤ mostRecords
 
 -- the marks of the elements, each below e
 pub record Under (e : ℕ) (s : List ℕ) : Type 0 where
-  pub size : length s ≡ 2001
+  pub size : length s ≡ elementPlaces
   pub each : (i : ℕ) → getD s i 0 < e
 
 -- whether something was amiss, and the marks then

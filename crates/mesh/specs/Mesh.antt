@@ -18,143 +18,144 @@ use Rattle.layout.specs.Limits.{mostElements, mostRecords}
 
 -- ---- the head
 
--- d, the dimension of the cells
-abbrev pub top : Bytes → ℕ
-top m = wordAt m 0
+module _ (m : Bytes) where
+  -- d, the dimension of the cells
+  abbrev pub top : ℕ
+  top = wordAt m 0
 
--- how many elements have dimension k
-abbrev pub counted : Bytes → ℕ → ℕ
-counted m k = wordAt m (k + 1)
+  -- how many elements have dimension k
+  abbrev pub counted : ℕ → ℕ
+  counted k = wordAt m (k + 1)
 
--- how many elements have a dimension below k. "They bear global numbers from 1: all of dimension 0 first, then 1, up to d": those of
--- dimension k have the numbers after `below m k`, up to `below m (suc k)`.
-unfoldable pub below : Bytes → ℕ → ℕ
-below m zero = 0
-below m (suc k) = below m k + counted m k
+  -- how many elements have a dimension below k. "They bear global numbers from 1: all of dimension 0 first, then 1, up to d": those of
+  -- dimension k have the numbers after `below m k`, up to `below m (suc k)`.
+  unfoldable pub below : ℕ → ℕ
+  below zero = 0
+  below (suc k) = below k + counted k
 
--- N, the total
-abbrev pub elements : Bytes → ℕ
-elements m = below m 4
+  -- N, the total
+  abbrev pub elements : ℕ
+  elements = below 4
 
--- R
-abbrev pub recordCount : Bytes → ℕ
-recordCount m = wordAt m 5
+  -- R
+  abbrev pub recordCount : ℕ
+  recordCount = wordAt m 5
 
--- the number of the first cell, and the count of cells
-abbrev pub firstCell : Bytes → ℕ
-firstCell m = below m (top m) + 1
+  -- the number of the first cell, and the count of cells
+  abbrev pub firstCell : ℕ
+  firstCell = below top + 1
 
-abbrev pub cellCount : Bytes → ℕ
-cellCount m = counted m (top m)
+  abbrev pub cellCount : ℕ
+  cellCount = counted top
 
--- the dimension of an element: how many dimensions below d have all their elements before it
-unfoldable pub dimension : Bytes → ℕ → ℕ
-dimension m e = length (picked 1 (top m) (λ k. ltb (below m k) e))
+  -- the dimension of an element: how many dimensions below d have all their elements before it
+  unfoldable pub dimension : ℕ → ℕ
+  dimension e = length (picked 1 top (λ k. ltb (below k) e))
 
--- ---- heads, records, chains
+  -- ---- heads, records, chains
 
-abbrev pub headOf : Bytes → ℕ → ℕ
-headOf m e = wordAt m (5 + e)
+  abbrev pub headOf : ℕ → ℕ
+  headOf e = wordAt m (5 + e)
 
--- "Records are indexed from 1"
-unfoldable pub elementIn : Bytes → ℕ → ℕ
-elementIn m i = wordAt m (4 + elements m + 2 * i)
+  -- "Records are indexed from 1"
+  unfoldable pub elementIn : ℕ → ℕ
+  elementIn i = wordAt m (4 + elements + 2 * i)
 
-unfoldable pub nextOf : Bytes → ℕ → ℕ
-nextOf m i = wordAt m (5 + elements m + 2 * i)
+  unfoldable pub nextOf : ℕ → ℕ
+  nextOf i = wordAt m (5 + elements + 2 * i)
 
--- at most n records, from record i on, each the next of the one before: "zero ends a chain"
-unfoldable pub follow : Bytes → ℕ → ℕ → List ℕ
-follow m zero i = []
-follow m (suc n) i = elim (eqb i 0) [ true ↦ [] | false ↦ i ∷ follow m n (nextOf m i) ]
+  -- at most n records, from record i on, each the next of the one before: "zero ends a chain"
+  unfoldable pub follow : ℕ → ℕ → List ℕ
+  follow zero i = []
+  follow (suc n) i = elim (eqb i 0) [ true ↦ [] | false ↦ i ∷ follow n (nextOf i) ]
 
--- the records of an element's chain. More than R of them would meet one twice, so one more than R is enough to tell.
-unfoldable pub records : Bytes → ℕ → List ℕ
-records m e = follow m (recordCount m + 1) (headOf m e)
+  -- the records of an element's chain. More than R of them would meet one twice, so one more than R is enough to tell.
+  unfoldable pub records : ℕ → List ℕ
+  records e = follow (recordCount + 1) (headOf e)
 
--- "The chain of an element names every element of lower dimension on its boundary, in any order."
-unfoldable pub chain : Bytes → ℕ → List ℕ
-chain m e = map (elementIn m) (records m e)
+  -- "The chain of an element names every element of lower dimension on its boundary, in any order."
+  unfoldable pub chain : ℕ → List ℕ
+  chain e = map elementIn (records e)
 
--- every element's records, one chain after another. "A record in no chain is ignored, its two words unread."
-unfoldable pub allRecords : Bytes → List ℕ
-allRecords m = blocks 1 (elements m) (records m)
+  -- every element's records, one chain after another. "A record in no chain is ignored, its two words unread."
+  unfoldable pub allRecords : List ℕ
+  allRecords = blocks 1 elements records
 
--- ---- refusals
+  -- ---- refusals
 
--- "Mesh under 12 bytes, or d not 1 to 3."
-unfoldable pub bad1 : Bytes → Bool
-bad1 m = ltb (length m) 12 || ltb (top m) 1 || ltb 3 (top m)
+  -- "Mesh under 12 bytes, or d not 1 to 3."
+  unfoldable pub bad1 : Bool
+  bad1 = ltb (length m) 12 || ltb top 1 || ltb 3 top
 
--- the count of dimension k is above d and not zero, or up to d and zero
-unfoldable pub wrongCount : Bytes → ℕ → Bool
-wrongCount m k = cond (leb k (top m)) (eqb (counted m k) 0) (ltb 0 (counted m k))
+  -- the count of dimension k is above d and not zero, or up to d and zero
+  unfoldable pub badCount : ℕ → Bool
+  badCount k = cond (leb k top) (eqb (counted k) 0) (ltb 0 (counted k))
 
--- "A count above d not zero; a count up to d zero; N over 2,000; R over 12,000."
-unfoldable pub bad2 : Bytes → Bool
-bad2 m = some 0 4 (wrongCount m) || ltb mostElements (elements m) || ltb mostRecords (recordCount m)
+  -- "A count above d not zero; a count up to d zero; N over 2,000; R over 12,000."
+  unfoldable pub bad2 : Bool
+  bad2 = some 0 4 badCount || ltb mostElements elements || ltb mostRecords recordCount
 
--- "Mesh length not exactly 2 × (6 + N + 2R)."
-unfoldable pub meshLength : Bytes → ℕ
-meshLength m = 2 * (6 + elements m + 2 * recordCount m)
+  -- "Mesh length not exactly 2 × (6 + N + 2R)."
+  unfoldable pub meshLength : ℕ
+  meshLength = 2 * (6 + elements + 2 * recordCount)
 
-unfoldable pub bad3 : Bytes → Bool
-bad3 m = not (eqb (length m) (meshLength m))
+  unfoldable pub bad3 : Bool
+  bad3 = not (eqb (length m) meshLength)
 
--- the element has a head
-unfoldable pub headed : Bytes → ℕ → Bool
-headed m e = ltb 0 (headOf m e)
+  -- the element has a head
+  unfoldable pub headed : ℕ → Bool
+  headed e = ltb 0 (headOf e)
 
--- "Head or next above R, a point with a head, or a record met twice." Points are the elements 1 to `counted m 0`.
-unfoldable pub bad4 : Bytes → Bool
-bad4 m =
-    some 1 (counted m 0) (headed m)
-    || someOf (allRecords m) (ltb (recordCount m))
-    || repeats (allRecords m)
+  -- "Head or next above R, a point with a head, or a record met twice." Points are the elements 1 to `counted m 0`.
+  unfoldable pub bad4 : Bool
+  bad4 =
+      some 1 (counted 0) headed
+      || someOf allRecords (ltb recordCount)
+      || repeats allRecords
 
--- g may not stand in the chain of e
-unfoldable pub wrongIn : Bytes → ℕ → ℕ → Bool
-wrongIn m e g = eqb g 0 || ltb (elements m) g || leb (dimension m e) (dimension m g)
+  -- g may not stand in the chain of e
+  unfoldable pub badItem : ℕ → ℕ → Bool
+  badItem e g = eqb g 0 || ltb elements g || leb (dimension e) (dimension g)
 
--- something is wrong in the chain of e
-unfoldable pub wrongAt : Bytes → ℕ → Bool
-wrongAt m e = someOf (chain m e) (wrongIn m e) || repeats (chain m e)
+  -- something is wrong in the chain of e
+  unfoldable pub badChain : ℕ → Bool
+  badChain e = someOf (chain e) (badItem e) || repeats (chain e)
 
--- "A chain's element 0, above N, not of lower dimension, or twice in the chain."
-unfoldable pub bad5 : Bytes → Bool
-bad5 m = some 1 (elements m) (wrongAt m)
+  -- "A chain's element 0, above N, not of lower dimension, or twice in the chain."
+  unfoldable pub bad5 : Bool
+  bad5 = some 1 elements badChain
 
--- some g in the chain of f is not in that of e
-unfoldable pub leaves : Bytes → ℕ → ℕ → Bool
-leaves m e f = someOf (chain m f) (λ g. not (isIn g (chain m e)))
+  -- some g in the chain of f is not in that of e
+  unfoldable pub leaves : ℕ → ℕ → Bool
+  leaves e f = someOf (chain f) (λ g. not (isIn g (chain e)))
 
--- the chain of e is not closed
-unfoldable pub unclosed : Bytes → ℕ → Bool
-unclosed m e = someOf (chain m e) (leaves m e)
+  -- the chain of e is not closed
+  unfoldable pub unclosed : ℕ → Bool
+  unclosed e = someOf (chain e) (leaves e)
 
--- "g in f's chain, f in e's, g not in e's."
-unfoldable pub bad6 : Bytes → Bool
-bad6 m = some 1 (elements m) (unclosed m)
+  -- "g in f's chain, f in e's, g not in e's."
+  unfoldable pub bad6 : Bool
+  bad6 = some 1 elements unclosed
 
--- g is in no cell's chain
-unfoldable pub bare : Bytes → ℕ → Bool
-bare m g = not (some (firstCell m) (cellCount m) (λ c. isIn g (chain m c)))
+  -- g is in no cell's chain
+  unfoldable pub bare : ℕ → Bool
+  bare g = not (some firstCell cellCount (λ c. isIn g (chain c)))
 
--- "A lower element in no cell's chain."
-unfoldable pub bad7 : Bytes → Bool
-bad7 m = some 1 (below m (top m)) (bare m)
+  -- "A lower element in no cell's chain."
+  unfoldable pub bad7 : Bool
+  bad7 = some 1 (below top) bare
 
--- what is tried of a mesh after its sizes: its chains
-abbrev pub chainTests : Bytes → List Test
-chainTests m = refuse 4 (bad4 m) ∷ refuse 5 (bad5 m) ∷ refuse 6 (bad6 m) ∷ refuse 7 (bad7 m) ∷ []
+  -- what is tried of a mesh after its sizes: its chains
+  abbrev pub chainTests : List Test
+  chainTests = refuse 4 bad4 ∷ refuse 5 bad5 ∷ refuse 6 bad6 ∷ refuse 7 bad7 ∷ []
 
--- what every call that is given a mesh tries first: the sizes, and then the chains
-unfoldable pub meshTests : Bytes → List Test
-meshTests m = refuse 1 (bad1 m) ∷ refuse 2 (bad2 m) ∷ refuse 3 (bad3 m) ∷ chainTests m
+  -- what every call that is given a mesh tries first: the sizes, and then the chains
+  unfoldable pub meshTests : List Test
+  meshTests = refuse 1 bad1 ∷ refuse 2 bad2 ∷ refuse 3 bad3 ∷ chainTests
 
-unfoldable pub meshNumber : Bytes → ℕ
-meshNumber m = firstOf (meshTests m)
+  unfoldable pub meshNumber : ℕ
+  meshNumber = firstOf meshTests
 
--- the call that checks a mesh: it gives the count of cells
-unfoldable pub checkAnswer : Bytes → Answer
-checkAnswer m = answer (meshNumber m) (cellCount m)
+  -- the call that checks a mesh: it gives the count of cells
+  unfoldable pub checkAnswer : Answer
+  checkAnswer = answer meshNumber cellCount

@@ -14,8 +14,9 @@ use Rattle.vocabulary.specs.Lists.{isIn, someOf, All}
 use Rattle.vocabulary.specs.ListLaws.{or-left, or-false, isIn-at, At, All-of-map, getD-map-any, map-map, map-id}
 use Rattle.vocabulary.specs.Intervals.{picked, every}
 use Rattle.vocabulary.specs.IntervalLaws.{Rises, last-or, every-in, picked-passes, picked-all, picked-at, picked-in, picked-rises}
+use Rattle.layout.specs.Limits.{mostSteps, stencilBytes}
 use Rattle.mesh.specs.Mesh.{top, counted, below, firstCell, cellCount}
-use Rattle.mesh.specs.Walks.{Near, incident, reach, layer, steps, rightAt, bad10, stepTo, stepsTo, walked}
+use Rattle.mesh.specs.Walks.{Near, incident, reach, layer, steps, validAt, bad10, stepTo, stepsTo, walked}
 
 module _ (m st : Bytes) (c : ℕ) where
   abbrev near : ℕ → Near
@@ -78,12 +79,12 @@ below-grows m j (suc k) h =
 
 -- an accepted stencil
 module _ (d : ℕ) (st : Bytes) (good : bad10 d st ≡ false) where
-  pub stencil-parts : (length st % 2 ≡ 1) × (length st ≤ 9) × (every 0 (length st) (rightAt d st) ≡ true)
+  pub stencil-parts : (length st % 2 ≡ 1) × (length st ≤ stencilBytes) × (every 0 (length st) (validAt d st) ≡ true)
   unfolding bad10
   stencil-parts =
       let a = not (eqb (length st % 2) 1) in
-      let b = ltb 9 (length st) in
-      let c = not (every 0 (length st) (rightAt d st)) in
+      let b = ltb stencilBytes (length st) in
+      let c = not (every 0 (length st) (validAt d st)) in
       let p = or-false (a || b) c good in
       let q = or-false a b (p .0) in
       (eqb-true _ _ (not-false _ (q .0)), ltb-false _ _ (q .1), not-false _ (p .1))
@@ -96,13 +97,13 @@ module _ (d : ℕ) (st : Bytes) (good : bad10 d st ≡ false) where
   unfolding steps
   within k h = omega (arith, stencil-parts .0)
 
-  pub steps-few : steps st ≤ 8
+  pub steps-few : steps st ≤ mostSteps
   unfolding steps
   steps-few = omega (arith, stencil-parts .1)
 
   place : (k : ℕ) → k < length st → cond (eqb (k % 2) 0) (eqb (byteAt st k) d) (ltb (byteAt st k) d) ≡ true
-  unfolding rightAt
-  place k h = every-in 0 (rightAt d st) (length st) k (stencil-parts .2) (omega arith) (omega arith)
+  unfolding validAt
+  place k h = every-in 0 (validAt d st) (length st) k (stencil-parts .2) (omega arith) (omega arith)
 
   -- an odd place has a lower dimension, an even one that of the cells
   pub stencil-odd : (k : ℕ) → k < length st → k % 2 ≡ 1 → byteAt st k < d

@@ -13,7 +13,8 @@ use Rattle.vocabulary.specs.IntervalLaws.{some-in, some-at, some-none, some-wit
 use Rattle.vocabulary.specs.ScanLaws.{some-stop-from, some-turn-from, some-end-from}
 use Rattle.vocabulary.specs.Lists.{repeats, someOf}
 use Rattle.vocabulary.specs.ListLaws.{someOf-cong, All-intro, zeros-at}
-use Rattle.mesh.specs.Mesh.{top, counted, elements, below, dimension, chain, wrongIn, wrongAt, bad5}
+use Rattle.layout.specs.Limits.{mostElements}
+use Rattle.mesh.specs.Mesh.{top, counted, elements, below, dimension, chain, badItem, badChain, bad5}
 use Rattle.mesh.specs.Meet.{Met, met, meet}
 use Rattle.mesh.specs.WalkLaws.{below-grows}
 use Rattle.mesh.proofs.MeetLaws.{outside, marks, fresh-tells}
@@ -50,7 +51,7 @@ meet-marks n v r s (i ∷ is) M = go (isUpTo r i) (eqb (getD s i 0) v) (meet-mar
     go true false ih = ih
 
 module _ (m items ends : List ℕ) (W : Written m items ends) where
-  pub few-elements : elements m ≤ 2000
+  pub few-elements : elements m ≤ mostElements
   few-elements = W .sizes .n-high
 
   pub ends-there : elements m < length ends
@@ -66,8 +67,8 @@ module _ (m items ends : List ℕ) (W : Written m items ends) where
       pub marks-all : (s : List ℕ) → MarksBelow (elements m) e s → e ≤ low + 1 + count → MarksBelow (elements m) (below m (k + 1) + 1) s
       marks-all s u g = marks-higher _ e _ s (omega (arith, below-next m k)) u
 
-      pub wrong-none : some (low + 1) (e - (low + 1)) (wrongAt m) ≡ false → e ≤ low + 1 + count → low + 1 + count ≤ e → false ≡ some (low + 1) (counted m k) (wrongAt m)
-      wrong-none i g h = rw ce at (some-end-from (low + 1) (wrongAt m) count e i g h)
+      pub wrong-none : some (low + 1) (e - (low + 1)) (badChain m) ≡ false → e ≤ low + 1 + count → low + 1 + count ≤ e → false ≡ some (low + 1) (counted m k) (badChain m)
+      wrong-none i g h = rw ce at (some-end-from (low + 1) (badChain m) count e i g h)
 
       module _ (g : e < low + 1 + count) where
         dimension-is : dimension m e ≡ k
@@ -87,8 +88,8 @@ module _ (m items ends : List ℕ) (W : Written m items ends) where
 
         module _ (from to : ℕ) (fe : from ≡ getD ends (e - 1) 0) (te : to ≡ getD ends e 0) (s t : List ℕ) (b : Bool) (u : MarksBelow (elements m) e s)
             (f : met b t ≡ meet e low s (stretch items from to)) where
-          chain-told : b ≡ wrongAt m e
-          unfolding wrongAt
+          chain-told : b ≡ badChain m e
+          unfolding badChain
           chain-told =
               fresh-tells e low s (chain m e) t b (λ i q. let y : ⊥ = omega (arith, u .each i) in y) (omega (arith, dimension-in, u .long))
               (f ∙ ap (meet e low s) (ap₂ (stretch items) fe te ∙ row-is m items ends W e (omega arith) (omega (arith, dimension-in))))
@@ -102,11 +103,11 @@ module _ (m items ends : List ℕ) (W : Written m items ends) where
           pub marks-found : MarksBelow (elements m) (below m (k + 1) + 1) t
           marks-found = marks-higher _ (e + 1) _ t (omega (arith, below-next m k)) marks-turn
 
-          pub wrong-found : b ≡ true → true ≡ some (low + 1) (counted m k) (wrongAt m)
-          wrong-found q = rw ce at (some-stop-from (low + 1) (wrongAt m) count e b chain-told q l g)
+          pub wrong-found : b ≡ true → true ≡ some (low + 1) (counted m k) (badChain m)
+          wrong-found q = rw ce at (some-stop-from (low + 1) (badChain m) count e b chain-told q l g)
 
-          pub wrong-turn : some (low + 1) (e - (low + 1)) (wrongAt m) ≡ false → b ≡ false → MarksBelow (elements m) (e + 1) t × (some (low + 1) (e + 1 - (low + 1)) (wrongAt m) ≡ false)
-          wrong-turn i q = (marks-turn, some-turn-from (low + 1) (wrongAt m) e b l i chain-told q)
+          pub wrong-turn : some (low + 1) (e - (low + 1)) (badChain m) ≡ false → b ≡ false → MarksBelow (elements m) (e + 1) t × (some (low + 1) (e + 1 - (low + 1)) (badChain m) ≡ false)
+          wrong-turn i q = (marks-turn, some-turn-from (low + 1) (badChain m) e b l i chain-told q)
 
   -- ---- one dimension after another
 
@@ -117,45 +118,45 @@ module _ (m items ends : List ℕ) (W : Written m items ends) where
   unfolding below
   points-below low e = omega arith
 
-  pub points-few : (low : ℕ) → low ≡ counted m 0 → low ≤ 2000
+  pub points-few : (low : ℕ) → low ≡ counted m 0 → low ≤ mostElements
   points-few low e = omega (arith, points-below low e, below-grows m 1 4 (omega arith), few-elements)
 
   -- points have no chains
-  pub points-right : (low : ℕ) → low ≡ counted m 0 → some 1 low (wrongAt m) ≡ false
-  unfolding wrongAt someOf repeats
+  pub points-right : (low : ℕ) → low ≡ counted m 0 → some 1 low (badChain m) ≡ false
+  unfolding badChain someOf repeats
   points-right low e =
-      some-none 1 (wrongAt m) low (λ i h. ap (λ xs. someOf xs (wrongIn m (1 + i)) || repeats xs) (bare-point m (W .four) (1 + i) (omega arith) (omega arith)))
+      some-none 1 (badChain m) low (λ i h. ap (λ xs. someOf xs (badItem m (1 + i)) || repeats xs) (bare-point m (W .four) (1 + i) (omega arith) (omega arith)))
 
-  module _ (d : ℕ) (de : d ≡ top m) (k low : ℕ) (kl : 1 ≤ k) (le : low ≡ below m k) (i : some 1 low (wrongAt m) ≡ false) where
+  module _ (d : ℕ) (de : d ≡ top m) (k low : ℕ) (kl : 1 ≤ k) (le : low ≡ below m k) (i : some 1 low (badChain m) ≡ false) where
     pub lower-end : k ≤ 1 + d → 1 + d ≤ k → false ≡ bad5 m
     unfolding bad5
     lower-end g h =
         let q : k ≡ top m + 1 = omega arith in
-        sym i ∙ ap (λ x. some 1 x (wrongAt m)) (le ∙ ap (below m) q ∙ W .sizes .n-last)
+        sym i ∙ ap (λ x. some 1 x (badChain m)) (le ∙ ap (below m) q ∙ W .sizes .n-last)
 
     pub lower-marks : (s : List ℕ) → MarksBelow (elements m) (low + 1) s → k ≤ 1 + d → 1 + d ≤ k → MarksBelow (elements m) (elements m + 1) s
     lower-marks s u g h =
         let q : k ≡ top m + 1 = omega arith in
         marks-higher _ (low + 1) _ s (omega (arith, ap (below m) q, W .sizes .n-last)) u
 
-    module _ (b : Bool) (f : b ≡ some (low + 1) (counted m k) (wrongAt m)) where
+    module _ (b : Bool) (f : b ≡ some (low + 1) (counted m k) (badChain m)) where
       pub lower-found : k < 1 + d → b ≡ true → true ≡ bad5 m
       unfolding bad5
       lower-found g q =
-          let w = some-witness (low + 1) (wrongAt m) (counted m k) (sym f ∙ q) in
-          sym (some-in 1 (wrongAt m) (elements m) (low + 1 + w .0) (omega arith) (omega (arith, w .1, dimension-in k kl (omega arith) low (counted m k) le refl)) (w .2))
+          let w = some-witness (low + 1) (badChain m) (counted m k) (sym f ∙ q) in
+          sym (some-in 1 (badChain m) (elements m) (low + 1 + w .0) (omega arith) (omega (arith, w .1, dimension-in k kl (omega arith) low (counted m k) le refl)) (w .2))
 
-      pub lower-turn : (c : ℕ) → c ≡ counted m k → b ≡ false → some 1 (low + c) (wrongAt m) ≡ false
-      lower-turn c ce q = some-none 1 (wrongAt m) (low + c) (λ j h. go j h (ltb j low) refl)
+      pub lower-turn : (c : ℕ) → c ≡ counted m k → b ≡ false → some 1 (low + c) (badChain m) ≡ false
+      lower-turn c ce q = some-none 1 (badChain m) (low + c) (λ j h. go j h (ltb j low) refl)
         where
-          go : (j : ℕ) → j < low + c → (x : Bool) → ltb j low ≡ x → wrongAt m (1 + j) ≡ false
-          go j h true t = some-at 1 (wrongAt m) low j i (ltb-true j low t)
+          go : (j : ℕ) → j < low + c → (x : Bool) → ltb j low ≡ x → badChain m (1 + j) ≡ false
+          go j h true t = some-at 1 (badChain m) low j i (ltb-true j low t)
           go j h false t =
               let y : low ≤ j = ltb-false j low t in
               let p : low + 1 + (j - low) ≡ 1 + j = omega arith in
-              rw p at (some-at (low + 1) (wrongAt m) (counted m k) (j - low) (sym f ∙ q) (omega arith))
+              rw p at (some-at (low + 1) (badChain m) (counted m k) (j - low) (sym f ∙ q) (omega arith))
 
-    pub next-few : (c : ℕ) → c ≡ counted m k → k < 1 + d → low + c ≤ 2000
+    pub next-few : (c : ℕ) → c ≡ counted m k → k < 1 + d → low + c ≤ mostElements
     next-few c ce h = omega (arith, dimension-in k kl (omega arith) low c le ce, few-elements)
 
     pub next-marks : (c : ℕ) (s : List ℕ) → c ≡ counted m k → MarksBelow (elements m) (below m (k + 1) + 1) s → MarksBelow (elements m) (low + c + 1) s

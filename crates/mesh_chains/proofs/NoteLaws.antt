@@ -13,6 +13,7 @@ use Rattle.vocabulary.specs.Intervals.{isUpTo, some, blocks}
 use Rattle.vocabulary.specs.IntervalLaws.{blocks-turn, blocks-split, blocks-length, total-cong}
 use Rattle.vocabulary.specs.Lists.{repeats, someOf}
 use Rattle.vocabulary.specs.ListLaws.{and-right, not-both}
+use Rattle.layout.specs.Limits.{mostRecords}
 use Rattle.mesh.specs.Mesh.{counted, below, elements, nextOf, headOf, elementIn, recordCount, follow, records, chain, allRecords, headed}
 use Rattle.mesh.specs.Meet.{Met, met, meet, Sizes}
 use Rattle.mesh.proofs.MeetLaws.{meet-on, meet-stays}
@@ -227,7 +228,7 @@ module _ (m : Bytes) (d n r : ℕ) (z : Sizes m d n r) (blank : List ℕ) (B : M
 -- the same for the element e, which is next
 module _ (m : Bytes) (d n r : ℕ) (z : Sizes m d n r) (blank : List ℕ) (B : MarksBelow r 1 blank) (e : ℕ) (low : 1 ≤ e) (s : List ℕ) (t : ℕ) (items ends : List ℕ)
     (N : Noting m r blank (e - 1) s t items ends) where
-  pub noting-room : t ≤ 12000
+  pub noting-room : t ≤ mostRecords
   noting-room = omega (arith, N .place-is, N .wrote .room, z .r-is, z .r-high)
 
   pub noting-end : e ≤ 1 + n → 1 + n ≤ e → false ≡ someOf (allRecords m) (ltb r) || repeats (allRecords m)

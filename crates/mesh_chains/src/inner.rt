@@ -12,7 +12,8 @@ ghost use lib.Dec.{ltb};
 ghost use lib.ListN.{length, getD};
 ghost use Rattle.vocabulary.specs.Intervals.{some};
 ghost use Rattle.vocabulary.specs.Lists.{repeats, someOf};
-ghost use Rattle.mesh.specs.Mesh.{top, counted, below, elements, follow, allRecords, headed, wrongAt, bad4, bad5};
+ghost use Rattle.layout.specs.Limits.{mostElements, mostRecords};
+ghost use Rattle.mesh.specs.Mesh.{top, counted, below, elements, follow, allRecords, headed, badChain, bad4, bad5};
 ghost use Rattle.mesh.specs.Meet.{Met, meet, Sizes};
 ghost use Rattle.mesh_chains.specs.Written.{ChainNotes, note, stretch, Places, MarksBelow, Wrote, Written};
 
@@ -50,7 +51,7 @@ fn write_chain(
     seen: &mut [u8],
     items: &mut [u16],
 ) -> Followed
-    requires { ⌜ (n ≡ elements (now m)) × (n ≤ 2000) × (r ≤ 12000) × (h < 65536) × (from ≤ 12000) × (r < length (now seen)) ⌝ }
+    requires { ⌜ (n ≡ elements (now m)) × (n ≤ mostElements) × (r ≤ mostRecords) × (h < 65536) × (from ≤ mostRecords) × (r < length (now seen)) ⌝ }
     ensures { λ f. ⌜ ChainNotes.noted (f .amiss) (now (seen .exit)) (f .end) (now (items .exit))
         ≡ note (now (m .entry)) r (now (seen .entry)) from (now (items .entry)) (follow (now (m .entry)) (r + 1) h) ⌝ }
 {
@@ -148,7 +149,7 @@ pub fn number_in(list: &[u16], i: usize) -> usize
 }
 
 // Marks the items from place `from` up to `to`; true where one is not from 1 to low, or is marked already.
-fn wrong_items(
+fn bad_items(
     items: &[u16],
     from: usize,
     to: usize,
@@ -176,7 +177,7 @@ fn wrong_items(
 }
 
 // Whether something is wrong in the chain of an element of dimension k, where `low` elements are of a lower one. Every mark is at most low before.
-fn wrong_dimension(
+fn bad_dimension(
     m: &[u8],
     k: usize,
     low: usize,
@@ -184,16 +185,16 @@ fn wrong_dimension(
     ends: &[u16],
     marks: &mut [u16],
 ) -> bool
-    requires { ⌜ Written (now m) (now items) (now ends) × (1 ≤ k) × (k ≤ top (now m)) × (low ≡ below (now m) k) × (low ≤ 2000)
+    requires { ⌜ Written (now m) (now items) (now ends) × (1 ≤ k) × (k ≤ top (now m)) × (low ≡ below (now m) k) × (low ≤ mostElements)
         × MarksBelow (elements (now m)) (low + 1) (now marks) ⌝ }
-    ensures { λ b. ⌜ (b ≡ some (low + 1) (counted (now (m .entry)) k) (wrongAt (now (m .entry))))
+    ensures { λ b. ⌜ (b ≡ some (low + 1) (counted (now (m .entry)) k) (badChain (now (m .entry))))
         × MarksBelow (elements (now (m .entry))) (below (now (m .entry)) (k + 1) + 1) (now (marks .exit)) ⌝ }
 {
     let count = count_of(m, k);
     for e in low + 1..low + 1 + count {
         let from = number_in(ends, e - 1);
         let to = number_in(ends, e);
-        if wrong_items(items, from, to, low, e as u16, marks) {
+        if bad_items(items, from, to, low, e as u16, marks) {
             return true;
         }
     }
@@ -208,7 +209,7 @@ pub fn bad5(m: &[u8], d: usize, items: &[u16], ends: &[u16], marks: &mut [u16]) 
 {
     let mut low = count_of(m, 0);
     for k in 1..1 + d {
-        if wrong_dimension(m, k, low, items, ends, marks) {
+        if bad_dimension(m, k, low, items, ends, marks) {
             return true;
         }
         low += count_of(m, k);

@@ -13,6 +13,7 @@ use Rattle.vocabulary.specs.IntervalLaws.{some-none, blocks-all, blocks-inner, 
 use Rattle.vocabulary.specs.ScanLaws.{some-stop-from, some-turn-from, some-end-from}
 use Rattle.vocabulary.specs.Lists.{isIn, someOf, All}
 use Rattle.vocabulary.specs.ListLaws.{or-nothing, someOf-cong, someOf-none, All-map, All-intro, All-getD}
+use Rattle.layout.specs.Limits.{mostElements}
 use Rattle.mesh.specs.Mesh.{top, counted, elements, below, firstCell, cellCount, dimension, chain, leaves, unclosed, bare, bad5, bad6, bad7}
 use Rattle.mesh.specs.Meet.{stamp, unlike}
 use Rattle.mesh.specs.WalkLaws.{below-grows}
@@ -95,7 +96,7 @@ module _ (m items ends : List ℕ) (W : Written m items ends) (five : bad5 m ≡
     row = λ t l. named (length s) (getD items t 0) (omega (arith, u .long)) (item e t (omega arith) l .1);
   })
 
-  pub elements-few : (n : ℕ) → n ≡ elements m → n ≤ 2000
+  pub elements-few : (n : ℕ) → n ≡ elements m → n ≤ mostElements
   elements-few n ne = omega (arith, W .sizes .n-high)
 
   -- ---- test 6
@@ -151,7 +152,8 @@ module _ (m items ends : List ℕ) (W : Written m items ends) (five : bad5 m ≡
       unclosed-told =
           q ∙ ap (λ (xs : List ℕ). someOf xs (leavesBy items ends (n + e) t)) here
           ∙ someOf-cong (leavesBy items ends (n + e) t) (leaves m e) (chain m e) (All-map (chain m e)
-          (λ x w. ap (λ (xs : List ℕ). someOf xs (unlike (n + e) t)) (row-is m items ends W x (w .0) (w .1)) ∙ someOf-cong _ _ (chain m x) (All-intro _ (chain m x) 0 (λ j p. marked (getD (chain m x) j 0))))
+          (λ x w. ap (λ (xs : List ℕ). someOf xs (unlike (n + e) t)) (row-is m items ends W x (w .0) (w .1)) ∙ someOf-cong _ _ (chain m x)
+          (All-intro _ (chain m x) 0 (λ j p. marked (getD (chain m x) j 0))))
           (fine e l (omega arith)))
 
       pub unclosed-found : b ≡ true → true ≡ bad6 m
@@ -176,7 +178,7 @@ module _ (m items ends : List ℕ) (W : Written m items ends) (five : bad5 m ≡
     low-in : low ≤ n
     low-in = omega (arith, below-grows m d 4 (omega (arith, W .sizes .d-high)))
 
-    pub low-few : low ≤ 2000
+    pub low-few : low ≤ mostElements
     low-few = omega (arith, low-in, W .sizes .n-high)
 
     pub low-there : low < length ends

@@ -6,6 +6,7 @@ use Prim.Native.Nat.{ℕ, _+_, _≤_, _<_}
 use native.Mathlib.Omega.{arith}
 use lib.ListN.{length, replicate}
 use Rattle.vocabulary.specs.Lists.{Zeros}
+use Rattle.layout.specs.Limits.{elementPlaces, mostRecords}
 use Rattle.mesh.specs.Mesh.{elements, bad4}
 use Rattle.mesh.specs.Meet.{Sizes}
 use Rattle.mesh_chains.specs.Written.{Places, MarksBelow, Written}
@@ -24,7 +25,7 @@ pub marks-left : (m s : List ℕ) (n : ℕ) → n ≡ elements m → MarksBelow 
 marks-left m s n e M = rw e M
 
 -- arrays that are lent are as long as those of the largest mesh
-pub lent-places : (m : List ℕ) (d n r : ℕ) (items ends : List ℕ) → Sizes m d n r → 12000 ≤ length items → Zeros 2001 ends → Places n r items ends
+pub lent-places : (m : List ℕ) (d n r : ℕ) (items ends : List ℕ) → Sizes m d n r → mostRecords ≤ length items → Zeros elementPlaces ends → Places n r items ends
 lent-places m d n r items ends z h e = record {
   items-long = omega (arith, z .r-high);
   ends-long = omega (arith, z .n-high, e .size);

@@ -1,2 +1,2 @@
-pub mod HeadLaws
+pub mod SizeLaws
 pub mod ChainLaws

@@ -10,6 +10,7 @@ use mesh_closure::inner::bad7;
 ghost use mathlib.Core.Path.{_≡_};
 ghost use Prim.Native.Nat.{_≤_};
 ghost use Rattle.vocabulary.specs.Tests.{firstOf};
+ghost use Rattle.layout.specs.Limits.{mostElements};
 ghost use Rattle.mesh.specs.Mesh.{top, elements, chainTests};
 ghost use Rattle.mesh.specs.Meet.{Sizes};
 ghost use Rattle.mesh_chains.specs.Written.{Places, MarksBelow, Written};
@@ -41,7 +42,7 @@ fn marked_number(
 
 // The same with marks of its own: few for a small mesh.
 fn written_number(m: &[u8], d: usize, n: usize, items: &[u16], ends: &[u16]) -> u32
-    requires { ⌜ Written (now m) (now items) (now ends) × (d ≡ top (now m)) × (n ≡ elements (now m)) × (n ≤ 2000) ⌝ }
+    requires { ⌜ Written (now m) (now items) (now ends) × (d ≡ top (now m)) × (n ≡ elements (now m)) × (n ≤ mostElements) ⌝ }
     ensures { λ k. ⌜ k ≡ firstOf (chainTests (now (m .entry))) ⌝ }
 {
     if n <= FEW_ELEMENTS {

@@ -1,10 +1,10 @@
 // Whether bytes are a mesh: the tests 1 to 7.
 mod chains;
-mod head;
+mod sizes;
 pub mod inner;
 
 use chains::own_number;
-use head::head_number;
+use sizes::size_number;
 use layout::Answer;
 use mesh::inner::cell_count;
 use mesh::inner::elements_of;
@@ -17,7 +17,7 @@ ghost use Rattle.mesh.specs.Mesh.{meshNumber, checkAnswer};
 pub fn mesh_number(m: &[u8]) -> u32
     ensures { λ r. ⌜ r ≡ meshNumber (now (m .entry)) ⌝ }
 {
-    let number = head_number(m);
+    let number = size_number(m);
     if number != 0 {
         return number;
     }

@@ -8,8 +8,8 @@ use types.Run.{OneOf}
 use denote.Enum.Declared.{tagOf}
 use Rattle.vocabulary.specs.Bytes.{Bytes}
 use Rattle.messages.specs.Messages.{bad15, reading}
-use Rattle.messages.specs.Heads.{readingNumber, meantReading}
-use Rattle.messages.specs.HeadLaws.{refusal-told}
+use Rattle.messages.specs.Readings.{readingNumber, meantReading}
+use Rattle.messages.specs.ReadingLaws.{refusal-told}
 use Rattle.messages.specs.declared.Reading.{Reading}
 use Rattle.messages.specs.declared.Reading.the-variants.{Message, Refused}
 use Rattle.messages.proofs.Reading as K

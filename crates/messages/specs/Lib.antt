@@ -1,4 +1,4 @@
 pub mod Messages
-pub mod Heads
+pub mod Readings
 pub mod MessageLaws
-pub mod HeadLaws
+pub mod ReadingLaws

@@ -19,7 +19,7 @@ use Rattle.layout.specs.Words.{wordAt, words, bytesOf}
 use Rattle.layout.specs.WordLaws.{word-same, wordAt-first, length-bytesOf, bytesOf-bytes, bytesOf-words, words-same}
 use Rattle.depths.specs.Depths.{four, depthOf, inRange, rangedAt}
 use Rattle.depths.specs.DepthLaws.{four-past, joined-at, joined-length, joined-fours, depth-four}
-use Rattle.messages.specs.Messages.{headSize, depthStart, messageSize, depthsOf, Message, encode, fromIn, toIn, roundIn, countIn, bad15, Reading, read, refused, reading}
+use Rattle.messages.specs.Messages.{headerSize, depthStart, messageSize, depthsOf, Message, encode, fromIn, toIn, roundIn, countIn, bad15, Reading, read, refused, reading}
 
 -- a depth that may stand in a message: four bytes, in range
 abbrev pub Sound : Bytes → Type 0
@@ -37,8 +37,8 @@ module _ (x : Message) where
   encode-word k h = wordAt-first (wordsOf x) (joined (x .depths)) k h
 
   -- written to a buffer: its words, and the depths behind them
-  pub encode-over : (out : Bytes) → headSize ≤ length out
-      → over (over out 0 (bytesOf (x .from ∷ x .to ∷ x .round ∷ length (x .depths) ∷ []))) 8 (joined (x .depths)) ≡ over out 0 (encode x)
+  pub encode-over : (out : Bytes) → headerSize ≤ length out
+      → over (over out 0 (bytesOf (x .from ∷ x .to ∷ x .round ∷ length (x .depths) ∷ []))) headerSize (joined (x .depths)) ≡ over out 0 (encode x)
   unfolding encode bytesOf
   encode-over out h = over-more out 0 (bytesOf (wordsOf x)) (omega arith) (joined (x .depths))
 
@@ -71,9 +71,9 @@ module _ (x : Message) where
     unfolding bad15 rangedAt
     encode-good =
         let long : length (encode x) ≡ messageSize (length (x .depths)) = encode-length four-long in
-        let short : headSize ≤ length (encode x) = omega arith in
-        let ranged : every 0 (length (x .depths)) (rangedAt (encode x) headSize) ≡ true =
-        every-intro 0 (rangedAt (encode x) headSize) (length (x .depths))
+        let short : headerSize ≤ length (encode x) = omega arith in
+        let ranged : every 0 (length (x .depths)) (rangedAt (encode x) headerSize) ≡ true =
+        every-intro 0 (rangedAt (encode x) headerSize) (length (x .depths))
         (λ t h.
         ap (λ z. inRange z) (sym (depth-four (encode x) (depthStart (0 + t))) ∙ ap (λ f. depthOf f) (ap (λ k. four (encode x) (depthStart k)) (zero-add t) ∙ encode-depth four-long t h))
         ∙ All-getD Sound (x .depths) t [] s h .1) in
@@ -89,20 +89,20 @@ module _ (x : Message) where
 -- ---- what an accepted message has
 
 module _ (b : Bytes) (e : bad15 b ≡ false) where
-  parts15 : (ltb (length b) headSize ≡ false) × (not (eqb (length b) (messageSize (countIn b))) ≡ false) × (not (every 0 (countIn b) (rangedAt b headSize)) ≡ false)
+  parts15 : (ltb (length b) headerSize ≡ false) × (not (eqb (length b) (messageSize (countIn b))) ≡ false) × (not (every 0 (countIn b) (rangedAt b headerSize)) ≡ false)
   unfolding bad15
   parts15 =
-      let p = or-false (ltb (length b) headSize || not (eqb (length b) (messageSize (countIn b)))) (not (every 0 (countIn b) (rangedAt b headSize))) e in
-      let q = or-false (ltb (length b) headSize) (not (eqb (length b) (messageSize (countIn b)))) (p .0) in
+      let p = or-false (ltb (length b) headerSize || not (eqb (length b) (messageSize (countIn b)))) (not (every 0 (countIn b) (rangedAt b headerSize))) e in
+      let q = or-false (ltb (length b) headerSize) (not (eqb (length b) (messageSize (countIn b)))) (p .0) in
       (q .0, q .1, p .1)
 
-  pub good-long : headSize ≤ length b
+  pub good-long : headerSize ≤ length b
   good-long = ltb-false _ _ (parts15 .0)
 
   pub good-length : length b ≡ messageSize (countIn b)
   good-length = eqb-true _ _ (not-false _ (parts15 .1))
 
-  pub good-ranged : every 0 (countIn b) (rangedAt b headSize) ≡ true
+  pub good-ranged : every 0 (countIn b) (rangedAt b headerSize) ≡ true
   good-ranged = not-false _ (parts15 .2)
 
   -- its depths are the bytes from 8 on
@@ -110,7 +110,7 @@ module _ (b : Bytes) (e : bad15 b ≡ false) where
   good-rest = take-all (4 * countIn b) (depthsOf b) (omega (arith, good-length, length-drop 8 b))
 
   pub good-depths : joined (listed 0 (countIn b) (λ t. four b (depthStart t))) ≡ depthsOf b
-  good-depths = joined-fours b 8 (countIn b) (omega (arith, good-length)) ∙ good-rest
+  good-depths = joined-fours b headerSize (countIn b) (omega (arith, good-length)) ∙ good-rest
 
 -- the message that they are read as
 abbrev pub messageIn : Bytes → Message
@@ -132,14 +132,15 @@ bad-reading b e = ap (λ t. cond t (refused 15) (read (messageIn b))) e
 -- ---- no other bytes are read as that message
 
 -- the first eight bytes
-front-back : (b : Bytes) → headSize ≤ length b → All (λ y. y < 256) b → bytesOf (fromIn b ∷ toIn b ∷ roundIn b ∷ countIn b ∷ []) ≡ take 8 b
+front-back : (b : Bytes) → headerSize ≤ length b → All (λ y. y < 256) b → bytesOf (fromIn b ∷ toIn b ∷ roundIn b ∷ countIn b ∷ []) ≡ take headerSize b
 unfolding words listed wordAt
 front-back b h a =
-    let bytes : All (λ y. y < 256) (take 8 b) = All-split (λ y. y < 256) (take 8 b) (depthsOf b) (subst (All (λ y. y < 256)) (sym (take-append-drop 8 b)) a) .0 in
-    let same : words b 0 4 ≡ words (take 8 b) 0 4 =
-    words-same b (take 8 b) 0 0 4
-    (λ i k. word-same b (take 8 b) (2 * (0 + i)) (2 * (0 + i)) (sym (getD-take 8 b (2 * (0 + i)) 0 (omega arith))) (sym (getD-take 8 b (2 * (0 + i) + 1) 0 (omega arith)))) in
-    ap (λ ws. bytesOf ws) same ∙ bytesOf-words (take 8 b) 4 (length-take-le 8 b h) bytes
+    let bytes : All (λ y. y < 256) (take headerSize b) = All-split (λ y. y < 256) (take headerSize b) (depthsOf b) (subst (All (λ y. y < 256)) (sym (take-append-drop headerSize b)) a) .0 in
+    let same : words b 0 4 ≡ words (take headerSize b) 0 4 =
+    words-same b (take headerSize b) 0 0 4
+    (λ i k. word-same b (take headerSize b) (2 * (0 + i)) (2 * (0 + i)) (sym (getD-take headerSize b (2 * (0 + i)) 0 (omega arith)))
+    (sym (getD-take headerSize b (2 * (0 + i) + 1) 0 (omega arith)))) in
+    ap (λ ws. bytesOf ws) same ∙ bytesOf-words (take headerSize b) 4 (length-take-le headerSize b h) bytes
 
 pub message-back : (b : Bytes) → bad15 b ≡ false → All (λ y. y < 256) b → encode (messageIn b) ≡ b
 unfolding encode
@@ -148,7 +149,7 @@ message-back b e a =
     ap₂ (λ p q. p ++ q)
     (ap (λ k. bytesOf (fromIn b ∷ toIn b ∷ roundIn b ∷ k ∷ [])) n ∙ front-back b (good-long b e) a)
     (good-depths b e)
-    ∙ take-append-drop 8 b
+    ∙ take-append-drop headerSize b
 
 abbrev pub isRead : Reading → Bool
 isRead (read x) = true

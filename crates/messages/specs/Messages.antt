@@ -23,34 +23,35 @@ unfoldable pub encode : Message → Bytes
 encode x = bytesOf (x .from ∷ x .to ∷ x .round ∷ length (x .depths) ∷ []) ++ joined (x .depths)
 
 -- the bytes of the four words before the depths; the place of depth t, from 0 on; the length of a message of n depths
-abbrev pub headSize : ℕ
-headSize = 8
+abbrev pub headerSize : ℕ
+headerSize = 8
 
 abbrev pub depthStart : ℕ → ℕ
-depthStart t = headSize + 4 * t
+depthStart t = headerSize + 4 * t
 
 abbrev pub messageSize : ℕ → ℕ
-messageSize n = headSize + 4 * n
+messageSize n = headerSize + 4 * n
 
--- the words of a message's bytes, and all its depths
-abbrev pub fromIn : Bytes → ℕ
-fromIn b = wordAt b 0
+module _ (b : Bytes) where
+  -- the words of a message's bytes, and all its depths
+  abbrev pub fromIn : ℕ
+  fromIn = wordAt b 0
 
-abbrev pub toIn : Bytes → ℕ
-toIn b = wordAt b 1
+  abbrev pub toIn : ℕ
+  toIn = wordAt b 1
 
-abbrev pub roundIn : Bytes → ℕ
-roundIn b = wordAt b 2
+  abbrev pub roundIn : ℕ
+  roundIn = wordAt b 2
 
-abbrev pub countIn : Bytes → ℕ
-countIn b = wordAt b 3
+  abbrev pub countIn : ℕ
+  countIn = wordAt b 3
 
-abbrev pub depthsOf : Bytes → Bytes
-depthsOf b = drop headSize b
+  abbrev pub depthsOf : Bytes
+  depthsOf = drop headerSize b
 
--- "Message under 8 bytes, length not 8 + 4 × count, or a depth out of range."
-unfoldable pub bad15 : Bytes → Bool
-bad15 b = ltb (length b) headSize || not (eqb (length b) (messageSize (countIn b))) || not (every 0 (countIn b) (rangedAt b headSize))
+  -- "Message under 8 bytes, length not 8 + 4 × count, or a depth out of range."
+  unfoldable pub bad15 : Bool
+  bad15 = ltb (length b) headerSize || not (eqb (length b) (messageSize countIn)) || not (every 0 countIn (rangedAt b headerSize))
 
 -- "What reading gives is either the message or a refusal."
 pub data Reading : Type 0 where

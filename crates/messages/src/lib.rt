@@ -5,13 +5,13 @@ use depths::inner::depths_in_range;
 use layout::word_at;
 ghost use mathlib.Core.Path.{_≡_};
 ghost use Rattle.messages.specs.Messages.{bad15, reading};
-ghost use Rattle.messages.specs.Heads.{readingNumber, meantReading};
+ghost use Rattle.messages.specs.Readings.{readingNumber, meantReading};
 
 // The bytes of the four words before the depths.
-pub const HEAD_SIZE: usize = 8;
+pub const HEADER_SIZE: usize = 8;
 
 // The words of a message. Its depths stay where they are, `count` of them behind the words.
-pub struct Head {
+pub struct Header {
     pub from: usize,
     pub to: usize,
     pub round: usize,
@@ -20,7 +20,7 @@ pub struct Head {
 
 // What reading gives: the message, or the number of its refusal.
 pub enum Reading {
-    Message(Head),
+    Message(Header),
     Refused(u32),
 }
 
@@ -28,14 +28,14 @@ pub enum Reading {
 fn bad_message(b: &[u8]) -> bool
     ensures { λ r. ⌜ r ≡ bad15 (now (b .entry)) ⌝ }
 {
-    if b.len() < HEAD_SIZE {
+    if b.len() < HEADER_SIZE {
         return true;
     }
     let count = word_at(b, 3);
-    if b.len() != HEAD_SIZE + 4 * count {
+    if b.len() != HEADER_SIZE + 4 * count {
         return true;
     }
-    !depths_in_range(b, HEAD_SIZE, count)
+    !depths_in_range(b, HEADER_SIZE, count)
 }
 
 // Reads a message out of any bytes.
@@ -45,7 +45,7 @@ pub fn read(b: &[u8]) -> Reading
     if bad_message(b) {
         return Reading::Refused(15);
     }
-    Reading::Message(Head {
+    Reading::Message(Header {
         from: word_at(b, 0),
         to: word_at(b, 1),
         round: word_at(b, 2),

@@ -23,6 +23,7 @@ use Rattle.part_calls.specs.Calls.{allTaken, allWritten, newAt, advancedIn, adv
 use Rattle.part_calls.specs.Opened.{Opened, advanceRest}
 use Rattle.part_calls.proofs.OpenedLaws.{whole, own-few, long, good-state, cut, lists-is}
 use Rattle.part_update.proofs.RenewLaws.{new-four}
+use Rattle.layout.specs.Limits.{lastRound, mostElements, mostParts}
 
 -- ---- the tests after 20
 
@@ -37,31 +38,31 @@ module _ (lists b : Bytes) (changes : ℕ) (u : Bool) (ue : u ≡ allTaken (list
     rest-25 z = simp (sym ue, not-false u ut, sym we, not-true w z)
 
     module _ (wt : not w ≡ false) (r : ℕ) (re : r ≡ word b changes) where
-      pub rest-26 : 60000 ≤ r → 26 ≡ advanceRest (listsIn lists) changes b
+      pub rest-26 : lastRound ≤ r → 26 ≡ advanceRest (listsIn lists) changes b
       unfolding advanceRest
       rest-26 h = simp (sym ue, not-false u ut, sym we, not-false w wt, sym re, le-leb _ _ h)
 
-      pub rest-none : r < 60000 → 0 ≡ advanceRest (listsIn lists) changes b
+      pub rest-none : r < lastRound → 0 ≡ advanceRest (listsIn lists) changes b
       unfolding advanceRest
       rest-none h = simp (sym ue, not-false u ut, sym we, not-false w wt, sym re, lt-leb _ _ h)
 
 -- ---- what is stored
 
 pub round-put : (b x y z new : Bytes) (changes round owned : ℕ) → stateLength changes owned ≤ length b → 4 * owned ≤ length new
-    → x ≡ over b changes (wordBytes round) → y ≡ over x (changes + 2) (replicate 32 0)
-    → z ≡ over y (depthsPlace changes) (take (4 * owned) (drop 0 new)) → z ≡ over b changes (wordBytes round ++ (replicate 32 0 ++ take (4 * owned) new))
+    → x ≡ over b changes (wordBytes round) → y ≡ over x (changes + 2) (replicate (2 * mostParts) 0)
+    → z ≡ over y (depthsPlace changes) (take (4 * owned) (drop 0 new)) → z ≡ over b changes (wordBytes round ++ (replicate (2 * mostParts) 0 ++ take (4 * owned) new))
 round-put b x y z new changes round owned room there xe ye ze =
     let l : length (wordBytes round) ≡ 2 = length-wordBytes round in
-    let m : length (replicate {A = ℕ} 32 0) ≡ 32 = refl in
+    let m : length (replicate {A = ℕ} (2 * mostParts) 0) ≡ 2 * mostParts = refl in
     let k : length (take (4 * owned) new) ≡ 4 * owned = length-take-le (4 * owned) new there in
     let s : length x ≡ length b = ap length xe ∙ over-length b changes (wordBytes round) (omega arith) in
     let p : changes + 2 ≡ changes + length (wordBytes round) = omega arith in
-    let q : depthsPlace changes ≡ changes + 2 + length (replicate {A = ℕ} 32 0) = omega arith in
+    let q : depthsPlace changes ≡ changes + 2 + length (replicate {A = ℕ} (2 * mostParts) 0) = omega arith in
     ze
     ∙ ap₂ (λ (u : Bytes) i. over u i (take (4 * owned) new)) ye q
-    ∙ over-more x (changes + 2) (replicate 32 0) (omega arith) (take (4 * owned) new)
-    ∙ ap₂ (λ (u : Bytes) i. over u i (replicate 32 0 ++ take (4 * owned) new)) xe p
-    ∙ over-more b changes (wordBytes round) (omega arith) (replicate 32 0 ++ take (4 * owned) new)
+    ∙ over-more x (changes + 2) (replicate (2 * mostParts) 0) (omega arith) (take (4 * owned) new)
+    ∙ ap₂ (λ (u : Bytes) i. over u i (replicate (2 * mostParts) 0 ++ take (4 * owned) new)) xe p
+    ∙ over-more b changes (wordBytes round) (omega arith) (replicate (2 * mostParts) 0 ++ take (4 * owned) new)
 
 -- ---- the answer
 
@@ -78,9 +79,9 @@ module _ (b : Bytes) where
   done = accepts (advanceNumber b) 0 (advancedIn (listsOf b) (dynamic b) b) b
 
   here : (lists : Bytes) (changes round : ℕ) → round ≡ word b changes + 1
-      → over b changes (wordBytes round ++ (replicate 32 0 ++ blocks 1 (ownedCount lists) (newAt (listsIn lists) changes b))) ≡ advancedIn (listsIn lists) changes b
+      → over b changes (wordBytes round ++ (replicate (2 * mostParts) 0 ++ blocks 1 (ownedCount lists) (newAt (listsIn lists) changes b))) ≡ advancedIn (listsIn lists) changes b
   unfolding advancedIn listsIn
-  here lists changes round e = ap (λ r. over b changes (wordBytes r ++ (replicate 32 0 ++ blocks 1 (ownedCount lists) (newAt (listsIn lists) changes b)))) e
+  here lists changes round e = ap (λ r. over b changes (wordBytes r ++ (replicate (2 * mostParts) 0 ++ blocks 1 (ownedCount lists) (newAt (listsIn lists) changes b)))) e
 
   module _ (changes : ℕ) (o : Opened (take changes b) changes b) where
     number-here : advanceNumber b ≡ advanceRest (listsOf b) (dynamic b) b
@@ -99,7 +100,7 @@ module _ (b : Bytes) where
         (a .0, ye ∙ ap₂ (λ (L : Lists) p. advancedIn L p b) (sym (lists-is (take changes b) changes b o)) (o .place-is) ∙ a .1)
 
     pub next-put : (owned : ℕ) → owned ≡ ownedCount (take changes b) → (r : ℕ) → r ≡ word b changes → (new x y : Bytes)
-        → x ≡ over new 0 (blocks 1 owned (newAt (listsIn (take changes b)) changes b)) → y ≡ over b changes (wordBytes (r + 1) ++ (replicate 32 0 ++ take (4 * owned) x))
+        → x ≡ over new 0 (blocks 1 owned (newAt (listsIn (take changes b)) changes b)) → y ≡ over b changes (wordBytes (r + 1) ++ (replicate (2 * mostParts) 0 ++ take (4 * owned) x))
         → y ≡ advancedIn (listsIn (take changes b)) changes b
     next-put owned oe r re new x y xe ye =
         let l : length (blocks 1 owned (newAt (listsIn (take changes b)) changes b)) ≡ 4 * owned =
@@ -108,7 +109,7 @@ module _ (b : Bytes) where
         ap (take (4 * owned)) (xe ∙ over-front new (blocks 1 owned (newAt (listsIn (take changes b)) changes b)))
         ∙ take-at (blocks 1 owned (newAt (listsIn (take changes b)) changes b)) (drop (length (blocks 1 owned (newAt (listsIn (take changes b)) changes b))) new) (4 * owned) l in
         ye
-        ∙ ap (λ (u : Bytes). over b changes (wordBytes (r + 1) ++ (replicate 32 0 ++ u))) (t ∙ ap (λ n. blocks 1 n (newAt (listsIn (take changes b)) changes b)) oe)
+        ∙ ap (λ (u : Bytes). over b changes (wordBytes (r + 1) ++ (replicate (2 * mostParts) 0 ++ u))) (t ∙ ap (λ n. blocks 1 n (newAt (listsIn (take changes b)) changes b)) oe)
         ∙ here (take changes b) changes (r + 1) (ap (λ k. k + 1) re)
 
     pub lists-there : changes ≤ length b
@@ -123,7 +124,7 @@ module _ (b : Bytes) where
     pub owned-room : (z : Sizes) → Counts (take changes b) z → stateLength changes (z .owned) ≤ length b
     owned-room z C = omega (arith, C .owned-is, own-few (take changes b) changes b o, long (take changes b) changes b o)
 
-    pub owned-few : (z : Sizes) → Counts (take (changes - 0) (drop 0 b)) z → z .owned ≤ 2000
+    pub owned-few : (z : Sizes) → Counts (take (changes - 0) (drop 0 b)) z → z .owned ≤ mostElements
     owned-few z C =
         let e : z .owned ≡ ownedCount (take changes b) = C .owned-is ∙ ap (λ (x : Bytes). ownedCount x) (cut b changes) in
         omega (arith, own-few (take changes b) changes b o, whole (take changes b) changes b o .few)

@@ -22,6 +22,7 @@ ghost use lib.ListN.{length, take, replicate};
 ghost use Rattle.vocabulary.specs.Bytes.{over};
 ghost use Rattle.vocabulary.specs.Intervals.{blocks};
 ghost use Rattle.layout.specs.Words.{wordBytes};
+ghost use Rattle.layout.specs.Limits.{mostElements};
 ghost use Rattle.part_state.specs.State.{listsIn, stateLength};
 ghost use Rattle.part_state.specs.Checks.{Counts};
 ghost use Rattle.part_calls.specs.Opened.{Opened, advanceRest};
@@ -82,7 +83,7 @@ fn put_next(b: &mut [u8], changes: usize, sizes: Sizes, new: &mut [u8])
 }
 
 fn next_round(b: &mut [u8], changes: usize, sizes: Sizes)
-    requires { ⌜ Opened (take changes (now b)) changes (now b) × Counts (take changes (now b)) sizes × (sizes .owned ≤ 2000) ⌝ }
+    requires { ⌜ Opened (take changes (now b)) changes (now b) × Counts (take changes (now b)) sizes × (sizes .owned ≤ mostElements) ⌝ }
     ensures { λ _. ⌜ now (b .exit) ≡ advancedIn (listsIn (take changes (now (b .entry)))) changes (now (b .entry)) ⌝ }
 {
     if sizes.owned <= FEW {

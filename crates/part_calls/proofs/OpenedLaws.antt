@@ -13,6 +13,7 @@ use Rattle.layout.specs.Words.{wordAt}
 use Rattle.layout.specs.Answers.{answer}
 use Rattle.layout.specs.AnswerLaws.{refuses}
 use Rattle.layout.specs.declared.Answer.the-variants.{Refused}
+use Rattle.layout.specs.Limits.{mostParts}
 use Rattle.depths.specs.Depths.{four}
 use Rattle.depths.specs.DepthLaws.{fours-of}
 use Rattle.part_state.specs.State.{listsIn, listsOf, heldCount, ownedCount, isState, bad20, stateLength}
@@ -26,7 +27,7 @@ module _ (lists : Bytes) (changes : ℕ) (b : Bytes) (o : Opened lists changes b
       (ap₂ (λ x y. isStateAt x y b) (o .lists-are ∙ ap (λ k. take k b) (o .place-is)) (o .place-is) ∙ sym (state-at b) ∙ o .state)
 
   pub own-few : ownedCount lists ≤ heldCount lists
-  own-few = whole .ends 0 16 (omega arith) (omega arith)
+  own-few = whole .ends 0 mostParts (omega arith) (omega arith)
 
   -- what calls change stands after the lists
   pub long : stateLength changes (heldCount lists) ≤ length b
@@ -73,5 +74,5 @@ unfolding blocks
 four-cut b o h = let e : o ≡ o + 4 * (0 + 0) = omega arith in sym (ap (four b) e ∙ fours-of b o 1 (omega arith))
 
 -- a part that is up to 16, as the test finds it
-pub part-few : (j : ℕ) (u : Bool) → u ≡ isUpTo 16 j → not u ≡ false → (1 ≤ j) × (j ≤ 16)
-part-few j u ue uf = upTo-true 16 j (sym ue ∙ not-false u uf)
+pub part-few : (j : ℕ) (u : Bool) → u ≡ isUpTo mostParts j → not u ≡ false → (1 ≤ j) × (j ≤ mostParts)
+part-few j u ue uf = upTo-true mostParts j (sym ue ∙ not-false u uf)

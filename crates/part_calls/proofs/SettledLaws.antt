@@ -10,9 +10,11 @@ use Rattle.vocabulary.specs.Bytes.{Bytes, byteAt}
 use Rattle.vocabulary.specs.Intervals.{isUpTo, every}
 use Rattle.vocabulary.specs.IntervalLaws.{every-cong, upTo-intro, listed-length}
 use Rattle.layout.specs.Words.{wordAt}
+use Rattle.layout.specs.Limits.{mostParts}
 use Rattle.part_state.specs.State.{listsIn, exportEnd, exportAt, localExports}
 use Rattle.part_calls.specs.Calls.{importsFrom, exportsTo, allTaken, allWritten}
 use Rattle.part_calls.specs.Opened.{settledAt}
+use Rattle.part_state.specs.Checks.{beforeImports, beforeExports, takenFlags, writtenFlags}
 
 module _ (lists b : Bytes) (ends flags j n : ℕ) (ne : n ≡ wordAt lists (ends + j + 1) - wordAt lists (ends + j)) where
   pub settled-none : n < 1 → true ≡ settledAt lists b ends flags j
@@ -25,23 +27,24 @@ module _ (lists b : Bytes) (ends flags j n : ℕ) (ne : n ≡ wordAt lists (ends
 
 -- the same of all parts, where n j is what is between the ends of part j
 settled-are : (lists b : Bytes) (ends flags : ℕ) (n : ℕ → ℕ) → ((j : ℕ) → n j ≡ wordAt lists (ends + 1 + j) - wordAt lists (ends + 1 + (j - 1)))
-    → every 1 16 (settledAt lists b ends flags) ≡ every 1 16 (λ j. not (isUpTo 16 j && ltb 0 (n j)) || eqb (byteAt b (flags + j)) 1)
+    → every 1 mostParts (settledAt lists b ends flags) ≡ every 1 mostParts (λ j. not (isUpTo mostParts j && ltb 0 (n j)) || eqb (byteAt b (flags + j)) 1)
 unfolding settledAt
-settled-are lists b ends flags n is = every-cong 1 (settledAt lists b ends flags) (λ j. not (isUpTo 16 j && ltb 0 (n j)) || eqb (byteAt b (flags + j)) 1) 16 each
+settled-are lists b ends flags n is = every-cong 1 (settledAt lists b ends flags) (λ j. not (isUpTo mostParts j && ltb 0 (n j)) || eqb (byteAt b (flags + j)) 1) mostParts each
   where
-    each : (i : ℕ) → i < 16 → settledAt lists b ends flags (1 + i) ≡ not (isUpTo 16 (1 + i) && ltb 0 (n (1 + i))) || eqb (byteAt b (flags + (1 + i))) 1
+    each : (i : ℕ) → i < mostParts → settledAt lists b ends flags (1 + i) ≡ not (isUpTo mostParts (1 + i) && ltb 0 (n (1 + i))) || eqb (byteAt b (flags + (1 + i))) 1
     each i h =
         let p : ends + (1 + i) + 1 ≡ ends + 1 + (1 + i) = omega arith in
         let q : ends + (1 + i) ≡ ends + 1 + (1 + i - 1) = omega arith in
-        ap₂ (λ t x. not (t && ltb 0 x) || eqb (byteAt b (flags + (1 + i))) 1) (sym (upTo-intro 16 (1 + i) (omega arith) (omega arith)))
+        ap₂ (λ t x. not (t && ltb 0 x) || eqb (byteAt b (flags + (1 + i))) 1) (sym (upTo-intro mostParts (1 + i) (omega arith) (omega arith)))
         (ap₂ (λ x y. wordAt lists x - wordAt lists y) p q ∙ sym (is (1 + i)))
 
 module _ (lists b : Bytes) (changes : ℕ) (u : Bool) where
-  pub taken-told : u ≡ every 1 16 (settledAt lists b 10 (changes + 1)) → u ≡ allTaken (listsIn lists) changes b
+  pub taken-told : u ≡ every 1 mostParts (settledAt lists b beforeImports (takenFlags changes)) → u ≡ allTaken (listsIn lists) changes b
   unfolding allTaken importsFrom listsIn
-  taken-told e = e ∙ settled-are lists b 10 (changes + 1) (listsIn lists .imported) (λ j. refl)
+  taken-told e = e ∙ settled-are lists b beforeImports (takenFlags changes) (listsIn lists .imported) (λ j. refl)
 
-  pub written-told : u ≡ every 1 16 (settledAt lists b 27 (changes + 17)) → u ≡ allWritten (listsIn lists) changes b
+  pub written-told : u ≡ every 1 mostParts (settledAt lists b beforeExports (writtenFlags changes)) → u ≡ allWritten (listsIn lists) changes b
   unfolding allWritten exportsTo listsIn localExports
   written-told e =
-      e ∙ settled-are lists b 27 (changes + 17) (λ j. length (listsIn lists .exports j)) (λ j. listed-length (exportEnd lists (j - 1)) (exportAt lists) (exportEnd lists j - exportEnd lists (j - 1)))
+      e ∙ settled-are lists b beforeExports (writtenFlags changes) (λ j. length (listsIn lists .exports j))
+      (λ j. listed-length (exportEnd lists (j - 1)) (exportAt lists) (exportEnd lists j - exportEnd lists (j - 1)))

@@ -88,7 +88,7 @@ module _ (L : Lists) (changes : ℕ) (b : Bytes) where
 
   -- the next round, no flag set ("At each new round nothing is taken and nothing written"), the new depths; imported cells keep theirs
   unfoldable pub advancedIn : Bytes
-  advancedIn = over b changes (wordBytes (roundAt b changes + 1) ++ (replicate 32 0 ++ newDepths))
+  advancedIn = over b changes (wordBytes (roundAt b changes + 1) ++ (replicate (2 * mostParts) 0 ++ newDepths))
 
   -- ---- collect: "puts the owned depths into a field and changes no other byte of it"
 
@@ -103,49 +103,55 @@ module _ (L : Lists) (changes : ℕ) (b : Bytes) where
 -- ---- the calls over the bytes b of a state
 
 module _ (b : Bytes) where
+  abbrev L : Lists
+  L = listsOf b
+
+  abbrev changes : ℕ
+  changes = dynamic b
+
   unfoldable pub writeNumber : ℕ → Bytes → ℕ
-  writeNumber j out = firstOf (writeTestsIn (listsOf b) (dynamic b) b j out)
+  writeNumber j out = firstOf (writeTestsIn L changes b j out)
 
   abbrev pub sentMessage : ℕ → Message
-  sentMessage j = sentMessageIn (listsOf b) (dynamic b) b j
+  sentMessage j = sentMessageIn L changes b j
 
   unfoldable pub message : ℕ → Bytes
-  message j = messageTo (listsOf b) (dynamic b) b j
+  message j = messageTo L changes b j
 
   -- it gives the length of the message
   unfoldable pub writeAnswer : ℕ → Bytes → Answer
   writeAnswer j out = answer (writeNumber j out) (length (message j))
 
   unfoldable pub writeState : ℕ → Bytes → Bytes
-  writeState j out = ifAccepted (writeNumber j out) (writtenIn (listsOf b) (dynamic b) b j) b
+  writeState j out = ifAccepted (writeNumber j out) (writtenIn L changes b j) b
 
   unfoldable pub writeOut : ℕ → Bytes → Bytes
   writeOut j out = ifAccepted (writeNumber j out) (over out 0 (message j)) out
 
   unfoldable pub takeNumber : Bytes → ℕ
-  takeNumber x = firstOf (takeTestsIn (listsOf b) (dynamic b) b x)
+  takeNumber x = firstOf (takeTestsIn L changes b x)
 
   unfoldable pub takeAnswer : Bytes → Answer
   takeAnswer x = answer (takeNumber x) 0
 
   unfoldable pub takeState : Bytes → Bytes
-  takeState x = ifAccepted (takeNumber x) (takenIn (listsOf b) (dynamic b) b x) b
+  takeState x = ifAccepted (takeNumber x) (takenIn L changes b x) b
 
   unfoldable pub advanceNumber : ℕ
-  advanceNumber = firstOf (advanceTestsIn (listsOf b) (dynamic b) b)
+  advanceNumber = firstOf (advanceTestsIn L changes b)
 
   unfoldable pub advanceAnswer : Answer
   advanceAnswer = answer advanceNumber 0
 
   unfoldable pub advanceState : Bytes
-  advanceState = ifAccepted advanceNumber (advancedIn (listsOf b) (dynamic b) b) b
+  advanceState = ifAccepted advanceNumber (advancedIn L changes b) b
 
   unfoldable pub collectNumber : ℕ → Bytes → ℕ
-  collectNumber k f = firstOf (collectTestsIn (listsOf b) (dynamic b) b k f)
+  collectNumber k f = firstOf (collectTestsIn L changes b k f)
 
   -- it gives how many depths it put
   unfoldable pub collectAnswer : ℕ → Bytes → Answer
-  collectAnswer k f = answer (collectNumber k f) (listsOf b .owned)
+  collectAnswer k f = answer (collectNumber k f) (L .owned)
 
   unfoldable pub collectOut : ℕ → Bytes → Bytes
-  collectOut k f = ifAccepted (collectNumber k f) (collectedIn (listsOf b) (dynamic b) b (listsOf b .owned) f) f
+  collectOut k f = ifAccepted (collectNumber k f) (collectedIn L changes b (L .owned) f) f

@@ -23,12 +23,13 @@ use Rattle.layout.specs.Words.{word, wordBytes, bytesOf}
 use Rattle.layout.specs.WordLaws.{word-same, word-in, word-left, word-back, length-wordBytes, length-bytesOf, wordAt-first}
 use Rattle.depths.specs.Depths.{four}
 use Rattle.depths.specs.DepthLaws.{length-four, four-same, four-whole, four-set, four-in, four-before, four-after, four-past, four-drop, fours-length, fours-at, joined-at}
-use Rattle.messages.specs.Messages.{depthStart, depthsOf, encode, fromIn, toIn, roundIn, countIn}
+use Rattle.messages.specs.Messages.{depthStart, depthsOf, encode, fromIn, toIn, roundIn, countIn, headerSize}
 use Rattle.part_state.specs.State.{Lists, roundAt, takenPlace, depthPlace, depthsPlace}
 use Rattle.part_state.specs.StateLaws.{Frame}
 use Rattle.part_calls.specs.Calls.{importsFrom, depthAt, scatter, messageTo, takenIn, allTaken, advanceTestsIn, newAt, newDepths, advancedIn}
 use Rattle.part_calls.specs.Calls.{collectedIn, writeNumber, writeState, writeOut, takeNumber, takeState, advanceNumber, advanceState, collectNumber, collectOut}
 use Rattle.part_calls.specs.CallLaws.{Room, Taken, fours-long}
+use Rattle.layout.specs.Limits.{mostParts}
 
 -- ---- take
 
@@ -41,7 +42,7 @@ module _ (L : Lists) (changes : ℕ) (b x : Bytes) (w : Room L changes b) (v : T
   at = depthPlace changes (L .before (fromIn x) + 1)
 
   pub load : length (depthsOf x) ≡ 4 * L .imported (fromIn x)
-  load = omega (arith, length-drop 8 x, v .size, v .count-is)
+  load = omega (arith, length-drop headerSize x, v .size, v .count-is)
 
   flagged-length : length flagged ≡ length b
   flagged-length = length-set b (takenPlace changes (fromIn x)) 1
@@ -62,7 +63,8 @@ module _ (L : Lists) (changes : ℕ) (b x : Bytes) (w : Room L changes b) (v : T
   }
 
   pub take-word : word (takenIn L changes b x) changes ≡ word b changes
-  take-word = word-same (takenIn L changes b x) b changes changes (take-flag changes (omega arith) (omega (arith, v .from-least))) (take-flag (changes + 1) (omega arith) (omega (arith, v .from-least)))
+  take-word =
+      word-same (takenIn L changes b x) b changes changes (take-flag changes (omega arith) (omega (arith, v .from-least))) (take-flag (changes + 1) (omega arith) (omega (arith, v .from-least)))
 
   -- the t-th depth, and any other depth
   pub take-in : (t : ℕ) → t < L .imported (fromIn x) → four (takenIn L changes b x) (depthPlace changes (L .before (fromIn x) + 1 + t)) ≡ four x (depthStart t)
@@ -71,7 +73,7 @@ module _ (L : Lists) (changes : ℕ) (b x : Bytes) (w : Room L changes b) (v : T
       let p : depthPlace changes (L .before (fromIn x) + 1 + t) ≡ at + 4 * t = omega arith in
       ap (λ o. four (takenIn L changes b x) o) p
       ∙ four-in flagged at (depthsOf x) take-room (4 * t) (omega (arith, load))
-      ∙ four-drop 8 x (4 * t)
+      ∙ four-drop headerSize x (4 * t)
 
   flagged-four : (l : ℕ) → 1 ≤ l → four flagged (depthPlace changes l) ≡ four b (depthPlace changes l)
   flagged-four l h = four-set b (takenPlace changes (fromIn x)) 1 (depthPlace changes l) (inl (omega (arith, v .from-most)))
@@ -88,7 +90,8 @@ module _ (L : Lists) (changes : ℕ) (b x : Bytes) (w : Room L changes b) (v : T
 
 -- the words of a message's head
 pub message-words : (L : Lists) (changes : ℕ) (b : Bytes) (j : ℕ)
-    → (fromIn (messageTo L changes b j) ≡ L .part) × (toIn (messageTo L changes b j) ≡ j) × (roundIn (messageTo L changes b j) ≡ roundAt b changes) × (countIn (messageTo L changes b j) ≡ length (L .exports j))
+    → (fromIn (messageTo L changes b j) ≡ L .part) × (toIn (messageTo L changes b j) ≡ j) × (roundIn (messageTo L changes b j) ≡ roundAt b changes) ×
+    (countIn (messageTo L changes b j) ≡ length (L .exports j))
 unfolding messageTo encode
 message-words L changes b j =
     let ds : List Bytes = map (depthAt changes b) (L .exports j) in
@@ -105,7 +108,7 @@ message-depth L changes b j t h =
     let ds : List Bytes = map (depthAt changes b) (L .exports j) in
     let hd : Bytes = bytesOf (L .part ∷ j ∷ roundAt b changes ∷ length ds ∷ []) in
     let ld : length (map (depthAt changes b) (L .exports j)) ≡ length (L .exports j) = length-map (L .exports j) (depthAt changes b) in
-    let e : 8 ≡ length hd = sym (length-bytesOf (L .part ∷ j ∷ roundAt b changes ∷ length ds ∷ [])) in
+    let e : headerSize ≡ length hd = sym (length-bytesOf (L .part ∷ j ∷ roundAt b changes ∷ length ds ∷ [])) in
     ap (λ n. four (hd ++ joined ds) (n + 4 * t)) e
     ∙ four-past hd (joined ds) (4 * t)
     ∙ joined-at ds t (fours-long changes b (L .exports j)) (omega arith)
@@ -126,15 +129,15 @@ module _ (L : Lists) (changes : ℕ) (b : Bytes) (w : Room L changes b) (new4 : 
   news-length = fours-length 1 (L .owned) (newAt L changes b) (λ j h. new4 (1 + j))
 
   abbrev fresh : Bytes
-  fresh = wordBytes (roundAt b changes + 1) ++ (replicate 32 0 ++ newDepths L changes b)
+  fresh = wordBytes (roundAt b changes + 1) ++ (replicate (2 * mostParts) 0 ++ newDepths L changes b)
 
-  pub fresh-length : length fresh ≡ 34 + 4 * L .owned
+  pub fresh-length : length fresh ≡ depthsPlace 0 + 4 * L .owned
   fresh-length =
       omega (
         arith,
-        length-append (wordBytes (roundAt b changes + 1)) (replicate 32 0 ++ newDepths L changes b),
-        length-append (replicate 32 0) (newDepths L changes b),
-        length-replicate {A = ℕ} 32 0,
+        length-append (wordBytes (roundAt b changes + 1)) (replicate (2 * mostParts) 0 ++ newDepths L changes b),
+        length-append (replicate (2 * mostParts) 0) (newDepths L changes b),
+        length-replicate {A = ℕ} (2 * mostParts) 0,
         length-wordBytes (roundAt b changes + 1),
         news-length,
       )
@@ -151,7 +154,7 @@ module _ (L : Lists) (changes : ℕ) (b : Bytes) (w : Room L changes b) (new4 : 
   advance-word =
       ap (λ o. word (advancedIn L changes b) o) (sym (add-zero changes))
       ∙ word-in b changes fresh advance-room 0 (omega (arith, fresh-length))
-      ∙ word-left (wordBytes (roundAt b changes + 1)) (replicate 32 0 ++ newDepths L changes b) 0 (omega (arith, length-wordBytes (roundAt b changes + 1)))
+      ∙ word-left (wordBytes (roundAt b changes + 1)) (replicate (2 * mostParts) 0 ++ newDepths L changes b) 0 (omega (arith, length-wordBytes (roundAt b changes + 1)))
       ∙ word-back (roundAt b changes + 1)
 
   -- no flag is set
@@ -161,8 +164,8 @@ module _ (L : Lists) (changes : ℕ) (b : Bytes) (w : Room L changes b) (new4 : 
       let q : changes + 2 + k ≡ changes + (2 + k) = omega arith in
       ap (λ n. byteAt (advancedIn L changes b) n) q
       ∙ over-in b changes fresh advance-room (2 + k) (omega (arith, fresh-length))
-      ∙ getD-append-add (wordBytes (roundAt b changes + 1)) (replicate 32 0 ++ newDepths L changes b) k 0
-      ∙ List·getD-append (replicate 32 0) (newDepths L changes b) 0 k (omega (arith, length-replicate {A = ℕ} 32 0))
+      ∙ getD-append-add (wordBytes (roundAt b changes + 1)) (replicate (2 * mostParts) 0 ++ newDepths L changes b) k 0
+      ∙ List·getD-append (replicate (2 * mostParts) 0) (newDepths L changes b) 0 k (omega (arith, length-replicate {A = ℕ} (2 * mostParts) 0))
       ∙ getD-replicate 32 k 0 0 h
 
   -- the new depths of the owned cells; the others keep theirs
@@ -170,12 +173,12 @@ module _ (L : Lists) (changes : ℕ) (b : Bytes) (w : Room L changes b) (new4 : 
   unfolding advancedIn wordBytes
   advance-owned l h k =
       let q : depthPlace changes l ≡ changes + (2 + (32 + 4 * (l - 1))) = omega arith in
-      let z : _≡_ {A = ℕ} 32 (length (replicate {A = ℕ} 32 0)) = sym (length-replicate {A = ℕ} 32 0) in
+      let z : _≡_ {A = ℕ} 32 (length (replicate {A = ℕ} (2 * mostParts) 0)) = sym (length-replicate {A = ℕ} (2 * mostParts) 0) in
       ap (λ n. four (advancedIn L changes b) n) q
       ∙ four-in b changes fresh advance-room (2 + (32 + 4 * (l - 1))) (omega (arith, fresh-length))
-      ∙ four-past (wordBytes (roundAt b changes + 1)) (replicate 32 0 ++ newDepths L changes b) (32 + 4 * (l - 1))
-      ∙ ap (λ n. four (replicate 32 0 ++ newDepths L changes b) (n + 4 * (l - 1))) z
-      ∙ four-past (replicate 32 0) (newDepths L changes b) (4 * (l - 1))
+      ∙ four-past (wordBytes (roundAt b changes + 1)) (replicate (2 * mostParts) 0 ++ newDepths L changes b) (32 + 4 * (l - 1))
+      ∙ ap (λ n. four (replicate (2 * mostParts) 0 ++ newDepths L changes b) (n + 4 * (l - 1))) z
+      ∙ four-past (replicate (2 * mostParts) 0) (newDepths L changes b) (4 * (l - 1))
       ∙ new-depth l h k
 
   pub advance-others : (l : ℕ) → L .owned < l → depthAt changes (advancedIn L changes b) l ≡ depthAt changes b l
@@ -183,12 +186,13 @@ module _ (L : Lists) (changes : ℕ) (b : Bytes) (w : Room L changes b) (new4 : 
   advance-others l h = four-after b changes fresh advance-room (depthPlace changes l) (omega (arith, fresh-length))
 
 -- what an accepted advance says
-pub advance-taken : (L : Lists) (changes : ℕ) (b : Bytes) → firstOf (advanceTestsIn L changes b) ≡ 0 → (j : ℕ) → 1 ≤ j → j ≤ 16 → 0 < L .imported j → byteAt b (takenPlace changes j) ≡ 1
+pub advance-taken : (L : Lists) (changes : ℕ) (b : Bytes) → firstOf (advanceTestsIn L changes b) ≡ 0 → (j : ℕ) → 1 ≤ j → j ≤ mostParts → 0 < L .imported j → byteAt b (takenPlace changes j) ≡ 1
 unfolding advanceTestsIn allTaken importsFrom
 advance-taken L changes b e j h k l =
-    let p : ℕ → Bool = λ j. not (isUpTo 16 j && ltb 0 (L .imported j)) || eqb (byteAt b (takenPlace changes j)) 1 in
-    let t : not (isUpTo 16 j && ltb 0 (L .imported j)) || eqb (byteAt b (takenPlace changes j)) 1 ≡ true = every-in 1 p 16 j (not-false _ (passed-by 24 (advanceTestsIn L changes b) tt e)) h (omega arith) in
-    let on : isUpTo 16 j && ltb 0 (L .imported j) ≡ true = and-intro (isUpTo 16 j) (ltb 0 (L .imported j)) (upTo-intro 16 j h k) (lt-ltb _ _ l) in
+    let p : ℕ → Bool = λ j. not (isUpTo mostParts j && ltb 0 (L .imported j)) || eqb (byteAt b (takenPlace changes j)) 1 in
+    let t : not (isUpTo mostParts j && ltb 0 (L .imported j)) || eqb (byteAt b (takenPlace changes j)) 1 ≡ true =
+    every-in 1 p mostParts j (not-false _ (passed-by 24 (advanceTestsIn L changes b) tt e)) h (omega arith) in
+    let on : isUpTo mostParts j && ltb 0 (L .imported j) ≡ true = and-intro (isUpTo mostParts j) (ltb 0 (L .imported j)) (upTo-intro mostParts j h k) (lt-ltb _ _ l) in
     eqb-true _ _ (rw on at t)
 
 -- ---- pieces put at places

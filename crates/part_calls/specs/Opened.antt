@@ -10,6 +10,7 @@ use Rattle.vocabulary.specs.Bytes.{Bytes, byteAt}
 use Rattle.vocabulary.specs.Intervals.{isUpTo}
 use Rattle.vocabulary.specs.Tests.{refuse, firstOf}
 use Rattle.layout.specs.Words.{wordAt}
+use Rattle.layout.specs.Limits.{lastRound, mostParts}
 use Rattle.depths.specs.Depths.{four}
 use Rattle.part_state.specs.State.{Lists, roundAt, takenPlace, depthPlace, exportAt, dynamic, isState}
 use Rattle.part_calls.specs.Calls.{importsFrom, allTaken, allWritten}
@@ -22,13 +23,13 @@ pub record Opened (lists : Bytes) (changes : ℕ) (b : Bytes) : Type 0 where
   pub state : isState b ≡ true
 
 -- take's tests of a message's words, in the order in which they are tried
-unfoldable pub wrongSender : Lists → ℕ → ℕ → ℕ → Bool
-wrongSender L from to count = not (eqb to (L .part)) || not (importsFrom L from) || not (eqb count (L .imported from))
+unfoldable pub badSender : Lists → ℕ → ℕ → ℕ → Bool
+badSender L from to count = not (eqb to (L .part)) || not (importsFrom L from) || not (eqb count (L .imported from))
 
 unfoldable pub takeRest : Lists → ℕ → Bytes → ℕ → ℕ → ℕ → ℕ → ℕ
 takeRest L changes b from to round count =
     firstOf (
-    refuse 21 (wrongSender L from to count)
+    refuse 21 (badSender L from to count)
     ∷ refuse 22 (not (eqb round (roundAt b changes)))
     ∷ refuse 23 (eqb (byteAt b (takenPlace changes from)) 1)
     ∷ []
@@ -36,7 +37,7 @@ takeRest L changes b from to round count =
 
 -- how many depths go to part j: none where j is no part
 unfoldable pub sentTo : Lists → ℕ → ℕ
-sentTo L j = cond (isUpTo 16 j) (length (L .exports j)) 0
+sentTo L j = cond (isUpTo mostParts j) (length (L .exports j)) 0
 
 -- the depth of export entry x
 unfoldable pub sentAt : Bytes → ℕ → Bytes → ℕ → Bytes
@@ -48,4 +49,4 @@ settledAt lists b ends flags j = not (ltb 0 (wordAt lists (ends + j + 1) - wordA
 
 -- advance's tests after 20, in the order in which they are tried
 unfoldable pub advanceRest : Lists → ℕ → Bytes → ℕ
-advanceRest L changes b = firstOf (refuse 24 (not (allTaken L changes b)) ∷ refuse 25 (not (allWritten L changes b)) ∷ refuse 26 (leb 60000 (roundAt b changes)) ∷ [])
+advanceRest L changes b = firstOf (refuse 24 (not (allTaken L changes b)) ∷ refuse 25 (not (allWritten L changes b)) ∷ refuse 26 (leb lastRound (roundAt b changes)) ∷ [])

@@ -9,6 +9,7 @@ use part_state::inner::count_between;
 ghost use mathlib.Core.Path.{_≡_};
 ghost use Prim.Native.Nat.{_<_};
 ghost use Rattle.vocabulary.specs.Intervals.{every};
+ghost use Rattle.layout.specs.Limits.{mostParts};
 ghost use Rattle.part_state.specs.State.{listsIn};
 ghost use Rattle.part_calls.specs.Calls.{allTaken, allWritten};
 ghost use Rattle.part_calls.specs.Opened.{settledAt};
@@ -26,7 +27,7 @@ fn settled(lists: &[u8], b: &[u8], ends: usize, flags: usize, j: usize) -> bool
 
 fn all_settled(lists: &[u8], b: &[u8], ends: usize, flags: usize) -> bool
     requires { ⌜ (ends < 65536) × (flags < 1000000) ⌝ }
-    ensures { λ r. ⌜ r ≡ every 1 16 (settledAt (now (lists .entry)) (now (b .entry)) ends flags) ⌝ }
+    ensures { λ r. ⌜ r ≡ every 1 mostParts (settledAt (now (lists .entry)) (now (b .entry)) ends flags) ⌝ }
 {
     for j in 1..MOST_PARTS + 1 {
         if !settled(lists, b, ends, flags, j) {

@@ -29,7 +29,8 @@ pub gather-start : (lists : Bytes) (changes : ℕ) (b : Bytes) (f : Bytes) → f
 unfolding scatter
 gather-start lists changes b f = refl
 
-pub gather-end : (lists : Bytes) (changes : ℕ) (b : Bytes) (f x : Bytes) (l owned : ℕ) → l ≤ owned + 1 → owned + 1 ≤ l → x ≡ collectedIn (listsIn lists) changes b (l - 1) f → x ≡ collectedIn (listsIn lists) changes b owned f
+pub gather-end : (lists : Bytes) (changes : ℕ) (b : Bytes) (f x : Bytes) (l owned : ℕ) → l ≤ owned + 1 → owned + 1 ≤ l → x ≡ collectedIn (listsIn lists) changes b (l - 1) f
+    → x ≡ collectedIn (listsIn lists) changes b owned f
 gather-end lists changes b f x l owned g h e = at-last (λ n. x ≡ collectedIn (listsIn lists) changes b n f) (l - 1) owned (omega arith) (omega arith) e
 
 module _ (lists : Bytes) (changes : ℕ) (b : Bytes) (o : Opened lists changes b) (first owned : ℕ) (fe : first ≡ firstOfMesh lists) (oe : owned ≡ ownedCount lists) where
@@ -81,7 +82,7 @@ module _ (b : Bytes) (k : ℕ) (f : Bytes) where
     pub told-28 : (r ≡ k → ⊥) → Answered (Refused 28) f
     told-28 z = refused 28 (number-28 z) (λ z. omega (arith, z))
 
-    module _ (rk : r ≡ k) (cells : ℕ) (ce : cells ≡ wordAt lists 10) where
+    module _ (rk : r ≡ k) (cells : ℕ) (ce : cells ≡ cellsOfMesh lists) where
       cells-is : listsOf b .cells ≡ cells
       unfolding listsIn
       cells-is = ap (λ (L : Lists). L .cells) (lists-is lists changes b o) ∙ sym ce
@@ -93,11 +94,11 @@ module _ (b : Bytes) (k : ℕ) (f : Bytes) where
       pub told-16 : length f < 4 * cells → Answered (Refused 16) f
       told-16 h = refused 16 (number-last true (lt-ltb _ _ h)) (λ z. omega (arith, z))
 
-      own-is : (owned : ℕ) → owned ≡ wordAt lists 11 → listsOf b .owned ≡ owned
+      own-is : (owned : ℕ) → owned ≡ ownedCount lists → listsOf b .owned ≡ owned
       unfolding listsIn
       own-is owned oe = ap (λ (L : Lists). L .owned) (lists-is lists changes b o) ∙ sym oe
 
-      pub told-done : 4 * cells ≤ length f → (owned : ℕ) → owned ≡ wordAt lists 11 → (x : Bytes) → x ≡ collectedIn (listsIn lists) changes b owned f → Answered (Done owned) x
+      pub told-done : 4 * cells ≤ length f → (owned : ℕ) → owned ≡ ownedCount lists → (x : Bytes) → x ≡ collectedIn (listsIn lists) changes b owned f → Answered (Done owned) x
       told-done h owned oe x e =
           let a = done (number-last false (le-ltb _ _ h)) in
           let q : listsOf b .owned ≡ owned = own-is owned oe in (

@@ -20,6 +20,7 @@ use Rattle.layout.specs.Answers.{answer}
 use Rattle.layout.specs.AnswerLaws.{answer-done, answer-refused, refuses, accepts}
 use Rattle.layout.specs.declared.Answer.{Answer}
 use Rattle.layout.specs.declared.Answer.the-variants.{Done, Refused}
+use Rattle.layout.specs.Limits.{mostElements, mostHeld, mostParts}
 use Rattle.mesh.specs.Mesh.{firstCell, cellCount}
 use Rattle.mesh.specs.Walks.{steps, bad13}
 use Rattle.round_rule.specs.Rules.{bad11}
@@ -56,16 +57,16 @@ module _ (m : Bytes) (parts : ℕ) (owners : Bytes) (i : ℕ) (st table : Bytes)
 
   -- a row with the classes that the tables tell
   row : Bytes
-  row = listed 0 2000 (classAt owners table ends i (cellCount m))
+  row = listed 0 mostElements (classAt owners table ends i (cellCount m))
 
   row-classed : Classed owners table ends i (cellCount m) row
   unfolding row
   row-classed = record {
-    room = listed-length 0 (classAt owners table ends i (cellCount m)) 2000;
-    each = λ x h. listed-at 0 (classAt owners table ends i (cellCount m)) 2000 x 0 h ∙ ap (classAt owners table ends i (cellCount m)) (zero-add x);
+    room = listed-length 0 (classAt owners table ends i (cellCount m)) mostElements;
+    each = λ x h. listed-at 0 (classAt owners table ends i (cellCount m)) mostElements x 0 h ∙ ap (classAt owners table ends i (cellCount m)) (zero-add x);
   }
 
-  few : cellCount m ≤ 2000
+  few : cellCount m ≤ mostElements
   few = cells-few m (cellCount m) (P .mesh) refl
 
   order-told : partOrder owners table ends i (firstCell m) (cellCount m) parts ≡ locals (splitOf m parts owners st) i
@@ -106,14 +107,14 @@ module _ (m : Bytes) (parts : ℕ) (owners : Bytes) (i : ℕ) (st table : Bytes)
     fit = λ order n there oe. fits order n (partOwned owners table ends i (firstCell m) (cellCount m)) there oe refl;
   }
 
-  sent-told : exportTally owners holders i (cellCount m) ≡ sentEnds owners table ends i (firstCell m) (cellCount m) 16
+  sent-told : exportTally owners holders i (cellCount m) ≡ sentEnds owners table ends i (firstCell m) (cellCount m) mostParts
   unfolding exportTally exportedAt
   sent-told =
       total-cong 0 (λ q. cond (ownsAt owners i q) (byteAt holders q - 1) 0) (λ q. cond (ownsAt owners i q) (holderCount (splitOf m parts owners st) (firstCell m + q) - 1) 0) (cellCount m)
       (λ q h. ap (λ x. cond (ownsAt owners i (0 + q)) (x - 1) 0) (R .held (0 + q) (omega arith)))
       ∙ sym (exports-told m parts owners st i (P .i-in .0) (P .i-high))
       ∙ sym (exports-sixteen m parts owners st table ends holders R i)
-      ∙ sym (unfold exportEnds in sent-ends m parts owners st table ends holders R i (P .i-in .0) (P .i-in .1) (firstCell m) (cellCount m) refl refl 16 (omega arith))
+      ∙ sym (unfold exportEnds in sent-ends m parts owners st table ends holders R i (P .i-in .0) (P .i-in .1) (firstCell m) (cellCount m) refl refl mostParts (omega arith))
 
   -- by the numbers that the code has
   module _ (part count first cells : ℕ) (pe : part ≡ i) (qe : count ≡ parts) (fe : first ≡ firstCell m) (ce : cells ≡ cellCount m) where
@@ -122,7 +123,7 @@ module _ (m : Bytes) (parts : ℕ) (owners : Bytes) (i : ℕ) (st table : Bytes)
         subst₂ (λ x y. TablesFit owners table ends x first cells y) (sym pe) (sym qe)
         (subst₂ (λ x y. TablesFit owners table ends i x y parts) (sym fe) (sym ce) fitting)
 
-    pub plan-mapped : (1 ≤ part) × (part ≤ 16) × (first + cells ≤ 65536) × (cells ≤ 2000) × (count ≤ 16) × OwnersFew owners cells count
+    pub plan-mapped : (1 ≤ part) × (part ≤ mostParts) × (first + cells ≤ 65536) × (cells ≤ mostElements) × (count ≤ mostParts) × OwnersFew owners cells count
     plan-mapped = (
       omega (arith, P .i-in .0),
       omega (arith, P .i-in .1),
@@ -139,7 +140,7 @@ module _ (m : Bytes) (parts : ℕ) (owners : Bytes) (i : ℕ) (st table : Bytes)
           subst₂ (λ x y. Drawn owners table ends i x y parts order n owned sent long) fe ce
           (subst₂ (λ x y. Drawn owners table ends x first cells y order n owned sent long) pe qe D)
 
-      sent-is : sent ≡ sentEnds owners table ends i (firstCell m) (cellCount m) 16
+      sent-is : sent ≡ sentEnds owners table ends i (firstCell m) (cellCount m) mostParts
       sent-is = te ∙ ap₂ (exportTally owners holders) xe ye ∙ sent-told
 
       pub plan-made : Planned m parts owners i st table ends order n owned long
@@ -151,10 +152,10 @@ module _ (m : Bytes) (parts : ℕ) (owners : Bytes) (i : ℕ) (st table : Bytes)
         long-is = drawn .long-is ∙ ap (λ x. exportsWord n owned (rowEnds table ends (firstCell m) order owned) + x) sent-is;
       }
 
-      pub plan-sent : (sent ≡ sentEnds owners table ends part first cells 16) × (sent ≤ 4096)
+      pub plan-sent : (sent ≡ sentEnds owners table ends part first cells mostParts) × (sent ≤ mostHeld)
       plan-sent = (
-        sent-is ∙ ap₂ (λ x y. sentEnds owners table ends i x y 16) (sym fe) (sym ce) ∙ ap (λ x. sentEnds owners table ends x first cells 16) (sym pe),
-        omega (arith, sent-is, sent-few m parts owners st table ends holders R i (P .i-in .0) (P .i-in .1) (firstCell m) (cellCount m) refl refl twelve 16 (omega arith)),
+        sent-is ∙ ap₂ (λ x y. sentEnds owners table ends i x y mostParts) (sym fe) (sym ce) ∙ ap (λ x. sentEnds owners table ends x first cells mostParts) (sym pe),
+        omega (arith, sent-is, sent-few m parts owners st table ends holders R i (P .i-in .0) (P .i-in .1) (firstCell m) (cellCount m) refl refl twelve mostParts (omega arith)),
       )
 
 -- ---- the bytes
@@ -201,7 +202,7 @@ module _ (m : Bytes) (parts : ℕ) (owners : Bytes) (i : ℕ) (st : Bytes) where
 
     module _ (zn : sizesNumber m parts owners st ≡ 0) (table : Bytes) (ends : List ℕ) (holders : Bytes) (R : Prepared m parts owners st table ends holders) (order : List ℕ) (n owned long : ℕ)
         (Q : Planned m parts owners i st table ends order n owned long) where
-      I : (1 ≤ i) × (i ≤ 16)
+      I : (1 ≤ i) × (i ≤ mostParts)
       I = passed-facts m parts owners i i st sn .i-in
 
       long-is : long ≡ listsLong (splitOf m parts owners st) i (locals (splitOf m parts owners st) i)
@@ -214,7 +215,7 @@ module _ (m : Bytes) (parts : ℕ) (owners : Bytes) (i : ℕ) (st : Bytes) where
             Q .owned-is,
             row-ends m parts owners st table ends holders R i (I .0) (I .1) (firstCell m) (cellCount m) refl refl order n owned (Q .order-is) (Q .held-is) (Q .owned-is) owned (omega arith),
             ap (reachEnds (splitOf m parts owners st) i (locals (splitOf m parts owners st) i)) (Q .owned-is),
-            sent-ends m parts owners st table ends holders R i (I .0) (I .1) (firstCell m) (cellCount m) refl refl 16 (omega arith),
+            sent-ends m parts owners st table ends holders R i (I .0) (I .1) (firstCell m) (cellCount m) refl refl mostParts (omega arith),
           )
 
       size-is : stateLength (2 * long) n ≡ stateSize (splitInput m parts owners st) i
@@ -294,7 +295,7 @@ module _ (m : Bytes) (parts : ℕ) (owners : Bytes) (i : ℕ) (st : Bytes) (kind
           size : stateLength (2 * long) n ≡ stateSize (splitInput m parts owners st) i
           size = size-is m parts owners i st sn zn table ends holders R order n owned long Q
 
-          I₂ : (1 ≤ i) × (i ≤ 16)
+          I₂ : (1 ≤ i) × (i ≤ mostParts)
           I₂ = passed-facts m parts owners i i st sn .i-in
 
           pub start-16 : length b < stateLength (2 * long) n → Answered (Refused 16) b
@@ -307,11 +308,11 @@ module _ (m : Bytes) (parts : ℕ) (owners : Bytes) (i : ℕ) (st : Bytes) (kind
                 subst (λ x. Fit owners table ends x first count order n owned) (sym pe)
                 (subst₂ (λ x y. Fit owners table ends i x y order n owned) (sym fe) (sym ke) (Q .fit))
 
-            pub start-long : long ≡ exportsWord n owned (rowEnds table ends first order owned) + sentEnds owners table ends part first count 16
+            pub start-long : long ≡ exportsWord n owned (rowEnds table ends first order owned) + sentEnds owners table ends part first count mostParts
             start-long =
                 Q .long-is
-                ∙ ap₂ (λ x y. exportsWord n owned (rowEnds table ends x order owned) + sentEnds owners table ends i x y 16) (sym fe) (sym ke)
-                ∙ ap (λ x. exportsWord n owned (rowEnds table ends first order owned) + sentEnds owners table ends x first count 16) (sym pe)
+                ∙ ap₂ (λ x y. exportsWord n owned (rowEnds table ends x order owned) + sentEnds owners table ends i x y mostParts) (sym fe) (sym ke)
+                ∙ ap (λ x. exportsWord n owned (rowEnds table ends first order owned) + sentEnds owners table ends x first count mostParts) (sym pe)
 
             pub start-cells : FieldCells f first order n
             start-cells =

@@ -6,6 +6,7 @@ use Prim.Native.Nat.{ℕ, _+_, _-_, _≤_}
 use native.Mathlib.Omega.{arith}
 use lib.ListN.{length, getD, take}
 use Rattle.vocabulary.specs.Bytes.{Bytes}
+use Rattle.layout.specs.Limits.{elementPlaces, mostElements, mostParts}
 use Rattle.mesh.specs.Mesh.{firstCell, cellCount}
 use Rattle.mesh.specs.Walks.{bad13}
 use Rattle.round.specs.Rounds.{bad14}
@@ -18,9 +19,10 @@ use Rattle.part_start_lists.specs.Starting.{Fit, FieldCells}
 use Rattle.part_start.proofs.StartWords.{got-all, long-few, order-few, own-few, order-low, cell-at, entry-high}
 
 module _ (m : Bytes) (parts : ℕ) (owners st table : Bytes) (ends : List ℕ) (holders : Bytes) (R : Prepared m parts owners st table ends holders)
-    (i : ℕ) (low : 1 ≤ i) (high : i ≤ 16) (first cells : ℕ) (fe : first ≡ firstCell m) (ce : cells ≡ cellCount m)
-    (order : List ℕ) (n own : ℕ) (oe : take n order ≡ locals (splitOf m parts owners st) i) (ne : n ≡ length (locals (splitOf m parts owners st) i)) (we : own ≡ ownedIn (splitOf m parts owners st) i) where
-  cells-in : first + cells ≤ 2001
+    (i : ℕ) (low : 1 ≤ i) (high : i ≤ mostParts) (first cells : ℕ) (fe : first ≡ firstCell m) (ce : cells ≡ cellCount m)
+    (order : List ℕ) (n own : ℕ) (oe : take n order ≡ locals (splitOf m parts owners st) i) (ne : n ≡ length (locals (splitOf m parts owners st) i))
+    (we : own ≡ ownedIn (splitOf m parts owners st) i) where
+  cells-in : first + cells ≤ elementPlaces
   cells-in = omega (arith, R .mesh .cells-in, R .mesh .sizes .n-high)
 
   low-at : (l : ℕ) → 1 ≤ l → l ≤ n → first ≤ getD order (l - 1) 0
@@ -29,7 +31,7 @@ module _ (m : Bytes) (parts : ℕ) (owners st table : Bytes) (ends : List ℕ) (
   own-le : own ≤ n
   own-le = own-few m parts owners st table ends holders R i low high first cells fe ce order n own oe ne we
 
-  n-few : n ≤ 2000
+  n-few : n ≤ mostElements
   n-few = order-few m parts owners st table ends holders R i low high first cells fe ce order n own oe ne we
 
   pub fit-from : n ≤ length order → bad12 (splitOf m parts owners st) ≡ false → bad13 m st ≡ false → Fit owners table ends i first cells order n own

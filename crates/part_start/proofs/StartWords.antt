@@ -16,6 +16,7 @@ use Rattle.vocabulary.specs.Intervals.{picked, listed, blocks, total}
 use Rattle.vocabulary.specs.IntervalLaws.{listed-cong, listed-back, blocks-moved, blocks-cong, blocks-length, joined-mapped, total-cong, total-agree, total-grows, total-has, total-mono}
 use Rattle.vocabulary.specs.CountLaws.{total-add}
 use Rattle.layout.specs.Words.{wordAt}
+use Rattle.layout.specs.Limits.{elementPlaces, mostElements, mostHeld, mostParts, mostReached}
 use Rattle.mesh.specs.Mesh.{firstCell, cellCount}
 use Rattle.mesh.specs.Walks.{Near, reach, layer, steps, bad13}
 use Rattle.mesh.specs.WalkLaws.{reach-in}
@@ -110,7 +111,7 @@ module _ (m : Bytes) (parts : ℕ) (owners st table : Bytes) (ends : List ℕ) (
   abbrev S : Split
   S = splitOf m parts owners st
 
-  few-parts : S .parts ≤ 16
+  few-parts : S .parts ≤ mostParts
   unfolding splitOf
   few-parts = map-facts m parts owners [] (R .map) .few
 
@@ -126,9 +127,9 @@ module _ (m : Bytes) (parts : ℕ) (owners st table : Bytes) (ends : List ℕ) (
   row-more q h = omega (arith, row-start q h, R .ended .each (q + 1) (omega arith), count-more m st q)
 
   -- how many entries the first cells' reaches have together
-  pub entries-few : bad13 m st ≡ false → (q : ℕ) → q ≤ cellCount m → entryCount m st q ≤ 8000
+  pub entries-few : bad13 m st ≡ false → (q : ℕ) → q ≤ cellCount m → entryCount m st q ≤ mostReached
   unfolding bad13 entryCount
-  entries-few e q h = omega (arith, ltb-false 8000 (total (firstCell m) (cellCount m) (λ c. length (reach m st c))) e, total-grows (firstCell m) (λ c. length (reach m st c)) q (cellCount m) h)
+  entries-few e q h = omega (arith, ltb-false mostReached (total (firstCell m) (cellCount m) (λ c. length (reach m st c))) e, total-grows (firstCell m) (λ c. length (reach m st c)) q (cellCount m) h)
 
   -- no part imports more than it holds
   imports-held : (j i : ℕ) → 1 ≤ i → length (imports S j i) ≤ length (held S j)
@@ -146,54 +147,54 @@ module _ (m : Bytes) (parts : ℕ) (owners st table : Bytes) (ends : List ℕ) (
             ap (λ k. length (imports S j k)) z,
           )
 
-  pub exports-sixteen : (i : ℕ) → total 1 16 (λ j. length (exports S i j)) ≡ total 1 parts (λ j. length (exports S i j))
+  pub exports-sixteen : (i : ℕ) → total 1 mostParts (λ j. length (exports S i j)) ≡ total 1 parts (λ j. length (exports S i j))
   unfolding splitOf
   exports-sixteen i = export-total S (split-reach m parts owners st) owner-in i few-parts
 
-  pub exports-few : bad12 S ≡ false → (i : ℕ) → 1 ≤ i → total 1 16 (λ j. length (exports S i j)) ≤ 4096
+  pub exports-few : bad12 S ≡ false → (i : ℕ) → 1 ≤ i → total 1 mostParts (λ j. length (exports S i j)) ≤ mostHeld
   unfolding bad12 exports
   exports-few e i h =
       omega (
         arith,
-        ltb-false 4096 (total 1 (S .parts) (λ j. length (held S j))) e,
+        ltb-false mostHeld (total 1 (S .parts) (λ j. length (held S j))) e,
         export-total S (split-reach m parts owners st) owner-in i few-parts,
         total-mono 1 (λ j. length (imports S j i)) (λ j. length (held S j)) (S .parts) (λ j q. imports-held (1 + j) i h),
       )
 
-  module _ (i : ℕ) (low : 1 ≤ i) (high : i ≤ 16) (first cells : ℕ) (fe : first ≡ firstCell m) (ce : cells ≡ cellCount m) where
+  module _ (i : ℕ) (low : 1 ≤ i) (high : i ≤ mostParts) (first cells : ℕ) (fe : first ≡ firstCell m) (ce : cells ≡ cellCount m) where
     abbrev L : List ℕ
     L = locals S i
 
     -- ---- imports and exports
 
-    cells-are : (k j : ℕ) → k ≤ 16 → 1 ≤ j → j ≤ 16 → partCells owners table ends k first cells j ≡ imports S k j
+    cells-are : (k j : ℕ) → k ≤ mostParts → 1 ≤ j → j ≤ mostParts → partCells owners table ends k first cells j ≡ imports S k j
     cells-are k j h l q = part-imports m parts owners st table ends holders R j k first cells fe ce l q
 
-    pub sent-ends : (j : ℕ) → j ≤ 16 → sentEnds owners table ends i first cells j ≡ exportEnds S i L j
+    pub sent-ends : (j : ℕ) → j ≤ mostParts → sentEnds owners table ends i first cells j ≡ exportEnds S i L j
     unfolding sentEnds exportEnds exports
-    sent-ends j h = total-agree (λ k. length (partCells owners table ends k first cells i)) (λ k. length (exports S i k)) 16 j h (λ k l q. ap length (cells-are k i q low high))
+    sent-ends j h = total-agree (λ k. length (partCells owners table ends k first cells i)) (λ k. length (exports S i k)) mostParts j h (λ k l q. ap length (cells-are k i q low high))
 
-    pub sent-few : bad12 S ≡ false → (j : ℕ) → j ≤ 16 → sentEnds owners table ends i first cells j ≤ 4096
+    pub sent-few : bad12 S ≡ false → (j : ℕ) → j ≤ mostParts → sentEnds owners table ends i first cells j ≤ mostHeld
     sent-few e j h =
-        let g : exportEnds S i L j ≤ total 1 16 (λ k. length (exports S i k)) = unfold exportEnds in total-grows 1 (λ k. length (exports S i k)) j 16 h in
+        let g : exportEnds S i L j ≤ total 1 mostParts (λ k. length (exports S i k)) = unfold exportEnds in total-grows 1 (λ k. length (exports S i k)) j mostParts h in
         omega (arith, sent-ends j h, exports-few e i low)
 
     module _ (order : List ℕ) (n own : ℕ) (oe : take n order ≡ locals S i) (ne : n ≡ length (locals S i)) (we : own ≡ ownedIn S i) where
-      pub got-ends : (j : ℕ) → j ≤ 16 → gotEnds owners table ends i first cells own j ≡ importEnds S i L j
+      pub got-ends : (j : ℕ) → j ≤ mostParts → gotEnds owners table ends i first cells own j ≡ importEnds S i L j
       unfolding gotEnds importEnds
-      got-ends j h = ap₂ _+_ we (total-agree (λ k. length (partCells owners table ends i first cells k)) (λ k. length (imports S i k)) 16 j h (λ k l q. ap length (cells-are i k high l q)))
+      got-ends j h = ap₂ _+_ we (total-agree (λ k. length (partCells owners table ends i first cells k)) (λ k. length (imports S i k)) mostParts j h (λ k l q. ap length (cells-are i k high l q)))
 
       -- all imports are all that is held
-      pub got-all : gotEnds owners table ends i first cells own 16 ≡ n
+      pub got-all : gotEnds owners table ends i first cells own mostParts ≡ n
       unfolding importEnds
-      got-all = omega (arith, got-ends 16 (omega arith), order-length S i, import-total S (split-reach m parts owners st) owner-in i few-parts)
+      got-all = omega (arith, got-ends mostParts (omega arith), order-length S i, import-total S (split-reach m parts owners st) owner-in i few-parts)
 
       -- ---- the order
 
       pub order-at : (k : ℕ) → k < n → getD order k 0 ≡ getD L k 0
       order-at k h = sym (getD-take n order k 0 h) ∙ ap (λ xs. getD xs k 0) oe
 
-      pub order-few : n ≤ 2000
+      pub order-few : n ≤ mostElements
       order-few = omega (arith, locals-few m parts owners st table ends holders R i)
 
       pub own-few : own ≤ n
@@ -208,7 +209,7 @@ module _ (m : Bytes) (parts : ℕ) (owners st table : Bytes) (ends : List ℕ) (
       pub order-low : (k : ℕ) → k < n → first ≤ getD order k 0
       order-low k h = omega (arith, cell-at k h .0)
 
-      pub order-high : (k : ℕ) → k < n → getD order k 0 ≤ 2000
+      pub order-high : (k : ℕ) → k < n → getD order k 0 ≤ mostElements
       order-high k h = omega (arith, cell-at k h .1, R .mesh .cells-in, R .mesh .sizes .n-high)
 
       -- the array has the local number of each cell of the order
@@ -216,10 +217,10 @@ module _ (m : Bytes) (parts : ℕ) (owners st table : Bytes) (ends : List ℕ) (
       unfolding localIn localOf globalOf
       local-is c h e =
           let k : localOf L c - 1 < n = omega (arith, ne) in
-          let few : c ≤ 2000 = omega (arith, order-high (localOf L c - 1) k, order-at (localOf L c - 1) k, e) in
-          ap (λ cs. getD (numbering 0 cs (replicate 2001 0)) c 0) oe ∙ numbered L (replicate 2001 0) c h (omega (arith, length-replicate {A = ℕ} 2001 0))
+          let few : c ≤ mostElements = omega (arith, order-high (localOf L c - 1) k, order-at (localOf L c - 1) k, e) in
+          ap (λ cs. getD (numbering 0 cs (replicate elementPlaces 0)) c 0) oe ∙ numbered L (replicate elementPlaces 0) c h (omega (arith, length-replicate {A = ℕ} elementPlaces 0))
 
-      pub sent-words : (j : ℕ) → 1 ≤ j → j ≤ 16 → sentWords owners table ends i first cells (numbersOf order n) j ≡ exportWords S i L j
+      pub sent-words : (j : ℕ) → 1 ≤ j → j ≤ mostParts → sentWords owners table ends i first cells (numbersOf order n) j ≡ exportWords S i L j
       unfolding sentWords exportWords exports
       sent-words j l h =
           ap (map (localIn (numbersOf order n))) (cells-are j i h low high)
@@ -254,17 +255,17 @@ module _ (m : Bytes) (parts : ℕ) (owners st table : Bytes) (ends : List ℕ) (
         -- the cell of an entry
         entry-cell : (t : ℕ) → t < length (reach m st (firstCell m + place))
             → (first + wordAt table (2 * (entryCount m st place + t)) ≡ getD (reach m st (firstCell m + place)) t (record { cell = 0; layer = 0 }) .cell)
-            × (first + wordAt table (2 * (entryCount m st place + t)) ≤ 2000)
+            × (first + wordAt table (2 * (entryCount m st place + t)) ≤ mostElements)
         entry-cell t q =
             let d : Near = record { cell = 0; layer = 0 } in
             let w = R .entries place t d place-in q in
             let r = All-getD (λ e. (firstCell m ≤ e .cell) × (e .cell < firstCell m + cellCount m)) (reach m st (firstCell m + place)) t d (reach-in m st (firstCell m + place)) q in
             (omega (arith, w .0, r .0), omega (arith, w .0, r .0, r .1, R .mesh .cells-in, R .mesh .sizes .n-high))
 
-        pub entry-high : (t : ℕ) → getD ends (placeAt table ends first order l) 0 ≤ t → t < getD ends (placeAt table ends first order l + 1) 0 → first + wordAt table (2 * t) ≤ 2000
+        pub entry-high : (t : ℕ) → getD ends (placeAt table ends first order l) 0 ≤ t → t < getD ends (placeAt table ends first order l + 1) 0 → first + wordAt table (2 * t) ≤ mostElements
         entry-high t a b =
             let e : entryCount m st place + (t - entryCount m st place) ≡ t = omega (arith, row-start place place-in) in
-            subst (λ x. first + wordAt table (2 * x) ≤ 2000) e (entry-cell (t - entryCount m st place) (omega (arith, row-start place place-in, row-more place place-in)) .1)
+            subst (λ x. first + wordAt table (2 * x) ≤ mostElements) e (entry-cell (t - entryCount m st place) (omega (arith, row-start place place-in, row-more place place-in)) .1)
 
         entry-words : (t : ℕ) → t < length (reach m st (firstCell m + place))
             → entryWords table first (numbersOf order n) (entryCount m st place + t)
@@ -291,20 +292,20 @@ module _ (m : Bytes) (parts : ℕ) (owners st table : Bytes) (ends : List ℕ) (
       unfolding rowEnds reachEnds
       row-ends l h = total-agree (rowSize table ends first order) (λ k. length (reachOf S i L k)) own l h row-size
 
-      pub ends-few : bad13 m st ≡ false → (l : ℕ) → l ≤ own → rowEnds table ends first order l ≤ 8000
+      pub ends-few : bad13 m st ≡ false → (l : ℕ) → l ≤ own → rowEnds table ends first order l ≤ mostReached
       unfolding splitOf entryCount
       ends-few e l h = omega (arith, row-ends l h, ends-part S i l (omega arith), entries-few e (cellCount m) (omega arith))
 
       -- ---- all words
 
-      head-is : exportsWord n own (rowEnds table ends first order own) + sentEnds owners table ends i first cells 16 ≡ listsLong S i L
+      head-is : exportsWord n own (rowEnds table ends first order own) + sentEnds owners table ends i first cells mostParts ≡ listsLong S i L
       unfolding listsLong
-      head-is = omega (arith, row-ends own (omega arith), ap (reachEnds S i L) we, sent-ends 16 (omega arith))
+      head-is = omega (arith, row-ends own (omega arith), ap (reachEnds S i L) we, sent-ends mostParts (omega arith))
 
       -- the count of all words
       pub long-few : bad12 S ≡ false → bad13 m st ≡ false
-          → exportsWord n own (rowEnds table ends first order own) + sentEnds owners table ends i first cells 16 ≤ 24142
-      long-few e f = omega (arith, order-few, own-few, ends-few f own (omega arith), sent-few e 16 (omega arith))
+          → exportsWord n own (rowEnds table ends first order own) + sentEnds owners table ends i first cells mostParts ≤ 24142
+      long-few e f = omega (arith, order-few, own-few, ends-few f own (omega arith), sent-few e mostParts (omega arith))
 
       pub start-words : (kind : ℕ) (v : Bytes) → startWords owners table ends i first cells order n own (steps st) kind v ≡ joined (listsRegions S i L (steps st) kind v)
       unfolding numberedWords listsRegions splitOf
@@ -313,8 +314,8 @@ module _ (m : Bytes) (parts : ℕ) (owners st table : Bytes) (ends : List ℕ) (
           (ap₂ _∷_ (ap (λ x. x ∷ i ∷ steps st ∷ kind ∷ []) head-is)
           (ap (λ rs. listed 0 5 (wordAt v) ∷ rs)
           (ap₂ _∷_ (ap₂ (λ x y. x ∷ y ∷ []) fe ce)
-          (ap₂ _∷_ (listed-cong 0 (gotEnds owners table ends i first cells own) (importEnds S i L) 17 (λ j h. got-ends (0 + j) (omega arith)))
-          (ap₂ _∷_ (listed-cong 0 (sentEnds owners table ends i first cells) (exportEnds S i L) 17 (λ j h. sent-ends (0 + j) (omega arith)))
+          (ap₂ _∷_ (listed-cong 0 (gotEnds owners table ends i first cells own) (importEnds S i L) (mostParts + 1) (λ j h. got-ends (0 + j) (omega arith)))
+          (ap₂ _∷_ (listed-cong 0 (sentEnds owners table ends i first cells) (exportEnds S i L) (mostParts + 1) (λ j h. sent-ends (0 + j) (omega arith)))
           (ap₂ _∷_ oe
           (ap₂ _∷_
           (listed-cong 0 (rowEnds table ends first order) (reachEnds S i L) (own + 1) (λ j h. row-ends (0 + j) (omega arith)) ∙ ap (λ x. listed 0 (x + 1) (reachEnds S i L)) we)
@@ -322,4 +323,4 @@ module _ (m : Bytes) (parts : ℕ) (owners st table : Bytes) (ends : List ℕ) (
           (blocks-cong 1 (rowWords table ends first order (numbersOf order n)) (reachWords S i L) own (λ j h. row-words (1 + j) (omega arith) (omega arith))
           ∙ ap (λ x. blocks 1 x (reachWords S i L)) we)
           (ap (λ r. r ∷ [])
-          (blocks-cong 1 (sentWords owners table ends i first cells (numbersOf order n)) (exportWords S i L) 16 (λ j h. sent-words (1 + j) (omega arith) (omega arith))))))))))))
+          (blocks-cong 1 (sentWords owners table ends i first cells (numbersOf order n)) (exportWords S i L) mostParts (λ j h. sent-words (1 + j) (omega arith) (omega arith))))))))))))

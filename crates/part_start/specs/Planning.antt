@@ -4,6 +4,7 @@ use mathlib.Core.List.{List}
 use Prim.Native.Nat.{ℕ, _+_}
 use lib.ListN.{length, take}
 use Rattle.vocabulary.specs.Bytes.{Bytes}
+use Rattle.layout.specs.Limits.{mostParts}
 use Rattle.mesh.specs.Mesh.{firstCell, cellCount}
 use Rattle.split.specs.Split.{splitOf, locals}
 use Rattle.part_state.specs.State.{exportsWord}
@@ -16,4 +17,4 @@ pub record Planned (m : Bytes) (parts : ℕ) (owners : Bytes) (i : ℕ) (st tabl
   pub held-is : n ≡ length (locals (splitOf m parts owners st) i)
   pub owned-is : owned ≡ ownedIn (splitOf m parts owners st) i
   pub fit : Fit owners table ends i (firstCell m) (cellCount m) order n owned
-  pub long-is : long ≡ exportsWord n owned (rowEnds table ends (firstCell m) order owned) + sentEnds owners table ends i (firstCell m) (cellCount m) 16
+  pub long-is : long ≡ exportsWord n owned (rowEnds table ends (firstCell m) order owned) + sentEnds owners table ends i (firstCell m) (cellCount m) mostParts

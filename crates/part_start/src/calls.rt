@@ -29,6 +29,7 @@ ghost use Prim.Native.Nat.{_*_, _<_, _≤_};
 ghost use lib.ListN.{length, replicate};
 ghost use Rattle.vocabulary.specs.Bytes.{over};
 ghost use Rattle.vocabulary.specs.Intervals.{blocks};
+ghost use Rattle.layout.specs.Limits.{mostElements};
 ghost use Rattle.mesh.specs.Mesh.{firstCell, cellCount};
 ghost use Rattle.part_state.specs.State.{stateLength, depthsPlace};
 ghost use Rattle.part_start.specs.Start.{inputs, sizeAnswer, startAnswer, startState};
@@ -40,7 +41,7 @@ fn put_rest(b: &mut [u8], plan: Plan, f: &[u8], order: &[u16])
     requires { ⌜
         (stateLength (2 * plan .long) (plan .held) ≤ length (now b))
         × (plan .long < 65536)
-        × (plan .held ≤ 2000)
+        × (plan .held ≤ mostElements)
         × FieldCells (now f) (plan .first) (now order) (plan .held)
         ⌝ }
     ensures { λ _. ⌜

@@ -19,6 +19,7 @@ use Rattle.split.specs.Numbering.{numbering}
 use Rattle.split.specs.Classes.{ownsAt, insideAt, reachHas, reachedAt, classAt, classCount, partCells, Classed, Few, Appended}
 use Rattle.split.specs.Groups.{group, Grouped}
 use Rattle.vocabulary.specs.Lists.{Zeros}
+use Rattle.layout.specs.Limits.{elementPlaces, mostElements, mostParts}
 use Rattle.split_cells.proofs.AddLaws.{add-none, add-both, count-start, count-turn, place-one, place-none, class-count, class-few}
 use Rattle.split_cells.proofs.ClassLists.{row-cells}
 use Rattle.part_start_lists.specs.Starting.{numbersOf, countAt, endsBy, Tallied, Got, Sent, OwnersFew, sentEnds, sentList, exportedAt, exportTally, Stamped, reachedFrom, classAmong}
@@ -47,7 +48,7 @@ module _ (class : Bytes) where
       go true e = omega (arith, T .each k (ltb-true k 19 e), class-count class k 0 q, class-few class 0 q k)
       go false e = omega (arith, past k 19 counts (T .size) (ltb-false k 19 e))
 
-  pub tally-room : (q k n cells : ℕ) (counts : List ℕ) → Tallied class q counts → n ≡ getD counts k 0 → q < cells → cells ≤ 2000 → n + 1 < 65536
+  pub tally-room : (q k n cells : ℕ) (counts : List ℕ) → Tallied class q counts → n ≡ getD counts k 0 → q < cells → cells ≤ mostElements → n + 1 < 65536
   unfolding countAt
   tally-room q k n cells counts T e h l = omega (arith, tally-few q k counts T)
 
@@ -77,10 +78,11 @@ module _ (class : Bytes) where
 
 module _ (owners table : Bytes) (ends : List ℕ) (i cells : ℕ) where
   -- what a row counts
-  row-told : (j first k n : ℕ) (class : Bytes) → cells ≤ 2000 → Classed owners table ends j cells class → n ≡ classCount class cells k → n ≡ length (partCells owners table ends j first cells k)
+  row-told : (j first k n : ℕ) (class : Bytes) → cells ≤ mostElements → Classed owners table ends j cells class → n ≡ classCount class cells k
+      → n ≡ length (partCells owners table ends j first cells k)
   row-told j first k n class few C e = e ∙ sym (class-count class k first cells) ∙ ap length (row-cells owners table ends j first cells k class few C)
 
-  pub got-told : (class : Bytes) (got : List ℕ) → cells ≤ 2000 → Classed owners table ends i cells class → Tallied class cells got → Got owners table ends i cells got
+  pub got-told : (class : Bytes) (got : List ℕ) → cells ≤ mostElements → Classed owners table ends i cells class → Tallied class cells got → Got owners table ends i cells got
   got-told class got few C T = record { each = λ first k low high. row-told i first k (countAt got k) class few C (T .each k (omega arith)) }
 
   -- how many they are does not depend on where the cells' numbers begin
@@ -97,7 +99,7 @@ module _ (owners table : Bytes) (ends : List ℕ) (i cells : ℕ) where
       one q false = refl
 
   -- in its own row no cell has the part's number
-  own-class : 1 ≤ i → i ≤ 16 → (q : ℕ) → eqb (classAt owners table ends i cells q) i ≡ false
+  own-class : 1 ≤ i → i ≤ mostParts → (q : ℕ) → eqb (classAt owners table ends i cells q) i ≡ false
   unfolding classAt ownsAt
   own-class low high q = go (eqb (byteAt owners q) i) refl (ltb q cells) (insideAt owners table ends i q) (reachedAt owners table ends i cells q)
     where
@@ -108,21 +110,21 @@ module _ (owners table : Bytes) (ends : List ℕ) (i cells : ℕ) where
       go false e l s true = e
       go false e l s false = ne-eqb 0 i (λ z. let no : ⊥ = omega arith in no)
 
-  own-none : (j first : ℕ) → 1 ≤ i → i ≤ 16 → j ≡ i → partCells owners table ends j first cells i ≡ []
+  own-none : (j first : ℕ) → 1 ≤ i → i ≤ mostParts → j ≡ i → partCells owners table ends j first cells i ≡ []
   unfolding partCells
   own-none j first low high e =
       ap (λ x. partCells owners table ends x first cells i) e
       ∙ blocks-empty 0 (λ q. cond (eqb (classAt owners table ends i cells q) i) ((first + q) ∷ []) []) cells
       (λ q h. ap (λ b. cond b ((first + (0 + q)) ∷ []) []) (own-class low high (0 + q)))
 
-  pub sent-start : (sent : List ℕ) → sent ≡ replicate 17 0 → Sent owners table ends i cells 0 sent
+  pub sent-start : (sent : List ℕ) → sent ≡ replicate (mostParts + 1) 0 → Sent owners table ends i cells 0 sent
   sent-start sent e = record {
-    size = ap length e ∙ length-replicate {A = ℕ} 17 0;
+    size = ap length e ∙ length-replicate {A = ℕ} (mostParts + 1) 0;
     each = λ first k low high. let no : ⊥ = omega arith in absurd no;
-    rest = λ k h. cleared 17 k sent e;
+    rest = λ k h. cleared (mostParts + 1) k sent e;
   }
 
-  pub sent-turn : (j parts n : ℕ) (sent after : List ℕ) → j < parts → parts ≤ 16 → Sent owners table ends i cells j sent → n ≡ length (partCells owners table ends (j + 1) 0 cells i)
+  pub sent-turn : (j parts n : ℕ) (sent after : List ℕ) → j < parts → parts ≤ mostParts → Sent owners table ends i cells j sent → n ≡ length (partCells owners table ends (j + 1) 0 cells i)
       → after ≡ set sent (j + 1) n → Sent owners table ends i cells (j + 1) after
   unfolding countAt
   sent-turn j parts n sent after h few X ne e = record {
@@ -162,15 +164,15 @@ module _ (owners table : Bytes) (ends : List ℕ) (i cells : ℕ) where
         blocks-empty 0 (λ q. cond (eqb (classAt owners table ends k cells q) i) ((first + q) ∷ []) []) cells
         (λ q l. ap (λ b. cond b ((first + (0 + q)) ∷ []) []) (ap (λ x. eqb x i) (class-none (0 + q) (omega arith)) ∙ ne-eqb 0 i (λ e. let no : ⊥ = omega arith in no)))
 
-  pub sent-end : (parts j : ℕ) (sent : List ℕ) → j ≤ parts → parts ≤ j → 1 ≤ i → parts ≤ 16 → OwnersFew owners cells parts → Sent owners table ends i cells j sent
-      → Sent owners table ends i cells 16 sent
+  pub sent-end : (parts j : ℕ) (sent : List ℕ) → j ≤ parts → parts ≤ j → 1 ≤ i → parts ≤ mostParts → OwnersFew owners cells parts → Sent owners table ends i cells j sent
+      → Sent owners table ends i cells mostParts sent
   sent-end parts j sent g h low few M X = record {
     size = X .size;
     each = λ first k a b. told first k a b (ltb parts k) refl;
-    rest = λ k l. past k 17 sent (X .size) (omega arith);
+    rest = λ k l. past k (mostParts + 1) sent (X .size) (omega arith);
   }
     where
-      told : (first k : ℕ) → 1 ≤ k → k ≤ 16 → (b : Bool) → ltb parts k ≡ b → countAt sent k ≡ length (partCells owners table ends k first cells i)
+      told : (first k : ℕ) → 1 ≤ k → k ≤ mostParts → (b : Bool) → ltb parts k ≡ b → countAt sent k ≡ length (partCells owners table ends k first cells i)
       told first k a b true w = X .rest k (omega (arith, ltb-true parts k w)) ∙ sym (ap length (cells-none parts M k (ltb-true parts k w) first low))
       told first k a b false w = X .each first k a (omega (arith, ltb-false parts k w))
 
@@ -192,14 +194,14 @@ module _ (counts : List ℕ) where
     unfolding endsBy
     ends-turn k e x p q = omega (arith, p, sum-turn k (total 1 k (countAt counts)) x refl q)
 
-    module _ (small : endsBy counts base 16 < 65536) where
+    module _ (small : endsBy counts base mostParts < 65536) where
       pub ends-base : base < 65536
       unfolding endsBy
       ends-base = omega (arith, small)
 
-      pub ends-small : (k e x : ℕ) → k < 16 → e ≡ endsBy counts base k → x ≡ getD counts (k + 1) 0 → e + x < 65536
+      pub ends-small : (k e x : ℕ) → k < mostParts → e ≡ endsBy counts base k → x ≡ getD counts (k + 1) 0 → e + x < 65536
       ends-small k e x h p q =
-          let g : endsBy counts base (k + 1) ≤ endsBy counts base 16 = unfold endsBy in omega (arith, total-grows 1 (countAt counts) (k + 1) 16 (omega arith)) in
+          let g : endsBy counts base (k + 1) ≤ endsBy counts base mostParts = unfold endsBy in omega (arith, total-grows 1 (countAt counts) (k + 1) mostParts (omega arith)) in
           omega (arith, small, ends-turn k e x p q)
 
 -- ---- how many cells are exported
@@ -260,46 +262,46 @@ module _ (owners table : Bytes) (ends : List ℕ) (i first cells : ℕ) where
   unfolding sentList
   sent-begin list = subst (Appended list list 0 0) (sym (blocks-start 1 (λ j. partCells owners table ends j first cells i))) (add-none list 0)
 
-  pub sent-all : (parts k n : ℕ) (a b : List ℕ) → k ≤ parts → parts ≤ k → 1 ≤ i → parts ≤ 16 → OwnersFew owners cells parts → Appended a b 0 n (sentList owners table ends i first cells k)
-      → Appended a b 0 n (sentList owners table ends i first cells 16)
+  pub sent-all : (parts k n : ℕ) (a b : List ℕ) → k ≤ parts → parts ≤ k → 1 ≤ i → parts ≤ mostParts → OwnersFew owners cells parts → Appended a b 0 n (sentList owners table ends i first cells k)
+      → Appended a b 0 n (sentList owners table ends i first cells mostParts)
   unfolding sentList
   sent-all parts k n a b g h low few M X =
-      let z : parts + (16 - parts) ≡ 16 = omega arith in
+      let z : parts + (mostParts - parts) ≡ mostParts = omega arith in
       let e : k ≡ parts = omega arith in
       subst (Appended a b 0 n)
       (ap (λ x. blocks 1 x (λ j. partCells owners table ends j first cells i)) e
-      ∙ sym (blocks-short 1 parts (16 - parts) (λ j. partCells owners table ends j first cells i) (λ x l w. cells-none owners table ends i cells parts M (1 + x) (omega arith) first low))
+      ∙ sym (blocks-short 1 parts (mostParts - parts) (λ j. partCells owners table ends j first cells i) (λ x l w. cells-none owners table ends i cells parts M (1 + x) (omega arith) first low))
       ∙ ap (λ x. blocks 1 x (λ j. partCells owners table ends j first cells i)) z) X
 
   -- once all exports are listed, the later parts take none
-  module _ (parts k n : ℕ) (a b : List ℕ) (l : k < parts) (few : parts ≤ 16) (e : n ≡ sentEnds owners table ends i first cells 16)
+  module _ (parts k n : ℕ) (a b : List ℕ) (l : k < parts) (few : parts ≤ mostParts) (e : n ≡ sentEnds owners table ends i first cells mostParts)
       (X : Appended a b 0 n (sentList owners table ends i first cells k)) where
-    later-none : (x : ℕ) → k ≤ x → x < k + (16 - k) → partCells owners table ends (1 + x) first cells i ≡ []
+    later-none : (x : ℕ) → k ≤ x → x < k + (mostParts - k) → partCells owners table ends (1 + x) first cells i ≡ []
     unfolding sentEnds sentList
     later-none =
-        let z : k + (16 - k) ≡ 16 = omega arith in
-        blocks-full 1 k (16 - k) (λ j. partCells owners table ends j first cells i)
+        let z : k + (mostParts - k) ≡ mostParts = omega arith in
+        blocks-full 1 k (mostParts - k) (λ j. partCells owners table ends j first cells i)
         (sym (blocks-length 1 (λ j. partCells owners table ends j first cells i) k)
         ∙ (let c : length (blocks 1 k (λ j. partCells owners table ends j first cells i)) ≡ n = omega (arith, X .count) in c)
         ∙ e
         ∙ ap (λ y. total 1 y (λ j. length (partCells owners table ends j first cells i))) (sym z))
 
-    pub sent-full : Appended a b 0 n (sentList owners table ends i first cells 16)
+    pub sent-full : Appended a b 0 n (sentList owners table ends i first cells mostParts)
     unfolding sentList
     sent-full =
-        let z : k + (16 - k) ≡ 16 = omega arith in
+        let z : k + (mostParts - k) ≡ mostParts = omega arith in
         subst (Appended a b 0 n)
-        (sym (blocks-short 1 k (16 - k) (λ j. partCells owners table ends j first cells i) later-none)
+        (sym (blocks-short 1 k (mostParts - k) (λ j. partCells owners table ends j first cells i) later-none)
         ∙ ap (λ x. blocks 1 x (λ j. partCells owners table ends j first cells i)) z) X
 
-    pub sent-filled : (sent : List ℕ) → Sent owners table ends i cells k sent → Sent owners table ends i cells 16 sent
+    pub sent-filled : (sent : List ℕ) → Sent owners table ends i cells k sent → Sent owners table ends i cells mostParts sent
     sent-filled sent Y = record {
       size = Y .size;
       each = λ f j low high. told f j low high (ltb k j) refl;
-      rest = λ j h. past j 17 sent (Y .size) (omega arith);
+      rest = λ j h. past j (mostParts + 1) sent (Y .size) (omega arith);
     }
       where
-        told : (f j : ℕ) → 1 ≤ j → j ≤ 16 → (c : Bool) → ltb k j ≡ c → countAt sent j ≡ length (partCells owners table ends j f cells i)
+        told : (f j : ℕ) → 1 ≤ j → j ≤ mostParts → (c : Bool) → ltb k j ≡ c → countAt sent j ≡ length (partCells owners table ends j f cells i)
         told f j low high true w =
             let p : 1 + (j - 1) ≡ j = omega arith in
             let g : k < j = ltb-true k j w in
@@ -311,7 +313,7 @@ module _ (owners table : Bytes) (ends : List ℕ) (i first cells : ℕ) where
         told f j low high false w = Y .each f j low (omega (arith, ltb-false k j w))
 
   -- to itself the part exports nothing
-  module _ (low : 1 ≤ i) (high : i ≤ 16) (k : ℕ) (own : k + 1 ≡ i) where
+  module _ (low : 1 ≤ i) (high : i ≤ mostParts) (k : ℕ) (own : k + 1 ≡ i) where
     pub sent-pass : (n : ℕ) (a b : List ℕ) → Appended a b 0 n (sentList owners table ends i first cells k) → Appended a b 0 n (sentList owners table ends i first cells (k + 1))
     unfolding sentList
     sent-pass n a b X =
@@ -335,22 +337,22 @@ module _ (owners table : Bytes) (ends : List ℕ) (i first cells : ℕ) where
         told f j a b false w = X .each f j a (omega (arith, ltb-false k j w))
 
   -- one part more, which is another
-  module _ (low : 1 ≤ i) (high : i ≤ 16) (few : cells ≤ 2000) (k : ℕ) (small : k < 16) (ne : k + 1 ≡ i → ⊥) (start next : List ℕ) (G : Grouped owners cells start next)
+  module _ (low : 1 ≤ i) (high : i ≤ mostParts) (few : cells ≤ mostElements) (k : ℕ) (small : k < mostParts) (ne : k + 1 ≡ i → ⊥) (start next : List ℕ) (G : Grouped owners cells start next)
       (own other : ℕ) (oe : own ≡ getD start i 0) (te : other ≡ getD start (k + 1) 0) (s s₁ : Bytes) (F : Few k s)
       (P : Stamped (k + 1) s s₁ (reachedFrom table ends (group next cells other))) where
     reached : Stamped (k + 1) s s₁ (reachedAt owners table ends (k + 1) cells)
     reached = group-stamps owners cells start next G (k + 1) other (omega arith) te table ends (k + 1) s s₁ P
 
     pub stamps-few : Few (k + 1) s₁
-    stamps-few = record { room = P .room; each = λ x. go x (ltb x 2000) refl }
+    stamps-few = record { room = P .room; each = λ x. go x (ltb x mostElements) refl }
       where
         most : (b : Bool) (x : ℕ) → x ≤ k → cond b (k + 1) x ≤ k + 1
         most true x l = omega arith
         most false x l = omega arith
 
-        go : (x : ℕ) (t : Bool) → ltb x 2000 ≡ t → byteAt s₁ x ≤ k + 1
-        go x true e = omega (arith, reached .each x (ltb-true x 2000 e), most (reachedAt owners table ends (k + 1) cells x) (byteAt s x) (F .each x))
-        go x false e = let l : 2000 ≤ x = ltb-false x 2000 e in omega (arith, number-past s₁ x (omega (arith, P .room)))
+        go : (x : ℕ) (t : Bool) → ltb x mostElements ≡ t → byteAt s₁ x ≤ k + 1
+        go x true e = omega (arith, reached .each x (ltb-true x mostElements e), most (reachedAt owners table ends (k + 1) cells x) (byteAt s x) (F .each x))
+        go x false e = let l : mostElements ≤ x = ltb-false x mostElements e in omega (arith, number-past s₁ x (omega (arith, P .room)))
 
     -- of the cells that are not its own, part k + 1 imports those from i that part i owns and it reaches
     imports-one : (o : ℕ) (l t r : Bool) → eqb (cond (eqb o (k + 1)) (cond l (cond t 17 18) 0) (cond r o 0)) i ≡ eqb o i && r
@@ -399,7 +401,7 @@ module _ (owners table : Bytes) (ends : List ℕ) (i first cells : ℕ) where
           ∙ sym (blocks-turn 1 (λ j. partCells owners table ends j first cells i) k))
           (add-both a b c 0 n t (blocks 1 k (λ j. partCells owners table ends j first cells i)) (classAmong s₁ first (k + 1) (group next cells own)) X Y)
 
-      pub sent-counted : (parts : ℕ) (sent after : List ℕ) → k < parts → parts ≤ 16 → Sent owners table ends i cells k sent → after ≡ set sent (k + 1) (t - n)
+      pub sent-counted : (parts : ℕ) (sent after : List ℕ) → k < parts → parts ≤ mostParts → Sent owners table ends i cells k sent → after ≡ set sent (k + 1) (t - n)
           → Sent owners table ends i cells (k + 1) after
       sent-counted parts sent after l most X e =
           sent-turn owners table ends i cells k parts (t - n) sent after l most X
@@ -407,11 +409,11 @@ module _ (owners table : Bytes) (ends : List ℕ) (i first cells : ℕ) where
 
 -- ---- a cleared array
 
-zero-list : (list : List ℕ) → Zeros 2001 list → list ≡ replicate 2001 0
+zero-list : (list : List ℕ) → Zeros elementPlaces list → list ≡ replicate elementPlaces 0
 zero-list list Z =
-    let r : length (replicate {A = ℕ} 2001 0) ≡ 2001 = length-replicate {A = ℕ} 2001 0 in
-    ext-getD 0 list (replicate 2001 0) (Z .size ∙ sym r) (λ x l. Z .each x ∙ sym (zeros-at 2001 x))
+    let r : length (replicate {A = ℕ} elementPlaces 0) ≡ elementPlaces = length-replicate {A = ℕ} elementPlaces 0 in
+    ext-getD 0 list (replicate elementPlaces 0) (Z .size ∙ sym r) (λ x l. Z .each x ∙ sym (zeros-at elementPlaces x))
 
 -- local numbers, from a cleared array
-pub order-numbered : (order : List ℕ) (n : ℕ) (empty local : List ℕ) → Zeros 2001 empty → local ≡ numbering 0 (take n order) empty → local ≡ numbersOf order n
+pub order-numbered : (order : List ℕ) (n : ℕ) (empty local : List ℕ) → Zeros elementPlaces empty → local ≡ numbering 0 (take n order) empty → local ≡ numbersOf order n
 order-numbered order n empty local Z e = e ∙ ap (numbering 0 (take n order)) (zero-list empty Z)

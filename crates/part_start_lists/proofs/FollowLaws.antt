@@ -16,6 +16,7 @@ use Rattle.vocabulary.specs.ListLaws.{someOf-append, or-nothing}
 use Rattle.vocabulary.specs.Intervals.{picked, some, blocks}
 use Rattle.vocabulary.specs.IntervalLaws.{some-start, some-next}
 use Rattle.layout.specs.Words.{wordAt}
+use Rattle.layout.specs.Limits.{mostElements}
 use Rattle.split.specs.Classes.{ownsAt, hasEntry, reachHas, reachedAt, ofClass, Appended}
 use Rattle.split.specs.Groups.{group, bytePlaces, Grouped}
 use Rattle.split.proofs.GroupLaws.{group-none, group-stop, group-turn, places-below}
@@ -24,7 +25,7 @@ use Rattle.part_start_lists.specs.Starting.{Stamped, reachedFrom, Below,
 
 -- ---- stamps
 
-stamped-none : (k : ℕ) (a : Bytes) (p : ℕ → Bool) → length a ≡ 2000 → ((x : ℕ) → p x ≡ false) → Stamped k a a p
+stamped-none : (k : ℕ) (a : Bytes) (p : ℕ → Bool) → length a ≡ mostElements → ((x : ℕ) → p x ≡ false) → Stamped k a a p
 stamped-none k a p l f = record { room = l; each = λ x h. sym (ap (λ b. cond b k (byteAt a x)) (f x)) }
 
 stamped-as : (k : ℕ) (a b : Bytes) (p r : ℕ → Bool) → ((x : ℕ) → p x ≡ r x) → Stamped k a b p → Stamped k a b r
@@ -39,10 +40,10 @@ stamped-both k a b c p r P Q = record { room = Q .room; each = λ x h. Q .each x
     last false true s = refl
     last false false s = refl
 
-stamped-one : (k x : ℕ) (a b : Bytes) → length a ≡ 2000 → b ≡ set a x k → Stamped k a b (eqb x)
+stamped-one : (k x : ℕ) (a b : Bytes) → length a ≡ mostElements → b ≡ set a x k → Stamped k a b (eqb x)
 stamped-one k x a b l e = record { room = ap length e ∙ length-set a x k ∙ l; each = λ z h. ap (λ (r : Bytes). byteAt r z) e ∙ told z h (eqb x z) refl }
   where
-    told : (z : ℕ) → z < 2000 → (b : Bool) → eqb x z ≡ b → byteAt (set a x k) z ≡ cond (eqb x z) k (byteAt a z)
+    told : (z : ℕ) → z < mostElements → (b : Bool) → eqb x z ≡ b → byteAt (set a x k) z ≡ cond (eqb x z) k (byteAt a z)
     told z h true w =
         let p : x ≡ z = eqb-true x z w in
         ap (byteAt (set a x k)) (sym p) ∙ getD-set-same a x k 0 (omega arith) ∙ sym (ap (λ b. cond b k (byteAt a z)) w)
@@ -51,7 +52,7 @@ stamped-one k x a b l e = record { room = ap length e ∙ length-set a x k ∙ l
 -- ---- the reach of a cell
 
 module _ (table : Bytes) (k a : ℕ) where
-  pub entries-start : (s : Bytes) → length s ≡ 2000 → Stamped k s s (hasEntry table a (a - a))
+  pub entries-start : (s : Bytes) → length s ≡ mostElements → Stamped k s s (hasEntry table a (a - a))
   unfolding hasEntry
   entries-start s l =
       let z : a - a ≡ 0 = omega arith in
@@ -88,7 +89,7 @@ entries-end table ends q k s s₁ a z t ae ze l c P =
 
 -- what the rest stamps is what is left of the whole
 pub record Stamping (k : ℕ) (before now : Bytes) (rest whole : ℕ → Bool) : Type 0 where
-  pub room : length now ≡ 2000
+  pub room : length now ≡ mostElements
   pub finish : (after : Bytes) → Stamped k now after rest → Stamped k before after whole
 
 -- a turn of a loop that follows a group
@@ -97,7 +98,7 @@ followed next n j s q s₁ h ne qe se =
     group-turn next n j s h (omega arith) ∙ ap₂ (λ x y. x ∷ group next (n - (j + 1)) y) (sym qe) (ap (λ x. getD next x 0) (sym qe) ∙ sym se)
 
 module _ (table : Bytes) (ends next : List ℕ) (k n : ℕ) where
-  pub stamping-start : (s : ℕ) (a : Bytes) → length a ≡ 2000 → Stamping k a a (reachedFrom table ends (group next (n - 0) s)) (reachedFrom table ends (group next n s))
+  pub stamping-start : (s : ℕ) (a : Bytes) → length a ≡ mostElements → Stamping k a a (reachedFrom table ends (group next (n - 0) s)) (reachedFrom table ends (group next n s))
   stamping-start s a l =
       let z : n - 0 ≡ n = omega arith in
       record { room = l; finish = λ b P. subst (λ j. Stamped k a b (reachedFrom table ends (group next j s))) z P }

@@ -1,4 +1,4 @@
-pub mod HeadLaws
+pub mod HeaderLaws
 pub mod CountLaws
 pub mod StartCounts
 pub mod StartLists

@@ -12,6 +12,7 @@ use Rattle.vocabulary.specs.Intervals.{blocks}
 use Rattle.vocabulary.specs.IntervalLaws.{total-start, total-turn, total-grows, blocks-turn, blocks-sized, rows-length, at-last}
 use Rattle.vocabulary.specs.CountLaws.{total-double}
 use Rattle.layout.specs.Words.{wordAt}
+use Rattle.layout.specs.Limits.{mostParts}
 use Rattle.split.specs.Split.{globalOf}
 use Rattle.split.specs.Classes.{partCells}
 use Rattle.word_lists.proofs.PutLaws.{put-as, put-none, put-both}
@@ -164,9 +165,9 @@ module _ (owners table : Bytes) (ends : List ℕ) (i first cells : ℕ) (local :
   unfolding sentWords
   sent-long j = length-map (partCells owners table ends j first cells i) (localIn local)
 
-  pub all-long : length (blocks 1 16 (sentWords owners table ends i first cells local)) ≡ sentEnds owners table ends i first cells 16
+  pub all-long : length (blocks 1 mostParts (sentWords owners table ends i first cells local)) ≡ sentEnds owners table ends i first cells mostParts
   unfolding sentEnds
-  all-long = blocks-sized 1 (sentWords owners table ends i first cells local) (λ j. length (partCells owners table ends j first cells i)) 16 sent-long
+  all-long = blocks-sized 1 (sentWords owners table ends i first cells local) (λ j. length (partCells owners table ends j first cells i)) mostParts sent-long
 
   pub sent-mapped : (n : ℕ) → map (localIn local) (sentList owners table ends i first cells n) ≡ blocks 1 n (sentWords owners table ends i first cells local)
   unfolding sentList sentWords blocks

@@ -11,6 +11,7 @@ use Rattle.vocabulary.specs.ByteLaws.{over-front}
 use Rattle.vocabulary.specs.Intervals.{listed, blocks, total}
 use Rattle.vocabulary.specs.IntervalLaws.{listed-cong, listed-length, blocks-cong, blocks-length, total-agree}
 use Rattle.layout.specs.Words.{wordAt}
+use Rattle.layout.specs.Limits.{mostElements, mostParts}
 use Rattle.split.specs.Classes.{Classed, classCells, partCells, classOrder, Appended}
 use Rattle.split_cells.proofs.ClassLists.{row-cells}
 use Rattle.split_cells.proofs.AddLaws.{added-fits, added-take, class-count}
@@ -32,36 +33,38 @@ head-count long i steps kind first cells v a b t P = omega (arith, P .count, len
 -- ---- the tables of ends by the arrays of counts
 
 module _ (owners table : Bytes) (ends : List ℕ) (i first cells : ℕ) where
-  pub got-is : (got : List ℕ) → Got owners table ends i cells got → (owned j : ℕ) → j ≤ 16 → endsBy got owned j ≡ gotEnds owners table ends i first cells owned j
+  pub got-is : (got : List ℕ) → Got owners table ends i cells got → (owned j : ℕ) → j ≤ mostParts → endsBy got owned j ≡ gotEnds owners table ends i first cells owned j
   unfolding endsBy gotEnds
-  got-is got G owned j h = ap (λ x. owned + x) (total-agree (countAt got) (λ k. length (gotFrom owners table ends i first cells k)) 16 j h (λ k l q. G .each first k l q))
+  got-is got G owned j h = ap (λ x. owned + x) (total-agree (countAt got) (λ k. length (gotFrom owners table ends i first cells k)) mostParts j h (λ k l q. G .each first k l q))
 
-  pub sent-total : (sent : List ℕ) → Sent owners table ends i cells 16 sent → (j : ℕ) → j ≤ 16 → total 1 j (countAt sent) ≡ sentEnds owners table ends i first cells j
+  pub sent-total : (sent : List ℕ) → Sent owners table ends i cells mostParts sent → (j : ℕ) → j ≤ mostParts → total 1 j (countAt sent) ≡ sentEnds owners table ends i first cells j
   unfolding sentEnds
-  sent-total sent X j h = total-agree (countAt sent) (λ k. length (sentFrom owners table ends i first cells k)) 16 j h (λ k l q. X .each first k l q)
+  sent-total sent X j h = total-agree (countAt sent) (λ k. length (sentFrom owners table ends i first cells k)) mostParts j h (λ k l q. X .each first k l q)
 
-  pub sent-is : (sent : List ℕ) → Sent owners table ends i cells 16 sent → (j : ℕ) → j ≤ 16 → endsBy sent 0 j ≡ sentEnds owners table ends i first cells j
+  pub sent-is : (sent : List ℕ) → Sent owners table ends i cells mostParts sent → (j : ℕ) → j ≤ mostParts → endsBy sent 0 j ≡ sentEnds owners table ends i first cells j
   unfolding endsBy
   sent-is sent X j h = zero-add _ ∙ sent-total sent X j h
 
-  borders-are : (got sent : List ℕ) (owned : ℕ) → Got owners table ends i cells got → Sent owners table ends i cells 16 sent
-      → listed 0 17 (endsBy got owned) ++ listed 0 17 (endsBy sent 0) ≡ listed 0 17 (gotEnds owners table ends i first cells owned) ++ listed 0 17 (sentEnds owners table ends i first cells)
+  borders-are : (got sent : List ℕ) (owned : ℕ) → Got owners table ends i cells got → Sent owners table ends i cells mostParts sent
+      → listed 0 (mostParts + 1) (endsBy got owned) ++ listed 0 (mostParts + 1) (endsBy sent 0) ≡ listed 0 (mostParts + 1) (gotEnds owners table ends i first cells owned) ++ listed 0
+      (mostParts + 1) (sentEnds owners table ends i first cells)
   borders-are got sent owned G X =
-      ap₂ _++_ (listed-cong 0 (endsBy got owned) (gotEnds owners table ends i first cells owned) 17 (λ k h. got-is got G owned (0 + k) (omega arith)))
-      (listed-cong 0 (endsBy sent 0) (sentEnds owners table ends i first cells) 17 (λ k h. sent-is sent X (0 + k) (omega arith)))
+      ap₂ _++_ (listed-cong 0 (endsBy got owned) (gotEnds owners table ends i first cells owned) (mostParts + 1) (λ k h. got-is got G owned (0 + k) (omega arith)))
+      (listed-cong 0 (endsBy sent 0) (sentEnds owners table ends i first cells) (mostParts + 1) (λ k h. sent-is sent X (0 + k) (omega arith)))
 
 pub front-count : (long i steps kind first cells : ℕ) (v : Bytes) (owned : ℕ) (got sent : List ℕ) (a b : Bytes) (t : ℕ)
-    → Put a b 0 t (((long ∷ i ∷ steps ∷ kind ∷ []) ++ (listed 0 5 (wordAt v) ++ (first ∷ cells ∷ []))) ++ (listed 0 17 (endsBy got owned) ++ listed 0 17 (endsBy sent 0))) → t ≡ reachWord 0
+    → Put a b 0 t (((long ∷ i ∷ steps ∷ kind ∷ []) ++ (listed 0 5 (wordAt v) ++ (first ∷ cells ∷ []))) ++
+    (listed 0 (mostParts + 1) (endsBy got owned) ++ listed 0 (mostParts + 1) (endsBy sent 0))) → t ≡ reachWord 0
 front-count long i steps kind first cells v owned got sent a b t P =
     omega (
       arith,
       P .count,
-      length-append ((long ∷ i ∷ steps ∷ kind ∷ []) ++ (listed 0 5 (wordAt v) ++ (first ∷ cells ∷ []))) (listed 0 17 (endsBy got owned) ++ listed 0 17 (endsBy sent 0)),
+      length-append ((long ∷ i ∷ steps ∷ kind ∷ []) ++ (listed 0 5 (wordAt v) ++ (first ∷ cells ∷ []))) (listed 0 (mostParts + 1) (endsBy got owned) ++ listed 0 (mostParts + 1) (endsBy sent 0)),
       length-append (listed 0 5 (wordAt v)) (first ∷ cells ∷ []),
       listed-length 0 (wordAt v) 5,
-      length-append (listed 0 17 (endsBy got owned)) (listed 0 17 (endsBy sent 0)),
-      listed-length 0 (endsBy got owned) 17,
-      listed-length 0 (endsBy sent 0) 17,
+      length-append (listed 0 (mostParts + 1) (endsBy got owned)) (listed 0 (mostParts + 1) (endsBy sent 0)),
+      listed-length 0 (endsBy got owned) (mostParts + 1),
+      listed-length 0 (endsBy sent 0) (mostParts + 1),
     )
 
 -- the exports stand at the front of their list
@@ -69,32 +72,33 @@ sent-taken : (a b ws : List ℕ) (n k : ℕ) → Appended a b 0 n ws → k ≡ l
 sent-taken a b ws n k X e h =
     ap₂ (λ j (xs : List ℕ). take j xs) e (X .text (omega (arith, X .count)) ∙ over-front a ws) ∙ take-append-seam ws (drop (length ws) a)
 
-sent-length : (owners table : Bytes) (ends : List ℕ) (i first cells : ℕ) → length (sentList owners table ends i first cells 16) ≡ sentEnds owners table ends i first cells 16
+sent-length : (owners table : Bytes) (ends : List ℕ) (i first cells : ℕ) → length (sentList owners table ends i first cells mostParts) ≡ sentEnds owners table ends i first cells mostParts
 unfolding sentList sentEnds
-sent-length owners table ends i first cells = blocks-length 1 (λ j. partCells owners table ends j first cells i) 16
+sent-length owners table ends i first cells = blocks-length 1 (λ j. partCells owners table ends j first cells i) mostParts
 
 -- ---- all pieces
 
 module _ (owners table : Bytes) (ends : List ℕ) (i first cells : ℕ) (order : List ℕ) where
-  module _ (n : ℕ) (local : List ℕ) (owned long steps kind : ℕ) (v : Bytes) (le : long ≡ exportsWord n owned (rowEnds table ends first order owned) + sentEnds owners table ends i first cells 16) where
+  module _ (n : ℕ) (local : List ℕ) (owned long steps kind : ℕ) (v : Bytes)
+      (le : long ≡ exportsWord n owned (rowEnds table ends first order owned) + sentEnds owners table ends i first cells mostParts) where
     -- what comes after the two tables
     abbrev later : List ℕ
     later =
         take n order
         ++ (listed 0 (owned + 1) (rowEnds table ends first order)
         ++ (blocks 1 owned (rowWords table ends first order local)
-        ++ blocks 1 16 (sentWords owners table ends i first cells local)))
+        ++ blocks 1 mostParts (sentWords owners table ends i first cells local)))
 
     words-are : ((long ∷ i ∷ steps ∷ kind ∷ []) ++ (listed 0 5 (wordAt v) ++ (first ∷ cells ∷ [])))
-        ++ ((listed 0 17 (gotEnds owners table ends i first cells owned) ++ listed 0 17 (sentEnds owners table ends i first cells)) ++ later)
+        ++ ((listed 0 (mostParts + 1) (gotEnds owners table ends i first cells owned) ++ listed 0 (mostParts + 1) (sentEnds owners table ends i first cells)) ++ later)
         ≡ numberedWords owners table ends i first cells order n local owned steps kind v
     unfolding numberedWords
     words-are =
-        let G = listed 0 17 (gotEnds owners table ends i first cells owned) in
-        let E = listed 0 17 (sentEnds owners table ends i first cells) in
+        let G = listed 0 (mostParts + 1) (gotEnds owners table ends i first cells owned) in
+        let E = listed 0 (mostParts + 1) (sentEnds owners table ends i first cells) in
         let R = listed 0 (owned + 1) (rowEnds table ends first order) in
         let N = blocks 1 owned (rowWords table ends first order local) in
-        let X = blocks 1 16 (sentWords owners table ends i first cells local) in
+        let X = blocks 1 mostParts (sentWords owners table ends i first cells local) in
         ap₂ _++_ (ap (λ x. (x ∷ i ∷ steps ∷ kind ∷ []) ++ (listed 0 5 (wordAt v) ++ (first ∷ cells ∷ []))) le ∙ regions-three _ (listed 0 5 (wordAt v)) (first ∷ cells ∷ []))
         (ap₂ _++_ (regions-two G E) (regions-four (take n order) R N X) ∙ sym (joined-append (G ∷ E ∷ []) (take n order ∷ R ∷ N ∷ X ∷ [])))
         ∙ sym (joined-append (_ ∷ listed 0 5 (wordAt v) ∷ (first ∷ cells ∷ []) ∷ []) (G ∷ E ∷ take n order ∷ R ∷ N ∷ X ∷ []))
@@ -107,26 +111,26 @@ module _ (owners table : Bytes) (ends : List ℕ) (i first cells : ℕ) (order :
           arith,
           le,
           listed-length 0 (wordAt v) 5,
-          listed-length 0 (gotEnds owners table ends i first cells owned) 17,
-          listed-length 0 (sentEnds owners table ends i first cells) 17,
+          listed-length 0 (gotEnds owners table ends i first cells owned) (mostParts + 1),
+          listed-length 0 (sentEnds owners table ends i first cells) (mostParts + 1),
           listed-length 0 (rowEnds table ends first order) (owned + 1),
           length-take-le n order h,
           rows-long table ends first order local owned,
           all-long owners table ends i first cells local,
         )
 
-    pub lists-put : (got sent before list : List ℕ) (x k : ℕ) (a b c : Bytes) (t u : ℕ) → Got owners table ends i cells got → Sent owners table ends i cells 16 sent
-        → Appended before list 0 x (sentList owners table ends i first cells 16) → k ≡ sentEnds owners table ends i first cells 16 → k ≤ length before → 2 * reachWord 0 ≤ length a
-        → Put a b 0 t (((long ∷ i ∷ steps ∷ kind ∷ []) ++ (listed 0 5 (wordAt v) ++ (first ∷ cells ∷ []))) ++ (listed 0 17 (endsBy got owned) ++ listed 0 17 (endsBy sent 0)))
+    pub lists-put : (got sent before list : List ℕ) (x k : ℕ) (a b c : Bytes) (t u : ℕ) → Got owners table ends i cells got → Sent owners table ends i cells mostParts sent
+        → Appended before list 0 x (sentList owners table ends i first cells mostParts) → k ≡ sentEnds owners table ends i first cells mostParts → k ≤ length before → 2 * reachWord 0 ≤ length a
+        → Put a b 0 t (((long ∷ i ∷ steps ∷ kind ∷ []) ++ (listed 0 5 (wordAt v) ++ (first ∷ cells ∷ []))) ++ (listed 0 (mostParts + 1) (endsBy got owned) ++ listed 0 (mostParts + 1) (endsBy sent 0)))
         → Put b c t u (take n order ++ (listed 0 (owned + 1) (rowEnds table ends first order) ++ (blocks 1 owned (rowWords table ends first order local) ++ map (localIn local) (take k list))))
         → Put a c 0 u (numberedWords owners table ends i first cells order n local owned steps kind v)
     lists-put got sent before list x k a b c t u G X Y ke there room P Q =
-        let e = sent-taken before list (sentList owners table ends i first cells 16) x k Y (ke ∙ sym (sent-length owners table ends i first cells)) there in
+        let e = sent-taken before list (sentList owners table ends i first cells mostParts) x k Y (ke ∙ sym (sent-length owners table ends i first cells)) there in
         put-as a c 0 u _ _
-        (append-assoc ((long ∷ i ∷ steps ∷ kind ∷ []) ++ (listed 0 5 (wordAt v) ++ (first ∷ cells ∷ []))) (listed 0 17 (endsBy got owned) ++ listed 0 17 (endsBy sent 0)) _
+        (append-assoc ((long ∷ i ∷ steps ∷ kind ∷ []) ++ (listed 0 5 (wordAt v) ++ (first ∷ cells ∷ []))) (listed 0 (mostParts + 1) (endsBy got owned) ++ listed 0 (mostParts + 1) (endsBy sent 0)) _
         ∙ ap₂ (λ (bs : List ℕ) (xs : List ℕ). ((long ∷ i ∷ steps ∷ kind ∷ []) ++ (listed 0 5 (wordAt v) ++ (first ∷ cells ∷ []))) ++ (bs ++ (take n order
         ++ (listed 0 (owned + 1) (rowEnds table ends first order) ++ (blocks 1 owned (rowWords table ends first order local) ++ xs)))))
-        (borders-are owners table ends i first cells got sent owned G X) (ap (map (localIn local)) e ∙ sent-mapped owners table ends i first cells local 16)
+        (borders-are owners table ends i first cells got sent owned G X) (ap (map (localIn local)) e ∙ sent-mapped owners table ends i first cells local mostParts)
         ∙ words-are)
         (put-both a b c 0 t u _ _ P Q (omega (arith, front-count long i steps kind first cells v owned got sent a b t P)))
 
@@ -140,7 +144,7 @@ lists-numbered a b s t owners table ends i first cells order n owned steps kind 
 -- ---- the plan by the tables
 
 -- a row tells the order that the tables tell
-pub row-order : (owners table : Bytes) (ends : List ℕ) (i first cells parts : ℕ) (class : Bytes) → cells ≤ 2000 → Classed owners table ends i cells class
+pub row-order : (owners table : Bytes) (ends : List ℕ) (i first cells parts : ℕ) (class : Bytes) → cells ≤ mostElements → Classed owners table ends i cells class
     → classOrder class first cells parts ≡ partOrder owners table ends i first cells parts
 unfolding classOrder partOrder
 row-order owners table ends i first cells parts class few C =
@@ -149,11 +153,11 @@ row-order owners table ends i first cells parts class few C =
     (blocks-cong 1 (classCells class first cells) (partCells owners table ends i first cells) parts (λ j h. row-cells owners table ends i first cells (1 + j) class few C)))
 
 module _ (owners table : Bytes) (ends : List ℕ) (i first cells parts : ℕ) (F : TablesFit owners table ends i first cells parts) (class : Bytes) (C : Classed owners table ends i cells class)
-    (a order : List ℕ) (n : ℕ) (X : Appended a order 0 n (classOrder class first cells parts)) (room : 2000 ≤ length a) where
+    (a order : List ℕ) (n : ℕ) (X : Appended a order 0 n (classOrder class first cells parts)) (room : mostElements ≤ length a) where
   order-same : classOrder class first cells parts ≡ partOrder owners table ends i first cells parts
   order-same = row-order owners table ends i first cells parts class (F .cells-few) C
 
-  few : length (classOrder class first cells parts) ≤ 2000
+  few : length (classOrder class first cells parts) ≤ mostElements
   few = omega (arith, ap length order-same, F .order-few)
 
   there : n ≤ length order

@@ -9,6 +9,7 @@ use Rattle.vocabulary.specs.Bytes.{Bytes, byteAt}
 use Rattle.vocabulary.specs.Lists.{joined, someOf, All}
 use Rattle.vocabulary.specs.Intervals.{listed, blocks, total}
 use Rattle.layout.specs.Words.{wordAt}
+use Rattle.layout.specs.Limits.{elementPlaces, mostElements, mostParts}
 use Rattle.depths.specs.Depths.{four}
 use Rattle.split.specs.Numbering.{numbering}
 use Rattle.split.specs.Classes.{ownsAt, reachHas, ofClass, partCells, classCount}
@@ -20,7 +21,7 @@ localIn local c = getD local c 0
 
 -- that array for the first n numbers of the order
 abbrev pub numbersOf : List ℕ → ℕ → List ℕ
-numbersOf order n = numbering 0 (take n order) (replicate 2001 0)
+numbersOf order n = numbering 0 (take n order) (replicate elementPlaces 0)
 
 module _ (owners table : Bytes) (ends : List ℕ) (i first cells : ℕ) where
   -- what part i imports from j, and exports to j
@@ -69,15 +70,15 @@ module _ (table : Bytes) (ends : List ℕ) (first : ℕ) (order : List ℕ) wher
 unfoldable pub numberedWords : Bytes → Bytes → List ℕ → ℕ → ℕ → ℕ → List ℕ → ℕ → List ℕ → ℕ → ℕ → ℕ → Bytes → List ℕ
 numberedWords owners table ends i first cells order n local owned steps kind v =
     joined (
-    ((exportsWord n owned (rowEnds table ends first order owned) + sentEnds owners table ends i first cells 16) ∷ i ∷ steps ∷ kind ∷ [])
+    ((exportsWord n owned (rowEnds table ends first order owned) + sentEnds owners table ends i first cells mostParts) ∷ i ∷ steps ∷ kind ∷ [])
     ∷ listed 0 5 (wordAt v)
     ∷ (first ∷ cells ∷ [])
-    ∷ listed 0 17 (gotEnds owners table ends i first cells owned)
-    ∷ listed 0 17 (sentEnds owners table ends i first cells)
+    ∷ listed 0 (mostParts + 1) (gotEnds owners table ends i first cells owned)
+    ∷ listed 0 (mostParts + 1) (sentEnds owners table ends i first cells)
     ∷ take n order
     ∷ listed 0 (owned + 1) (rowEnds table ends first order)
     ∷ blocks 1 owned (rowWords table ends first order local)
-    ∷ blocks 1 16 (sentWords owners table ends i first cells local)
+    ∷ blocks 1 mostParts (sentWords owners table ends i first cells local)
     ∷ []
     )
 
@@ -102,11 +103,11 @@ pub record Tallied (class : Bytes) (n : ℕ) (counts : List ℕ) : Type 0 where
 
 -- how many cells part i imports from each part
 pub record Got (owners table : Bytes) (ends : List ℕ) (i cells : ℕ) (got : List ℕ) : Type 0 where
-  pub each : (first k : ℕ) → 1 ≤ k → k ≤ 16 → countAt got k ≡ length (gotFrom owners table ends i first cells k)
+  pub each : (first k : ℕ) → 1 ≤ k → k ≤ mostParts → countAt got k ≡ length (gotFrom owners table ends i first cells k)
 
 -- how many it exports to each part up to n
 pub record Sent (owners table : Bytes) (ends : List ℕ) (i cells n : ℕ) (sent : List ℕ) : Type 0 where
-  pub size : length sent ≡ 17
+  pub size : length sent ≡ mostParts + 1
   pub each : (first k : ℕ) → 1 ≤ k → k ≤ n → countAt sent k ≡ length (sentFrom owners table ends i first cells k)
   pub rest : (k : ℕ) → n < k → countAt sent k ≡ 0
 
@@ -119,8 +120,8 @@ exportTally owners holders i n = total 0 n (exportedAt owners holders i)
 
 -- the places that pass bear the stamp k afterwards
 pub record Stamped (k : ℕ) (before after : Bytes) (p : ℕ → Bool) : Type 0 where
-  pub room : length after ≡ 2000
-  pub each : (x : ℕ) → x < 2000 → byteAt after x ≡ cond (p x) k (byteAt before x)
+  pub room : length after ≡ mostElements
+  pub each : (x : ℕ) → x < mostElements → byteAt after x ≡ cond (p x) k (byteAt before x)
 
 -- one of the cells at the places qs reaches the cell at place x
 unfoldable pub reachedFrom : Bytes → List ℕ → List ℕ → ℕ → Bool
@@ -152,16 +153,16 @@ pub record ReachRows (table : Bytes) (ends : List ℕ) (first : ℕ) (order : Li
 -- what the lists of a part keep to, so that every one of their words is a word
 pub record Fit (owners table : Bytes) (ends : List ℕ) (i first cells : ℕ) (order : List ℕ) (n owned : ℕ) : Type 0 where
   pub part : i < 65536
-  pub part-few : i ≤ 16
+  pub part-few : i ≤ mostParts
   pub first-small : first < 65536
   pub cells-fit : first + cells ≤ 65536
-  pub cells-few : cells ≤ 2000
-  pub order-few : n ≤ 2000
+  pub cells-few : cells ≤ mostElements
+  pub order-few : n ≤ mostElements
   pub order-there : n ≤ length order
   pub owned-few : owned ≤ n
-  pub got : gotEnds owners table ends i first cells owned 16 < 65536
+  pub got : gotEnds owners table ends i first cells owned mostParts < 65536
   pub near : ReachRows table ends first order owned
-  pub long : exportsWord n owned (rowEnds table ends first order owned) + sentEnds owners table ends i first cells 16 < 65536
+  pub long : exportsWord n owned (rowEnds table ends first order owned) + sentEnds owners table ends i first cells mostParts < 65536
 
 -- the local order by the tables, and how many cells are owned by it
 unfoldable pub partOrder : Bytes → Bytes → List ℕ → ℕ → ℕ → ℕ → ℕ → List ℕ
@@ -174,9 +175,9 @@ partOwned owners table ends i first cells = length (partCells owners table ends 
 -- tables whose lists keep to that, in whatever array the order stands
 pub record TablesFit (owners table : Bytes) (ends : List ℕ) (i first cells parts : ℕ) : Type 0 where
   pub cells-fit : first + cells ≤ 65536
-  pub cells-few : cells ≤ 2000
-  pub parts-few : parts ≤ 16
-  pub order-few : length (partOrder owners table ends i first cells parts) ≤ 2000
+  pub cells-few : cells ≤ mostElements
+  pub parts-few : parts ≤ mostParts
+  pub order-few : length (partOrder owners table ends i first cells parts) ≤ mostElements
   pub fit : (order : List ℕ) (n : ℕ) → n ≤ length order → take n order ≡ partOrder owners table ends i first cells parts
       → Fit owners table ends i first cells order n (partOwned owners table ends i first cells)
 

@@ -6,11 +6,12 @@ use split::inner::owner_of;
 ghost use mathlib.Core.Path.{_≡_};
 ghost use Prim.Native.Nat.{_≤_, _<_};
 ghost use lib.ListN.{replicate};
+ghost use Rattle.layout.specs.Limits.{mostElements};
 ghost use Rattle.part_start_lists.specs.Starting.{Tallied, exportedAt, exportTally};
 
 // Counts the cells of each class in a row, in a cleared array.
 pub fn count_classes(class: &[u8], cells: usize, counts: &mut [u16])
-    requires { ⌜ (cells ≤ 2000) × (now counts ≡ replicate 19 0) ⌝ }
+    requires { ⌜ (cells ≤ mostElements) × (now counts ≡ replicate 19 0) ⌝ }
     ensures { λ _. ⌜ Tallied (now (class .entry)) cells (now (counts .exit)) ⌝ }
 {
     for q in 0..cells {
@@ -33,7 +34,7 @@ fn exported_at(owners: &[u8], holders: &[u8], i: usize, q: usize) -> usize
 
 // How many cells part i exports to all parts together.
 pub fn count_exports(owners: &[u8], holders: &[u8], i: usize, cells: usize) -> usize
-    requires { ⌜ cells ≤ 2000 ⌝ }
+    requires { ⌜ cells ≤ mostElements ⌝ }
     ensures { λ n. ⌜ (n ≡ exportTally (now (owners .entry)) (now (holders .entry)) i cells) × (n ≤ 512000) ⌝ }
 {
     let mut n = 0;

@@ -12,13 +12,14 @@ use split_cells::inner::add_place;
 ghost use mathlib.Core.Path.{_≡_};
 ghost use Prim.Native.Nat.{_+_, _≤_, _<_};
 ghost use lib.ListN.{length, replicate};
+ghost use Rattle.layout.specs.Limits.{mostElements, mostParts};
 ghost use Rattle.split.specs.Classes.{reachHas, Appended};
 ghost use Rattle.split.specs.Groups.{group};
 ghost use Rattle.part_start_lists.specs.Starting.{Stamped, reachedFrom, Below, classAmong, sentEnds, sentList, OwnersFew, Sent};
 
 // Stamps the cells in the reach of the cell at place q with k.
 fn stamp_reach(table: &[u8], ends: &[u16], q: usize, k: u8, stamps: &mut [u8])
-    requires { ⌜ (q < 65536) × (length (now stamps) ≡ 2000) ⌝ }
+    requires { ⌜ (q < 65536) × (length (now stamps) ≡ mostElements) ⌝ }
     ensures { λ _. ⌜ Stamped k (now (stamps .entry)) (now (stamps .exit)) (reachHas (now (table .entry)) (now (ends .entry)) q) ⌝ }
 {
     let from = number_at(ends, q) as usize;
@@ -38,7 +39,7 @@ fn stamp_group(
     k: u8,
     stamps: &mut [u8],
 )
-    requires { ⌜ length (now stamps) ≡ 2000 ⌝ }
+    requires { ⌜ length (now stamps) ≡ mostElements ⌝ }
     ensures { λ _. ⌜
         Stamped k (now (stamps .entry)) (now (stamps .exit)) (reachedFrom (now (table .entry)) (now (ends .entry)) (group (now (next .entry)) cells s))
         ⌝ }
@@ -65,7 +66,7 @@ fn add_stamped(
     list: &mut [u16],
     n: usize,
 ) -> usize
-    requires { ⌜ (first + cells ≤ 65536) × (cells ≤ 2000) × (n < 65536) × Below cells (group (now next) cells s) ⌝ }
+    requires { ⌜ (first + cells ≤ 65536) × (cells ≤ mostElements) × (n < 65536) × Below cells (group (now next) cells s) ⌝ }
     ensures { λ t. ⌜
         Appended (now (list .entry)) (now (list .exit)) n t (classAmong (now (stamps .entry)) first k (group (now (next .entry)) cells s))
         × (t ≤ n + cells)
@@ -98,20 +99,20 @@ pub fn find_sent(
 ) -> usize
     requires { ⌜
         (1 ≤ plan .part)
-        × (plan .part ≤ 16)
+        × (plan .part ≤ mostParts)
         × (plan .first + plan .cells ≤ 65536)
-        × (plan .cells ≤ 2000)
-        × (plan .parts ≤ 16)
+        × (plan .cells ≤ mostElements)
+        × (plan .parts ≤ mostParts)
         × OwnersFew (now owners) (plan .cells) (plan .parts)
-        × (length (now stamps) ≡ 2000)
-        × (2000 ≤ length (now next))
-        × (now sent ≡ replicate 17 0)
-        × (plan .sent ≡ sentEnds (now owners) (now table) (now ends) (plan .part) (plan .first) (plan .cells) 16)
+        × (length (now stamps) ≡ mostElements)
+        × (mostElements ≤ length (now next))
+        × (now sent ≡ replicate (mostParts + 1) 0)
+        × (plan .sent ≡ sentEnds (now owners) (now table) (now ends) (plan .part) (plan .first) (plan .cells) mostParts)
         ⌝ }
     ensures { λ n. ⌜
         Appended (now (list .entry)) (now (list .exit)) 0 n (sentList (now (owners .entry)) (now (table .entry)) (now (ends .entry)) (plan .part) (plan .first)
-        (plan .cells) 16)
-        × Sent (now (owners .entry)) (now (table .entry)) (now (ends .entry)) (plan .part) (plan .cells) 16 (now (sent .exit))
+        (plan .cells) mostParts)
+        × Sent (now (owners .entry)) (now (table .entry)) (now (ends .entry)) (plan .part) (plan .cells) mostParts (now (sent .exit))
         ⌝ }
 {
     let mut start = [0u16; CLASSES];

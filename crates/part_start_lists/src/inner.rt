@@ -36,6 +36,7 @@ ghost use lib.ListN.{length, getD, take, replicate};
 ghost use Rattle.vocabulary.specs.Bytes.{over};
 ghost use Rattle.vocabulary.specs.Intervals.{listed, blocks};
 ghost use Rattle.layout.specs.Words.{wordAt};
+ghost use Rattle.layout.specs.Limits.{elementPlaces, mostElements, mostParts};
 ghost use Rattle.part_state.specs.State.{importWord, reachWord, exportsWord};
 ghost use Rattle.word_lists.specs.Putting.{Put};
 ghost use Rattle.part_start_lists.specs.Starting.{localIn, numbersOf, rowSize, endsBy, Got, entryWords, rowEnds, rowWords, ReachRow, ReachRows, startDepth, FieldCells};
@@ -102,8 +103,8 @@ fn row_total(table: &[u8], ends: &[u16], first: usize, order: &[u16], owned: usi
 
 // Writes a table of 17 ends after `base`, by an array of counts.
 fn put_ends(b: &mut [u8], s: usize, counts: &[u16], base: usize) -> usize
-    requires { ⌜ (2 * (s + 16 + 1) ≤ length (now b)) × (s < 65536) × (endsBy (now counts) base 16 < 65536) ⌝ }
-    ensures { λ t. ⌜ Put (now (b .entry)) (now (b .exit)) s t (listed 0 17 (endsBy (now (counts .entry)) base)) ⌝ }
+    requires { ⌜ (2 * (s + mostParts + 1) ≤ length (now b)) × (s < 65536) × (endsBy (now counts) base mostParts < 65536) ⌝ }
+    ensures { λ t. ⌜ Put (now (b .entry)) (now (b .exit)) s t (listed 0 (mostParts + 1) (endsBy (now (counts .entry)) base)) ⌝ }
 {
     let mut e = base;
     let mut t = s;
@@ -216,7 +217,7 @@ fn put_locals(b: &mut [u8], s: usize, list: &[u16], n: usize, local: &[u16]) -> 
 }
 
 // Writes what stands before the tables: the length of the lists, the part, the stencil's steps, the rule, and the mesh's cells.
-fn put_head(b: &mut [u8], plan: Plan, steps: usize, kind: usize, weights: &[u8]) -> usize
+fn put_header(b: &mut [u8], plan: Plan, steps: usize, kind: usize, weights: &[u8]) -> usize
     requires { ⌜ (2 * importWord ≤ length (now b)) × (plan .long < 65536) × (plan .part < 65536) × (steps < 65536) × (kind < 65536) × (plan .first < 65536) × (plan .cells < 65536) ⌝ }
     ensures { λ t. ⌜
         Put (now (b .entry)) (now (b .exit)) 0 t (((plan .long) ∷ (plan .part) ∷ steps ∷ kind ∷ []) ++ (listed 0 5 (wordAt (now (weights .entry))) ++
@@ -234,8 +235,8 @@ fn put_head(b: &mut [u8], plan: Plan, steps: usize, kind: usize, weights: &[u8])
 
 // Writes the tables of the imports' and exports' ends.
 fn put_borders(b: &mut [u8], s: usize, owned: usize, got: &[u16], sent: &[u16]) -> usize
-    requires { ⌜ (2 * (s + 34) ≤ length (now b)) × (s < 60000) × (endsBy (now got) owned 16 < 65536) × (endsBy (now sent) 0 16 < 65536) ⌝ }
-    ensures { λ t. ⌜ Put (now (b .entry)) (now (b .exit)) s t (listed 0 17 (endsBy (now (got .entry)) owned) ++ listed 0 17 (endsBy (now (sent .entry)) 0)) ⌝ }
+    requires { ⌜ (2 * (s + 2 * (mostParts + 1)) ≤ length (now b)) × (s < 60000) × (endsBy (now got) owned mostParts < 65536) × (endsBy (now sent) 0 mostParts < 65536) ⌝ }
+    ensures { λ t. ⌜ Put (now (b .entry)) (now (b .exit)) s t (listed 0 (mostParts + 1) (endsBy (now (got .entry)) owned) ++ listed 0 (mostParts + 1) (endsBy (now (sent .entry)) 0)) ⌝ }
 {
     let t = put_ends(b, s, got, owned);
     put_ends(b, t, sent, 0)
@@ -259,15 +260,15 @@ pub fn put_front(
         × (kind < 65536)
         × (plan .first < 65536)
         × (plan .cells < 65536)
-        × (endsBy (now got) (plan .owned) 16 < 65536)
-        × (endsBy (now sent) 0 16 < 65536)
+        × (endsBy (now got) (plan .owned) mostParts < 65536)
+        × (endsBy (now sent) 0 mostParts < 65536)
         ⌝ }
     ensures { λ t. ⌜
         Put (now (b .entry)) (now (b .exit)) 0 t ((((plan .long) ∷ (plan .part) ∷ steps ∷ kind ∷ []) ++ (listed 0 5 (wordAt (now (weights .entry)))
-        ++ ((plan .first) ∷ (plan .cells) ∷ []))) ++ (listed 0 17 (endsBy (now (got .entry)) (plan .owned)) ++ listed 0 17 (endsBy (now (sent .entry)) 0)))
+        ++ ((plan .first) ∷ (plan .cells) ∷ []))) ++ (listed 0 (mostParts + 1) (endsBy (now (got .entry)) (plan .owned)) ++ listed 0 (mostParts + 1) (endsBy (now (sent .entry)) 0)))
         ⌝ }
 {
-    let s = put_head(b, plan, steps, kind, weights);
+    let s = put_header(b, plan, steps, kind, weights);
     put_borders(b, s, plan.owned, got, sent)
 }
 
@@ -307,21 +308,21 @@ fn lists_length(
     ends: &[u16],
     first: usize,
     order: &[u16],
-    n: usize,
+    held: usize,
     owned: usize,
     sent: usize,
 ) -> usize
     requires { ⌜
-        (n ≤ 2000)
-        × (owned ≤ n)
+        (held ≤ mostElements)
+        × (owned ≤ held)
         × ReachRows (now table) (now ends) first (now order) owned
         × (rowEnds (now table) (now ends) first (now order) owned < 65536)
         × (sent ≤ 512000)
         ⌝ }
-    ensures { λ r. ⌜ r ≡ exportsWord n owned (rowEnds (now (table .entry)) (now (ends .entry)) first (now (order .entry)) owned) + sent ⌝ }
+    ensures { λ r. ⌜ r ≡ exportsWord held owned (rowEnds (now (table .entry)) (now (ends .entry)) first (now (order .entry)) owned) + sent ⌝ }
 {
     let sizes = Sizes {
-        held: n,
+        held,
         owned,
         reached: row_total(table, ends, first, order, owned),
         sent,
@@ -344,8 +345,8 @@ pub fn make_plan(
     requires { ⌜
         TablesFit (now owners) (now table) (now ends) (asked .part) (asked .first) (asked .cells) (asked .parts)
         × (sent ≤ 512000)
-        × (length (now class) ≡ 2000)
-        × (2000 ≤ length (now order))
+        × (length (now class) ≡ mostElements)
+        × (mostElements ≤ length (now order))
         × (now got ≡ replicate 19 0)
         ⌝ }
     ensures { λ p. ⌜
@@ -379,7 +380,7 @@ pub fn make_plan(
 
 // The local numbers of the first n cells of the order, in an array of numbers.
 pub fn number_order(order: &[u16], n: usize, local: &mut [u16])
-    requires { ⌜ (n ≤ length (now order)) × (n < 65536) × (length (now local) ≡ 2001) ⌝ }
+    requires { ⌜ (n ≤ length (now order)) × (n < 65536) × (length (now local) ≡ elementPlaces) ⌝ }
     ensures { λ _. ⌜ now (local .exit) ≡ numbersOf (now (order .entry)) n ⌝ }
 {
     clear(local);

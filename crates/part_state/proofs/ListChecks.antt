@@ -16,6 +16,7 @@ use Rattle.vocabulary.specs.ScanLaws.{some-stop-from, some-end-from, every-stop
 use Rattle.vocabulary.specs.Tests.{allOf}
 use Rattle.vocabulary.specs.TestLaws.{allOf-true}
 use Rattle.layout.specs.Words.{wordAt}
+use Rattle.layout.specs.Limits.{mostElements, mostParts, mostSteps}
 use Rattle.round_rule.specs.Rules.{weightCount, bad11}
 use Rattle.round_rule.specs.Kinds.{kindNumber, ruleOf}
 use Rattle.round_rule.specs.declared.Kind.{Kind}
@@ -24,11 +25,12 @@ use Rattle.round_rule.specs.declared.Rule.{Rule}
 use Rattle.round_rule.specs.declared.Rule.the-variants.{Known, Unknown}
 use Rattle.round_rule.proofs.KindLaws.{known-number}
 use Rattle.round_rule.proofs.Refusals.{unknown-rule}
-use Rattle.part_state.specs.State.{LocalNear, partNumber, stepCount, ruleKind, weights, ownedCount, heldCount, reachEnd, reachCount, rises, entryAt}
-use Rattle.part_state.specs.State.{exportAt, localReach, globalAt, globalFine, entryFine, ownFound, exportFine, listsTests, exportsWord, entryWord, reachWord}
+use Rattle.part_state.specs.State.{LocalNear, partNumber, stepCount, ruleKind, weights, ownedCount, heldCount, reachEnd, reachCount, rises, entryAt, firstOfMesh, cellsOfMesh}
+use Rattle.part_state.specs.State.{weightsPlace}
+use Rattle.part_state.specs.State.{exportAt, localReach, globalAt, validGlobal, validEntry, ownFound, validExport, listsTests, exportsWord, entryWord, reachWord}
 use Rattle.part_state.specs.StateLaws.{rises-grow}
 use Rattle.part_state.specs.declared.places.Sizes.{Sizes}
-use Rattle.part_state.specs.Checks.{reachStart, entryStart, exportStart, Counts, Fitting, Tested, riseAt, ownEntry, rowFine, headTests, endTests, entryTests}
+use Rattle.part_state.specs.Checks.{reachStart, entryStart, exportStart, Counts, Fitting, Tested, riseAt, ownEntry, validRow, headerTests, endTests, entryTests}
 
 -- ---- a test of a range, asked with the count that stands in the lists
 
@@ -62,8 +64,8 @@ ends-start b a end e = e ∙ ap (wordAt b) (let p : a ≡ a + 0 = omega arith in
 
 -- ---- the held cells
 
-pub global-told : (b : Bytes) (l c first cells : ℕ) (r : Bool) → c ≡ globalAt b l → first ≡ wordAt b 9 → cells ≡ wordAt b 10 → r ≡ leb first c && ltb c (first + cells) → r ≡ globalFine b l
-global-told b l c first cells r ce fe ke e = e ∙ ap₂ (λ f n. leb f c && ltb c (f + n)) fe ke ∙ ap (λ x. leb (wordAt b 9) x && ltb x (wordAt b 9 + wordAt b 10)) ce
+pub global-told : (b : Bytes) (l c first cells : ℕ) (r : Bool) → c ≡ globalAt b l → first ≡ firstOfMesh b → cells ≡ cellsOfMesh b → r ≡ leb first c && ltb c (first + cells) → r ≡ validGlobal b l
+global-told b l c first cells r ce fe ke e = e ∙ ap₂ (λ f n. leb f c && ltb c (f + n)) fe ke ∙ ap (λ x. leb (firstOfMesh b) x && ltb x (firstOfMesh b + cellsOfMesh b)) ce
 
 -- ---- an entry of the reaches
 
@@ -79,13 +81,13 @@ module _ (b : Bytes) (at held n : ℕ) (T : Tested b at held n) (t l : ℕ) (le 
       entry-held : isUpTo (heldCount b) ((entryAt b t) .local) ≡ u
       entry-held = ap₂ isUpTo (sym (T .held-is)) entry-local ∙ sym ue
 
-      pub entry-outside : not u ≡ true → false ≡ entryFine b t
+      pub entry-outside : not u ≡ true → false ≡ validEntry b t
       entry-outside z = simp (entry-held, not-true u z)
 
-      pub entry-odd : not u ≡ false → (layer % 2 ≡ 0 → ⊥) → false ≡ entryFine b t
+      pub entry-odd : not u ≡ false → (layer % 2 ≡ 0 → ⊥) → false ≡ validEntry b t
       entry-odd z o = simp (entry-held, not-false u z, entry-layer, ne-eqb _ _ o)
 
-      pub entry-rest : not u ≡ false → layer % 2 ≡ 0 → leb layer n ≡ entryFine b t
+      pub entry-rest : not u ≡ false → layer % 2 ≡ 0 → leb layer n ≡ validEntry b t
       entry-rest z o = simp (entry-held, not-false u z, entry-layer, eq-eqb _ _ o, sym (T .n-is))
 
   pub own-other : (c : ℕ) → (l ≡ c → ⊥) → false ≡ ownEntry b c t
@@ -170,22 +172,22 @@ module _ (b : Bytes) (good : allOf (endTests b) ≡ true) where
   pub rows-start : 0 ≡ reachEnd b (1 - 1)
   rows-start = sym (eqb-true _ _ (reach-tests .0))
 
-  rows-tests : every 1 (ownedCount b) (rowFine b) ≡ every 0 (reachCount b) (entryFine b) && every 1 (ownedCount b) (ownFound b)
-  unfolding rowFine
+  rows-tests : every 1 (ownedCount b) (validRow b) ≡ every 0 (reachCount b) (validEntry b) && every 1 (ownedCount b) (ownFound b)
+  unfolding validRow
   rows-tests =
-      rows-are (reachEnd b) (entryFine b) (ownFound b) (eqb-true _ _ (reach-tests .0)) (ownedCount b)
+      rows-are (reachEnd b) (validEntry b) (ownFound b) (eqb-true _ _ (reach-tests .0)) (ownedCount b)
       (λ j h. reach-grow j (j + 1) (omega arith) (omega arith))
 
-  module _ (owned : ℕ) (oe : owned ≡ ownedCount b) (r x : Bool) (e : r ≡ every 1 owned (rowFine b)) where
-    rows-here : r && x ≡ every 0 (reachCount b) (entryFine b) && (every 1 (ownedCount b) (ownFound b) && x)
+  module _ (owned : ℕ) (oe : owned ≡ ownedCount b) (r x : Bool) (e : r ≡ every 1 owned (validRow b)) where
+    rows-here : r && x ≡ every 0 (reachCount b) (validEntry b) && (every 1 (ownedCount b) (ownFound b) && x)
     rows-here =
-        ap (λ t. t && x) (e ∙ ap (λ k. every 1 k (rowFine b)) oe ∙ rows-tests)
-        ∙ and-assoc (every 0 (reachCount b) (entryFine b)) (every 1 (ownedCount b) (ownFound b)) x
+        ap (λ t. t && x) (e ∙ ap (λ k. every 1 k (validRow b)) oe ∙ rows-tests)
+        ∙ and-assoc (every 0 (reachCount b) (validEntry b)) (every 1 (ownedCount b) (ownFound b)) x
 
-    pub rows-wrong : not r ≡ true → false ≡ every 0 (reachCount b) (entryFine b) && (every 1 (ownedCount b) (ownFound b) && x)
+    pub rows-wrong : not r ≡ true → false ≡ every 0 (reachCount b) (validEntry b) && (every 1 (ownedCount b) (ownFound b) && x)
     rows-wrong z = sym (ap (λ t. t && x) (not-true r z)) ∙ rows-here
 
-    pub rows-right : (y : Bool) → not r ≡ false → y ≡ x → y ≡ every 0 (reachCount b) (entryFine b) && (every 1 (ownedCount b) (ownFound b) && x)
+    pub rows-right : (y : Bool) → not r ≡ false → y ≡ x → y ≡ every 0 (reachCount b) (validEntry b) && (every 1 (ownedCount b) (ownFound b) && x)
     rows-right y z q = q ∙ sym (ap (λ t. t && x) (not-false r z)) ∙ rows-here
 
   module _ (z : Sizes) (F : Fitting b z) (ends : ℕ) (ee : ends ≡ reachStart z) (l from to : ℕ) (low : 1 ≤ l) (high : l < 1 + z .owned) (te : to ≡ wordAt b (ends + l)) where
@@ -202,12 +204,12 @@ module _ (b : Bytes) (good : allOf (endTests b) ≡ true) where
     pub row-room : (at : ℕ) → at ≡ entryStart z → 2 * (at + 2 * to) ≤ length b
     row-room at ae = omega (arith, ae, to-is, F .room, F .counts .reached-is, reach-grow l (ownedCount b) (omega (arith, F .counts .owned-is)) (omega arith))
 
-    pub row-told : (r : Bool) → from ≡ reachEnd b (l - 1) → r ≡ every from (to - from) (entryFine b) && some from (to - from) (ownEntry b l) → r ≡ rowFine b l
-    unfolding rowFine ownEntry localReach
+    pub row-told : (r : Bool) → from ≡ reachEnd b (l - 1) → r ≡ every from (to - from) (validEntry b) && some from (to - from) (ownEntry b l) → r ≡ validRow b l
+    unfolding validRow ownEntry localReach
     row-told r fe e =
         e
-        ∙ ap₂ (λ x y. every x (y - x) (entryFine b) && some x (y - x) (ownEntry b l)) fe to-is
-        ∙ ap (λ x. every (reachEnd b (l - 1)) (reachEnd b l - reachEnd b (l - 1)) (entryFine b) && x)
+        ∙ ap₂ (λ x y. every x (y - x) (validEntry b) && some x (y - x) (ownEntry b l)) fe to-is
+        ∙ ap (λ x. every (reachEnd b (l - 1)) (reachEnd b l - reachEnd b (l - 1)) (validEntry b) && x)
         (sym (someOf-listed (λ (e : LocalNear). eqb (e .local) l && eqb (e .layer) 0) (entryAt b) (reachEnd b (l - 1)) (reachEnd b l - reachEnd b (l - 1))))
 
   pub row-above : (z : Sizes) (F : Fitting b z) (ends l from : ℕ) → ends ≡ reachStart z → 1 ≤ l → l < 1 + z .owned → from ≡ reachEnd b (l - 1) → from ≤ wordAt b (ends + l)
@@ -230,7 +232,7 @@ module _ (b : Bytes) (z : Sizes) (C : Counts b z) (at : ℕ) (ae : at ≡ export
       let p : exportsWord (heldCount b) (ownedCount b) (reachCount b) + t ≡ at + t = omega (arith, ae, C .held-is, C .owned-is, C .reached-is) in
       ap (wordAt b) p ∙ sym le
 
-  pub export-told : (r : Bool) → r ≡ isUpTo (z .owned) l → r ≡ exportFine b t
+  pub export-told : (r : Bool) → r ≡ isUpTo (z .owned) l → r ≡ validExport b t
   export-told r e = e ∙ ap₂ isUpTo (C .owned-is) (sym export-local)
 
 -- ---- the rule and the head
@@ -249,36 +251,37 @@ module _ (kind : Kind) (n : ℕ) where
   weights-shoalest e = rw e refl
 
 module _ (b : Bytes) (number n : ℕ) (r : Rule) (re : r ≡ ruleOf number) where
-  pub rule-told : (k : Kind) → r ≡ Known k → (count : ℕ) → count ≡ weightCount (kindNumber k) n → (w : Bool) → w ≡ bad11 (kindNumber k) n (take (8 + 2 * count - 8) (drop 8 b))
-      → not w ≡ not (bad11 number n (take (2 * weightCount number n) (drop 8 b)))
+  pub rule-told : (k : Kind) → r ≡ Known k → (count : ℕ) → count ≡ weightCount (kindNumber k) n → (w : Bool)
+      → w ≡ bad11 (kindNumber k) n (take (weightsPlace + 2 * count - weightsPlace) (drop weightsPlace b))
+      → not w ≡ not (bad11 number n (take (2 * weightCount number n) (drop weightsPlace b)))
   rule-told k q count ce w we =
-      let p : 8 + 2 * count - 8 ≡ 2 * weightCount (kindNumber k) n = omega (arith, ce) in
-      ap not (we ∙ ap (λ x. bad11 (kindNumber k) n (take x (drop 8 b))) p)
-      ∙ ap (λ x. not (bad11 x n (take (2 * weightCount x n) (drop 8 b)))) (sym (known-number number k (sym re ∙ q)))
+      let p : weightsPlace + 2 * count - weightsPlace ≡ 2 * weightCount (kindNumber k) n = omega (arith, ce) in
+      ap not (we ∙ ap (λ x. bad11 (kindNumber k) n (take x (drop weightsPlace b))) p)
+      ∙ ap (λ x. not (bad11 x n (take (2 * weightCount x n) (drop weightsPlace b)))) (sym (known-number number k (sym re ∙ q)))
 
-  pub rule-unknown : r ≡ Unknown → false ≡ not (bad11 number n (take (2 * weightCount number n) (drop 8 b)))
-  rule-unknown q = ap not (unknown-rule (take (2 * weightCount number n) (drop 8 b)) n number r re q)
+  pub rule-unknown : r ≡ Unknown → false ≡ not (bad11 number n (take (2 * weightCount number n) (drop weightsPlace b)))
+  rule-unknown q = ap not (unknown-rule (take (2 * weightCount number n) (drop weightsPlace b)) n number r re q)
 
 module _ (b : Bytes) where
-  pub head-part : (part : ℕ) (u : Bool) → part ≡ wordAt b 1 → u ≡ isUpTo 16 part → u ≡ isUpTo 16 (partNumber b)
-  head-part part u pe ue = ue ∙ ap (isUpTo 16) pe
+  pub header-part : (part : ℕ) (u : Bool) → part ≡ partNumber b → u ≡ isUpTo mostParts part → u ≡ isUpTo mostParts (partNumber b)
+  header-part part u pe ue = ue ∙ ap (isUpTo mostParts) pe
 
-  module _ (n : ℕ) (ne : n ≡ wordAt b 2) where
-    pub steps-odd : (x : Bool) → (n % 2 ≡ 0 → ⊥) → false ≡ (eqb (stepCount b % 2) 0 && leb (stepCount b) 8) && x
+  module _ (n : ℕ) (ne : n ≡ stepCount b) where
+    pub steps-odd : (x : Bool) → (n % 2 ≡ 0 → ⊥) → false ≡ (eqb (stepCount b % 2) 0 && leb (stepCount b) mostSteps) && x
     steps-odd x o = simp (sym ne, ne-eqb _ _ o)
 
-    pub steps-many : (x : Bool) → 8 < n → false ≡ (eqb (stepCount b % 2) 0 && leb (stepCount b) 8) && x
+    pub steps-many : (x : Bool) → mostSteps < n → false ≡ (eqb (stepCount b % 2) 0 && leb (stepCount b) mostSteps) && x
     steps-many x h = simp (sym ne, lt-leb _ _ h, and-right)
 
-    pub steps-fine : (x y : Bool) → n % 2 ≡ 0 → n ≤ 8 → y ≡ x → y ≡ (eqb (stepCount b % 2) 0 && leb (stepCount b) 8) && x
+    pub steps-fine : (x y : Bool) → n % 2 ≡ 0 → n ≤ mostSteps → y ≡ x → y ≡ (eqb (stepCount b % 2) 0 && leb (stepCount b) mostSteps) && x
     steps-fine x y e h q = simp (sym ne, eq-eqb _ _ e, le-leb _ _ h, q)
 
-    pub head-rule : (kind : ℕ) (w : Bool) → kind ≡ wordAt b 3 → w ≡ not (bad11 kind n (take (2 * weightCount kind n) (drop 8 b))) → w ≡ not (bad11 (ruleKind b) (stepCount b) (weights b))
+    pub header-rule : (kind : ℕ) (w : Bool) → kind ≡ ruleKind b → w ≡ not (bad11 kind n (take (2 * weightCount kind n) (drop weightsPlace b))) → w ≡ not (bad11 (ruleKind b) (stepCount b) (weights b))
     unfolding weights
-    head-rule kind w ke we = we ∙ ap₂ (λ k m. not (bad11 k m (take (2 * weightCount k m) (drop 8 b)))) ke ne
+    header-rule kind w ke we = we ∙ ap₂ (λ k m. not (bad11 k m (take (2 * weightCount k m) (drop weightsPlace b)))) ke ne
 
-  pub head-held : (held : ℕ) → held ≡ wordAt b 27 → leb held 2000 ≡ leb (heldCount b) 2000 && true
-  head-held held e = simp (sym e, and-all)
+  pub header-held : (held : ℕ) → held ≡ heldCount b → leb held mostElements ≡ leb (heldCount b) mostElements && true
+  header-held held e = simp (sym e, and-all)
 
 -- ---- the tables of ends, and the entries
 
@@ -310,11 +313,11 @@ allOf-append : (xs ys : List Bool) → allOf (xs ++ ys) ≡ allOf xs && allOf ys
 allOf-append [] ys = refl
 allOf-append (x ∷ xs) ys = ap (λ t. x && t) (allOf-append xs ys) ∙ sym (and-assoc x (allOf xs) (allOf ys))
 
-in-groups : (b : Bytes) → allOf (listsTests b) ≡ allOf (headTests b) && (allOf (endTests b) && allOf (entryTests b))
+in-groups : (b : Bytes) → allOf (listsTests b) ≡ allOf (headerTests b) && (allOf (endTests b) && allOf (entryTests b))
 unfolding listsTests
-in-groups b = allOf-append (headTests b) (endTests b ++ entryTests b) ∙ ap (λ t. allOf (headTests b) && t) (allOf-append (endTests b) (entryTests b))
+in-groups b = allOf-append (headerTests b) (endTests b ++ entryTests b) ∙ ap (λ t. allOf (headerTests b) && t) (allOf-append (endTests b) (entryTests b))
 
-module _ (b : Bytes) (r : Bool) (re : r ≡ allOf (headTests b)) where
+module _ (b : Bytes) (r : Bool) (re : r ≡ allOf (headerTests b)) where
   pub lists-1 : not r ≡ true → false ≡ allOf (listsTests b)
   lists-1 z = simp (in-groups b, sym re, not-true r z)
 

@@ -11,8 +11,9 @@ use Rattle.vocabulary.specs.ListLaws.{and-right, and-all}
 use Rattle.vocabulary.specs.Intervals.{every}
 use Rattle.vocabulary.specs.Tests.{allOf}
 use Rattle.layout.specs.Words.{word, wordAt}
+use Rattle.layout.specs.Limits.{lastRound, mostParts}
 use Rattle.depths.specs.Depths.{rangedAt}
-use Rattle.part_state.specs.State.{ownedCount, heldCount, exportCount, listsLength, listsTests, dynamicTests, flagsFine, isState, stateLength}
+use Rattle.part_state.specs.State.{ownedCount, heldCount, exportCount, listsLength, listsTests, dynamicTests, validFlags, isState, stateLength}
 use Rattle.part_state.specs.State.{writtenPlace, takenPlace, depthsPlace, reachWord}
 use Rattle.part_state.specs.declared.places.Sizes.{Sizes}
 use Rattle.part_state.specs.StateLaws.{isStateAt, state-at}
@@ -21,10 +22,10 @@ use Rattle.part_state.specs.Checks.{wordCount, Counts, Fitting}
 -- ---- flags
 
 module _ (b : Bytes) (changes j x : ℕ) (xe : x ≡ byteAt b (takenPlace changes j)) where
-  pub flag-high : 1 < x → false ≡ flagsFine b changes j
+  pub flag-high : 1 < x → false ≡ validFlags b changes j
   flag-high h = simp (sym xe, lt-leb _ _ h)
 
-  pub flag-rest : (y : ℕ) → x ≤ 1 → y ≡ byteAt b (writtenPlace changes j) → leb y 1 ≡ flagsFine b changes j
+  pub flag-rest : (y : ℕ) → x ≤ 1 → y ≡ byteAt b (writtenPlace changes j) → leb y 1 ≡ validFlags b changes j
   flag-rest y h e = simp (sym xe, le-leb _ _ h, sym e)
 
 -- ---- what calls change
@@ -35,11 +36,11 @@ module _ (b : Bytes) (changes n : ℕ) where
   changes-1 h = simp (lt-leb _ _ h)
 
   module _ (long : stateLength changes n ≤ length b) (r : ℕ) (re : r ≡ word b changes) where
-    pub changes-2 : 60000 < r → false ≡ allOf (dynamicTests b changes n)
+    pub changes-2 : lastRound < r → false ≡ allOf (dynamicTests b changes n)
     unfolding dynamicTests
     changes-2 h = simp (le-leb _ _ long, sym re, lt-leb _ _ h)
 
-    module _ (early : r ≤ 60000) (u : Bool) (ue : u ≡ every 1 16 (flagsFine b changes)) where
+    module _ (early : r ≤ lastRound) (u : Bool) (ue : u ≡ every 1 mostParts (validFlags b changes)) where
       pub changes-3 : not u ≡ true → false ≡ allOf (dynamicTests b changes n)
       unfolding dynamicTests
       changes-3 z = simp (le-leb _ _ long, sym re, le-leb _ _ early, sym ue, not-true u z)

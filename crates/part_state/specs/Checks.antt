@@ -9,33 +9,34 @@ use lib.ListN.{length}
 use Rattle.vocabulary.specs.Bytes.{Bytes}
 use Rattle.vocabulary.specs.Intervals.{isUpTo, every}
 use Rattle.layout.specs.Words.{wordAt}
+use Rattle.layout.specs.Limits.{mostElements, mostParts, mostSteps}
 use Rattle.round_rule.specs.Rules.{bad11}
 use Rattle.part_state.specs.State.{partNumber, stepCount, ruleKind, weights, importEnd, ownedCount, heldCount, exportEnd, exportCount}
-use Rattle.part_state.specs.State.{reachEnd, reachCount, entryAt, globalFine, entryFine, ownFound, exportFine, rises, exportsWord, entryWord, reachWord}
+use Rattle.part_state.specs.State.{reachEnd, reachCount, entryAt, validGlobal, validEntry, ownFound, validExport, rises, exportsWord, entryWord, reachWord, importWord, exportWord}
 use Rattle.part_state.specs.declared.places.Sizes.{Sizes}
 
 -- the lists b in three groups
-abbrev pub headTests : Bytes → List Bool
-headTests b =
-    isUpTo 16 (partNumber b)
-    ∷ (eqb (stepCount b % 2) 0 && leb (stepCount b) 8)
+abbrev pub headerTests : Bytes → List Bool
+headerTests b =
+    isUpTo mostParts (partNumber b)
+    ∷ (eqb (stepCount b % 2) 0 && leb (stepCount b) mostSteps)
     ∷ not (bad11 (ruleKind b) (stepCount b) (weights b))
-    ∷ leb (heldCount b) 2000
+    ∷ leb (heldCount b) mostElements
     ∷ []
 
 abbrev pub endTests : Bytes → List Bool
 endTests b =
-    rises 16 (importEnd b)
-    ∷ (eqb (exportEnd b 0) 0 && rises 16 (exportEnd b))
+    rises mostParts (importEnd b)
+    ∷ (eqb (exportEnd b 0) 0 && rises mostParts (exportEnd b))
     ∷ (eqb (reachEnd b 0) 0 && rises (ownedCount b) (reachEnd b))
     ∷ []
 
 abbrev pub entryTests : Bytes → List Bool
 entryTests b =
-    every 1 (heldCount b) (globalFine b)
-    ∷ every 0 (reachCount b) (entryFine b)
+    every 1 (heldCount b) (validGlobal b)
+    ∷ every 0 (reachCount b) (validEntry b)
     ∷ every 1 (ownedCount b) (ownFound b)
-    ∷ every 0 (exportCount b) (exportFine b)
+    ∷ every 0 (exportCount b) (validExport b)
     ∷ []
 
 -- the end after the one at word a + j is at least as great
@@ -47,8 +48,27 @@ unfoldable pub ownEntry : Bytes → ℕ → ℕ → Bool
 ownEntry b l t = eqb ((entryAt b t) .local) l && eqb ((entryAt b t) .layer) 0
 
 -- the row of the owned cell l: its entries are fine, and its own is among them
-unfoldable pub rowFine : Bytes → ℕ → Bool
-rowFine b l = every (reachEnd b (l - 1)) (reachEnd b l - reachEnd b (l - 1)) (entryFine b) && ownFound b l
+unfoldable pub validRow : Bytes → ℕ → Bool
+validRow b l = every (reachEnd b (l - 1)) (reachEnd b l - reachEnd b (l - 1)) (validEntry b) && ownFound b l
+
+-- ---- places as the code counts them
+
+-- with j added, the word before part j's imports end, and its exports: the end of the part before
+abbrev pub beforeImports : ℕ
+beforeImports = importWord - 1
+
+abbrev pub beforeExports : ℕ
+beforeExports = exportWord - 1
+
+-- with j added, the flags of part j; with 4 * l added, the depth of local cell l
+abbrev pub takenFlags : ℕ → ℕ
+takenFlags changes = changes + 1
+
+abbrev pub writtenFlags : ℕ → ℕ
+writtenFlags changes = changes + 17
+
+abbrev pub depthBase : ℕ → ℕ
+depthBase changes = changes + 30
 
 -- ---- the places that counts give: the ends of the reaches, their entries, the exports, and how many words that makes
 

@@ -13,7 +13,7 @@ use Rattle.vocabulary.specs.Lists.{someOf}
 use Rattle.vocabulary.specs.Tests.{allOf}
 use Rattle.vocabulary.specs.Bytes.{Bytes, byteAt}
 use Rattle.layout.specs.Words.{word, wordAt}
-use Rattle.layout.specs.Limits.{mostElements, mostParts, lastRound}
+use Rattle.layout.specs.Limits.{lastRound, mostElements, mostParts, mostSteps}
 use Rattle.depths.specs.Depths.{rangedAt}
 use Rattle.round_rule.specs.Rules.{Old, newDepth, weightCount, bad11}
 
@@ -23,6 +23,10 @@ pub record LocalNear : Type 0 where
   pub layer : ℕ
 
 -- ---- where the lists stand, by their counts: in words, from 0 on
+
+-- the byte at which the rule's weights begin
+abbrev pub weightsPlace : ℕ
+weightsPlace = 8
 
 -- the tables of ends of the imports and of the exports, for parts from 0 on; and the held cells, for local numbers from 1 on
 abbrev pub importWord : ℕ
@@ -44,6 +48,57 @@ entryWord held owned = 46 + held + owned
 abbrev pub exportsWord : ℕ → ℕ → ℕ → ℕ
 exportsWord held owned reached = entryWord held owned + 2 * reached
 
+-- ---- the lists as a call follows them
+
+pub record Lists : Type 0 where
+  -- the part's number
+  pub part : ℕ
+  -- the mesh's first cell and how many cells it has
+  pub first : ℕ
+  pub cells : ℕ
+  -- the rule: the new depth of a cell from its own old depth and those of its reach
+  pub new : Bytes → List Old → Bytes
+  -- the local numbers up to `owned` are the owned cells', and those up to `held` the held ones'
+  pub owned : ℕ
+  pub held : ℕ
+  -- the global number of a local one
+  pub global : ℕ → ℕ
+  -- the reach of an owned cell, in local numbers
+  pub reach : ℕ → List LocalNear
+  -- imports from part j are the local numbers after `before j`, `imported j` of them
+  pub before : ℕ → ℕ
+  pub imported : ℕ → ℕ
+  -- the local numbers of what is exported to part j
+  pub exports : ℕ → List ℕ
+
+-- ---- what calls change, from `changes` on: the round, a flag for each part taken from, a flag for each part written to, the depth of each held cell
+
+module _ (changes : ℕ) where
+  abbrev pub takenPlace : ℕ → ℕ
+  takenPlace j = changes + 1 + j
+
+  abbrev pub writtenPlace : ℕ → ℕ
+  writtenPlace j = changes + 17 + j
+
+  -- the depths of all held cells, and that of local cell l
+  abbrev pub depthsPlace : ℕ
+  depthsPlace = changes + 34
+
+  abbrev pub depthPlace : ℕ → ℕ
+  depthPlace l = changes + 30 + 4 * l
+
+  -- the length in bytes of a state that holds n cells
+  abbrev pub stateLength : ℕ → ℕ
+  stateLength n = depthsPlace + 4 * n
+
+-- a table of n + 1 ends never falls
+unfoldable pub rises : ℕ → (ℕ → ℕ) → Bool
+rises n end = every 0 n (λ j. leb (end j) (end (j + 1)))
+
+-- an entry of a reach names one of the held cells, at an even layer of at most n
+abbrev pub validNear : ℕ → ℕ → LocalNear → Bool
+validNear held n e = isUpTo held (e .local) && eqb (e .layer % 2) 0 && leb (e .layer) n
+
 -- ---- the lists, read from the bytes b of a state, or from its first `changes` bytes
 
 module _ (b : Bytes) where
@@ -61,7 +116,7 @@ module _ (b : Bytes) where
   ruleKind = wordAt b 3
 
   unfoldable pub weights : Bytes
-  weights = take (2 * weightCount ruleKind stepCount) (drop 8 b)
+  weights = take (2 * weightCount ruleKind stepCount) (drop weightsPlace b)
 
   -- word 9: the number of the mesh's first cell; 10: how many cells the mesh has
   abbrev pub firstOfMesh : ℕ
@@ -118,120 +173,72 @@ module _ (b : Bytes) where
   unfoldable pub localExports : ℕ → List ℕ
   localExports j = listed (exportEnd (j - 1)) (exportEnd j - exportEnd (j - 1)) exportAt
 
--- ---- what calls change, from `changes` on: the round, a flag for each part taken from, a flag for each part written to, the depth of each held cell
+  -- the lists that stand in the first `changes` bytes of a state
+  unfoldable pub listsIn : Lists
+  listsIn = record {
+    part = partNumber;
+    first = firstOfMesh;
+    cells = cellsOfMesh;
+    new = newDepth ruleKind weights;
+    owned = ownedCount;
+    held = heldCount;
+    global = globalAt;
+    reach = localReach;
+    before = λ j. importEnd (j - 1);
+    imported = λ j. importEnd j - importEnd (j - 1);
+    exports = localExports;
+  }
 
-abbrev pub roundAt : Bytes → ℕ → ℕ
-roundAt b changes = word b changes
+  -- ---- 20: "Not a part state by the form in docs/."
 
-abbrev pub takenPlace : ℕ → ℕ → ℕ
-takenPlace changes j = changes + 1 + j
+  -- a held cell is one of the mesh's
+  abbrev pub validGlobal : ℕ → Bool
+  validGlobal l = leb firstOfMesh (globalAt l) && ltb (globalAt l) (firstOfMesh + cellsOfMesh)
 
-abbrev pub writtenPlace : ℕ → ℕ → ℕ
-writtenPlace changes j = changes + 17 + j
+  abbrev pub validEntry : ℕ → Bool
+  validEntry t = validNear heldCount stepCount (entryAt t)
 
--- the depths of all held cells, and that of local cell l
-abbrev pub depthsPlace : ℕ → ℕ
-depthsPlace changes = changes + 34
+  -- an owned cell is in its own reach, at layer 0
+  abbrev pub ownFound : ℕ → Bool
+  ownFound l = someOf (localReach l) (λ e. eqb (e .local) l && eqb (e .layer) 0)
 
-abbrev pub depthPlace : ℕ → ℕ → ℕ
-depthPlace changes l = changes + 30 + 4 * l
+  -- an exported cell is owned
+  abbrev pub validExport : ℕ → Bool
+  validExport t = isUpTo ownedCount (exportAt t)
 
--- the length in bytes of a state that holds n cells
-abbrev pub stateLength : ℕ → ℕ → ℕ
-stateLength changes n = depthsPlace changes + 4 * n
+  -- tests of the lists b
+  unfoldable pub listsTests : List Bool
+  listsTests =
+      isUpTo mostParts partNumber
+      ∷ (eqb (stepCount % 2) 0 && leb stepCount mostSteps)
+      ∷ not (bad11 ruleKind stepCount weights)
+      ∷ leb heldCount mostElements
+      ∷ rises mostParts importEnd
+      ∷ (eqb (exportEnd 0) 0 && rises mostParts exportEnd)
+      ∷ (eqb (reachEnd 0) 0 && rises ownedCount reachEnd)
+      ∷ every 1 heldCount validGlobal
+      ∷ every 0 reachCount validEntry
+      ∷ every 1 ownedCount ownFound
+      ∷ every 0 exportCount validExport
+      ∷ []
 
--- ---- the lists as a call follows them
+  -- what calls change: the round
+  abbrev pub roundAt : ℕ → ℕ
+  roundAt changes = word b changes
 
-pub record Lists : Type 0 where
-  -- the part's number
-  pub part : ℕ
-  -- the mesh's first cell and how many cells it has
-  pub first : ℕ
-  pub cells : ℕ
-  -- the rule: the new depth of a cell from its own old depth and those of its reach
-  pub new : Bytes → List Old → Bytes
-  -- the local numbers up to `owned` are the owned cells', and those up to `held` the held ones'
-  pub owned : ℕ
-  pub held : ℕ
-  -- the global number of a local one
-  pub global : ℕ → ℕ
-  -- the reach of an owned cell, in local numbers
-  pub reach : ℕ → List LocalNear
-  -- imports from part j are the local numbers after `before j`, `imported j` of them
-  pub before : ℕ → ℕ
-  pub imported : ℕ → ℕ
-  -- the local numbers of what is exported to part j
-  pub exports : ℕ → List ℕ
+  -- the flags of part j are 0 or 1
+  abbrev pub validFlags : ℕ → ℕ → Bool
+  validFlags changes j = leb (byteAt b (takenPlace changes j)) 1 && leb (byteAt b (writtenPlace changes j)) 1
 
--- the lists that stand in the first `changes` bytes of a state
-unfoldable pub listsIn : Bytes → Lists
-listsIn b = record {
-  part = partNumber b;
-  first = firstOfMesh b;
-  cells = cellsOfMesh b;
-  new = newDepth (ruleKind b) (weights b);
-  owned = ownedCount b;
-  held = heldCount b;
-  global = globalAt b;
-  reach = localReach b;
-  before = λ j. importEnd b (j - 1);
-  imported = λ j. importEnd b j - importEnd b (j - 1);
-  exports = localExports b;
-}
+  -- tests of what calls change, in the state b whose lists end at `changes` and hold n cells
+  unfoldable pub dynamicTests : ℕ → ℕ → List Bool
+  dynamicTests changes n =
+      leb (stateLength changes n) (length b) ∷ leb (roundAt changes) lastRound
+      ∷ every 1 mostParts (validFlags changes) ∷ every 0 n (rangedAt b (depthsPlace changes)) ∷ []
 
+-- the lists of a state
 unfoldable pub listsOf : Bytes → Lists
 listsOf b = listsIn (take (dynamic b) b)
-
--- ---- 20: "Not a part state by the form in docs/."
-
--- a table of n + 1 ends never falls
-unfoldable pub rises : ℕ → (ℕ → ℕ) → Bool
-rises n end = every 0 n (λ j. leb (end j) (end (j + 1)))
-
--- a held cell is one of the mesh's
-abbrev pub globalFine : Bytes → ℕ → Bool
-globalFine b l = leb (firstOfMesh b) (globalAt b l) && ltb (globalAt b l) (firstOfMesh b + cellsOfMesh b)
-
--- an entry of a reach names one of the held cells, at an even layer of at most n
-abbrev pub fineEntry : ℕ → ℕ → LocalNear → Bool
-fineEntry held n e = isUpTo held (e .local) && eqb (e .layer % 2) 0 && leb (e .layer) n
-
-abbrev pub entryFine : Bytes → ℕ → Bool
-entryFine b t = fineEntry (heldCount b) (stepCount b) (entryAt b t)
-
--- an owned cell is in its own reach, at layer 0
-abbrev pub ownFound : Bytes → ℕ → Bool
-ownFound b l = someOf (localReach b l) (λ e. eqb (e .local) l && eqb (e .layer) 0)
-
--- an exported cell is owned
-abbrev pub exportFine : Bytes → ℕ → Bool
-exportFine b t = isUpTo (ownedCount b) (exportAt b t)
-
--- tests of the lists b
-unfoldable pub listsTests : Bytes → List Bool
-listsTests b =
-    isUpTo mostParts (partNumber b)
-    ∷ (eqb (stepCount b % 2) 0 && leb (stepCount b) 8)
-    ∷ not (bad11 (ruleKind b) (stepCount b) (weights b))
-    ∷ leb (heldCount b) mostElements
-    ∷ rises mostParts (importEnd b)
-    ∷ (eqb (exportEnd b 0) 0 && rises mostParts (exportEnd b))
-    ∷ (eqb (reachEnd b 0) 0 && rises (ownedCount b) (reachEnd b))
-    ∷ every 1 (heldCount b) (globalFine b)
-    ∷ every 0 (reachCount b) (entryFine b)
-    ∷ every 1 (ownedCount b) (ownFound b)
-    ∷ every 0 (exportCount b) (exportFine b)
-    ∷ []
-
--- the flags of part j are 0 or 1
-abbrev pub flagsFine : Bytes → ℕ → ℕ → Bool
-flagsFine b changes j = leb (byteAt b (takenPlace changes j)) 1 && leb (byteAt b (writtenPlace changes j)) 1
-
--- tests of what calls change, in the state b whose lists end at `changes` and hold n cells
-unfoldable pub dynamicTests : Bytes → ℕ → ℕ → List Bool
-dynamicTests b changes n =
-    leb (stateLength changes n) (length b) ∷ leb (roundAt b changes) lastRound
-    ∷ every 1 mostParts (flagsFine b changes) ∷ every 0 n (rangedAt b (depthsPlace changes)) ∷ []
 
 -- a part state: the lists are as long as their counts say, and all tests hold
 unfoldable pub isState : Bytes → Bool

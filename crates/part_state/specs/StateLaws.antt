@@ -19,11 +19,12 @@ use Rattle.vocabulary.specs.Tests.{allOf}
 use Rattle.vocabulary.specs.TestLaws.{allOf-true, allOf-intro}
 use Rattle.layout.specs.Words.{wordAt}
 use Rattle.layout.specs.WordLaws.{word-same}
+use Rattle.layout.specs.Limits.{lastRound, mostElements, mostParts, mostSteps}
 use Rattle.depths.specs.Depths.{rangedAt}
 use Rattle.round_rule.specs.Rules.{bad11}
-use Rattle.part_state.specs.State.{stepCount, ruleKind, weights, firstOfMesh, cellsOfMesh, globalAt, exportEnd, exportCount, exportAt, globalFine}
-use Rattle.part_state.specs.State.{entryFine, ownFound, exportFine, reachEnd, reachCount}
-use Rattle.part_state.specs.State.{entryAt, localReach, dynamic, importEnd, ownedCount, heldCount, rises, listsLength, listsTests, flagsFine, dynamicTests, isState}
+use Rattle.part_state.specs.State.{stepCount, ruleKind, weights, firstOfMesh, cellsOfMesh, globalAt, exportEnd, exportCount, exportAt, validGlobal}
+use Rattle.part_state.specs.State.{validEntry, ownFound, validExport, reachEnd, reachCount}
+use Rattle.part_state.specs.State.{entryAt, localReach, dynamic, importEnd, ownedCount, heldCount, rises, listsLength, listsTests, validFlags, dynamicTests, isState}
 use Rattle.part_state.specs.State.{roundAt, takenPlace, writtenPlace, stateLength, depthsPlace}
 
 -- a table of ends that never falls
@@ -57,19 +58,19 @@ state-at b = refl
 pub record Whole (lists : Bytes) (changes : ℕ) (b : Bytes) : Type 0 where
   pub lists-fit : changes ≡ listsLength lists
   pub long : stateLength changes (heldCount lists) ≤ length b
-  pub few : heldCount lists ≤ 2000
-  pub ends : (i j : ℕ) → i ≤ j → j ≤ 16 → importEnd lists i ≤ importEnd lists j
-  pub early : roundAt b changes ≤ 60000
-  pub flags : (j : ℕ) → 1 ≤ j → j ≤ 16 → (byteAt b (takenPlace changes j) ≤ 1) × (byteAt b (writtenPlace changes j) ≤ 1)
+  pub few : heldCount lists ≤ mostElements
+  pub ends : (i j : ℕ) → i ≤ j → j ≤ mostParts → importEnd lists i ≤ importEnd lists j
+  pub early : roundAt b changes ≤ lastRound
+  pub flags : (j : ℕ) → 1 ≤ j → j ≤ mostParts → (byteAt b (takenPlace changes j) ≤ 1) × (byteAt b (writtenPlace changes j) ≤ 1)
   pub ranged : every 0 (heldCount lists) (rangedAt b (depthsPlace changes)) ≡ true
   pub reach-ends : (i j : ℕ) → i ≤ j → j ≤ ownedCount lists → reachEnd lists i ≤ reachEnd lists j
   pub entries : (t : ℕ) → t < reachCount lists → (1 ≤ (entryAt lists t) .local) × ((entryAt lists t) .local ≤ heldCount lists)
-  pub steps-few : stepCount lists ≤ 8
+  pub steps-few : stepCount lists ≤ mostSteps
   pub rule : bad11 (ruleKind lists) (stepCount lists) (weights lists) ≡ false
   pub globals : (l : ℕ) → 1 ≤ l → l ≤ heldCount lists → (firstOfMesh lists ≤ globalAt lists l) × (globalAt lists l < firstOfMesh lists + cellsOfMesh lists)
   pub layers : (t : ℕ) → t < reachCount lists → (entryAt lists t) .layer ≤ stepCount lists
   pub owns : (l : ℕ) → 1 ≤ l → l ≤ ownedCount lists → ownFound lists l ≡ true
-  pub export-ends : (i j : ℕ) → i ≤ j → j ≤ 16 → exportEnd lists i ≤ exportEnd lists j
+  pub export-ends : (i j : ℕ) → i ≤ j → j ≤ mostParts → exportEnd lists i ≤ exportEnd lists j
   pub exported : (t : ℕ) → t < exportCount lists → (1 ≤ exportAt lists t) × (exportAt lists t ≤ ownedCount lists)
 
 pub whole-is : (lists : Bytes) (changes : ℕ) (b : Bytes) → isStateAt lists changes b ≡ true → Whole lists changes b
@@ -80,54 +81,54 @@ whole-is lists changes b e =
     let l = allOf-true (listsTests lists) (q .1) in
     let c = allOf-true (dynamicTests b changes (heldCount lists)) (p .1) in
     -- each test is found by what it says, and not by its place among them
-    let steps-pass : eqb (stepCount lists % 2) 0 && leb (stepCount lists) 8 ≡ true = search l in
+    let steps-pass : eqb (stepCount lists % 2) 0 && leb (stepCount lists) mostSteps ≡ true = search l in
     let rule-pass : not (bad11 (ruleKind lists) (stepCount lists) (weights lists)) ≡ true = search l in
-    let held-pass : leb (heldCount lists) 2000 ≡ true = search l in
-    let imports-pass : rises 16 (importEnd lists) ≡ true = search l in
-    let exports-pass : eqb (exportEnd lists 0) 0 && rises 16 (exportEnd lists) ≡ true = search l in
+    let held-pass : leb (heldCount lists) mostElements ≡ true = search l in
+    let imports-pass : rises mostParts (importEnd lists) ≡ true = search l in
+    let exports-pass : eqb (exportEnd lists 0) 0 && rises mostParts (exportEnd lists) ≡ true = search l in
     let reaches-pass : eqb (reachEnd lists 0) 0 && rises (ownedCount lists) (reachEnd lists) ≡ true = search l in
-    let globals-pass : every 1 (heldCount lists) (globalFine lists) ≡ true = search l in
-    let entries-pass : every 0 (reachCount lists) (entryFine lists) ≡ true = search l in
+    let globals-pass : every 1 (heldCount lists) (validGlobal lists) ≡ true = search l in
+    let entries-pass : every 0 (reachCount lists) (validEntry lists) ≡ true = search l in
     let own-pass : every 1 (ownedCount lists) (ownFound lists) ≡ true = search l in
-    let exported-pass : every 0 (exportCount lists) (exportFine lists) ≡ true = search l in
+    let exported-pass : every 0 (exportCount lists) (validExport lists) ≡ true = search l in
     let long-pass : leb (stateLength changes (heldCount lists)) (length b) ≡ true = search c in
-    let round-pass : leb (roundAt b changes) 60000 ≡ true = search c in
-    let flags-pass : every 1 16 (flagsFine b changes) ≡ true = search c in
+    let round-pass : leb (roundAt b changes) lastRound ≡ true = search c in
+    let flags-pass : every 1 mostParts (validFlags b changes) ≡ true = search c in
     let depths-pass : every 0 (heldCount lists) (rangedAt b (depthsPlace changes)) ≡ true = search c in
     record {
       lists-fit = eqb-true _ _ (q .0);
       long = leb-true _ _ long-pass;
       few = leb-true _ _ held-pass;
-      ends = λ i j h k. rises-grow 16 (importEnd lists) imports-pass i j h k;
+      ends = λ i j h k. rises-grow mostParts (importEnd lists) imports-pass i j h k;
       early = leb-true _ _ round-pass;
       flags = λ j h k.
           let r = and-true (leb (byteAt b (takenPlace changes j)) 1) (leb (byteAt b (writtenPlace changes j)) 1)
-          (every-in 1 (flagsFine b changes) 16 j flags-pass h (omega arith)) in
+          (every-in 1 (validFlags b changes) mostParts j flags-pass h (omega arith)) in
           (leb-true _ _ (r .0), leb-true _ _ (r .1));
       ranged = depths-pass;
       reach-ends = λ i j h k. rises-grow (ownedCount lists) (reachEnd lists) (and-true (eqb (reachEnd lists 0) 0) (rises (ownedCount lists) (reachEnd lists)) reaches-pass .1) i j h k;
       entries = λ t h.
-          let x = every-in 0 (entryFine lists) (reachCount lists) t entries-pass (omega arith) (omega arith) in
+          let x = every-in 0 (validEntry lists) (reachCount lists) t entries-pass (omega arith) (omega arith) in
           let p = isUpTo (heldCount lists) ((entryAt lists t) .local) in
           let q = eqb ((entryAt lists t) .layer % 2) 0 in
           let r = leb ((entryAt lists t) .layer) (stepCount lists) in
           upTo-true (heldCount lists) ((entryAt lists t) .local) (and-true p q (and-true (p && q) r x .0) .0);
-      steps-few = leb-true _ _ (and-true (eqb (stepCount lists % 2) 0) (leb (stepCount lists) 8) steps-pass .1);
+      steps-few = leb-true _ _ (and-true (eqb (stepCount lists % 2) 0) (leb (stepCount lists) mostSteps) steps-pass .1);
       rule = not-true _ rule-pass;
       globals = λ x h k.
           let r = and-true (leb (firstOfMesh lists) (globalAt lists x)) (ltb (globalAt lists x) (firstOfMesh lists + cellsOfMesh lists))
-          (every-in 1 (globalFine lists) (heldCount lists) x globals-pass h (omega arith)) in
+          (every-in 1 (validGlobal lists) (heldCount lists) x globals-pass h (omega arith)) in
           (leb-true _ _ (r .0), ltb-true _ _ (r .1));
       layers = λ t h.
-          let x = every-in 0 (entryFine lists) (reachCount lists) t entries-pass (omega arith) (omega arith) in
+          let x = every-in 0 (validEntry lists) (reachCount lists) t entries-pass (omega arith) (omega arith) in
           let p = isUpTo (heldCount lists) ((entryAt lists t) .local) in
           let q = eqb ((entryAt lists t) .layer % 2) 0 in
           let r = leb ((entryAt lists t) .layer) (stepCount lists) in
           leb-true _ _ (and-true (p && q) r x .1);
       owns = λ x h k. every-in 1 (ownFound lists) (ownedCount lists) x own-pass h (omega arith);
-      export-ends = λ i j h k. rises-grow 16 (exportEnd lists) (and-true (eqb (exportEnd lists 0) 0) (rises 16 (exportEnd lists)) exports-pass .1) i j h k;
+      export-ends = λ i j h k. rises-grow mostParts (exportEnd lists) (and-true (eqb (exportEnd lists 0) 0) (rises mostParts (exportEnd lists)) exports-pass .1) i j h k;
       exported = λ t h.
-          upTo-true (ownedCount lists) (exportAt lists t) (every-in 0 (exportFine lists) (exportCount lists) t exported-pass (omega arith) (omega arith));
+          upTo-true (ownedCount lists) (exportAt lists t) (every-in 0 (validExport lists) (exportCount lists) t exported-pass (omega arith) (omega arith));
     }
 
 -- every entry of an owned cell's reach is held
@@ -139,8 +140,8 @@ near-whole lists changes b w l h k =
     (λ t q. w .entries (reachEnd lists (l - 1) + t) (omega (arith, w .reach-ends (l - 1) l (omega arith) k, w .reach-ends l (ownedCount lists) k (omega arith))))
 
 -- the lists' side of the test says nothing of what calls change, and what calls change is tested by itself
-pub still-whole : (lists : Bytes) (changes : ℕ) (b b′ : Bytes) → isStateAt lists changes b ≡ true → stateLength changes (heldCount lists) ≤ length b′ → roundAt b′ changes ≤ 60000
-    → ((j : ℕ) → 1 ≤ j → j ≤ 16 → (byteAt b′ (takenPlace changes j) ≤ 1) × (byteAt b′ (writtenPlace changes j) ≤ 1))
+pub still-whole : (lists : Bytes) (changes : ℕ) (b b′ : Bytes) → isStateAt lists changes b ≡ true → stateLength changes (heldCount lists) ≤ length b′ → roundAt b′ changes ≤ lastRound
+    → ((j : ℕ) → 1 ≤ j → j ≤ mostParts → (byteAt b′ (takenPlace changes j) ≤ 1) × (byteAt b′ (writtenPlace changes j) ≤ 1))
     → every 0 (heldCount lists) (rangedAt b′ (depthsPlace changes)) ≡ true → isStateAt lists changes b′ ≡ true
 unfolding dynamicTests
 still-whole lists changes b b′ e long early flags ranged =
@@ -151,7 +152,7 @@ still-whole lists changes b b′ e long early flags ranged =
       (
         le-leb _ _ early,
         (
-          every-intro 1 (λ j. leb (byteAt b′ (takenPlace changes j)) 1 && leb (byteAt b′ (writtenPlace changes j)) 1) 16
+          every-intro 1 (λ j. leb (byteAt b′ (takenPlace changes j)) 1 && leb (byteAt b′ (writtenPlace changes j)) 1) mostParts
               (λ i h.
               let r = flags (1 + i) (omega arith) (omega arith) in
               and-intro (leb (byteAt b′ (takenPlace changes (1 + i))) 1) (leb (byteAt b′ (writtenPlace changes (1 + i))) 1) (le-leb _ _ (r .0)) (le-leb _ _ (r .1))),

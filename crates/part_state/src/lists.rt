@@ -16,11 +16,12 @@ use cell_numbers::inner::is_cell;
 use layout::inner::word_in;
 use layout::limits::MOST_ELEMENTS;
 use layout::limits::MOST_PARTS;
+use layout::limits::MOST_STEPS;
 use layout::word_at;
 use round_rule::Kind;
 use round_rule::Rule;
 use round_rule::rule_of;
-use round_rule::wrong_weights;
+use round_rule::bad_weights;
 ghost use mathlib.Core.Path.{_≡_};
 ghost use mathlib.Core.Bool.{true, not, _&&_};
 ghost use Prim.Native.Nat.{_+_, _-_, _*_, _<_, _≤_};
@@ -28,10 +29,11 @@ ghost use lib.ListN.{length, take, drop};
 ghost use Rattle.vocabulary.specs.Intervals.{isUpTo, every, some};
 ghost use Rattle.vocabulary.specs.Tests.{allOf};
 ghost use Rattle.layout.specs.Words.{wordAt};
+ghost use Rattle.layout.specs.Limits.{mostSteps};
 ghost use Rattle.round_rule.specs.Rules.{weightCount, bad11};
 ghost use Rattle.round_rule.specs.Kinds.{kindNumber};
-ghost use Rattle.part_state.specs.State.{exportCount, globalAt, globalFine, entryFine, exportFine, listsTests, reachWord};
-ghost use Rattle.part_state.specs.Checks.{Fitting, Tested, riseAt, ownEntry, rowFine, headTests, endTests, entryTests};
+ghost use Rattle.part_state.specs.State.{weightsPlace, exportCount, globalAt, validGlobal, validEntry, validExport, listsTests, reachWord};
+ghost use Rattle.part_state.specs.Checks.{Fitting, Tested, riseAt, ownEntry, validRow, headerTests, endTests, entryTests};
 
 // Whether x is a number from 1 to n.
 pub fn up_to(n: usize, x: usize) -> bool
@@ -85,9 +87,9 @@ fn ends_rise(lists: &[u8], a: usize, n: usize) -> bool
 }
 
 // Whether the held cells are the mesh's.
-fn globals_fine(lists: &[u8], held: usize) -> bool
+fn valid_globals(lists: &[u8], held: usize) -> bool
     requires { ⌜ (2 * (reachWord held) ≤ length (now lists)) × (held < 65536) ⌝ }
-    ensures { λ r. ⌜ r ≡ every 1 held (globalFine (now (lists .entry))) ⌝ }
+    ensures { λ r. ⌜ r ≡ every 1 held (validGlobal (now (lists .entry))) ⌝ }
 {
     let first = word_there(lists, FIRST);
     let cells = word_there(lists, CELLS);
@@ -100,10 +102,10 @@ fn globals_fine(lists: &[u8], held: usize) -> bool
     true
 }
 
-// Entry t of the reaches, whose entries begin at word `at`: a held cell, at an even layer of at most n.
-fn entry_fine(lists: &[u8], at: usize, held: usize, n: usize, t: usize) -> bool
-    requires { ⌜ Tested (now lists) at held n × (2 * (at + 2 * t) + 3 < length (now lists)) ⌝ }
-    ensures { λ r. ⌜ r ≡ entryFine (now (lists .entry)) t ⌝ }
+// Entry t of the reaches, whose entries begin at word `at`: a held cell, at an even layer of at most `steps`.
+fn valid_entry(lists: &[u8], at: usize, held: usize, steps: usize, t: usize) -> bool
+    requires { ⌜ Tested (now lists) at held steps × (2 * (at + 2 * t) + 3 < length (now lists)) ⌝ }
+    ensures { λ r. ⌜ r ≡ validEntry (now (lists .entry)) t ⌝ }
 {
     let layer = word_there(lists, at + 2 * t + 1);
     if !up_to(held, word_there(lists, at + 2 * t)) {
@@ -112,12 +114,12 @@ fn entry_fine(lists: &[u8], at: usize, held: usize, n: usize, t: usize) -> bool
     if layer % 2 != 0 {
         return false;
     }
-    layer <= n
+    layer <= steps
 }
 
 // Whether entry t is that of cell l itself.
-fn own_entry(lists: &[u8], at: usize, held: usize, n: usize, l: usize, t: usize) -> bool
-    requires { ⌜ Tested (now lists) at held n × (2 * (at + 2 * t) + 3 < length (now lists)) ⌝ }
+fn own_entry(lists: &[u8], at: usize, held: usize, steps: usize, l: usize, t: usize) -> bool
+    requires { ⌜ Tested (now lists) at held steps × (2 * (at + 2 * t) + 3 < length (now lists)) ⌝ }
     ensures { λ r. ⌜ r ≡ ownEntry (now (lists .entry)) l t ⌝ }
 {
     if word_there(lists, at + 2 * t) != l {
@@ -127,12 +129,12 @@ fn own_entry(lists: &[u8], at: usize, held: usize, n: usize, l: usize, t: usize)
 }
 
 // Whether the entries from `from` up to `to` are fine.
-fn rest_fine(lists: &[u8], at: usize, held: usize, n: usize, from: usize, to: usize) -> bool
-    requires { ⌜ Tested (now lists) at held n × (from ≤ to) × (2 * (at + 2 * to) ≤ length (now lists)) ⌝ }
-    ensures { λ r. ⌜ r ≡ every from (to - from) (entryFine (now (lists .entry))) ⌝ }
+fn valid_rest(lists: &[u8], at: usize, held: usize, steps: usize, from: usize, to: usize) -> bool
+    requires { ⌜ Tested (now lists) at held steps × (from ≤ to) × (2 * (at + 2 * to) ≤ length (now lists)) ⌝ }
+    ensures { λ r. ⌜ r ≡ every from (to - from) (validEntry (now (lists .entry))) ⌝ }
 {
     for t in from..to {
-        if !entry_fine(lists, at, held, n, t) {
+        if !valid_entry(lists, at, held, steps, t) {
             return false;
         }
     }
@@ -140,24 +142,24 @@ fn rest_fine(lists: &[u8], at: usize, held: usize, n: usize, from: usize, to: us
 }
 
 // The same, and whether the entry of cell l itself is among them. Where it is found, only the entries after it are left to test.
-fn row_fine(
+fn valid_row(
     lists: &[u8],
     at: usize,
     held: usize,
-    n: usize,
+    steps: usize,
     l: usize,
     from: usize,
     to: usize,
 ) -> bool
-    requires { ⌜ Tested (now lists) at held n × (from ≤ to) × (2 * (at + 2 * to) ≤ length (now lists)) ⌝ }
-    ensures { λ r. ⌜ r ≡ every from (to - from) (entryFine (now (lists .entry))) && some from (to - from) (ownEntry (now (lists .entry)) l) ⌝ }
+    requires { ⌜ Tested (now lists) at held steps × (from ≤ to) × (2 * (at + 2 * to) ≤ length (now lists)) ⌝ }
+    ensures { λ r. ⌜ r ≡ every from (to - from) (validEntry (now (lists .entry))) && some from (to - from) (ownEntry (now (lists .entry)) l) ⌝ }
 {
     for t in from..to {
-        if !entry_fine(lists, at, held, n, t) {
+        if !valid_entry(lists, at, held, steps, t) {
             return false;
         }
-        if own_entry(lists, at, held, n, l, t) {
-            return rest_fine(lists, at, held, n, t + 1, to);
+        if own_entry(lists, at, held, steps, l, t) {
+            return valid_rest(lists, at, held, steps, t + 1, to);
         }
     }
     false
@@ -174,17 +176,17 @@ fn end_there(lists: &[u8], i: usize, from: usize) -> usize
 }
 
 // The reaches of the owned cells, row by row. Their ends rise from 0 to the count of all, so the rows have all the entries.
-fn rows_fine(lists: &[u8], sizes: Sizes) -> bool
+fn valid_rows(lists: &[u8], sizes: Sizes) -> bool
     requires { ⌜ Fitting (now lists) sizes × (allOf (endTests (now lists)) ≡ true) ⌝ }
-    ensures { λ r. ⌜ r ≡ every 1 (sizes .owned) (rowFine (now (lists .entry))) ⌝ }
+    ensures { λ r. ⌜ r ≡ every 1 (sizes .owned) (validRow (now (lists .entry))) ⌝ }
 {
-    let n = word_there(lists, STEPS);
+    let steps = word_there(lists, STEPS);
     let ends = sizes.reach_word();
     let at = sizes.entry_word();
     let mut from = 0;
     for l in 1..1 + sizes.owned {
         let to = end_there(lists, ends + l, from);
-        if !row_fine(lists, at, sizes.held, n, l, from, to) {
+        if !valid_row(lists, at, sizes.held, steps, l, from, to) {
             return false;
         }
         from = to;
@@ -193,9 +195,9 @@ fn rows_fine(lists: &[u8], sizes: Sizes) -> bool
 }
 
 // Whether the exported cells are owned.
-fn exports_fine(lists: &[u8], sizes: Sizes) -> bool
+fn valid_exports(lists: &[u8], sizes: Sizes) -> bool
     requires { ⌜ Fitting (now lists) sizes ⌝ }
-    ensures { λ r. ⌜ r ≡ every 0 (exportCount (now (lists .entry))) (exportFine (now (lists .entry))) ⌝ }
+    ensures { λ r. ⌜ r ≡ every 0 (exportCount (now (lists .entry))) (validExport (now (lists .entry))) ⌝ }
 {
     let at = sizes.exports_word();
     for t in 0..sizes.sent {
@@ -206,55 +208,55 @@ fn exports_fine(lists: &[u8], sizes: Sizes) -> bool
     true
 }
 
-// How many weights a rule of this kind has under a stencil of n steps.
-pub fn weight_count(kind: Kind, n: usize) -> usize
-    requires { ⌜ n ≤ 8 ⌝ }
-    ensures { λ r. ⌜ (r ≡ weightCount (kindNumber kind) n) × (r ≤ 5) ⌝ }
+// How many weights a rule of this kind has under a stencil of `steps` steps.
+pub fn weight_count(kind: Kind, steps: usize) -> usize
+    requires { ⌜ steps ≤ mostSteps ⌝ }
+    ensures { λ r. ⌜ (r ≡ weightCount (kindNumber kind) steps) × (r ≤ 5) ⌝ }
 {
     match kind {
         Kind::Hold => 0,
-        Kind::Mean => n / 2 + 1,
+        Kind::Mean => steps / 2 + 1,
         Kind::Shoalest => 0,
     }
 }
 
 // Whether the rule in the lists is one.
-fn rule_fine(lists: &[u8], kind: usize, n: usize) -> bool
-    requires { ⌜ (18 ≤ length (now lists)) × (n ≤ 8) × (kind < 65536) ⌝ }
-    ensures { λ r. ⌜ r ≡ not (bad11 kind n (take (2 * weightCount kind n) (drop 8 (now (lists .entry))))) ⌝ }
+fn valid_rule(lists: &[u8], kind: usize, steps: usize) -> bool
+    requires { ⌜ (weightsPlace + 10 ≤ length (now lists)) × (steps ≤ mostSteps) × (kind < 65536) ⌝ }
+    ensures { λ r. ⌜ r ≡ not (bad11 kind steps (take (2 * weightCount kind steps) (drop weightsPlace (now (lists .entry))))) ⌝ }
 {
     match rule_of(kind as u32) {
         Rule::Known(k) => {
-            let end = WEIGHTS + 2 * weight_count(k, n);
-            !wrong_weights(k, n, &lists[WEIGHTS..end])
+            let end = WEIGHTS + 2 * weight_count(k, steps);
+            !bad_weights(k, steps, &lists[WEIGHTS..end])
         }
         Rule::Unknown => false,
     }
 }
 
 // The part's number, the stencil's steps, the rule and the count of held cells.
-fn head_fine(lists: &[u8]) -> bool
-    requires { ⌜ 18 ≤ length (now lists) ⌝ }
-    ensures { λ r. ⌜ r ≡ allOf (headTests (now (lists .entry))) ⌝ }
+fn valid_header(lists: &[u8]) -> bool
+    requires { ⌜ weightsPlace + 10 ≤ length (now lists) ⌝ }
+    ensures { λ r. ⌜ r ≡ allOf (headerTests (now (lists .entry))) ⌝ }
 {
     if !up_to(MOST_PARTS, word_at(lists, PART)) {
         return false;
     }
-    let n = word_at(lists, STEPS);
-    if n % 2 != 0 {
+    let steps = word_at(lists, STEPS);
+    if steps % 2 != 0 {
         return false;
     }
-    if 8 < n {
+    if MOST_STEPS < steps {
         return false;
     }
-    if !rule_fine(lists, word_at(lists, KIND), n) {
+    if !valid_rule(lists, word_at(lists, KIND), steps) {
         return false;
     }
     word_at(lists, HELD) <= MOST_ELEMENTS
 }
 
 // The three tables of ends.
-fn ends_fine(lists: &[u8], sizes: Sizes) -> bool
+fn valid_ends(lists: &[u8], sizes: Sizes) -> bool
     requires { ⌜ Fitting (now lists) sizes ⌝ }
     ensures { λ r. ⌜ r ≡ allOf (endTests (now (lists .entry))) ⌝ }
 {
@@ -275,29 +277,29 @@ fn ends_fine(lists: &[u8], sizes: Sizes) -> bool
 }
 
 // The held cells, the reaches and the exports.
-fn entries_fine(lists: &[u8], sizes: Sizes) -> bool
+fn valid_entries(lists: &[u8], sizes: Sizes) -> bool
     requires { ⌜ Fitting (now lists) sizes × (allOf (endTests (now lists)) ≡ true) ⌝ }
     ensures { λ r. ⌜ r ≡ allOf (entryTests (now (lists .entry))) ⌝ }
 {
-    if !globals_fine(lists, sizes.held) {
+    if !valid_globals(lists, sizes.held) {
         return false;
     }
-    if !rows_fine(lists, sizes) {
+    if !valid_rows(lists, sizes) {
         return false;
     }
-    exports_fine(lists, sizes)
+    valid_exports(lists, sizes)
 }
 
 // Whether the lists pass all their tests.
-pub fn lists_fine(lists: &[u8], sizes: Sizes) -> bool
+pub fn valid_lists(lists: &[u8], sizes: Sizes) -> bool
     requires { ⌜ Fitting (now lists) sizes ⌝ }
     ensures { λ r. ⌜ r ≡ allOf (listsTests (now (lists .entry))) ⌝ }
 {
-    if !head_fine(lists) {
+    if !valid_header(lists) {
         return false;
     }
-    if !ends_fine(lists, sizes) {
+    if !valid_ends(lists, sizes) {
         return false;
     }
-    entries_fine(lists, sizes)
+    valid_entries(lists, sizes)
 }

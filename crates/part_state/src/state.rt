@@ -1,5 +1,5 @@
 // Whether bytes begin with a part's state (20).
-use crate::lists::lists_fine;
+use crate::lists::valid_lists;
 use crate::places::DEPTHS;
 use crate::places::LENGTH;
 use crate::places::TAKEN;
@@ -16,13 +16,14 @@ ghost use Prim.Native.Nat.{_+_, _*_, _<_};
 ghost use lib.ListN.{length};
 ghost use Rattle.vocabulary.specs.Intervals.{every};
 ghost use Rattle.vocabulary.specs.Tests.{allOf};
-ghost use Rattle.part_state.specs.State.{flagsFine, dynamicTests, isState};
+ghost use Rattle.layout.specs.Limits.{mostParts};
+ghost use Rattle.part_state.specs.State.{validFlags, dynamicTests, isState};
 ghost use Rattle.part_state.specs.StateLaws.{isStateAt};
 
 // The flags of part j.
-fn flag_fine(b: &[u8], changes: usize, j: usize) -> bool
+fn valid_flag(b: &[u8], changes: usize, j: usize) -> bool
     requires { ⌜ (changes < 1000000) × (j < 65536) ⌝ }
-    ensures { λ r. ⌜ r ≡ flagsFine (now (b .entry)) changes j ⌝ }
+    ensures { λ r. ⌜ r ≡ validFlags (now (b .entry)) changes j ⌝ }
 {
     if 1 < byte_at(b, changes + TAKEN + j) {
         return false;
@@ -30,12 +31,12 @@ fn flag_fine(b: &[u8], changes: usize, j: usize) -> bool
     byte_at(b, changes + WRITTEN + j) <= 1
 }
 
-fn flags_fine(b: &[u8], changes: usize) -> bool
+fn valid_flags(b: &[u8], changes: usize) -> bool
     requires { ⌜ changes < 1000000 ⌝ }
-    ensures { λ r. ⌜ r ≡ every 1 16 (flagsFine (now (b .entry)) changes) ⌝ }
+    ensures { λ r. ⌜ r ≡ every 1 mostParts (validFlags (now (b .entry)) changes) ⌝ }
 {
     for j in 1..MOST_PARTS + 1 {
-        if !flag_fine(b, changes, j) {
+        if !valid_flag(b, changes, j) {
             return false;
         }
     }
@@ -43,7 +44,7 @@ fn flags_fine(b: &[u8], changes: usize) -> bool
 }
 
 // What calls change, from `changes` on, where n cells are held.
-fn changes_fine(b: &[u8], changes: usize, n: usize) -> bool
+fn valid_changes(b: &[u8], changes: usize, n: usize) -> bool
     requires { ⌜ (changes < 1000000) × (n < 65536) ⌝ }
     ensures { λ r. ⌜ r ≡ allOf (dynamicTests (now (b .entry)) changes n) ⌝ }
 {
@@ -53,14 +54,14 @@ fn changes_fine(b: &[u8], changes: usize, n: usize) -> bool
     if LAST_ROUND < word_in(b, changes) {
         return false;
     }
-    if !flags_fine(b, changes) {
+    if !valid_flags(b, changes) {
         return false;
     }
     depths_in_range(b, changes + DEPTHS, n)
 }
 
 // The state b, whose lists end at `changes`.
-fn state_fine(lists: &[u8], b: &[u8], changes: usize) -> bool
+fn valid_state(lists: &[u8], b: &[u8], changes: usize) -> bool
     requires { ⌜ (changes ≡ length (now lists)) × (changes < 1000000) ⌝ }
     ensures { λ r. ⌜ r ≡ isStateAt (now (lists .entry)) changes (now (b .entry)) ⌝ }
 {
@@ -68,10 +69,10 @@ fn state_fine(lists: &[u8], b: &[u8], changes: usize) -> bool
     if changes != 2 * sizes.words() {
         return false;
     }
-    if !lists_fine(lists, sizes) {
+    if !valid_lists(lists, sizes) {
         return false;
     }
-    changes_fine(b, changes, sizes.held)
+    valid_changes(b, changes, sizes.held)
 }
 
 // Whether the bytes begin with a part's state.
@@ -82,5 +83,5 @@ pub fn is_state(b: &[u8]) -> bool
     if b.len() < changes {
         return false;
     }
-    state_fine(&b[0..changes], b, changes)
+    valid_state(&b[0..changes], b, changes)
 }

@@ -17,69 +17,71 @@ use Rattle.layout.specs.Words.{word, wordAt}
 use Rattle.layout.specs.AnswerLaws.{refuses, accepts}
 use Rattle.layout.specs.declared.Answer.{Answer}
 use Rattle.layout.specs.declared.Answer.the-variants.{Done, Refused}
+use Rattle.layout.specs.Limits.{mostParts}
 use types.Run.{OneOf}
 use denote.Enum.Declared.{tagOf}
 use Rattle.messages.specs.Messages.{depthsOf, messageSize, bad15, fromIn, toIn, roundIn, countIn, reading}
-use Rattle.messages.specs.Heads.{readingNumber, meantReading}
-use Rattle.messages.specs.HeadLaws.{message-told}
-use Rattle.messages.specs.declared.Head.{Head}
+use Rattle.messages.specs.Readings.{readingNumber, meantReading}
+use Rattle.messages.specs.ReadingLaws.{message-told}
+use Rattle.messages.specs.declared.Header.{Header}
 use Rattle.messages.specs.declared.Reading.{Reading}
 use Rattle.messages.specs.declared.Reading.the-variants.{Message}
 use Rattle.messages.specs.declared.Reading.the-variants as answers
 use Rattle.messages.proofs.Else.{else-bad, else-number}
 use Rattle.messages.proofs.Reading as K
-use Rattle.part_state.specs.State.{Lists, listsIn, listsOf, dynamic, heldCount, isState, depthPlace, stateLength, takenPlace}
+use Rattle.part_state.specs.State.{Lists, listsIn, listsOf, dynamic, heldCount, isState, depthPlace, stateLength, takenPlace, importWord, partNumber}
 use Rattle.part_calls.specs.Calls.{importsFrom, takeTestsIn, takenIn, takeNumber, takeAnswer, takeState}
 use Rattle.part_calls.specs.CallLaws.{Room, room-of, Taken, taken-facts}
-use Rattle.part_calls.specs.Opened.{Opened, wrongSender, takeRest}
+use Rattle.part_calls.specs.Opened.{Opened, badSender, takeRest}
 use Rattle.part_calls.proofs.OpenedLaws.{whole, long, good-state, not-state, cut, lists-is, part-few}
+use Rattle.part_state.specs.Checks.{beforeImports}
 
 -- ---- the sender (21)
 
-module _ (lists : Bytes) (from to count part : ℕ) (pe : part ≡ wordAt lists 1) where
-  pub sender-1 : (to ≡ part → ⊥) → true ≡ wrongSender (listsIn lists) from to count
-  unfolding wrongSender listsIn
+module _ (lists : Bytes) (from to count part : ℕ) (pe : part ≡ partNumber lists) where
+  pub sender-1 : (to ≡ part → ⊥) → true ≡ badSender (listsIn lists) from to count
+  unfolding badSender listsIn
   sender-1 z = simp (sym pe, ne-eqb _ _ z)
 
-  module _ (te : to ≡ part) (u : Bool) (ue : u ≡ isUpTo 16 from) where
-    pub sender-2 : not u ≡ true → true ≡ wrongSender (listsIn lists) from to count
-    unfolding wrongSender listsIn importsFrom
+  module _ (te : to ≡ part) (u : Bool) (ue : u ≡ isUpTo mostParts from) where
+    pub sender-2 : not u ≡ true → true ≡ badSender (listsIn lists) from to count
+    unfolding badSender listsIn importsFrom
     sender-2 z = simp (sym pe, eq-eqb _ _ te, sym ue, not-true u z)
 
     module _ (uf : not u ≡ false) where
-      up : (1 ≤ from) × (from ≤ 16)
+      up : (1 ≤ from) × (from ≤ mostParts)
       up = part-few from u ue uf
 
-      module _ (n : ℕ) (ne : n ≡ wordAt lists (10 + from + 1) - wordAt lists (10 + from)) where
-        import-is : wordAt lists (11 + from) - wordAt lists (11 + (from - 1)) ≡ n
+      module _ (n : ℕ) (ne : n ≡ wordAt lists (beforeImports + from + 1) - wordAt lists (beforeImports + from)) where
+        import-is : wordAt lists (importWord + from) - wordAt lists (importWord + (from - 1)) ≡ n
         import-is =
-            let p : 11 + from ≡ 10 + from + 1 = omega arith in
-            let q : 11 + (from - 1) ≡ 10 + from = omega (arith, up .0) in
+            let p : importWord + from ≡ beforeImports + from + 1 = omega arith in
+            let q : importWord + (from - 1) ≡ beforeImports + from = omega (arith, up .0) in
             ap₂ (λ x y. wordAt lists x - wordAt lists y) p q ∙ sym ne
 
-        pub sender-3 : n < 1 → true ≡ wrongSender (listsIn lists) from to count
-        unfolding wrongSender listsIn importsFrom
+        pub sender-3 : n < 1 → true ≡ badSender (listsIn lists) from to count
+        unfolding badSender listsIn importsFrom
         sender-3 h = let z : n ≤ 0 = omega arith in simp (sym pe, eq-eqb _ _ te, sym ue, not-false u uf, import-is, le-ltb 0 n z)
 
-        pub sender-4 : 1 ≤ n → not (eqb count n) ≡ wrongSender (listsIn lists) from to count
-        unfolding wrongSender listsIn importsFrom
+        pub sender-4 : 1 ≤ n → not (eqb count n) ≡ badSender (listsIn lists) from to count
+        unfolding badSender listsIn importsFrom
         sender-4 h = simp (sym pe, eq-eqb _ _ te, sym ue, not-false u uf, import-is, lt-ltb 0 n h)
 
 -- a message that is not refused comes from one of the parts
-pub sender-few : (lists : Bytes) (from to count : ℕ) (w : Bool) → w ≡ wrongSender (listsIn lists) from to count → w ≡ false → from ≤ 16
-unfolding wrongSender importsFrom
+pub sender-few : (lists : Bytes) (from to count : ℕ) (w : Bool) → w ≡ badSender (listsIn lists) from to count → w ≡ false → from ≤ mostParts
+unfolding badSender importsFrom
 sender-few lists from to count w we wf =
     let a = not (eqb to (listsIn lists .part)) in
-    let c = not (isUpTo 16 from && ltb 0 (listsIn lists .imported from)) in
+    let c = not (isUpTo mostParts from && ltb 0 (listsIn lists .imported from)) in
     let e = not (eqb count (listsIn lists .imported from)) in
     let p = or-false (a || c) e (sym we ∙ wf) in
-    upTo-true 16 from (and-true (isUpTo 16 from) (ltb 0 (listsIn lists .imported from)) (not-false _ (or-false a c (p .0) .1)) .0) .1
+    upTo-true mostParts from (and-true (isUpTo mostParts from) (ltb 0 (listsIn lists .imported from)) (not-false _ (or-false a c (p .0) .1)) .0) .1
 
 -- ---- the words of a message (21, 22, 23)
 
-module _ (b : Bytes) (changes from to count : ℕ) (w : Bool) (we : w ≡ wrongSender (listsIn (take (changes - 0) (drop 0 b))) from to count) where
-  sender-is : wrongSender (listsIn (take changes b)) from to count ≡ w
-  sender-is = sym (we ∙ ap (λ (x : Bytes). wrongSender (listsIn x) from to count) (cut b changes))
+module _ (b : Bytes) (changes from to count : ℕ) (w : Bool) (we : w ≡ badSender (listsIn (take (changes - 0) (drop 0 b))) from to count) where
+  sender-is : badSender (listsIn (take changes b)) from to count ≡ w
+  sender-is = sym (we ∙ ap (λ (x : Bytes). badSender (listsIn x) from to count) (cut b changes))
 
   pub rest-1 : (round : ℕ) → w ≡ true → 21 ≡ takeRest (listsIn (take changes b)) changes b from to round count
   unfolding takeRest
@@ -112,8 +114,8 @@ pub message-good : (x : Bytes) (r : Reading) → meantReading x r ≡ reading x 
 message-good x (Message h) e o = message-told x h e .0
 message-good x (answers.Refused n) e o = absurd (omega arith)
 
-pub message-head : (x : Bytes) (r : Reading) (h : Head) → meantReading x r ≡ reading x → r ≡ Message h → (h .from ≡ fromIn x) × (h .to ≡ toIn x) × (h .round ≡ roundIn x) × (h .count ≡ countIn x)
-message-head x r h e m = let p = message-told x h (sym (ap (meantReading x) m) ∙ e) in (p .1, p .2, p .3, p .4)
+pub message-header : (x : Bytes) (r : Reading) (h : Header) → meantReading x r ≡ reading x → r ≡ Message h → (h .from ≡ fromIn x) × (h .to ≡ toIn x) × (h .round ≡ roundIn x) × (h .count ≡ countIn x)
+message-header x r h e m = let p = message-told x h (sym (ap (meantReading x) m) ∙ e) in (p .1, p .2, p .3, p .4)
 
 -- ---- the answer
 
@@ -129,7 +131,7 @@ module _ (b x : Bytes) where
   unfolding takeAnswer takeState
   done = accepts (takeNumber b x) 0 (takenIn (listsOf b) (dynamic b) b x) b
 
-  here : (L : Lists) (changes : ℕ) → over (set b (takenPlace changes (fromIn x)) 1) (changes + 30 + 4 * (L .before (fromIn x) + 1)) (depthsOf x) ≡ takenIn L changes b x
+  here : (L : Lists) (changes : ℕ) → over (set b (takenPlace changes (fromIn x)) 1) (depthPlace changes (L .before (fromIn x) + 1)) (depthsOf x) ≡ takenIn L changes b x
   unfolding takenIn
   here L changes = refl
 
@@ -143,9 +145,10 @@ module _ (b x : Bytes) where
   unfolding takeNumber takeTestsIn
   told-20 r u e o ue ut = refused 20 (simp (message-good x r e o, not-state b u ue ut)) (λ k. omega (arith, k))
 
-  module _ (changes : ℕ) (o : Opened (take changes b) changes b) (fifteen : bad15 x ≡ false) (from to round count : ℕ) (fe : from ≡ fromIn x) (te : to ≡ toIn x) (re : round ≡ roundIn x) (ce : count ≡ countIn x) where
+  module _ (changes : ℕ) (o : Opened (take changes b) changes b) (fifteen : bad15 x ≡ false) (from to round count : ℕ) (fe : from ≡ fromIn x) (te : to ≡ toIn x) (re : round ≡ roundIn x)
+      (ce : count ≡ countIn x) where
     number-here : takeNumber b x ≡ takeRest (listsOf b) (dynamic b) b (fromIn x) (toIn x) (roundIn x) (countIn x)
-    unfolding takeNumber takeTestsIn takeRest wrongSender
+    unfolding takeNumber takeTestsIn takeRest badSender
     number-here = simp (fifteen, good-state (take changes b) changes b o)
 
     pub number-is : takeNumber b x ≡ takeRest (listsIn (take changes b)) changes b from to round count
@@ -166,15 +169,15 @@ module _ (b x : Bytes) where
             taken-facts (listsIn (take changes b)) changes b x
             (ap₂ (λ (L : Lists) p. firstOf (takeTestsIn L p b x)) (sym (lists-is (take changes b) changes b o)) (o .place-is) ∙ accepted)
 
-        pub from-few : from ≤ 16
+        pub from-few : from ≤ mostParts
         from-few = omega (arith, facts .from-most)
 
-        module _ (before : ℕ) (be : before ≡ wordAt (take (changes - 0) (drop 0 b)) (10 + from)) where
+        module _ (before : ℕ) (be : before ≡ wordAt (take (changes - 0) (drop 0 b)) (beforeImports + from)) where
           before-is : listsIn (take changes b) .before (fromIn x) ≡ before
           unfolding listsIn
           before-is =
-              let p : 11 + (fromIn x - 1) ≡ 10 + from = omega (arith, facts .from-least) in
-              ap (wordAt (take changes b)) p ∙ sym (be ∙ ap (λ (y : Bytes). wordAt y (10 + from)) (cut b changes))
+              let p : importWord + (fromIn x - 1) ≡ beforeImports + from = omega (arith, facts .from-least) in
+              ap (wordAt (take changes b)) p ∙ sym (be ∙ ap (λ (y : Bytes). wordAt y (beforeImports + from)) (cut b changes))
 
           held-room : before + count ≤ heldCount (take changes b)
           unfolding listsIn
@@ -182,7 +185,7 @@ module _ (b x : Bytes) where
               let w : Room (listsIn (take changes b)) changes b = room-of (take changes b) changes b (whole (take changes b) changes b o) in
               omega (arith, w .fits (fromIn x) (facts .from-least) (facts .from-most), before-is, facts .count-is)
 
-          pub store-fits : (changes < 131072) × (from ≤ 16) × (before < 65536) × (count < 65536) × (stateLength changes (before + count) ≤ length b) × (length x ≡ messageSize count)
+          pub store-fits : (changes < 131072) × (from ≤ mostParts) × (before < 65536) × (count < 65536) × (stateLength changes (before + count) ≤ length b) × (length x ≡ messageSize count)
           store-fits = (
             o .place-small,
             from-few,

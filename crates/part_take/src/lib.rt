@@ -5,7 +5,7 @@ use layout::inner::copy;
 use layout::inner::word_in;
 use layout::limits::MOST_PARTS;
 use layout::word_at;
-use messages::HEAD_SIZE;
+use messages::HEADER_SIZE;
 use messages::Reading;
 use messages::read;
 use messages::refusal_of;
@@ -23,14 +23,15 @@ ghost use mathlib.Core.Bool.{false};
 ghost use Prim.Native.Nat.{_+_, _*_, _<_, _≤_};
 ghost use lib.ListN.{length, set, take};
 ghost use Rattle.vocabulary.specs.Bytes.{over};
+ghost use Rattle.layout.specs.Limits.{mostParts};
 ghost use Rattle.messages.specs.Messages.{depthsOf, messageSize, bad15, fromIn, toIn, roundIn, countIn};
 ghost use Rattle.part_state.specs.State.{listsIn, depthPlace, stateLength, takenPlace};
-ghost use Rattle.part_calls.specs.Opened.{Opened, wrongSender, takeRest};
+ghost use Rattle.part_calls.specs.Opened.{Opened, badSender, takeRest};
 ghost use Rattle.part_calls.specs.Calls.{takeAnswer, takeState};
 
 // Whether a message with these words is no message to this part from one that it imports from, with as many depths (21).
-fn wrong_sender(lists: &[u8], from: usize, to: usize, count: usize) -> bool
-    ensures { λ r. ⌜ r ≡ wrongSender (listsIn (now (lists .entry))) from to count ⌝ }
+fn bad_sender(lists: &[u8], from: usize, to: usize, count: usize) -> bool
+    ensures { λ r. ⌜ r ≡ badSender (listsIn (now (lists .entry))) from to count ⌝ }
 {
     if to != word_at(lists, PART) {
         return true;
@@ -50,7 +51,7 @@ fn take_rest(b: &[u8], changes: usize, from: usize, to: usize, round: usize, cou
     requires { ⌜ Opened (take changes (now b)) changes (now b) ⌝ }
     ensures { λ r. ⌜ r ≡ takeRest (listsIn (take changes (now (b .entry)))) changes (now (b .entry)) from to round count ⌝ }
 {
-    if wrong_sender(&b[0..changes], from, to, count) {
+    if bad_sender(&b[0..changes], from, to, count) {
         return 21;
     }
     if round != word_in(b, changes) {
@@ -64,7 +65,7 @@ fn take_rest(b: &[u8], changes: usize, from: usize, to: usize, round: usize, cou
 
 // Sets the flag of part `from`, and copies the message's depths to the cells after `before`.
 fn store(b: &mut [u8], changes: usize, from: usize, before: usize, x: &[u8], count: usize)
-    requires { ⌜ (changes < 131072) × (from ≤ 16) × (before < 65536) × (count < 65536) × (stateLength changes (before + count) ≤ length (now b)) × (length (now x) ≡ messageSize count) ⌝ }
+    requires { ⌜ (changes < 131072) × (from ≤ mostParts) × (before < 65536) × (count < 65536) × (stateLength changes (before + count) ≤ length (now b)) × (length (now x) ≡ messageSize count) ⌝ }
     ensures { λ _. ⌜ now (b .exit) ≡ over (set (now (b .entry)) (takenPlace changes from) 1) (depthPlace changes (before + 1)) (depthsOf (now (x .entry))) ⌝ }
 {
     set_flag(b, changes + TAKEN + from);
@@ -72,7 +73,7 @@ fn store(b: &mut [u8], changes: usize, from: usize, before: usize, x: &[u8], cou
         b,
         changes + DEPTH + 4 * (before + 1),
         x,
-        HEAD_SIZE,
+        HEADER_SIZE,
         4 * count,
     );
 }

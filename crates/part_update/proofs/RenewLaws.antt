@@ -31,9 +31,9 @@ use Rattle.round_rule.specs.Update.{tableEntries, oldsAt, UpdateReady}
 use Rattle.round_rule.specs.Update as update
 use Rattle.round_rule.specs.UpdateLaws.{weightSum-own}
 use Rattle.round_rule.proofs.Registers.{depth-held}
-use Rattle.part_state.specs.State.{LocalNear, listsIn, ruleKind, stepCount, weights, heldCount, ownedCount, reachEnd}
+use Rattle.part_state.specs.State.{LocalNear, listsIn, ruleKind, stepCount, weights, heldCount, ownedCount, reachEnd, weightsPlace}
 use Rattle.part_state.specs.State.{reachCount, entryAt, localReach, ownFound, depthPlace, depthsPlace, entryWord, reachWord}
-use Rattle.part_state.specs.Checks.{reachStart, entryStart, Counts}
+use Rattle.part_state.specs.Checks.{reachStart, entryStart, Counts, depthBase}
 use Rattle.part_state.specs.declared.places.Sizes.{Sizes}
 use Rattle.part_calls.specs.Calls.{depthAt, newAt}
 use Rattle.part_state.specs.StateLaws.{Whole}
@@ -48,7 +48,8 @@ word-of b o i e = ap (word b) e
 abbrev oldOf : Bytes → ℕ → LocalNear → Old
 oldOf b changes e = record { layer = e .layer; depth = depthAt changes b (e .local) }
 
-new-is : (lists : Bytes) (changes : ℕ) (b : Bytes) (l : ℕ) → newDepth (ruleKind lists) (weights lists) (four b (depthPlace changes l)) (map (oldOf b changes) (localReach lists l)) ≡ newAt (listsIn lists) changes b l
+new-is : (lists : Bytes) (changes : ℕ) (b : Bytes) (l : ℕ) → newDepth (ruleKind lists) (weights lists) (four b (depthPlace changes l)) (map (oldOf b changes) (localReach lists l))
+    ≡ newAt (listsIn lists) changes b l
 unfolding newAt listsIn
 new-is lists changes b l = refl
 
@@ -113,13 +114,13 @@ module _ (lists : Bytes) (changes : ℕ) (b : Bytes) (o : Opened lists changes b
       entry-layer = word-of lists _ (entryWord (heldCount lists) (ownedCount lists) + 2 * (from + t) + 1) (omega (arith, ae, C .held-is, C .owned-is))
 
     -- the reach in local numbers, as the update finds it
-    near : oldsAt b (changes + 30) (tableEntries lists (2 * at + 4 * from) n) ≡ map (oldOf b changes) (localReach lists l)
+    near : oldsAt b (depthBase changes) (tableEntries lists (2 * at + 4 * from) n) ≡ map (oldOf b changes) (localReach lists l)
     unfolding oldsAt tableEntries localReach
     near =
-        listed-map (update.oldAt b (changes + 30)) 0 (update.tableEntry lists (2 * at + 4 * from)) n
-        ∙ listed-moved 0 from (λ t. update.oldAt b (changes + 30) (update.tableEntry lists (2 * at + 4 * from) t)) (λ t. oldOf b changes (entryAt lists t)) n
+        listed-map (update.oldAt b (depthBase changes)) 0 (update.tableEntry lists (2 * at + 4 * from)) n
+        ∙ listed-moved 0 from (λ t. update.oldAt b (depthBase changes) (update.tableEntry lists (2 * at + 4 * from) t)) (λ t. oldOf b changes (entryAt lists t)) n
         (λ t q.
-        ap (λ x. update.oldAt b (changes + 30) (update.tableEntry lists (2 * at + 4 * from) x)) (zero-add t)
+        ap (λ x. update.oldAt b (depthBase changes) (update.tableEntry lists (2 * at + 4 * from) x)) (zero-add t)
         ∙ ap₂ (λ x y. record { layer = y; depth = four b (depthPlace changes x) }) (entry-local t q) (entry-layer t q))
         ∙ ap₂ (λ x m. listed x m (λ t. oldOf b changes (entryAt lists t))) (sym from-is) (sym size-is)
         ∙ sym (listed-map (oldOf b changes) (reachEnd lists (l - 1)) (entryAt lists) (reachEnd lists l - reachEnd lists (l - 1)))
@@ -130,7 +131,7 @@ module _ (lists : Bytes) (changes : ℕ) (b : Bytes) (o : Opened lists changes b
         let p = own-witness l (w .owns l h own-l) in
         (p .0, omega (arith, p .1, size-is), ap (λ x. (entryAt lists (x + p .0)) .layer) (sym from-is) ∙ p .2)
 
-    pub renew-ready : (kind : ℕ) (v : Bytes) → kind ≡ ruleKind lists → v ≡ weights lists → UpdateReady kind v lists (2 * at + 4 * from) n b (changes + 30) l
+    pub renew-ready : (kind : ℕ) (v : Bytes) → kind ≡ ruleKind lists → v ≡ weights lists → UpdateReady kind v lists (2 * at + 4 * from) n b (depthBase changes) l
     renew-ready kind v ke ve = record {
       reached = record {
         few = omega (arith, row-fits, few-entries);
@@ -146,17 +147,17 @@ module _ (lists : Bytes) (changes : ℕ) (b : Bytes) (o : Opened lists changes b
           let e = own-entry in
           record {
             light = λ t q. rule-light (stepCount lists) v r _ (omega (arith, entry-layer t q, w .layers (from + t) (omega (arith, row-fits))));
-            heavy = weightSum-own lists (2 * at + 4 * from) b (changes + 30) v n (e .0) (e .1) (entry-layer (e .0) (e .1) ∙ e .2) (rule-first (stepCount lists) v r);
+            heavy = weightSum-own lists (2 * at + 4 * from) b (depthBase changes) v n (e .0) (e .1) (entry-layer (e .0) (e .1) ∙ e .2) (rule-first (stepCount lists) v r);
           };
     }
 
     pub renew-told : (kind : ℕ) (v : Bytes) → kind ≡ ruleKind lists → v ≡ weights lists → (new : ℤ) → mag new < 2147483648
-        → depthBytes new ≡ newDepth kind v (four b (depthPlace changes l)) (oldsAt b (changes + 30) (tableEntries lists (2 * at + 4 * from) n))
+        → depthBytes new ≡ newDepth kind v (four b (depthPlace changes l)) (oldsAt b (depthBase changes) (tableEntries lists (2 * at + 4 * from) n))
         → depthBytes (toZ w32 (ofZ w32 new)) ≡ newAt (listsIn lists) changes b l
     renew-told kind v ke ve new m e =
         ap depthBytes (depth-held new new m refl)
         ∙ e
-        ∙ ap₂ (λ x (y : Bytes). newDepth x y (four b (depthPlace changes l)) (oldsAt b (changes + 30) (tableEntries lists (2 * at + 4 * from) n))) ke ve
+        ∙ ap₂ (λ x (y : Bytes). newDepth x y (four b (depthPlace changes l)) (oldsAt b (depthBase changes) (tableEntries lists (2 * at + 4 * from) n))) ke ve
         ∙ ap (newDepth (ruleKind lists) (weights lists) (four b (depthPlace changes l))) near
         ∙ new-is lists changes b l
 
@@ -167,7 +168,8 @@ new-four lists changes b l = ap length (sym (new-is lists changes b l)) ∙ new-
 
 module _ (lists : Bytes) (changes : ℕ) (b new : Bytes) (owned : ℕ) where
   pub renew-turn : 4 * owned ≤ length new → (l : ℕ) → 1 ≤ l → l < owned + 1 → (z : ℤ) → mag z < 2147483648 → depthBytes z ≡ newAt (listsIn lists) changes b l → (x y : Bytes)
-      → x ≡ over new 0 (blocks 1 (l - 1) (newAt (listsIn lists) changes b)) → y ≡ over x (4 * (l - 1)) (depthBytes (toZ w32 (ofZ w32 z))) → y ≡ over new 0 (blocks 1 (l + 1 - 1) (newAt (listsIn lists) changes b))
+      → x ≡ over new 0 (blocks 1 (l - 1) (newAt (listsIn lists) changes b)) → y ≡ over x (4 * (l - 1)) (depthBytes (toZ w32 (ofZ w32 z)))
+      → y ≡ over new 0 (blocks 1 (l + 1 - 1) (newAt (listsIn lists) changes b))
   renew-turn room l h k z m e x y p q =
       let i : l ≡ 1 + (l - 1) = omega arith in
       let j : l - 1 + 1 ≡ l + 1 - 1 = omega arith in
@@ -189,8 +191,9 @@ kind-known lists changes b o number r ne e q =
     omega (arith, unknown-number number (sym e ∙ q), ne, rule-known (ruleKind lists) (stepCount lists) (weights lists) (whole lists changes b o .rule))
 
 -- the weights, as they are cut out of the lists
-pub weights-cut : (lists : Bytes) (kind n count : ℕ) → kind ≡ wordAt lists 3 → n ≡ wordAt lists 2 → count ≡ weightCount kind n → take (8 + 2 * count - 8) (drop 8 lists) ≡ weights lists
+pub weights-cut : (lists : Bytes) (kind n count : ℕ) → kind ≡ ruleKind lists → n ≡ stepCount lists → count ≡ weightCount kind n
+    → take (weightsPlace + 2 * count - weightsPlace) (drop weightsPlace lists) ≡ weights lists
 unfolding weights
 weights-cut lists kind n count ke ne ce =
-    let p : 8 + 2 * count - 8 ≡ 2 * weightCount kind n = omega (arith, ce) in
-    ap (λ x. take x (drop 8 lists)) p ∙ ap₂ (λ k m. take (2 * weightCount k m) (drop 8 lists)) ke ne
+    let p : weightsPlace + 2 * count - weightsPlace ≡ 2 * weightCount kind n = omega (arith, ce) in
+    ap (λ x. take x (drop weightsPlace lists)) p ∙ ap₂ (λ k m. take (2 * weightCount k m) (drop weightsPlace lists)) ke ne

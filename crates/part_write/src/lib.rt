@@ -4,7 +4,7 @@ use layout::inner::copy;
 use layout::inner::word_in;
 use layout::limits::MOST_PARTS;
 use layout::word_at;
-use messages::HEAD_SIZE;
+use messages::HEADER_SIZE;
 use messages::inner::write_header;
 use part_calls::inner::set_flag;
 use part_state::inner::BEFORE_EXPORTS;
@@ -20,7 +20,7 @@ use part_state::up_to;
 ghost use mathlib.Core.Path.{_≡_};
 ghost use Prim.Native.Nat.{_+_, _*_, _<_, _≤_};
 ghost use lib.ListN.{length, take};
-ghost use Rattle.messages.specs.Messages.{headSize, messageSize};
+ghost use Rattle.messages.specs.Messages.{headerSize, messageSize};
 ghost use Rattle.vocabulary.specs.Bytes.{over};
 ghost use Rattle.vocabulary.specs.Intervals.{blocks};
 ghost use Rattle.part_state.specs.State.{listsIn, exportCount};
@@ -50,12 +50,12 @@ fn put_depths(
 )
     requires { ⌜ Opened (now lists) changes (now b) × Counts (now lists) sizes × (from + count ≤ exportCount (now lists)) × (from < 65536) × (count < 65536)
         × (messageSize count ≤ length (now out)) ⌝ }
-    ensures { λ _. ⌜ now (out .exit) ≡ over (now (out .entry)) headSize (blocks from count (sentAt (now (lists .entry)) changes (now (b .entry)))) ⌝ }
+    ensures { λ _. ⌜ now (out .exit) ≡ over (now (out .entry)) headerSize (blocks from count (sentAt (now (lists .entry)) changes (now (b .entry)))) ⌝ }
 {
     let base = sizes.exports_word();
     for t in 0..count {
         let l = word_at(lists, base + (from + t));
-        copy(out, HEAD_SIZE + 4 * t, b, changes + DEPTH + 4 * l, 4);
+        copy(out, HEADER_SIZE + 4 * t, b, changes + DEPTH + 4 * l, 4);
     }
 }
 
@@ -90,12 +90,12 @@ fn write_in(b: &mut [u8], changes: usize, j: usize, out: &mut [u8]) -> Answer
     if count < 1 {
         return Answer::Refused(27);
     }
-    if out.len() < HEAD_SIZE + 4 * count {
+    if out.len() < HEADER_SIZE + 4 * count {
         return Answer::Refused(16);
     }
     write_message(b, changes, j, count, out);
     set_flag(b, changes + WRITTEN + j);
-    Answer::Done((HEAD_SIZE + 4 * count) as u32)
+    Answer::Done((HEADER_SIZE + 4 * count) as u32)
 }
 
 // Gives the message to part j.

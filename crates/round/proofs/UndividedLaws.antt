@@ -22,6 +22,7 @@ use Rattle.depths.specs.DepthLaws.{length-four, fours-store}
 use Rattle.layout.specs.AnswerLaws.{refuses, accepts}
 use Rattle.layout.specs.declared.Answer.{Answer}
 use Rattle.layout.specs.declared.Answer.the-variants.{Done, Refused}
+use Rattle.layout.specs.Limits.{mostReached, tableBytes}
 use Rattle.mesh.specs.Mesh.{top, firstCell, cellCount, meshNumber}
 use Rattle.mesh.specs.MeshLaws.{mesh-then, mesh-refuses}
 use Rattle.mesh.specs.Walks.{Near, reach, steps, bad10, bad13}
@@ -77,7 +78,7 @@ module _ (kind : ℕ) (v table : Bytes) (ends : List ℕ) (f : Bytes) (b : Bytes
 
 -- ---- the rows of the table that the walks made
 
-module _ (m st : Bytes) (kind : ℕ) (v f before table : Bytes) (ends : List ℕ) (r : ℕ) (made : Tabled m st before table ends r) (few : r ≤ 8000) (room : length before ≡ 32000) where
+module _ (m st : Bytes) (kind : ℕ) (v f before table : Bytes) (ends : List ℕ) (r : ℕ) (made : Tabled m st before table ends r) (few : r ≤ mostReached) (room : length before ≡ tableBytes) where
   module _ (j : ℕ) (h : j < cellCount m) where
     size : getD ends (j + 1) 0 - getD ends j 0 ≡ length (reach m st (firstCell m + j))
     size = omega (arith, row-size m st before table ends r made few room j h)
@@ -222,13 +223,13 @@ module _ (m st : Bytes) (kind : ℕ) (v f out : Bytes) where
       told-11 r k e q b f t = refused 11 (number-11 mesh ten (sym (known-rule v (length st - 1) kind k r b e q f) ∙ t)) (λ z. omega (arith, z))
 
       module _ (eleven : bad11 kind (steps st) v ≡ false) (before table : Bytes) (ends : List ℕ) (r : ℕ) (made : Tabled m st before table ends r) where
-        thirteen : bad13 m st ≡ ltb 8000 r
+        thirteen : bad13 m st ≡ ltb mostReached r
         thirteen = sym (table-refused m st before table ends r made)
 
-        pub told-13 : 8000 < r → Answered (Refused 13) out
+        pub told-13 : mostReached < r → Answered (Refused 13) out
         told-13 h = refused 13 (number-13 mesh ten eleven (thirteen ∙ lt-ltb _ _ h)) (λ z. omega (arith, z))
 
-        module _ (few : r ≤ 8000) (cells : ℕ) (ce : cells ≡ cellCount m) (b : Bool) (be : b ≡ bad14 cells f) where
+        module _ (few : r ≤ mostReached) (cells : ℕ) (ce : cells ≡ cellCount m) (b : Bool) (be : b ≡ bad14 cells f) where
           in-size : bad13 m st ≡ false
           in-size = thirteen ∙ le-ltb _ _ few
 
@@ -242,7 +243,7 @@ module _ (m st : Bytes) (kind : ℕ) (v f out : Bytes) where
             pub told-16 : length out < 4 * cells → Answered (Refused 16) out
             told-16 h = refused 16 (number-last mesh ten eleven in-size (fourteen ∙ bf) true (lt-ltb (length out) (4 * cellCount m) (omega arith))) (λ z. omega (arith, z))
 
-            pub told-done : length before ≡ 32000 → 4 * cells ≤ length out → (x : Bytes) → x ≡ over out 0 (blocks 0 cells (rowNew kind v table ends f)) → Answered (Done cells) x
+            pub told-done : length before ≡ tableBytes → 4 * cells ≤ length out → (x : Bytes) → x ≡ over out 0 (blocks 0 cells (rowNew kind v table ends f)) → Answered (Done cells) x
             told-done room h x e =
                 let a = done (number-last mesh ten eleven in-size (fourteen ∙ bf) false (le-ltb (length out) (4 * cellCount m) (omega arith))) in
                 (ap Done ce ∙ a .0, e ∙ ap (λ n. over out 0 (blocks 0 n (rowNew kind v table ends f))) ce ∙ ap (over out 0) (rows-round m st kind v f before table ends r made few room) ∙ a .1)

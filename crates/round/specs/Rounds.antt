@@ -33,27 +33,28 @@ pub record Scheme : Type 0 where
 unfoldable pub schemeOf : Bytes → Bytes → ℕ → Bytes → Scheme
 schemeOf m stencil kind v = record { first = firstCell m; cells = cellCount m; reach = reach m stencil; new = newDepth kind v }
 
--- the depth of cell c in a field, as its four bytes
-unfoldable pub depthIn : Scheme → Bytes → ℕ → Bytes
-depthIn S f c = four f (4 * (c - S .first))
+module _ (S : Scheme) where
+  -- the depth of cell c in a field, as its four bytes
+  unfoldable pub depthIn : Bytes → ℕ → Bytes
+  depthIn f c = four f (4 * (c - S .first))
 
--- the old depths of a reach
-unfoldable pub oldsIn : Scheme → Bytes → List Near → List Old
-oldsIn S f ns = map (λ e. record { layer = e .layer; depth = depthIn S f (e .cell) }) ns
+  -- the old depths of a reach
+  unfoldable pub oldsIn : Bytes → List Near → List Old
+  oldsIn f ns = map (λ e. record { layer = e .layer; depth = depthIn f (e .cell) }) ns
 
--- "All new depths come from old ones."
-unfoldable pub newIn : Scheme → Bytes → ℕ → Bytes
-newIn S f c = S .new (depthIn S f c) (oldsIn S f (S .reach c))
+  -- "All new depths come from old ones."
+  unfoldable pub newIn : Bytes → ℕ → Bytes
+  newIn f c = S .new (depthIn f c) (oldsIn f (S .reach c))
 
--- what the rule makes of a field, at every cell of the mesh
-unfoldable pub round : Scheme → Bytes → Bytes
-round S f = blocks (S .first) (S .cells) (newIn S f)
+  -- what the rule makes of a field, at every cell of the mesh
+  unfoldable pub round : Bytes → Bytes
+  round f = blocks (S .first) (S .cells) (newIn f)
 
--- "The undivided field after 0 rounds is the starting field; after k rounds it is what the rule makes, at every cell of the mesh, of the
--- one after k−1 rounds."
-unfoldable pub undivided : Scheme → Bytes → ℕ → Bytes
-undivided S f zero = f
-undivided S f (suc k) = round S (undivided S f k)
+  -- "The undivided field after 0 rounds is the starting field; after k rounds it is what the rule makes, at every cell of the mesh, of the
+  -- one after k−1 rounds."
+  unfoldable pub undivided : Bytes → ℕ → Bytes
+  undivided f zero = f
+  undivided f (suc k) = round (undivided f k)
 
 -- ---- the call
 

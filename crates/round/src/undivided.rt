@@ -14,7 +14,7 @@ use round_rule::Kind;
 use round_rule::Rule;
 use round_rule::inner::new_depth;
 use round_rule::rule_of;
-use round_rule::wrong_weights;
+use round_rule::bad_weights;
 use walk_reach_table::inner::reach_table;
 use walk_stencil::bad_stencil;
 ghost use mathlib.Core.Path.{_≡_};
@@ -23,6 +23,7 @@ ghost use Prim.Native.Nat.{_*_, _≤_};
 ghost use lib.ListN.{length};
 ghost use Rattle.vocabulary.specs.Bytes.{over};
 ghost use Rattle.vocabulary.specs.Intervals.{blocks};
+ghost use Rattle.layout.specs.Limits.{elementPlaces, recordPlaces};
 ghost use Rattle.depths.specs.Depths.{depthBytes};
 ghost use Rattle.mesh.specs.Mesh.{top, meshNumber};
 ghost use Rattle.mesh.specs.Walks.{steps, bad10};
@@ -72,7 +73,7 @@ fn round_on(
     ends: &mut [u16],
 ) -> Answer
     requires { ⌜ (meshNumber (now m) ≡ 0) × (bad10 (top (now m)) (now stencil) ≡ false) × (bad11 (kindNumber kind) (steps (now stencil)) (now weights) ≡ false)
-        × (length (now cell) ≡ 12001) × (length (now ends) ≡ 2001) ⌝ }
+        × (length (now cell) ≡ recordPlaces) × (length (now ends) ≡ elementPlaces) ⌝ }
     ensures { λ r.
         let I = roundInput (now (m .entry)) (now (stencil .entry)) (kindNumber kind) (now (weights .entry)) (now (f .entry)) in
         ⌜ (r ≡ roundAnswer I (now (out .entry))) × (now (out .exit) ≡ roundOut I (now (out .entry))) ⌝ }
@@ -119,7 +120,7 @@ pub fn undivided_round(
     }
     match rule_of(kind) {
         Rule::Known(k) => {
-            if wrong_weights(k, stencil.len() - 1, weights) {
+            if bad_weights(k, stencil.len() - 1, weights) {
                 return Answer::Refused(11);
             }
             round_on(m, stencil, k, weights, f, out, &mut cell, &mut ends)

@@ -2,7 +2,7 @@
 --
 -- "The rule kind is 0 hold, 1 mean, 2 shoalest."
 use mathlib.Core.Bool.{Bool, _&&_, _||_, not, cond}
-use mathlib.Core.List.{List, [], _∷_}
+use mathlib.Core.List.{List, [], _∷_, map}
 use Prim.Native.Nat.{ℕ, zero, suc, _+_, _*_, _/_}
 use lib.Dec.{eqb, ltb}
 use lib.IntN.{ℤ, pos, _+ℤ_, _*ℤ_}
@@ -10,7 +10,8 @@ use lib.ListN.{length}
 use lib.Signed.{ltZ, quotZ}
 use Rattle.vocabulary.specs.Intervals.{some}
 use Rattle.vocabulary.specs.Bytes.{Bytes}
-use Rattle.layout.specs.Words.{wordAt}
+use Rattle.layout.specs.Words.{wordAt, bytesOf}
+use Rattle.layout.specs.Limits.{mostWeight}
 use Rattle.depths.specs.Depths.{depthOf, depthBytes}
 
 -- a rule as a call is given it: its kind, and its weights as words
@@ -25,7 +26,7 @@ weightCount kind n = cond (eqb kind 1) (n / 2 + 1) 0
 
 -- "Unknown rule, or weights wrong in number or range": "each 0 to 15, v0 at least 1". Weights are given as words.
 unfoldable pub tooHeavy : Bytes → ℕ → Bool
-tooHeavy v k = ltb 15 (wordAt v k)
+tooHeavy v k = ltb mostWeight (wordAt v k)
 
 unfoldable pub bad11 : ℕ → ℕ → Bytes → Bool
 bad11 kind n v =
@@ -39,26 +40,31 @@ pub record Old : Type 0 where
   pub layer : ℕ
   pub depth : Bytes
 
--- the weight of what is met at a layer
-unfoldable pub weight : Bytes → Old → ℕ
-weight v o = wordAt v (o .layer / 2)
+module _ (v : Bytes) where
+  -- the weight of what is met at a layer
+  unfoldable pub weight : Old → ℕ
+  weight o = wordAt v (o .layer / 2)
 
--- "the sum of v(layer/2) × old depth over the reach", and "the sum of those weights"
-unfoldable pub depthSum : Bytes → List Old → ℤ
-depthSum v [] = pos 0
-depthSum v (o ∷ os) = pos (weight v o) *ℤ depthOf (o .depth) +ℤ depthSum v os
+  -- "the sum of v(layer/2) × old depth over the reach", and "the sum of those weights"
+  unfoldable pub depthSum : List Old → ℤ
+  depthSum [] = pos 0
+  depthSum (o ∷ os) = pos (weight o) *ℤ depthOf (o .depth) +ℤ depthSum os
 
-unfoldable pub weightSum : Bytes → List Old → ℕ
-weightSum v [] = 0
-weightSum v (o ∷ os) = weight v o + weightSum v os
+  unfoldable pub weightSum : List Old → ℕ
+  weightSum [] = 0
+  weightSum (o ∷ os) = weight o + weightSum os
 
 -- "divided by the sum of those weights, fraction dropped toward zero"
 unfoldable pub quotient : ℤ → ℕ → ℤ
 quotient sum weights = quotZ sum (pos weights)
 
 -- "The new depth is the sum of v(layer/2) × old depth over the reach, divided by the sum of those weights, fraction dropped toward zero."
-abbrev pub mean : Bytes → List Old → ℤ
-mean v os = quotient (depthSum v os) (weightSum v os)
+abbrev pub mean : Bytes → List Old → Bytes
+mean v os = depthBytes (quotient (depthSum v os) (weightSum v os))
+
+-- "the plain mean", all weights 1, "rounded like the rule"
+abbrev pub plainMean : List Bytes → Bytes
+plainMean xs = mean (bytesOf (1 ∷ [])) (map (λ x. record { layer = 0; depth = x }) xs)
 
 -- the lesser of two depths
 abbrev pub lesser : ℤ → ℤ → ℤ
@@ -73,6 +79,6 @@ least z (o ∷ os) = least (lesser (depthOf (o .depth)) z) os
 -- 2 shoalest. 11 refuses every other kind before a depth is made, so what stands for it here is arbitrary.
 unfoldable pub newDepth : ℕ → Bytes → Bytes → List Old → Bytes
 newDepth zero v own os = own
-newDepth (suc zero) v own os = depthBytes (mean v os)
+newDepth (suc zero) v own os = mean v os
 newDepth (suc (suc zero)) v own os = depthBytes (least (depthOf own) os)
 newDepth (suc (suc (suc kind))) v own os = own

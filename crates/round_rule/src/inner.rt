@@ -9,7 +9,7 @@ ghost use lib.IntN.{pos, natAbs, _+ℤ_, _*ℤ_};
 ghost use lib.ListN.{length};
 ghost use Rattle.layout.specs.Words.{word, wordAt};
 ghost use Rattle.depths.specs.Depths.{deepest, four, depthFrom, depthBytes};
-ghost use Rattle.round_rule.specs.Rules.{quotient, mean, lesser, least, newDepth};
+ghost use Rattle.round_rule.specs.Rules.{depthSum, weightSum, quotient, lesser, least, newDepth};
 ghost use Rattle.round_rule.specs.Kinds.{kindNumber};
 ghost use Rattle.round_rule.specs.Update.{tableEntries, oldsAt, TableThere, Weighed, UpdateReady};
 
@@ -56,7 +56,9 @@ fn quotient(sum: i64, w: usize) -> i32
 // The mean over the n entries at `at` in b.
 fn mean_of(weights: &[u8], b: &[u8], at: usize, n: usize, f: &[u8], base: usize) -> i32
     requires { ⌜ TableThere (now b) at n (now f) base × Weighed (now weights) (now b) at n (now f) base ⌝ }
-    ensures { λ r. ⌜ r ≡ mean (now (weights .entry)) (oldsAt (now (f .entry)) base (tableEntries (now (b .entry)) at n)) ⌝ }
+    ensures { λ r.
+        let olds = oldsAt (now (f .entry)) base (tableEntries (now (b .entry)) at n) in
+        ⌜ r ≡ quotient (depthSum (now (weights .entry)) olds) (weightSum (now (weights .entry)) olds) ⌝ }
 {
     let mut sum: i64 = 0;
     let mut weight_sum: usize = 0;

@@ -1,6 +1,7 @@
 // Rules, and the new depth of one cell. Here stands the test that takes any bytes; what supposes something is in `inner`.
 pub mod inner;
 
+use layout::limits::MOST_WEIGHT;
 use layout::word_at;
 ghost use mathlib.Core.Path.{_≡_};
 ghost use Rattle.vocabulary.specs.Intervals.{some};
@@ -37,18 +38,18 @@ fn too_heavy(weights: &[u8], count: usize) -> bool
     ensures { λ r. ⌜ r ≡ some 0 count (tooHeavy (now (weights .entry))) ⌝ }
 {
     for k in 0..count {
-        if 15 < word_at(weights, k) {
+        if MOST_WEIGHT < word_at(weights, k) {
             return true;
         }
     }
     false
 }
 
-// Whether the weights of a mean are wrong under a stencil of n steps.
-fn bad_weights(n: usize, weights: &[u8]) -> bool
-    ensures { λ r. ⌜ r ≡ bad11 1 n (now (weights .entry)) ⌝ }
+// Whether the weights of a mean are wrong under a stencil of `steps` steps.
+fn bad_mean_weights(steps: usize, weights: &[u8]) -> bool
+    ensures { λ r. ⌜ r ≡ bad11 1 steps (now (weights .entry)) ⌝ }
 {
-    let count = n / 2 + 1;
+    let count = steps / 2 + 1;
     // the length by its halves, so that no count is too large to double
     if weights.len() % 2 != 0 {
         return true;
@@ -62,23 +63,23 @@ fn bad_weights(n: usize, weights: &[u8]) -> bool
     word_at(weights, 0) == 0
 }
 
-// Whether the weights of a rule of this kind are wrong under a stencil of n steps.
-pub fn wrong_weights(kind: Kind, n: usize, weights: &[u8]) -> bool
-    ensures { λ r. ⌜ r ≡ bad11 (kindNumber kind) n (now (weights .entry)) ⌝ }
+// Whether the weights of a rule of this kind are wrong under a stencil of `steps` steps.
+pub fn bad_weights(kind: Kind, steps: usize, weights: &[u8]) -> bool
+    ensures { λ r. ⌜ r ≡ bad11 (kindNumber kind) steps (now (weights .entry)) ⌝ }
 {
     match kind {
         Kind::Hold => weights.len() != 0,
-        Kind::Mean => bad_weights(n, weights),
+        Kind::Mean => bad_mean_weights(steps, weights),
         Kind::Shoalest => weights.len() != 0,
     }
 }
 
-// Whether a rule is to be refused, with number 11, under a stencil of n steps.
-pub fn bad_rule(kind: u32, n: usize, weights: &[u8]) -> bool
-    ensures { λ r. ⌜ r ≡ bad11 kind n (now (weights .entry)) ⌝ }
+// Whether a rule is to be refused, with number 11, under a stencil of `steps` steps.
+pub fn bad_rule(kind: u32, steps: usize, weights: &[u8]) -> bool
+    ensures { λ r. ⌜ r ≡ bad11 kind steps (now (weights .entry)) ⌝ }
 {
     match rule_of(kind) {
-        Rule::Known(k) => wrong_weights(k, n, weights),
+        Rule::Known(k) => bad_weights(k, steps, weights),
         Rule::Unknown => true,
     }
 }

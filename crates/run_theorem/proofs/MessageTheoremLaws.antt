@@ -8,6 +8,7 @@ use Rattle.vocabulary.specs.Bytes.{Bytes}
 use Rattle.vocabulary.specs.Lists.{All}
 use Rattle.vocabulary.specs.ListLaws.{All-map, All-of-map}
 use Rattle.vocabulary.specs.IntervalLaws.{listed-all}
+use Rattle.layout.specs.Limits.{mostParts}
 use Rattle.depths.specs.Depths.{depthOf}
 use Rattle.depths.specs.DepthLaws.{length-four, range-intro}
 use Rattle.messages.specs.Messages.{encode, reading}
@@ -28,22 +29,22 @@ module _ (b : Bytes) (s : isState b ≡ true) where
   whole : Whole (take (dynamic b) b) (dynamic b) b
   whole = whole-is (take (dynamic b) b) (dynamic b) b (sym (state-at b) ∙ s)
 
-  exports-held : (j : ℕ) → 1 ≤ j → j ≤ 16 → All (λ l. (1 ≤ l) × (l ≤ heldCount (take (dynamic b) b))) (localExports (take (dynamic b) b) j)
+  exports-held : (j : ℕ) → 1 ≤ j → j ≤ mostParts → All (λ l. (1 ≤ l) × (l ≤ heldCount (take (dynamic b) b))) (localExports (take (dynamic b) b) j)
   unfolding localExports
   exports-held j least most =
-      let st : Bytes = take (dynamic b) b in
-      listed-all (λ l. (1 ≤ l) × (l ≤ heldCount st)) (exportEnd st (j - 1)) (exportEnd st j - exportEnd st (j - 1)) (exportAt st)
+      let lists : Bytes = take (dynamic b) b in
+      listed-all (λ l. (1 ≤ l) × (l ≤ heldCount lists)) (exportEnd lists (j - 1)) (exportEnd lists j - exportEnd lists (j - 1)) (exportAt lists)
       (λ t h.
-      let e = whole .exported (exportEnd st (j - 1) + t) (omega (arith, whole .export-ends (j - 1) j (omega arith) most, whole .export-ends j 16 most (omega arith))) in
-      (e .0, omega (arith, e .1, whole .ends 0 16 (omega arith) (omega arith))))
+      let e = whole .exported (exportEnd lists (j - 1) + t) (omega (arith, whole .export-ends (j - 1) j (omega arith) most, whole .export-ends j mostParts most (omega arith))) in
+      (e .0, omega (arith, e .1, whole .ends 0 mostParts (omega arith) (omega arith))))
 
-  sent-sound : (j : ℕ) → 1 ≤ j → j ≤ 16 → All Sound (sentMessage b j .depths)
+  sent-sound : (j : ℕ) → 1 ≤ j → j ≤ mostParts → All Sound (sentMessage b j .depths)
   unfolding listsOf listsIn
   sent-sound j least most =
-      let st : Bytes = take (dynamic b) b in
-      All-of-map Sound (depthAt (dynamic b) b) (localExports st j)
-      (All-map (localExports st j)
-      (λ l h. (length-four b (depthPlace (dynamic b) l), range-intro (depthOf (depthAt (dynamic b) b l)) (ranged-local b (dynamic b) (heldCount st) l (whole .ranged) (h .0) (h .1))))
+      let lists : Bytes = take (dynamic b) b in
+      All-of-map Sound (depthAt (dynamic b) b) (localExports lists j)
+      (All-map (localExports lists j)
+      (λ l h. (length-four b (depthPlace (dynamic b) l), range-intro (depthOf (depthAt (dynamic b) b l)) (ranged-local b (dynamic b) (heldCount lists) l (whole .ranged) (h .0) (h .1))))
       (exports-held j least most))
 
 pub message-theorem : MessageTheorem

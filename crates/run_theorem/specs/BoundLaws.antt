@@ -6,6 +6,7 @@ use native.Mathlib.Omega.{arith}
 use lib.ListN.{length}
 use Rattle.vocabulary.specs.Bytes.{Bytes}
 use Rattle.vocabulary.specs.Intervals.{total}
+use Rattle.layout.specs.Limits.{mostParts}
 use Rattle.mesh.specs.Mesh.{cellCount}
 use Rattle.split.specs.Split.{Split, splitOf, exports, ownerAt}
 use Rattle.split.specs.Lists.{splitIn, sizeTests}
@@ -14,8 +15,8 @@ use Rattle.part_start.specs.Start.{reachEnds, exportEnds, listsLong, stateSize,
 use Rattle.run_theorem.specs.Run.{StateBound}
 
 -- sixteen numbers export no more than the parts
-exports-few : (m owners st : Bytes) (parts i : ℕ) → parts ≤ 16 → ((k : ℕ) → k < cellCount m → (1 ≤ ownerAt owners k) × (ownerAt owners k ≤ parts))
-    → total 1 16 (λ j. length (exports (splitOf m parts owners st) i j)) ≡ total 1 parts (λ j. length (exports (splitOf m parts owners st) i j))
+exports-few : (m owners st : Bytes) (parts i : ℕ) → parts ≤ mostParts → ((k : ℕ) → k < cellCount m → (1 ≤ ownerAt owners k) × (ownerAt owners k ≤ parts))
+    → total 1 mostParts (λ j. length (exports (splitOf m parts owners st) i j)) ≡ total 1 parts (λ j. length (exports (splitOf m parts owners st) i j))
 unfolding splitOf
 exports-few m owners st parts i few f = export-total (splitOf m parts owners st) (split-reach m parts owners st) (split-owner m parts owners st f) i few
 

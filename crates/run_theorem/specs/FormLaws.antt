@@ -17,10 +17,11 @@ use Rattle.vocabulary.specs.Intervals.{some, listed, blocks, total}
 use Rattle.vocabulary.specs.IntervalLaws.{some-at, listed-length, listed-at, total-start}
 use Rattle.layout.specs.Words.{word, wordAt, bytesOf}
 use Rattle.layout.specs.WordLaws.{length-bytesOf, bytesOf-append, bytesOf-read}
+use Rattle.layout.specs.Limits.{mostParts, mostSteps}
 use Rattle.mesh.specs.Walks.{Near}
 use Rattle.round_rule.specs.Rules.{weightCount, tooHeavy, bad11}
 use Rattle.split.specs.Split.{Split, imports, exports, localOf, globalOf}
-use Rattle.part_state.specs.State.{LocalNear, importWord, exportWord, cellWord, reachWord, entryWord, exportsWord}
+use Rattle.part_state.specs.State.{LocalNear, importWord, exportWord, cellWord, reachWord, entryWord, exportsWord, weightsPlace}
 use Rattle.part_state.specs.State.{partNumber, stepCount, ruleKind, weights, firstOfMesh, cellsOfMesh, importEnd, ownedCount, heldCount, exportEnd, globalAt}
 use Rattle.part_state.specs.State.{reachEnd, reachCount, entryAt, exportAt, localReach, localExports}
 use Rattle.part_start.specs.Start.{ownedIn, reachOf, importEnds, exportEnds, reachEnds, reachWords, exportWords, listsLong, listsRegions}
@@ -62,11 +63,11 @@ module _ (S : Split) (i : ℕ) (order : List ℕ) (n kind : ℕ) (v : Bytes) whe
   weights-long : length (listed 0 5 (wordAt v)) ≡ 5
   weights-long = listed-length 0 (wordAt v) 5
 
-  imports-long : length (listed 0 17 (importEnds S i order)) ≡ 17
-  imports-long = listed-length 0 (importEnds S i order) 17
+  imports-long : length (listed 0 (mostParts + 1) (importEnds S i order)) ≡ mostParts + 1
+  imports-long = listed-length 0 (importEnds S i order) (mostParts + 1)
 
-  exports-long : length (listed 0 17 (exportEnds S i order)) ≡ 17
-  exports-long = listed-length 0 (exportEnds S i order) 17
+  exports-long : length (listed 0 (mostParts + 1) (exportEnds S i order)) ≡ mostParts + 1
+  exports-long = listed-length 0 (exportEnds S i order) (mostParts + 1)
 
   ends-long : length (listed 0 (ownedIn S i + 1) (reachEnds S i order)) ≡ ownedIn S i + 1
   ends-long = listed-length 0 (reachEnds S i order) (ownedIn S i + 1)
@@ -74,7 +75,7 @@ module _ (S : Split) (i : ℕ) (order : List ℕ) (n kind : ℕ) (v : Bytes) whe
   -- the words are as many as they say
   pub words-length : length (joined (listsRegions S i order n kind v)) ≡ listsLong S i order
   unfolding listsRegions listsLong
-  words-length = joined-length regions ∙ omega (arith, weights-long, imports-long, exports-long, ends-long, reaches-length (ownedIn S i), exports-length 16)
+  words-length = joined-length regions ∙ omega (arith, weights-long, imports-long, exports-long, ends-long, reaches-length (ownedIn S i), exports-length mostParts)
 
   pub front-length : length front ≡ 2 * listsLong S i order
   front-length = length-bytesOf (joined (listsRegions S i order n kind v)) ∙ ap (λ k. 2 * k) words-length
@@ -101,11 +102,11 @@ module _ (S : Split) (i : ℕ) (order : List ℕ) (n kind : ℕ) (v : Bytes) whe
   unfolding listsRegions
   cells-back = region-at regions 2 1 _ (omega arith) (omega (arith, weights-long))
 
-  pub import-back : (j : ℕ) → j ≤ 16 → importEnd front j ≡ importEnds S i order j
+  pub import-back : (j : ℕ) → j ≤ mostParts → importEnd front j ≡ importEnds S i order j
   unfolding listsRegions
   import-back j h = table-at regions 3 17 (importEnds S i order) refl j (importWord + j) (omega arith) (omega (arith, weights-long))
 
-  pub export-back : (j : ℕ) → j ≤ 16 → exportEnd front j ≡ exportEnds S i order j
+  pub export-back : (j : ℕ) → j ≤ mostParts → exportEnd front j ≡ exportEnds S i order j
   unfolding listsRegions
   export-back j h = table-at regions 4 17 (exportEnds S i order) refl j (exportWord + j) (omega arith) (omega (arith, weights-long, imports-long))
 
@@ -119,9 +120,9 @@ module _ (S : Split) (i : ℕ) (order : List ℕ) (n kind : ℕ) (v : Bytes) whe
 
   -- ---- the lists, where the order has as many cells as the table of imports says
 
-  module _ (full : importEnds S i order 16 ≡ length order) where
+  module _ (full : importEnds S i order mostParts ≡ length order) where
     pub held-back : heldCount front ≡ length order
-    held-back = import-back 16 (omega arith) ∙ full
+    held-back = import-back mostParts (omega arith) ∙ full
 
     pub ends-back : (l : ℕ) → l ≤ ownedIn S i → reachEnd front l ≡ reachEnds S i order l
     unfolding listsRegions
@@ -139,7 +140,7 @@ module _ (S : Split) (i : ℕ) (order : List ℕ) (n kind : ℕ) (v : Bytes) whe
     reach-word k h =
         region-at regions 7 k (entryWord (heldCount front) (ownedCount front) + k) h (omega (arith, held-back, owned-back, weights-long, imports-long, exports-long, ends-long))
 
-    pub export-word : (k : ℕ) → k < length (blocks 1 16 (exportWords S i order)) → exportAt front k ≡ getD (blocks 1 16 (exportWords S i order)) k 0
+    pub export-word : (k : ℕ) → k < length (blocks 1 mostParts (exportWords S i order)) → exportAt front k ≡ getD (blocks 1 mostParts (exportWords S i order)) k 0
     unfolding listsRegions
     export-word k h =
         region-at regions 8 k (exportsWord (heldCount front) (ownedCount front) (reachCount front) + k) h
@@ -185,8 +186,8 @@ module _ (S : Split) (i : ℕ) (order : List ℕ) (n kind : ℕ) (v : Bytes) whe
           (entryAt front) (map toLocal (reachOf S i order l)) (toLocal d) (length-map (reachOf S i order l) toLocal)
           (λ t q. entry-back t q ∙ sym (getD-map-any toLocal (reachOf S i order l) t d (toLocal d) q))
 
-    module _ (j : ℕ) (h : 1 ≤ j) (k : j ≤ 16) where
-      sent-ends : (m : ℕ) → m ≤ 16 → exportEnd front m ≡ total 1 m sent
+    module _ (j : ℕ) (h : 1 ≤ j) (k : j ≤ mostParts) where
+      sent-ends : (m : ℕ) → m ≤ mostParts → exportEnd front m ≡ total 1 m sent
       unfolding exportEnds
       sent-ends = export-back
 
@@ -194,18 +195,18 @@ module _ (S : Split) (i : ℕ) (order : List ℕ) (n kind : ℕ) (v : Bytes) whe
       unfolding localExports exportWords
       exports-back =
           let at : ℕ = exportsWord (heldCount front) (ownedCount front) (reachCount front) in
-          row-back 1 (exportWords S i order) sent export-length front exportWord at 16 sent-ends export-word j h k (exportAt front) (exportWords S i order j) 0
+          row-back 1 (exportWords S i order) sent export-length front exportWord at mostParts sent-ends export-word j h k (exportAt front) (exportWords S i order j) 0
           (length-map (exports S i j) (localOf order))
           (λ t q.
           let e : at + (total 1 (j - 1) sent + t) ≡ at + (1 * (total 1 (j - 1) sent + t) + 0) = omega arith in
           let z : 1 * t + 0 ≡ t = omega arith in
           ap (wordAt front) e
-          ∙ entry-word 1 (exportWords S i order) sent export-length front exportWord at 16 sent-ends export-word j h k t 0 q (omega arith)
+          ∙ entry-word 1 (exportWords S i order) sent export-length front exportWord at mostParts sent-ends export-word j h k t 0 q (omega arith)
           ∙ ap (λ x. getD (exportWords S i order j) x 0) z)
 
   -- ---- the weights
 
-  module _ (rule : bad11 kind n v ≡ false) (short : n ≤ 8) where
+  module _ (rule : bad11 kind n v ≡ false) (short : n ≤ mostSteps) where
     rule-parts : (length v ≡ 2 * weightCount kind n) × (some 0 (weightCount kind n) (tooHeavy v) ≡ false)
     unfolding bad11
     rule-parts =
@@ -256,10 +257,10 @@ module _ (S : Split) (i : ℕ) (order : List ℕ) (n kind : ℕ) (v : Bytes) whe
     weights-back =
         let hd : List ℕ = listsLong S i order ∷ i ∷ n ∷ kind ∷ [] in
         let lh : length (bytesOf hd) ≡ 8 = length-bytesOf hd in
-        let d : drop 8 front ≡ bytesOf behind = ap (λ b. drop 8 b) (bytesOf-append hd behind) ∙ drop-at (bytesOf hd) (bytesOf behind) 8 lh in
+        let d : drop weightsPlace front ≡ bytesOf behind = ap (λ b. drop weightsPlace b) (bytesOf-append hd behind) ∙ drop-at (bytesOf hd) (bytesOf behind) 8 lh in
         let m : length (take (2 * weightCount kind n) (bytesOf behind)) ≡ 2 * weightCount kind n =
         length-take-le (2 * weightCount kind n) (bytesOf behind) (omega (arith, length-bytesOf behind, behind-long, few-weights)) in
-        ap₂ (λ a c. take (2 * weightCount a c) (drop 8 front)) kind-back steps-back
+        ap₂ (λ a c. take (2 * weightCount a c) (drop weightsPlace front)) kind-back steps-back
         ∙ ap (λ b. take (2 * weightCount kind n) b) d
         ∙ ext-getD 0 (take (2 * weightCount kind n) (bytesOf behind)) v (m ∙ sym (rule-parts .0))
         (λ x h. let q : x < 2 * weightCount kind n = omega arith in getD-take (2 * weightCount kind n) (bytesOf behind) x 0 q ∙ weight-byte x q)

@@ -17,11 +17,12 @@ use Rattle.vocabulary.specs.Intervals.{every}
 use Rattle.vocabulary.specs.IntervalLaws.{every-intro}
 use Rattle.vocabulary.specs.TestLaws.{passed-by}
 use Rattle.layout.specs.WordLaws.{word-set}
+use Rattle.layout.specs.Limits.{lastRound, mostParts}
 use Rattle.depths.specs.Depths.{deepest, Valid, four, depthFrom, depthOf, rangedAt}
 use Rattle.depths.specs.DepthLaws.{length-four, four-set, depth-four, range-intro, ranged-size}
 use Rattle.round_rule.specs.Rules.{Old}
 use Rattle.round_rule.specs.RuleLaws.{SmallSum, new-small, new-length}
-use Rattle.messages.specs.Messages.{headSize, depthStart, depthsOf, fromIn, countIn}
+use Rattle.messages.specs.Messages.{headerSize, depthStart, depthsOf, fromIn, countIn}
 use Rattle.part_state.specs.State.{LocalNear, listsIn, listsOf, dynamic, ruleKind, weights, heldCount, ownedCount}
 use Rattle.part_state.specs.State.{localReach, isState, roundAt, takenPlace, writtenPlace, depthPlace, depthsPlace}
 use Rattle.part_state.specs.StateLaws.{isStateAt, state-at, Whole, whole-is, still-whole, near-whole, Frame, frame-take, frame-dynamic}
@@ -37,22 +38,22 @@ InRange x = natAbs (depthOf x) ≤ deepest
 -- ---- what is left when the bytes before d stay
 
 -- the depths of the local cells
-pub ranged-local : (b : Bytes) (d n l : ℕ) → every 0 n (rangedAt b (depthsPlace d)) ≡ true → 1 ≤ l → l ≤ n → InRange (depthAt d b l)
-ranged-local b d n l e h k =
-    let q : depthsPlace d + 4 * (l - 1) ≡ depthPlace d l = omega arith in
-    rw depth-four (subst (λ o. Valid b o) q (ranged-size b (depthsPlace d) n (l - 1) e (omega arith)))
+pub ranged-local : (b : Bytes) (changes n l : ℕ) → every 0 n (rangedAt b (depthsPlace changes)) ≡ true → 1 ≤ l → l ≤ n → InRange (depthAt changes b l)
+ranged-local b changes n l e h k =
+    let q : depthsPlace changes + 4 * (l - 1) ≡ depthPlace changes l = omega arith in
+    rw depth-four (subst (λ o. Valid b o) q (ranged-size b (depthsPlace changes) n (l - 1) e (omega arith)))
 
-pub local-ranged : (b : Bytes) (d n : ℕ) → ((l : ℕ) → 1 ≤ l → l ≤ n → InRange (depthAt d b l)) → every 0 n (rangedAt b (depthsPlace d)) ≡ true
+pub local-ranged : (b : Bytes) (changes n : ℕ) → ((l : ℕ) → 1 ≤ l → l ≤ n → InRange (depthAt changes b l)) → every 0 n (rangedAt b (depthsPlace changes)) ≡ true
 unfolding rangedAt
-local-ranged b d n f =
-    every-intro 0 (rangedAt b (depthsPlace d)) n
+local-ranged b changes n f =
+    every-intro 0 (rangedAt b (depthsPlace changes)) n
     (λ i h.
-    let q : depthPlace d (i + 1) ≡ depthsPlace d + 4 * (0 + i) = omega arith in
-    range-intro (depthFrom b (depthsPlace d + 4 * (0 + i))) (subst (λ o. Valid b o) q (rw depth-four at (f (i + 1) (omega arith) (omega arith)))))
+    let q : depthPlace changes (i + 1) ≡ depthsPlace changes + 4 * (0 + i) = omega arith in
+    range-intro (depthFrom b (depthsPlace changes + 4 * (0 + i))) (subst (λ o. Valid b o) q (rw depth-four at (f (i + 1) (omega arith) (omega arith)))))
 
 module _ (b : Bytes) (s : isState b ≡ true) where
-  abbrev st : Bytes
-  st = take (dynamic b) b
+  abbrev lists : Bytes
+  lists = take (dynamic b) b
 
   at-front : isStateAt (take (dynamic b) b) (dynamic b) b ≡ true
   at-front = sym (state-at b) ∙ s
@@ -64,8 +65,8 @@ module _ (b : Bytes) (s : isState b ≡ true) where
   unfolding listsOf
   room = room-of (take (dynamic b) b) (dynamic b) b whole
 
-  kept : (b′ : Bytes) → Frame (dynamic b) b b′ → roundAt b′ (dynamic b) ≤ 60000
-      → ((j : ℕ) → 1 ≤ j → j ≤ 16 → (byteAt b′ (takenPlace (dynamic b) j) ≤ 1) × (byteAt b′ (writtenPlace (dynamic b) j) ≤ 1))
+  kept : (b′ : Bytes) → Frame (dynamic b) b b′ → roundAt b′ (dynamic b) ≤ lastRound
+      → ((j : ℕ) → 1 ≤ j → j ≤ mostParts → (byteAt b′ (takenPlace (dynamic b) j) ≤ 1) × (byteAt b′ (writtenPlace (dynamic b) j) ≤ 1))
       → ((l : ℕ) → 1 ≤ l → l ≤ heldCount (take (dynamic b) b) → InRange (depthAt (dynamic b) b′ l)) → isState b′ ≡ true
   kept b′ f early flags fine =
       let h : dynamic b ≤ length b = omega (arith, whole .long) in
@@ -87,16 +88,16 @@ module _ (b : Bytes) (s : isState b ≡ true) where
       go true e = omega (arith, ap (λ n. byteAt (set b p 1) n) (eqb-true q p e) ∙ getD-set-same b p 1 0 h)
       go false e = omega (arith, getD-set-other b p q 1 0 (eqb-false q p e))
 
-  written : (j : ℕ) → 1 ≤ j → j ≤ 16 → isState (writtenIn (listsOf b) (dynamic b) b j) ≡ true
+  written : (j : ℕ) → 1 ≤ j → j ≤ mostParts → isState (writtenIn (listsOf b) (dynamic b) b j) ≡ true
   unfolding writtenIn
   written j least most =
-      let d : ℕ = dynamic b in
+      let changes : ℕ = dynamic b in
       let p : writtenPlace (dynamic b) j < length b = omega (arith, whole .long) in
-      kept (set b (writtenPlace d j) 1)
-      (record { same-length = length-set b (writtenPlace d j) 1; same = λ i h. getD-set-other b (writtenPlace d j) i 1 0 (omega arith) })
-      (rw (word-set b (writtenPlace d j) 1 d (omega arith) (omega arith)) (whole .early))
-      (λ i h k. let g = whole .flags i h k in (set-flag (writtenPlace d j) (takenPlace d i) p (g .0), set-flag (writtenPlace d j) (writtenPlace d i) p (g .1)))
-      (λ l h k. subst InRange (sym (four-set b (writtenPlace d j) 1 (depthPlace d l) (inl (omega arith)))) (fine l h k))
+      kept (set b (writtenPlace changes j) 1)
+      (record { same-length = length-set b (writtenPlace changes j) 1; same = λ i h. getD-set-other b (writtenPlace changes j) i 1 0 (omega arith) })
+      (rw (word-set b (writtenPlace changes j) 1 changes (omega arith) (omega arith)) (whole .early))
+      (λ i h k. let g = whole .flags i h k in (set-flag (writtenPlace changes j) (takenPlace changes i) p (g .0), set-flag (writtenPlace changes j) (writtenPlace changes i) p (g .1)))
+      (λ l h k. subst InRange (sym (four-set b (writtenPlace changes j) 1 (depthPlace changes l) (inl (omega arith)))) (fine l h k))
 
   -- ---- take
 
@@ -122,16 +123,16 @@ module _ (b : Bytes) (s : isState b ≡ true) where
         let c : t < countIn x = omega (arith, v .count-is) in
         let e : depthAt (dynamic b) (takenIn (listsOf b) (dynamic b) b x) l ≡ four x (depthStart t) =
         ap (λ n. depthAt (dynamic b) (takenIn (listsOf b) (dynamic b) b x) n) p ∙ take-in (listsOf b) (dynamic b) b x room v t q in
-        subst InRange (sym e) (rw depth-four (ranged-size x headSize (countIn x) t (v .ranged) c))
+        subst InRange (sym e) (rw depth-four (ranged-size x headerSize (countIn x) t (v .ranged) c))
     taken-depth l h k (above q) = subst InRange (sym (take-above (listsOf b) (dynamic b) b x room v l h q)) (fine l h k)
 
     taken : isState (takenIn (listsOf b) (dynamic b) b x) ≡ true
     taken =
-        let d : ℕ = dynamic b in
+        let changes : ℕ = dynamic b in
         kept (takenIn (listsOf b) (dynamic b) b x)
         (take-frame (listsOf b) (dynamic b) b x room v)
         (rw (take-word (listsOf b) (dynamic b) b x room v) (whole .early))
-        (λ j h k. let g = whole .flags j h k in (taken-flag (takenPlace d j) (omega arith) (g .0), taken-flag (writtenPlace d j) (omega arith) (g .1)))
+        (λ j h k. let g = whole .flags j h k in (taken-flag (takenPlace changes j) (omega arith) (g .0), taken-flag (writtenPlace changes j) (omega arith) (g .1)))
         (λ l h k. taken-depth l h k (place (listsOf b .before (fromIn x) + 1) (listsOf b .imported (fromIn x)) l))
 
   -- ---- advance
@@ -146,7 +147,7 @@ module _ (b : Bytes) (s : isState b ≡ true) where
       let es : List LocalNear = localReach (take (dynamic b) b) l in
       let old : LocalNear → Old = λ e. record { layer = e .layer; depth = depthAt (dynamic b) b (e .local) } in
       new-small (weights (take (dynamic b) b)) deepest (ruleKind (take (dynamic b) b)) (depthAt (dynamic b) b l) (map old es) (omega arith)
-      (fine l h (omega (arith, whole .ends 0 16 (omega arith) (omega arith))))
+      (fine l h (omega (arith, whole .ends 0 mostParts (omega arith) (omega arith))))
       (All-of-map (SmallSum deepest) old es (All-map es (λ e q. fine (e .local) (q .0) (q .1)) (near-whole (take (dynamic b) b) (dynamic b) b whole l h k)))
 
   advanced-depth : (l : ℕ) → 1 ≤ l → l ≤ heldCount (take (dynamic b) b) → Place 0 (listsOf b .owned + 1) l → InRange (depthAt (dynamic b) (advancedIn (listsOf b) (dynamic b) b) l)
@@ -157,17 +158,17 @@ module _ (b : Bytes) (s : isState b ≡ true) where
       subst InRange (sym (advance-owned (listsOf b) (dynamic b) b room new-four l h c)) (new-fine l h c)
   advanced-depth l h k (above q) = subst InRange (sym (advance-others (listsOf b) (dynamic b) b room new-four l (omega arith))) (fine l h k)
 
-  advanced : roundAt b (dynamic b) < 60000 → isState (advancedIn (listsOf b) (dynamic b) b) ≡ true
+  advanced : roundAt b (dynamic b) < lastRound → isState (advancedIn (listsOf b) (dynamic b) b) ≡ true
   advanced early =
-      let d : ℕ = dynamic b in
+      let changes : ℕ = dynamic b in
       let b′ : Bytes = advancedIn (listsOf b) (dynamic b) b in
-      let flag : (k : ℕ) → k < 32 → byteAt b′ (d + 2 + k) ≡ 0 = advance-flag (listsOf b) (dynamic b) b room new-four in
+      let flag : (k : ℕ) → k < 32 → byteAt b′ (changes + 2 + k) ≡ 0 = advance-flag (listsOf b) (dynamic b) b room new-four in
       kept b′
       (advance-frame (listsOf b) (dynamic b) b room new-four)
       (omega (arith, advance-word (listsOf b) (dynamic b) b room new-four))
       (λ j h k.
-      let p : d + 2 + (j - 1) ≡ takenPlace d j = omega arith in
-      let q : d + 2 + (j + 15) ≡ writtenPlace d j = omega arith in (
+      let p : changes + 2 + (j - 1) ≡ takenPlace changes j = omega arith in
+      let q : changes + 2 + (j + 15) ≡ writtenPlace changes j = omega arith in (
         omega (arith, ap (λ n. byteAt b′ n) (sym p) ∙ flag (j - 1) (omega arith)),
         omega (arith, ap (λ n. byteAt b′ n) (sym q) ∙ flag (j + 15) (omega arith)),
       ))
@@ -191,4 +192,4 @@ pub advance-kept : (b : Bytes) → isState b ≡ true → isState (advanceState 
 unfolding advanceState advanceNumber advanceTestsIn
 advance-kept b s =
     cond-has (λ y. isState y ≡ true) (eqb (advanceNumber b) 0) (advancedIn (listsOf b) (dynamic b) b) b
-    (λ e. advanced b s (leb-false 60000 (roundAt b (dynamic b)) (passed-by 26 (advanceTestsIn (listsOf b) (dynamic b) b) tt (eqb-true _ 0 e)))) (λ e. s)
+    (λ e. advanced b s (leb-false lastRound (roundAt b (dynamic b)) (passed-by 26 (advanceTestsIn (listsOf b) (dynamic b) b) tt (eqb-true _ 0 e)))) (λ e. s)

@@ -20,6 +20,7 @@ use Rattle.vocabulary.specs.Tests.{Test, refuse}
 use Rattle.vocabulary.specs.TestLaws.{passed-by, passed-append}
 use Rattle.layout.specs.Words.{word, wordBytes}
 use Rattle.layout.specs.WordLaws.{wordAt-first, length-wordBytes}
+use Rattle.layout.specs.Limits.{mostParts, mostSteps}
 use Rattle.depths.specs.Depths.{four}
 use Rattle.depths.specs.DepthLaws.{length-four, four-left, four-past, fours-length, fours-at}
 use Rattle.mesh.specs.Mesh.{top, cellCount, meshNumber}
@@ -43,10 +44,10 @@ use Rattle.run_theorem.specs.WorldLaws.{ownerOf}
 
 pub record Ready (I : Inputs) : Type 0 where
   pub mesh-good : meshNumber (I .split .mesh) ≡ 0
-  pub few-parts : I .split .parts ≤ 16
+  pub few-parts : I .split .parts ≤ mostParts
   pub owners-in : (k : ℕ) → k < cellCount (I .split .mesh) → (1 ≤ ownerIn I k) × (ownerIn I k ≤ I .split .parts)
   pub stencil-good : bad10 (top (I .split .mesh)) (I .split .stencil) ≡ false
-  pub short : steps (I .split .stencil) ≤ 8
+  pub short : steps (I .split .stencil) ≤ mostSteps
   pub rule : bad11 (I .rule .kind) (steps (I .split .stencil)) (I .rule .weights) ≡ false
   pub field-good : bad14 (cellCount (I .split .mesh)) (I .field) ≡ false
 
@@ -98,12 +99,12 @@ module _ (I : Inputs) (R : Ready I) where
   pub owner-inside : (c : ℕ) → SplitCell (splitIn (I .split)) c → (1 ≤ splitIn (I .split) .owner c) × (splitIn (I .split) .owner c ≤ splitIn (I .split) .parts)
   owner-inside = split-owner (I .split .mesh) (I .split .parts) (I .split .owners) (I .split .stencil) (R .owners-in)
 
-  split-few : splitIn (I .split) .parts ≤ 16
+  split-few : splitIn (I .split) .parts ≤ mostParts
   unfolding splitOf
   split-few = R .few-parts
 
   -- the table of imports ends with all held cells
-  pub order-full : (i : ℕ) → importEnds (splitIn (I .split)) i (orderIn I i) 16 ≡ length (orderIn I i)
+  pub order-full : (i : ℕ) → importEnds (splitIn (I .split)) i (orderIn I i) mostParts ≡ length (orderIn I i)
   unfolding importEnds
   order-full i =
       ap (λ n. ownedIn (splitIn (I .split)) i + n) (import-total (splitIn (I .split)) reach-inside owner-inside i split-few) ∙ sym (order-length (splitIn (I .split)) i)
@@ -148,11 +149,11 @@ module _ (I : Inputs) (R : Ready I) where
     unfolding listsIn
     lists-reach l h k = reach-back S i order (steps (I .split .stencil)) (I .rule .kind) (I .rule .weights) (order-full i) l h k
 
-    pub lists-before : (j : ℕ) → 1 ≤ j → j ≤ 16 → L .before j ≡ ownedIn S i + total 1 (j - 1) (λ k. length (imports S i k))
+    pub lists-before : (j : ℕ) → 1 ≤ j → j ≤ mostParts → L .before j ≡ ownedIn S i + total 1 (j - 1) (λ k. length (imports S i k))
     unfolding listsIn importEnds
     lists-before j h k = import-back S i order (steps (I .split .stencil)) (I .rule .kind) (I .rule .weights) (j - 1) (omega arith)
 
-    pub lists-imported : (j : ℕ) → 1 ≤ j → j ≤ 16 → L .imported j ≡ length (imports S i j)
+    pub lists-imported : (j : ℕ) → 1 ≤ j → j ≤ mostParts → L .imported j ≡ length (imports S i j)
     unfolding listsIn importEnds
     lists-imported j h k =
         let t : total 1 j (λ k. length (imports S i k)) ≡ total 1 (j - 1) (λ k. length (imports S i k)) + length (imports S i j) = total-last (λ k. length (imports S i k)) j h in
@@ -162,7 +163,7 @@ module _ (I : Inputs) (R : Ready I) where
           import-back S i order (steps (I .split .stencil)) (I .rule .kind) (I .rule .weights) j k,
         )
 
-    pub lists-exports : (j : ℕ) → 1 ≤ j → j ≤ 16 → L .exports j ≡ map (localOf order) (exports S i j)
+    pub lists-exports : (j : ℕ) → 1 ≤ j → j ≤ mostParts → L .exports j ≡ map (localOf order) (exports S i j)
     unfolding listsIn
     lists-exports j h k = exports-back S i order (steps (I .split .stencil)) (I .rule .kind) (I .rule .weights) (order-full i) j h k
 
@@ -214,7 +215,7 @@ module _ (I : Inputs) (R : Ready I) where
         ⊎-elim
         (λ o. inl (omega (arith, lists-owned)))
         (λ b.
-        let few : b .0 ≤ 16 = omega (arith, b .2, split-few) in
+        let few : b .0 ≤ mostParts = omega (arith, b .2, split-few) in
         inr (record {
           from = b .0;
           from-least = b .1;
@@ -225,7 +226,7 @@ module _ (I : Inputs) (R : Ready I) where
         }))
         (local-cases S i l h (omega (arith, lists-held)))
 
-    lists-export-at : (j t : ℕ) → 1 ≤ j → j ≤ 16 → t < length (imports S j i) → getD (L .exports j) t 0 ≡ localOf order (getD (imports S j i) t 0)
+    lists-export-at : (j t : ℕ) → 1 ≤ j → j ≤ mostParts → t < length (imports S j i) → getD (L .exports j) t 0 ≡ localOf order (getD (imports S j i) t 0)
     unfolding exports
     lists-export-at j t h k l = ap (λ xs. getD xs t 0) (lists-exports j h k) ∙ getD-map-any (localOf order) (imports S j i) t 0 0 l
 
@@ -233,7 +234,7 @@ module _ (I : Inputs) (R : Ready I) where
     unfolding localOf
     local-least c = omega arith
 
-    lists-exported : (j : ℕ) → 1 ≤ j → j ≤ 16 → All (λ l. (1 ≤ l) × (l ≤ L .owned)) (L .exports j)
+    lists-exported : (j : ℕ) → 1 ≤ j → j ≤ mostParts → All (λ l. (1 ≤ l) × (l ≤ L .owned)) (L .exports j)
     unfolding exports
     lists-exported j h k =
         subst (All (λ l. (1 ≤ l) × (l ≤ L .owned))) (sym (lists-exports j h k))
@@ -244,7 +245,7 @@ module _ (I : Inputs) (R : Ready I) where
     lists-import : (j t : ℕ) → 1 ≤ j → j ≤ I .split .parts → t < L .imported j → L .global (L .before j + 1 + t) ≡ getD (imports S i j) t 0
     unfolding splitOf
     lists-import j t h k l =
-        let few : j ≤ 16 = omega (arith, R .few-parts) in
+        let few : j ≤ mostParts = omega (arith, R .few-parts) in
         let q : t < length (imports S i j) = omega (arith, lists-imported j h few) in
         let e : L .before j + 1 + t ≡ ownedIn S i + total 1 (j - 1) (λ k. length (imports S i k)) + 1 + t = omega (arith, lists-before j h few) in
         let n : ℕ = ownedIn S i + total 1 (j - 1) (λ k. length (imports S i k)) + 1 + t in
@@ -278,8 +279,8 @@ module _ (I : Inputs) (R : Ready I) where
     covered = λ i p. lists-covered i;
     exported = λ i p. lists-exported i;
     agree = λ i j t p q l.
-        let few : j ≤ 16 = omega (arith, q .1, R .few-parts) in
-        let one : i ≤ 16 = omega (arith, p .1, R .few-parts) in
+        let few : j ≤ mostParts = omega (arith, q .1, R .few-parts) in
+        let one : i ≤ mostParts = omega (arith, p .1, R .few-parts) in
         let lt : t < length (imports (splitIn (I .split)) i j) = omega (arith, lists-imported i j (q .0) few) in
         let c : ℕ = getD (imports (splitIn (I .split)) i j) t 0 in
         let a = All-getD (λ c. At c (ownCells (splitIn (I .split)) j)) (imports (splitIn (I .split)) i j) t 0 (import-own (splitIn (I .split)) i j) lt in
@@ -306,13 +307,13 @@ module _ (I : Inputs) (i : ℕ) where
   module _ (tail : Bytes) where
     -- behind the lists: the round, what is taken, what is written, the depths; and what is left of the buffer
     abbrev flags : Bytes
-    flags = replicate 16 0 ++ (replicate 16 0 ++ (deep ++ tail))
+    flags = replicate mostParts 0 ++ (replicate mostParts 0 ++ (deep ++ tail))
 
     abbrev behind : Bytes
     behind = wordBytes 0 ++ flags
 
     abbrev pub stateOf : Bytes
-    stateOf = frontIn I i ++ (wordBytes 0 ++ (replicate 16 0 ++ (replicate 16 0 ++ (deep ++ tail))))
+    stateOf = frontIn I i ++ (wordBytes 0 ++ (replicate mostParts 0 ++ (replicate mostParts 0 ++ (deep ++ tail))))
 
     pub state-length : length stateOf ≡ stateLength (length (frontIn I i)) (length (orderIn I i)) + length tail
     state-length =

@@ -18,6 +18,7 @@ use Rattle.vocabulary.specs.Intervals.{isUpTo}
 use Rattle.vocabulary.specs.Tests.{firstOf}
 use Rattle.vocabulary.specs.TestLaws.{passed-by}
 use Rattle.vocabulary.specs.IntervalLaws.{upTo-true}
+use Rattle.layout.specs.Limits.{mostParts}
 use Rattle.depths.specs.Depths.{four}
 use Rattle.mesh.specs.Mesh.{cellCount}
 use Rattle.round_rule.specs.Rules.{Old}
@@ -26,7 +27,8 @@ use Rattle.round.specs.Rounds.{schemeOf, depthIn, undivided}
 use Rattle.messages.specs.Messages.{fromIn, roundIn}
 use Rattle.part_state.specs.State.{Lists, listsIn, listsOf, dynamic, isState, bad20}
 use Rattle.part_state.specs.StateLaws.{isStateAt, state-at, whole-is}
-use Rattle.part_calls.specs.Calls.{exportsTo, messageTo, writeTestsIn, writtenIn, takeTestsIn, takenIn, advanceTestsIn, advancedIn, collectTestsIn, collectedIn, writeNumber, message, writeState, writeOut, takeNumber, takeState, advanceNumber, advanceState, collectNumber, collectOut}
+use Rattle.part_calls.specs.Calls.{exportsTo, messageTo, writeTestsIn, writtenIn, takeTestsIn, takenIn, advanceTestsIn, advancedIn, collectTestsIn, collectedIn}
+use Rattle.part_calls.specs.Calls.{writeNumber, message, writeState, writeOut, takeNumber, takeState, advanceNumber, advanceState, collectNumber, collectOut}
 use Rattle.run_theorem.specs.Run.{Call, write, take-in, advance, collect, World, put, more, step, run, Fair, Honest, ownerIn, Right}
 use Rattle.part_calls.specs.CallLaws.{Room, room-of, taken-facts}
 use Rattle.part_calls.specs.EffectLaws.{advance-taken, collect-length, collect-owned, collect-others}
@@ -76,10 +78,10 @@ on-states b = (
 )
 
 -- and a write's is to a number from 1 to 16
-pub write-part : (b : Bytes) (j : ℕ) (out : Bytes) → writeNumber b j out ≡ 0 → (1 ≤ j) × (j ≤ 16)
+pub write-part : (b : Bytes) (j : ℕ) (out : Bytes) → writeNumber b j out ≡ 0 → (1 ≤ j) × (j ≤ mostParts)
 unfolding writeNumber writeTestsIn exportsTo
 write-part b j out e =
-    upTo-true 16 j (and-true (isUpTo 16 j) (ltb 0 (length (listsOf b .exports j))) (not-false _ (passed-by 27 (writeTestsIn (listsOf b) (dynamic b) b j out) tt e)) .0)
+    upTo-true mostParts j (and-true (isUpTo mostParts j) (ltb 0 (length (listsOf b .exports j))) (not-false _ (passed-by 27 (writeTestsIn (listsOf b) (dynamic b) b j out) tt e)) .0)
 
 -- the message that an accepted write gives
 pub written-is : (b : Bytes) (j : ℕ) (out : Bytes) → writeNumber b j out ≡ 0 → take (length (message b j)) (writeOut b j out) ≡ message b j
@@ -127,7 +129,7 @@ module _ (I : Inputs) (front : ℕ → Bytes) where
   room : (i rd : ℕ) (b : Bytes) → isState b ≡ true → GoodAt i rd b → Room (listsAt i) (length (front i)) b
   room i rd b s g =
       let e : isStateAt (front i) (length (front i)) b ≡ true =
-      subst₂ (λ n st. isStateAt st n b ≡ true) (g .place-is) (ap (λ n. take n b) (g .place-is) ∙ g .front-is) (sym (state-at b) ∙ s) in
+      subst₂ (λ n lists. isStateAt lists n b ≡ true) (g .place-is) (ap (λ n. take n b) (g .place-is) ∙ g .front-is) (sym (state-at b) ∙ s) in
       room-of (front i) (length (front i)) b (whole-is (front i) (length (front i)) b e)
 
   module _ (S : Parted (schemeIn I) (ownerOf I) (I .split .parts) listsAt) where
@@ -143,7 +145,7 @@ module _ (I : Inputs) (front : ℕ → Bytes) where
         let g = h s in
         let u = write-part b j out n in (
           g .0,
-          turn (λ L d. GoodAt i rd (writtenIn L d b j)) i rd b (g .1)
+          turn (λ L changes. GoodAt i rd (writtenIn L changes b j)) i rd b (g .1)
               (write-good (schemeIn I) (I .field) (listsAt i) (front i) (length (front i)) rd b j (u .0) (u .1) (room i rd b s (g .1)) (g .1)),
         ))
         (λ e. h)
@@ -155,7 +157,7 @@ module _ (I : Inputs) (front : ℕ → Bytes) where
         let g = h (on-states b .0 j out n) in
         let u = write-part b j out n in
         subst Sound (sym (written-is b j out n))
-        (turn (λ L d. Sound (messageTo L d b j)) i rd b (g .1)
+        (turn (λ L changes. Sound (messageTo L changes b j)) i rd b (g .1)
         (write-right (schemeIn I) (I .field) (ownerOf I) (I .split .parts) listsAt S i (g .0) (front i) (length (front i)) rd b j (u .0) (u .1) (g .1)))
 
     -- ---- take
@@ -169,12 +171,12 @@ module _ (I : Inputs) (front : ℕ → Bytes) where
         let s = on-states b .1 x n in
         let g = h s in
         let L : Lists = listsIn (front i) in
-        let d : ℕ = length (front i) in
+        let changes : ℕ = length (front i) in
         let r = m n in
-        let v = taken-facts (listsAt i) (length (front i)) b x (back (λ L d. firstOf (takeTestsIn L d b x) ≡ 0) i rd b (g .1) n) in (
+        let v = taken-facts (listsAt i) (length (front i)) b x (back (λ L changes. firstOf (takeTestsIn L changes b x) ≡ 0) i rd b (g .1) n) in (
           g .0,
-          turn (λ L d. GoodAt i rd (takenIn L d b x)) i rd b (g .1)
-              (take-good (schemeIn I) (I .field) L (front i) d rd b x (room i rd b s (g .1)) v (g .1)
+          turn (λ L changes. GoodAt i rd (takenIn L changes b x)) i rd b (g .1)
+              (take-good (schemeIn I) (I .field) L (front i) changes rd b x (room i rd b s (g .1)) v (g .1)
               (λ t k.
               r .depths t k
               ∙ ap (Undivided (schemeIn I) (I .field) (roundIn x))
@@ -194,9 +196,9 @@ module _ (I : Inputs) (front : ℕ → Bytes) where
             let n : advanceNumber b ≡ 0 = eqb-true _ 0 e in
             let s = on-states b .2 n in
             let g = h s in
-            let t = advance-taken (listsAt i) (length (front i)) b (back (λ L d. firstOf (advanceTestsIn L d b) ≡ 0) i rd b (g .1) n) in (
+            let t = advance-taken (listsAt i) (length (front i)) b (back (λ L changes. firstOf (advanceTestsIn L changes b) ≡ 0) i rd b (g .1) n) in (
               g .0,
-              turn (λ L d. GoodAt i (suc rd) (advancedIn L d b)) i rd b (g .1)
+              turn (λ L changes. GoodAt i (suc rd) (advancedIn L changes b)) i rd b (g .1)
                   (advance-good (schemeIn I) (I .field) (new-is-four I) (ownerOf I) (I .split .parts) listsAt S i (g .0) (front i) (length (front i)) rd b (room i rd b s (g .1)) (g .1) t),
             )
         go false e = h
@@ -264,8 +266,8 @@ module _ (I : Inputs) (front : ℕ → Bytes) where
     collect-gives i rd b k f h n =
         let g = h (on-states b .3 k f n) in
         subst (λ t. Right I (record { part = i; round = k; made = rd; before = f; field = cond t (collectedIn (listsOf b) (dynamic b) b (listsOf b .owned) f) f })) (sym (eq-eqb _ 0 n))
-        (turn (λ L d. Right I (record { part = i; round = k; made = rd; before = f; field = collectedIn L d b (L .owned) f })) i rd b (g .1)
-        (collect-right i rd b (g .0) (g .1) k f (back (λ L d. firstOf (collectTestsIn L d b k f) ≡ 0) i rd b (g .1) n)))
+        (turn (λ L changes. Right I (record { part = i; round = k; made = rd; before = f; field = collectedIn L changes b (L .owned) f })) i rd b (g .1)
+        (collect-right i rd b (g .0) (g .1) k f (back (λ L changes. firstOf (collectTestsIn L changes b k f) ≡ 0) i rd b (g .1) n)))
 
     -- ---- a step, and a run
 

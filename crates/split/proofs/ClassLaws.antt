@@ -16,15 +16,16 @@ use Rattle.vocabulary.specs.Intervals.{every, some}
 use Rattle.vocabulary.specs.IntervalLaws.{last-or, some-next, at-last}
 use Rattle.vocabulary.specs.ListLaws.{and-left, and-right, or-nothing, not-both}
 use Rattle.layout.specs.Words.{wordAt}
+use Rattle.layout.specs.Limits.{mostElements}
 use Rattle.split.specs.Classes.{ownsAt, entryOwned, insideAt}
 use Rattle.split.specs.Classes.{hasEntry, reachHas, entryIs, reachedAt, classAt, Classed, RowCleared, OwnersMarked}
 
 -- ---- a cleared row
 
-pub clear-start : (class : Bytes) → length class ≡ 2000 → RowCleared 0 class
+pub clear-start : (class : Bytes) → length class ≡ mostElements → RowCleared 0 class
 clear-start class l = record { room = l; each = λ x h. absurd (not-suc-le-zero h) }
 
-pub clear-turn : (q : ℕ) (a b : Bytes) → q < 2000 → RowCleared q a → b ≡ set a q 0 → RowCleared (q + 1) b
+pub clear-turn : (q : ℕ) (a b : Bytes) → q < mostElements → RowCleared q a → b ≡ set a q 0 → RowCleared (q + 1) b
 clear-turn q a b h C e = record {
   room = ap length e ∙ length-set a q 0 ∙ C .room;
   each = λ x l. ap (λ (c : Bytes). byteAt c x) e ∙ go x l (eqb x q) refl;
@@ -36,8 +37,8 @@ clear-turn q a b h C e = record {
         let ne : x ≡ q → ⊥ = eqb-false x q w in
         getD-set-other a q x 0 0 ne ∙ C .each x (⊎-elim (λ g. g) (λ g. absurd (ne g)) (last-or x q (omega arith)))
 
-pub clear-end : (q : ℕ) (class : Bytes) → q ≤ 2000 → 2000 ≤ q → RowCleared q class → RowCleared 2000 class
-clear-end q class g h C = at-last (λ k. RowCleared k class) q 2000 g h C
+pub clear-end : (q : ℕ) (class : Bytes) → q ≤ mostElements → mostElements ≤ q → RowCleared q class → RowCleared mostElements class
+clear-end q class g h C = at-last (λ k. RowCleared k class) q mostElements g h C
 
 -- ---- one entry
 
@@ -147,7 +148,7 @@ pass-end owners table ends i q a z t b before after ae ze h c P = (
 
 -- ---- one cell more
 
-pub class-start : (owners table : Bytes) (ends : List ℕ) (i : ℕ) (class : Bytes) → RowCleared 2000 class → Classed owners table ends i 0 class
+pub class-start : (owners table : Bytes) (ends : List ℕ) (i : ℕ) (class : Bytes) → RowCleared mostElements class → Classed owners table ends i 0 class
 unfolding classAt reachedAt some
 class-start owners table ends i class C = record { room = C .room; each = λ x h. C .each x h ∙ sym (none x) }
   where
@@ -158,7 +159,7 @@ class-start owners table ends i class C = record { room = C .room; each = λ x h
     none : (x : ℕ) → classAt owners table ends i 0 x ≡ 0
     none x = ap (λ b. cond (ownsAt owners i x) (cond b (cond (insideAt owners table ends i x) 17 18) 0) 0) (le-ltb x 0 (omega arith)) ∙ either (ownsAt owners i x)
 
-module _ (owners table : Bytes) (ends : List ℕ) (i q o : ℕ) (small : q < 2000) (oe : o ≡ ownerAt owners q) (before : Bytes) (C : Classed owners table ends i q before) where
+module _ (owners table : Bytes) (ends : List ℕ) (i q o : ℕ) (small : q < mostElements) (oe : o ≡ ownerAt owners q) (before : Bytes) (C : Classed owners table ends i q before) where
   -- whether x stands before q + 1, where it is not q
   before-next : (x : ℕ) → (x ≡ q → ⊥) → ltb x (q + 1) ≡ ltb x q
   before-next x ne = go (ltb x q) refl
@@ -229,7 +230,7 @@ module _ (owners table : Bytes) (ends : List ℕ) (i q o : ℕ) (small : q < 200
           twice false true y = refl
           twice false false y = refl
 
-      go : (x : ℕ) → x < 2000 → (b : Bool) → eqb x q ≡ b → byteAt (set marked q k) x ≡ classAt owners table ends i (q + 1) x
+      go : (x : ℕ) → x < mostElements → (b : Bool) → eqb x q ≡ b → byteAt (set marked q k) x ≡ classAt owners table ends i (q + 1) x
       go x h true w =
           let z : x ≡ q = eqb-true x q w in
           ap (byteAt (set marked q k)) z

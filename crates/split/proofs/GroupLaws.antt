@@ -15,6 +15,7 @@ use Rattle.vocabulary.specs.IntervalLaws.{picked-all, blocks-cong}
 use Rattle.vocabulary.specs.Lists.{someOf, All}
 use Rattle.vocabulary.specs.ListLaws.{zeros-at, All-split, or-nothing, someOf-append, map-append}
 use Rattle.layout.proofs.Laws.{number-past}
+use Rattle.layout.specs.Limits.{mostElements, mostParts}
 use Rattle.split.specs.Classes.{ofClass, classCells, classOrder}
 use Rattle.split.specs.Groups.{group, bytePlaces, Grouped, groupCells, groupOrder, Linked}
 
@@ -134,12 +135,12 @@ someOf-picked a (suc n) p f = someOf-append f (picked a n p) (cond (p (a + n)) (
 
 pub record GroupedFrom (row : Bytes) (cells q : ℕ) (start next : List ℕ) : Type 0 where
   pub start-room : length start ≡ 19
-  pub next-room : 2000 ≤ length next
+  pub next-room : mostElements ≤ length next
   pub begins : (k : ℕ) → From cells q (getD start k 0)
   pub later : (p : ℕ) → q ≤ p → p < cells → From cells (p + 1) (getD next p 0)
   pub told : (k : ℕ) → k < 19 → group next cells (getD start k 0) ≡ bytePlaces row k q (cells - q)
 
-pub grouped-start : (row : Bytes) (cells : ℕ) (start next : List ℕ) → start ≡ replicate 19 0 → 2000 ≤ length next → GroupedFrom row cells (cells - 0) start next
+pub grouped-start : (row : Bytes) (cells : ℕ) (start next : List ℕ) → start ≡ replicate 19 0 → mostElements ≤ length next → GroupedFrom row cells (cells - 0) start next
 unfolding bytePlaces picked
 grouped-start row cells start next e room = record {
   start-room = ap length e ∙ length-replicate {A = ℕ} 19 0;
@@ -155,7 +156,7 @@ grouped-start row cells start next e room = record {
     none : 0 ≡ cells - (cells - 0)
     none = omega arith
 
-module _ (row : Bytes) (cells q : ℕ) (start next : List ℕ) (small : cells ≤ 2000) (low : q < cells) (K : GroupedFrom row cells (q + 1) start next) where
+module _ (row : Bytes) (cells q : ℕ) (start next : List ℕ) (small : cells ≤ mostElements) (low : q < cells) (K : GroupedFrom row cells (q + 1) start next) where
   abbrev byte : ℕ
   byte = byteAt row q
 
@@ -231,7 +232,7 @@ module _ (row : Bytes) (cells q : ℕ) (start next : List ℕ) (small : cells �
           ∙ sym (places-no row k q cells low e)
 
 -- a turn of the loop, and its end
-pub grouped-turn : (row : Bytes) (cells t q k s : ℕ) (start next start₁ next₁ : List ℕ) → cells ≤ 2000 → t < cells → GroupedFrom row cells (cells - t) start next
+pub grouped-turn : (row : Bytes) (cells t q k s : ℕ) (start next start₁ next₁ : List ℕ) → cells ≤ mostElements → t < cells → GroupedFrom row cells (cells - t) start next
     → q ≡ cells - 1 - t → k ≡ byteAt row q → s ≡ getD start k 0 → next₁ ≡ set next q s → start₁ ≡ set start k (q + 1)
     → GroupedFrom row cells (cells - (t + 1)) start₁ next₁
 grouped-turn row cells t q k s start next start₁ next₁ small h K qe ke se ne ce =
@@ -270,7 +271,7 @@ pub grouped-cells : (class : Bytes) (first cells : ℕ) (start next : List ℕ) 
 unfolding groupCells bytePlaces classCells ofClass
 grouped-cells class first cells start next k G h = ap (map (λ q. first + q)) (G .each k h) ∙ picked-shifted first cells (λ q. eqb (byteAt class q) k)
 
-pub grouped-order : (class : Bytes) (first cells parts : ℕ) (start next : List ℕ) → Grouped class cells start next → parts ≤ 16
+pub grouped-order : (class : Bytes) (first cells parts : ℕ) (start next : List ℕ) → Grouped class cells start next → parts ≤ mostParts
     → groupOrder start next first cells parts ≡ classOrder class first cells parts
 unfolding groupOrder classOrder
 grouped-order class first cells parts start next G h =

@@ -16,6 +16,7 @@ use Rattle.vocabulary.specs.CountLaws.{total-add, total-zero, total-single}
 use Rattle.vocabulary.specs.Lists.{All, someOf}
 use Rattle.vocabulary.specs.ListLaws.{and-left, and-right, and-true, and-intro, not-both, same-test, All-getD, All-of-map, someOf-has, someOf-witness, getD-map-any}
 use Rattle.layout.specs.Words.{wordAt}
+use Rattle.layout.specs.Limits.{mostHeld}
 use Rattle.mesh.specs.Mesh.{firstCell, cellCount}
 use Rattle.mesh.specs.Walks.{Near, layer, stepsTo, reach}
 use Rattle.mesh.specs.WalkLaws.{reach-in}
@@ -131,9 +132,9 @@ module _ (m : Bytes) (parts : ℕ) (owners st : Bytes) where
       (w .0) (w .1) (walked-is _ (0 + q) l ∙ w .2))))
       ∙ sym (held-count i)
 
-  pub walked-told : (s : ℕ) → s ≡ total 1 parts (rowReachCount m st owners) → ltb 4096 s ≡ bad12 S
+  pub walked-told : (s : ℕ) → s ≡ total 1 parts (rowReachCount m st owners) → ltb mostHeld s ≡ bad12 S
   unfolding bad12 splitOf
-  walked-told s e = ap (ltb 4096) (e ∙ total-cong 1 (rowReachCount m st owners) (λ i. length (held S i)) parts (λ k h. walked-count (1 + k)))
+  walked-told s e = ap (ltb mostHeld) (e ∙ total-cong 1 (rowReachCount m st owners) (λ i. length (held S i)) parts (λ k h. walked-count (1 + k)))
 
   -- a class is 0 exactly where the part does not hold the cell
   module _ (right : bad8 m parts owners [] ≡ false) where
@@ -270,8 +271,8 @@ module _ (m : Bytes) (parts : ℕ) (owners st : Bytes) where
           ∙ ap (λ c. total 1 parts (heldBy owners table ends c q)) ce
           ∙ total-cong 1 (heldBy owners table ends (cellCount m) q) (λ j. cond (holds S j (firstCell m + q)) 1 0) parts (λ j l. held-by (1 + j) q)
 
-      pub sum-told : ltb 4096 s ≡ bad12 S
+      pub sum-told : ltb mostHeld s ≡ bad12 S
       unfolding bad12 splitOf
       sum-told =
-          ap (ltb 4096)
+          ap (ltb mostHeld)
           (H .sum ∙ ap (λ c. total 1 parts (partHeld owners table ends c)) ce ∙ total-cong 1 (partHeld owners table ends (cellCount m)) (λ i. length (held S i)) parts (λ k h. part-held (1 + k)))

@@ -18,6 +18,7 @@ use Rattle.vocabulary.specs.Lists.{someOf}
 use Rattle.vocabulary.specs.ListLaws.{and-left, and-right, or-nothing, someOf-append}
 use Rattle.layout.specs.Words.{wordAt}
 use Rattle.layout.proofs.Laws.{number-past}
+use Rattle.layout.specs.Limits.{mostElements, mostParts}
 use Rattle.split.specs.Split.{ownerAt}
 use Rattle.split.specs.Classes.{ownsAt, hasEntry, reachHas, reachedAt, RowCleared, Raised, Few, rowSum, heldBy, partHeld, Counted, Holders}
 use Rattle.split.specs.Groups.{group, bytePlaces, Grouped, groupReach}
@@ -25,7 +26,7 @@ use Rattle.split.proofs.GroupLaws.{left-start, left-turn, left-stop, le
 
 -- ---- one place
 
-module _ (k x y : ℕ) (stamps holders : Bytes) (e : y ≡ byteAt stamps x) (ls : length stamps ≡ 2000) (lh : length holders ≡ 2000) where
+module _ (k x y : ℕ) (stamps holders : Bytes) (e : y ≡ byteAt stamps x) (ls : length stamps ≡ mostElements) (lh : length holders ≡ mostElements) where
   pub stamp-old : y ≡ k → Raised k stamps holders stamps holders (eqb x)
   stamp-old h = record { stamp-room = ls; count-room = lh; stamp = λ z l. sym (same z (eqb x z) refl); count = λ z l. sym (none z (eqb x z) refl) }
     where
@@ -51,13 +52,13 @@ module _ (k x y : ℕ) (stamps holders : Bytes) (e : y ≡ byteAt stamps x) (ls 
     count = λ z l. ap (λ (b : Bytes). byteAt b z) re ∙ count z l (eqb x z) refl;
   }
     where
-      stamp : (z : ℕ) → z < 2000 → (b : Bool) → eqb x z ≡ b → byteAt (set stamps x k) z ≡ cond (eqb x z) k (byteAt stamps z)
+      stamp : (z : ℕ) → z < mostElements → (b : Bool) → eqb x z ≡ b → byteAt (set stamps x k) z ≡ cond (eqb x z) k (byteAt stamps z)
       stamp z l true w =
           let p : x ≡ z = eqb-true x z w in
           ap (byteAt (set stamps x k)) (sym p) ∙ getD-set-same stamps x k 0 (omega arith) ∙ sym (ap (λ b. cond b k (byteAt stamps z)) w)
       stamp z l false w = getD-set-other stamps x z k 0 (λ p. eqb-false x z w (sym p)) ∙ sym (ap (λ b. cond b k (byteAt stamps z)) w)
 
-      count : (z : ℕ) → z < 2000 → (b : Bool) → eqb x z ≡ b → byteAt (set holders x (c + 1)) z ≡ byteAt holders z + cond (eqb x z && not (eqb (byteAt stamps z) k)) 1 0
+      count : (z : ℕ) → z < mostElements → (b : Bool) → eqb x z ≡ b → byteAt (set holders x (c + 1)) z ≡ byteAt holders z + cond (eqb x z && not (eqb (byteAt stamps z) k)) 1 0
       count z l true w =
           let p : x ≡ z = eqb-true x z w in
           ap (byteAt (set holders x (c + 1))) (sym p)
@@ -71,7 +72,7 @@ module _ (k x y : ℕ) (stamps holders : Bytes) (e : y ≡ byteAt stamps x) (ls 
 
 -- ---- several places
 
-raised-none : (k : ℕ) (stamps holders : Bytes) (p : ℕ → Bool) → length stamps ≡ 2000 → length holders ≡ 2000 → ((x : ℕ) → p x ≡ false) → Raised k stamps holders stamps holders p
+raised-none : (k : ℕ) (stamps holders : Bytes) (p : ℕ → Bool) → length stamps ≡ mostElements → length holders ≡ mostElements → ((x : ℕ) → p x ≡ false) → Raised k stamps holders stamps holders p
 raised-none k stamps holders p ls lh f = record {
   stamp-room = ls;
   count-room = lh;
@@ -118,22 +119,22 @@ one-few false = omega arith
 
 -- what was small is still
 pub raised-few : (k n : ℕ) (a b c d : Bytes) (p : ℕ → Bool) → Few n b → Raised k a b c d p → Few (n + 1) d
-raised-few k n a b c d p F P = record { room = P .count-room; each = λ x. go x (ltb x 2000) refl }
+raised-few k n a b c d p F P = record { room = P .count-room; each = λ x. go x (ltb x mostElements) refl }
   where
-    go : (x : ℕ) (t : Bool) → ltb x 2000 ≡ t → byteAt d x ≤ n + 1
-    go x true e = omega (arith, P .count x (ltb-true x 2000 e), F .each x, one-few (p x && not (eqb (byteAt a x) k)))
-    go x false e = let l : 2000 ≤ x = ltb-false x 2000 e in omega (arith, number-past d x (omega (arith, P .count-room)))
+    go : (x : ℕ) (t : Bool) → ltb x mostElements ≡ t → byteAt d x ≤ n + 1
+    go x true e = omega (arith, P .count x (ltb-true x mostElements e), F .each x, one-few (p x && not (eqb (byteAt a x) k)))
+    go x false e = let l : mostElements ≤ x = ltb-false x mostElements e in omega (arith, number-past d x (omega (arith, P .count-room)))
 
 pub raised-stamps : (k : ℕ) (a b c d : Bytes) (p : ℕ → Bool) → Few k a → Raised (k + 1) a b c d p → Few (k + 1) c
-raised-stamps k a b c d p F P = record { room = P .stamp-room; each = λ x. go x (ltb x 2000) refl }
+raised-stamps k a b c d p F P = record { room = P .stamp-room; each = λ x. go x (ltb x mostElements) refl }
   where
     most : (b : Bool) (x : ℕ) → x ≤ k → cond b (k + 1) x ≤ k + 1
     most true x l = omega arith
     most false x l = omega arith
 
-    go : (x : ℕ) (t : Bool) → ltb x 2000 ≡ t → byteAt c x ≤ k + 1
-    go x true e = omega (arith, P .stamp x (ltb-true x 2000 e), most (p x) (byteAt a x) (F .each x))
-    go x false e = let l : 2000 ≤ x = ltb-false x 2000 e in omega (arith, number-past c x (omega (arith, P .stamp-room)))
+    go : (x : ℕ) (t : Bool) → ltb x mostElements ≡ t → byteAt c x ≤ k + 1
+    go x true e = omega (arith, P .stamp x (ltb-true x mostElements e), most (p x) (byteAt a x) (F .each x))
+    go x false e = let l : mostElements ≤ x = ltb-false x mostElements e in omega (arith, number-past c x (omega (arith, P .stamp-room)))
 
 pub few-more : (n w : ℕ) (row : Bytes) → n ≤ w → Few n row → Few w row
 few-more n w row h F = record { room = F .room; each = λ x. omega (arith, F .each x) }
@@ -141,11 +142,11 @@ few-more n w row h F = record { room = F .room; each = λ x. omega (arith, F .ea
 -- ---- the reach of a cell
 
 -- there is room for one more
-pub pass-room : (k x : ℕ) (s h s₁ h₁ : Bytes) (p : ℕ → Bool) → Few 16 h → Raised k s h s₁ h₁ p → (length s₁ ≡ 2000) × (length h₁ ≡ 2000) × (byteAt h₁ x < 255)
-pass-room k x s h s₁ h₁ p F P = (P .stamp-room, P .count-room, omega (arith, raised-few k 16 s h s₁ h₁ p F P .each x))
+pub pass-room : (k x : ℕ) (s h s₁ h₁ : Bytes) (p : ℕ → Bool) → Few mostParts h → Raised k s h s₁ h₁ p → (length s₁ ≡ mostElements) × (length h₁ ≡ mostElements) × (byteAt h₁ x < 255)
+pass-room k x s h s₁ h₁ p F P = (P .stamp-room, P .count-room, omega (arith, raised-few k mostParts s h s₁ h₁ p F P .each x))
 
 module _ (table : Bytes) (k a : ℕ) where
-  pub pass-start : (stamps holders : Bytes) → length stamps ≡ 2000 → Few 16 holders → Raised k stamps holders stamps holders (hasEntry table a (a - a))
+  pub pass-start : (stamps holders : Bytes) → length stamps ≡ mostElements → Few mostParts holders → Raised k stamps holders stamps holders (hasEntry table a (a - a))
   unfolding hasEntry
   pass-start stamps holders l F =
       let z : a - a ≡ 0 = omega arith in
@@ -187,7 +188,7 @@ pub record Following (start next : List ℕ) (table : Bytes) (ends : List ℕ) (
   pub counted : Raised k stamps holders stamped raised (λ x. someOf done (λ q. reachHas table ends q x))
 
 module _ (start next : List ℕ) (table : Bytes) (ends : List ℕ) (cells k : ℕ) where
-  pub follow-start : (s : ℕ) (stamps holders : Bytes) → s ≡ getD start k 0 → length stamps ≡ 2000 → Few 15 holders
+  pub follow-start : (s : ℕ) (stamps holders : Bytes) → s ≡ getD start k 0 → length stamps ≡ mostElements → Few 15 holders
       → Following start next table ends cells k stamps holders stamps holders 0 s
   unfolding someOf
   follow-start s stamps holders e l F = record {
@@ -197,7 +198,7 @@ module _ (start next : List ℕ) (table : Bytes) (ends : List ℕ) (cells k : �
   }
 
   module _ (t s : ℕ) (stamps holders s₁ h₁ : Bytes) (P : Following start next table ends cells k stamps holders s₁ h₁ t s) where
-    pub follow-room : s < 65536 → Few 15 holders → (s - 1 < 65536) × (length s₁ ≡ 2000) × Few 16 h₁
+    pub follow-room : s < 65536 → Few 15 holders → (s - 1 < 65536) × (length s₁ ≡ mostElements) × Few mostParts h₁
     follow-room h F = (omega arith, P .counted .stamp-room, raised-few k 15 stamps holders s₁ h₁ _ F (P .counted))
 
     pub follow-turn : (r : ℕ) (s₂ h₂ : Bytes) → t < cells → 1 ≤ s → Raised k s₁ h₁ s₂ h₂ (reachHas table ends (s - 1)) → r ≡ getD next (s - 1) 0
@@ -239,24 +240,25 @@ raised-owned owners table ends cells k start next s h s₁ h₁ G l P =
 
 -- ---- all parts
 
-pub few-start : (row : Bytes) → RowCleared 2000 row → Few 0 row
-few-start row C = record { room = C .room; each = λ x. low x (ltb x 2000) refl }
+pub few-start : (row : Bytes) → RowCleared mostElements row → Few 0 row
+few-start row C = record { room = C .room; each = λ x. low x (ltb x mostElements) refl }
   where
-    low : (x : ℕ) (b : Bool) → ltb x 2000 ≡ b → byteAt row x ≤ 0
-    low x true e = omega (arith, C .each x (ltb-true x 2000 e))
-    low x false e = let l : 2000 ≤ x = ltb-false x 2000 e in omega (arith, number-past row x (omega (arith, C .room)))
+    low : (x : ℕ) (b : Bool) → ltb x mostElements ≡ b → byteAt row x ≤ 0
+    low x true e = omega (arith, C .each x (ltb-true x mostElements e))
+    low x false e = let l : mostElements ≤ x = ltb-false x mostElements e in omega (arith, number-past row x (omega (arith, C .room)))
 
 module _ (owners table : Bytes) (ends : List ℕ) (cells : ℕ) where
-  pub count-start : (holders : Bytes) → RowCleared 2000 holders → Counted owners table ends cells 0 holders
+  pub count-start : (holders : Bytes) → RowCleared mostElements holders → Counted owners table ends cells 0 holders
   count-start holders C =
       let F = few-start holders C in
       record { few = F; each = λ q h. (let z : byteAt holders q ≡ 0 = omega (arith, F .each q) in z) ∙ sym (total-start 1 (heldBy owners table ends cells q)) }
 
-  pub count-room : (k parts : ℕ) (stamps holders : Bytes) → k < parts → parts ≤ 16 → Few k stamps → Counted owners table ends cells k holders
-      → (length stamps ≡ 2000) × Few 15 holders
+  pub count-room : (k parts : ℕ) (stamps holders : Bytes) → k < parts → parts ≤ mostParts → Few k stamps → Counted owners table ends cells k holders
+      → (length stamps ≡ mostElements) × Few 15 holders
   count-room k parts stamps holders h few T C = (T .room, few-more k 15 holders (omega arith) (C .few))
 
-  module _ (k : ℕ) (small : cells ≤ 2000) (s h s₁ h₁ : Bytes) (T : Few k s) (C : Counted owners table ends cells k h) (P : Raised (k + 1) s h s₁ h₁ (reachedAt owners table ends (k + 1) cells)) where
+  module _ (k : ℕ) (small : cells ≤ mostElements) (s h s₁ h₁ : Bytes) (T : Few k s) (C : Counted owners table ends cells k h)
+      (P : Raised (k + 1) s h s₁ h₁ (reachedAt owners table ends (k + 1) cells)) where
     pub count-turn : Counted owners table ends cells (k + 1) h₁
     unfolding heldBy
     count-turn = record {

@@ -15,12 +15,13 @@ use Rattle.vocabulary.specs.IntervalLaws.{every-at, every-intro, some-start, so
 use Rattle.vocabulary.specs.Lists.{everyOf}
 use Rattle.vocabulary.specs.ListLaws.{everyOf-at, everyOf-fails, everyOf-intro, All-intro, same-test, or-right, or-nothing, zeros-at}
 use Rattle.vocabulary.specs.Tests.{firstOf}
+use Rattle.layout.specs.Limits.{mostParts}
 use Rattle.mesh.specs.Mesh.{top, firstCell, cellCount, meshNumber}
 use Rattle.mesh.specs.MeshLaws.{mesh-then, mesh-refuses}
 use Rattle.mesh.specs.Walks.{bad10}
 use Rattle.split.specs.Split.{splitOf, ownerAt, owns, owned}
 use Rattle.split.specs.Lists.{bad8, bad9, mapTests, splitTests, splitNumber, splitInput}
-use Rattle.split.specs.Classes.{ownerRight, ownsAt, OwnersSeen}
+use Rattle.split.specs.Classes.{validOwner, ownsAt, OwnersSeen}
 
 pub part-told : (parts i : ℕ) → 1 ≤ i → leb i parts ≡ isUpTo parts i
 unfolding isUpTo
@@ -33,18 +34,18 @@ part-low parts i h = simp (lt-leb 1 i h)
 -- ---- 8
 
 module _ (parts : ℕ) (owners : Bytes) (k w : ℕ) (b : Bool) (q : w ≡ ownerAt owners k) (e : b ≡ isUpTo parts w) where
-  right-here : b ≡ ownerRight parts owners k
-  unfolding ownerRight
+  right-here : b ≡ validOwner parts owners k
+  unfolding validOwner
   right-here = e ∙ ap (isUpTo parts) q
 
-  pub owner-wrong : (n : ℕ) → k < n → not b ≡ true → false ≡ every 0 n (ownerRight parts owners)
-  owner-wrong n h t = every-stop (ownerRight parts owners) n k b h right-here t
+  pub owner-wrong : (n : ℕ) → k < n → not b ≡ true → false ≡ every 0 n (validOwner parts owners)
+  owner-wrong n h t = every-stop (validOwner parts owners) n k b h right-here t
 
-  pub owner-turn : every 0 k (ownerRight parts owners) ≡ true → not b ≡ false → every 0 (k + 1) (ownerRight parts owners) ≡ true
-  owner-turn i t = every-turn (ownerRight parts owners) k k b i right-here t
+  pub owner-turn : every 0 k (validOwner parts owners) ≡ true → not b ≡ false → every 0 (k + 1) (validOwner parts owners) ≡ true
+  owner-turn i t = every-turn (validOwner parts owners) k k b i right-here t
 
-all-right : (parts : ℕ) (owners : Bytes) → every 0 (length owners) (ownerRight parts owners) ≡ everyOf owners (isUpTo parts)
-unfolding ownerRight
+all-right : (parts : ℕ) (owners : Bytes) → every 0 (length owners) (validOwner parts owners) ≡ everyOf owners (isUpTo parts)
+unfolding validOwner
 all-right parts owners =
     same-test _ _
     (λ e. everyOf-intro (isUpTo parts) owners
@@ -52,7 +53,7 @@ all-right parts owners =
     (λ l h. ap (λ k. isUpTo parts (ownerAt owners k)) (sym (zero-add l)) ∙ every-at 0 (λ k. isUpTo parts (ownerAt owners k)) (length owners) l e h)))
     (λ e. every-intro 0 (λ k. isUpTo parts (ownerAt owners k)) (length owners) (λ l h. ap (λ k. isUpTo parts (ownerAt owners k)) (zero-add l) ∙ everyOf-at (isUpTo parts) owners 0 l e h))
 
-module _ (m : Bytes) (parts : ℕ) (owners : Bytes) (a : Bool) (p : a ≡ isUpTo 16 parts) where
+module _ (m : Bytes) (parts : ℕ) (owners : Bytes) (a : Bool) (p : a ≡ isUpTo mostParts parts) where
   pub map-parts : not a ≡ true → true ≡ bad8 m parts owners []
   unfolding bad8
   map-parts t = simp (sym p, not-true a t)
@@ -62,7 +63,7 @@ module _ (m : Bytes) (parts : ℕ) (owners : Bytes) (a : Bool) (p : a ≡ isUpTo
     unfolding bad8 everyOf
     map-length t h = simp (sym p, not-false a t, ne-eqb (length owners) (cellCount m) (λ e. h (e ∙ sym q)))
 
-    pub map-owners : (b : Bool) → not a ≡ false → length owners ≡ n → b ≡ every 0 (length owners) (ownerRight parts owners) → not b ≡ bad8 m parts owners []
+    pub map-owners : (b : Bool) → not a ≡ false → length owners ≡ n → b ≡ every 0 (length owners) (validOwner parts owners) → not b ≡ bad8 m parts owners []
     unfolding bad8 everyOf
     map-owners b t h e = simp (sym p, not-false a t, eq-eqb (length owners) (cellCount m) (h ∙ q), sym (e ∙ all-right parts owners))
 
@@ -167,7 +168,7 @@ shares-any m parts owners st = refl
 pub named-fine : (m : Bytes) (parts : ℕ) (owners : Bytes) (i j : ℕ) → bad8 m parts owners [] ≡ false → isUpTo parts i ≡ true → isUpTo parts j ≡ true
     → bad8 m parts owners (i ∷ j ∷ []) ≡ false
 unfolding bad8 everyOf
-named-fine m parts owners i j e f g = ap₂ (λ x y. not (isUpTo 16 parts) || not (x && (y && true)) || not (eqb (length owners) (cellCount m)) || not (everyOf owners (isUpTo parts))) f g ∙ e
+named-fine m parts owners i j e f g = ap₂ (λ x y. not (isUpTo mostParts parts) || not (x && (y && true)) || not (eqb (length owners) (cellCount m)) || not (everyOf owners (isUpTo parts))) f g ∙ e
 
 -- ---- the number by the tests up to 10
 
@@ -186,7 +187,9 @@ module _ (m : Bytes) (parts : ℕ) (owners : Bytes) (i j : ℕ) (st : Bytes) (n 
 
     module _ (a : Bool) (ae : a ≡ bad8 m parts owners []) where
       pub split-map : a ≡ true → 8 ≡ splitNumber m parts owners (i ∷ j ∷ []) st
-      split-map t = eighth (unfold bad8 everyOf in more (not (isUpTo 16 parts)) (not (isUpTo parts i && (isUpTo parts j && true))) (not (eqb (length owners) (cellCount m))) (not (everyOf owners (isUpTo parts))) (sym (unfold bad8 everyOf in ae) ∙ t))
+      split-map t =
+          eighth (unfold bad8 everyOf in more (not (isUpTo mostParts parts)) (not (isUpTo parts i && (isUpTo parts j && true))) (not (eqb (length owners) (cellCount m)))
+          (not (everyOf owners (isUpTo parts))) (sym (unfold bad8 everyOf in ae) ∙ t))
         where
           more : (a b c d : Bool) → a || false || c || d ≡ true → a || b || c || d ≡ true
           more true b c d e = refl
@@ -197,8 +200,8 @@ module _ (m : Bytes) (parts : ℕ) (owners : Bytes) (i j : ℕ) (st : Bytes) (n 
       wrong-named : (l : ℕ) → l < 2 → isUpTo parts (getD (i ∷ j ∷ []) l 0) ≡ false → bad8 m parts owners (i ∷ j ∷ []) ≡ true
       unfolding bad8
       wrong-named l h e =
-          ap (λ x. not (isUpTo 16 parts) || not x || not (eqb (length owners) (cellCount m)) || not (everyOf owners (isUpTo parts))) (everyOf-fails (isUpTo parts) (i ∷ j ∷ []) 0 l h e)
-          ∙ go (not (isUpTo 16 parts)) (not (eqb (length owners) (cellCount m))) (not (everyOf owners (isUpTo parts)))
+          ap (λ x. not (isUpTo mostParts parts) || not x || not (eqb (length owners) (cellCount m)) || not (everyOf owners (isUpTo parts))) (everyOf-fails (isUpTo parts) (i ∷ j ∷ []) 0 l h e)
+          ∙ go (not (isUpTo mostParts parts)) (not (eqb (length owners) (cellCount m))) (not (everyOf owners (isUpTo parts)))
         where
           go : (a c d : Bool) → a || true || c || d ≡ true
           go true c d = refl

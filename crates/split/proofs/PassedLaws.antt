@@ -11,6 +11,7 @@ use Rattle.vocabulary.specs.Intervals.{isUpTo}
 use Rattle.vocabulary.specs.IntervalLaws.{upTo-intro, upTo-true}
 use Rattle.vocabulary.specs.Lists.{everyOf}
 use Rattle.vocabulary.specs.Tests.{refuse}
+use Rattle.layout.specs.Limits.{mostParts}
 use Rattle.mesh.specs.Mesh.{top, cellCount, meshTests}
 use Rattle.mesh.specs.Walks.{bad10}
 use Rattle.mesh.specs.Accepted.{Accepted}
@@ -23,7 +24,7 @@ use Rattle.split.specs.Lists.{bad8, bad9, splitTests, splitNumber, split
 pub twice : (m : Bytes) (parts : ℕ) (owners : Bytes) (i : ℕ) (st : Bytes) → splitTests (splitInput m parts owners st) (i ∷ i ∷ []) ≡ splitTests (splitInput m parts owners st) (i ∷ [])
 unfolding splitTests bad8 everyOf
 twice m parts owners i st =
-    ap (λ b. meshTests m ++ (refuse 8 (not (isUpTo 16 parts) || not b || not (eqb (length owners) (cellCount m)) || not (everyOf owners (isUpTo parts)))
+    ap (λ b. meshTests m ++ (refuse 8 (not (isUpTo mostParts parts) || not b || not (eqb (length owners) (cellCount m)) || not (everyOf owners (isUpTo parts)))
     ∷ refuse 9 (bad9 (splitOf m parts owners st)) ∷ refuse 10 (bad10 (top m) st) ∷ [])) (same (isUpTo parts i))
   where
     same : (b : Bool) → b && (b && true) ≡ b && true
@@ -34,10 +35,10 @@ twice m parts owners i st =
 module _ (m : Bytes) (parts : ℕ) (owners st : Bytes) where
   first-part : bad8 m parts owners (1 ∷ 1 ∷ []) ≡ bad8 m parts owners []
   unfolding bad8 everyOf
-  first-part = ap (λ b. b || not (eqb (length owners) (cellCount m)) || not (everyOf owners (isUpTo parts))) (go (isUpTo 16 parts) refl)
+  first-part = ap (λ b. b || not (eqb (length owners) (cellCount m)) || not (everyOf owners (isUpTo parts))) (go (isUpTo mostParts parts) refl)
     where
-      go : (x : Bool) → isUpTo 16 parts ≡ x → not x || not (isUpTo parts 1 && (isUpTo parts 1 && true)) ≡ not x || false
-      go true e = ap (λ y. not (y && (y && true))) (upTo-intro parts 1 (omega arith) (upTo-true 16 parts e .0))
+      go : (x : Bool) → isUpTo mostParts parts ≡ x → not x || not (isUpTo parts 1 && (isUpTo parts 1 && true)) ≡ not x || false
+      go true e = ap (λ y. not (y && (y && true))) (upTo-intro parts 1 (omega arith) (upTo-true mostParts parts e .0))
       go false e = refl
 
   pub tests-are : splitTests (splitInput m parts owners st) (1 ∷ 1 ∷ []) ≡ splitTests (splitInput m parts owners st) []
@@ -48,9 +49,9 @@ pub record Passed (m : Bytes) (parts : ℕ) (owners : Bytes) (i j : ℕ) (st : B
   pub mesh : Accepted m
   pub map : bad8 m parts owners [] ≡ false
   pub stencil : bad10 (top m) st ≡ false
-  pub few : parts ≤ 16
-  pub i-in : (1 ≤ i) × (i ≤ 16)
-  pub j-in : (1 ≤ j) × (j ≤ 16)
+  pub few : parts ≤ mostParts
+  pub i-in : (1 ≤ i) × (i ≤ mostParts)
+  pub j-in : (1 ≤ j) × (j ≤ mostParts)
   pub i-high : i ≤ parts
   pub j-high : j ≤ parts
 

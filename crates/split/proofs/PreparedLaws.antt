@@ -13,6 +13,7 @@ use Rattle.vocabulary.specs.IntervalLaws.{every-at, every-intro}
 use Rattle.vocabulary.specs.Lists.{everyOf}
 use Rattle.vocabulary.specs.ListLaws.{same-test, everyOf-at, everyOf-intro, All-intro}
 use Rattle.layout.specs.Words.{wordAt, bytesOf}
+use Rattle.layout.specs.Limits.{elementPlaces, mostHeld, mostReached, recordPlaces}
 use Rattle.mesh.specs.Mesh.{top, firstCell, cellCount}
 use Rattle.walk_incidence.specs.Links.{links, linkCells}
 use Rattle.walk_steps.specs.Walking.{Ground, Sized}
@@ -52,7 +53,7 @@ module _ (m st before table : Bytes) (e : table ≡ over before 0 (bytesOf (tabl
 -- ---- the chains turned round
 
 pub linked : (m : Bytes) (sizes : MeshSizes) (st : Bytes) (s : ℕ) (cell₀ prev₀ last₀ cell prev last : List ℕ) → Accepted m → Sized m sizes → bad10 (top m) st ≡ false
-    → length cell₀ ≡ 12001 → length prev₀ ≡ 12001 → last₀ ≡ replicate 2001 0
+    → length cell₀ ≡ recordPlaces → length prev₀ ≡ recordPlaces → last₀ ≡ replicate elementPlaces 0
     → links s cell prev last ≡ linkCells m (sizes .first) (sizes .cells) (links 0 cell₀ prev₀ last₀) → Ground m st cell prev last
 linked m sizes st s cell₀ prev₀ last₀ cell prev last A S bad c p l e =
     grounded m A (sizes .first) (sizes .cells) (S .first-is) (S .cells-is) st bad cell₀ prev₀ c p s cell prev last
@@ -60,33 +61,34 @@ linked m sizes st s cell₀ prev₀ last₀ cell prev last A S bad c p l e =
 
 -- ---- the tests 12 and 13, and the tables, where the reaches are found first
 
-pub table-over : (m st start table : Bytes) (ends : List ℕ) (r : ℕ) → Tabled m st start table ends r → 8000 < r → bad13 m st ≡ true
-table-over m st start table ends r T h = sym (table-refused m st start table ends r T) ∙ lt-ltb 8000 r h
+pub table-over : (m st start table : Bytes) (ends : List ℕ) (r : ℕ) → Tabled m st start table ends r → mostReached < r → bad13 m st ≡ true
+table-over m st start table ends r T h = sym (table-refused m st start table ends r T) ∙ lt-ltb mostReached r h
 
 module _ (m : Bytes) (parts : ℕ) (owners st : Bytes) where
-  pub overflow-twelve : (s : ℕ) → s ≡ total 1 parts (rowReachCount m st owners) → 4096 < s → 12 ≡ sizesNumber m parts owners st
+  pub overflow-twelve : (s : ℕ) → s ≡ total 1 parts (rowReachCount m st owners) → mostHeld < s → 12 ≡ sizesNumber m parts owners st
   unfolding sizesNumber sizeTests
-  overflow-twelve s e h = sym (ap (λ b. cond b 12 (cond (bad13 m st) 13 0)) (sym (walked-told m parts owners st s e) ∙ lt-ltb 4096 s h))
+  overflow-twelve s e h = sym (ap (λ b. cond b 12 (cond (bad13 m st) 13 0)) (sym (walked-told m parts owners st s e) ∙ lt-ltb mostHeld s h))
 
-  pub overflow-thirteen : (s : ℕ) → s ≡ total 1 parts (rowReachCount m st owners) → s ≤ 4096 → bad13 m st ≡ true → 13 ≡ sizesNumber m parts owners st
+  pub overflow-thirteen : (s : ℕ) → s ≡ total 1 parts (rowReachCount m st owners) → s ≤ mostHeld → bad13 m st ≡ true → 13 ≡ sizesNumber m parts owners st
   unfolding sizesNumber sizeTests
-  overflow-thirteen s e h t = sym (ap₂ (λ a b. cond a 12 (cond b 13 0)) (sym (walked-told m parts owners st s e) ∙ le-ltb 4096 s h) t)
+  overflow-thirteen s e h t = sym (ap₂ (λ a b. cond a 12 (cond b 13 0)) (sym (walked-told m parts owners st s e) ∙ le-ltb mostHeld s h) t)
 
   module _ (start table : Bytes) (ends : List ℕ) (r : ℕ) (T : Tabled m st start table ends r) where
-    module _ (right : bad8 m parts owners [] ≡ false) (fits : r ≤ 8000) (cells : ℕ) (ce : cells ≡ cellCount m) (holders : Bytes) (s : ℕ) (H : Holders owners table ends cells parts holders s) where
+    module _ (right : bad8 m parts owners [] ≡ false) (fits : r ≤ mostReached) (cells : ℕ) (ce : cells ≡ cellCount m) (holders : Bytes) (s : ℕ)
+        (H : Holders owners table ends cells parts holders s) where
       N : (i q : ℕ) → q < cellCount m → insideAt owners table ends i q ≡ inside (splitOf m parts owners st) i (firstCell m + q)
       N = insides-are m st start table (T .text fits) parts owners ends (T .ended fits)
 
-      twelve : ltb 4096 s ≡ bad12 (splitOf m parts owners st)
+      twelve : ltb mostHeld s ≡ bad12 (splitOf m parts owners st)
       twelve = sum-told m parts owners st table ends (T .ended fits) (entry-is m st start table (T .text fits)) N cells ce holders s H
 
-      pub tables-held : 4096 < s → 12 ≡ sizesNumber m parts owners st
+      pub tables-held : mostHeld < s → 12 ≡ sizesNumber m parts owners st
       unfolding sizesNumber sizeTests
-      tables-held h = sym (ap (λ b. cond b 12 (cond (bad13 m st) 13 0)) (sym twelve ∙ lt-ltb 4096 s h))
+      tables-held h = sym (ap (λ b. cond b 12 (cond (bad13 m st) 13 0)) (sym twelve ∙ lt-ltb mostHeld s h))
 
-      pub tables-passed : s ≤ 4096 → 0 ≡ sizesNumber m parts owners st
+      pub tables-passed : s ≤ mostHeld → 0 ≡ sizesNumber m parts owners st
       unfolding sizesNumber sizeTests
-      tables-passed h = sym (ap₂ (λ a b. cond a 12 (cond b 13 0)) (sym twelve ∙ le-ltb 4096 s h) (sym (table-refused m st start table ends r T) ∙ le-ltb 8000 r fits))
+      tables-passed h = sym (ap₂ (λ a b. cond a 12 (cond b 13 0)) (sym twelve ∙ le-ltb mostHeld s h) (sym (table-refused m st start table ends r T) ∙ le-ltb mostReached r fits))
 
       pub tables-prepared : Accepted m → bad10 (top m) st ≡ false → Prepared m parts owners st table ends holders
       tables-prepared A stencil = record {

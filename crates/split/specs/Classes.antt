@@ -9,6 +9,7 @@ use lib.ListN.{length, getD}
 use Rattle.vocabulary.specs.Bytes.{Bytes, byteAt, over}
 use Rattle.vocabulary.specs.Intervals.{isUpTo, every, some, blocks, total}
 use Rattle.layout.specs.Words.{wordAt}
+use Rattle.layout.specs.Limits.{mostElements}
 use Rattle.mesh.specs.Mesh.{top, firstCell, cellCount}
 use Rattle.mesh.specs.Walks.{Near, reach, bad10}
 use Rattle.mesh.specs.Accepted.{Accepted}
@@ -27,8 +28,8 @@ holderCount S c = total 1 (S .parts) (λ j. cond (holds S j c) 1 0)
 -- ---- by the owners and the table of the reaches
 
 -- the cell at place k has a part for its owner, or part i
-unfoldable pub ownerRight : ℕ → Bytes → ℕ → Bool
-ownerRight parts owners k = isUpTo parts (ownerAt owners k)
+unfoldable pub validOwner : ℕ → Bytes → ℕ → Bool
+validOwner parts owners k = isUpTo parts (ownerAt owners k)
 
 unfoldable pub ownsAt : Bytes → ℕ → ℕ → Bool
 ownsAt owners i k = eqb (ownerAt owners k) i
@@ -68,12 +69,12 @@ classAt owners table ends i n x =
 
 -- the classes of all places, as far as the first n cells tell them
 pub record Classed (owners table : Bytes) (ends : List ℕ) (i n : ℕ) (class : Bytes) : Type 0 where
-  pub room : length class ≡ 2000
-  pub each : (x : ℕ) → x < 2000 → byteAt class x ≡ classAt owners table ends i n x
+  pub room : length class ≡ mostElements
+  pub each : (x : ℕ) → x < mostElements → byteAt class x ≡ classAt owners table ends i n x
 
 -- the first n places are cleared
 pub record RowCleared (n : ℕ) (class : Bytes) : Type 0 where
-  pub room : length class ≡ 2000
+  pub room : length class ≡ mostElements
   pub each : (x : ℕ) → x < n → byteAt class x ≡ 0
 
 -- the places that pass bear their owner's number afterwards, unless part i owns them
@@ -89,14 +90,14 @@ heldOne class q = cond (eqb (byteAt class q) 0) 0 1
 
 -- the places that pass bear the stamp k afterwards, and those of them that did not bear it before are counted once more
 pub record Raised (k : ℕ) (stamps holders stamped raised : Bytes) (p : ℕ → Bool) : Type 0 where
-  pub stamp-room : length stamped ≡ 2000
-  pub count-room : length raised ≡ 2000
-  pub stamp : (x : ℕ) → x < 2000 → byteAt stamped x ≡ cond (p x) k (byteAt stamps x)
-  pub count : (x : ℕ) → x < 2000 → byteAt raised x ≡ byteAt holders x + cond (p x && not (eqb (byteAt stamps x) k)) 1 0
+  pub stamp-room : length stamped ≡ mostElements
+  pub count-room : length raised ≡ mostElements
+  pub stamp : (x : ℕ) → x < mostElements → byteAt stamped x ≡ cond (p x) k (byteAt stamps x)
+  pub count : (x : ℕ) → x < mostElements → byteAt raised x ≡ byteAt holders x + cond (p x && not (eqb (byteAt stamps x) k)) 1 0
 
 -- no byte of a row is above n
 pub record Few (n : ℕ) (row : Bytes) : Type 0 where
-  pub room : length row ≡ 2000
+  pub room : length row ≡ mostElements
   pub each : (x : ℕ) → byteAt row x ≤ n
 
 -- the sum of the first n bytes of a row

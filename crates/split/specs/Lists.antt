@@ -42,23 +42,24 @@ pub record SplitInput : Type 0 where
 abbrev pub splitInput : Bytes → ℕ → Bytes → Bytes → SplitInput
 splitInput m parts owners stencil = record { mesh = m; parts = parts; owners = owners; stencil = stencil }
 
--- the owners that its part map gives, one a cell; and what the whole comes to
-abbrev pub mapIn : SplitInput → Bytes
-mapIn D = D .owners
+module _ (D : SplitInput) where
+  -- the owners that its part map gives, one a cell; and what the whole comes to
+  abbrev pub mapIn : Bytes
+  mapIn = D .owners
 
-abbrev pub splitIn : SplitInput → Split
-splitIn D = splitOf (D .mesh) (D .parts) (mapIn D) (D .stencil)
+  abbrev pub splitIn : Split
+  splitIn = splitOf (D .mesh) (D .parts) mapIn (D .stencil)
 
--- what a call that is given these and the numbers of some parts tries after the mesh
-abbrev pub mapTests : SplitInput → List ℕ → List Test
-mapTests D named = refuse 8 (bad8 (D .mesh) (D .parts) (D .owners) named) ∷ refuse 9 (bad9 (splitIn D)) ∷ refuse 10 (bad10 (top (D .mesh)) (D .stencil)) ∷ []
+  -- what a call that is given these and the numbers of some parts tries after the mesh
+  abbrev pub mapTests : List ℕ → List Test
+  mapTests named = refuse 8 (bad8 (D .mesh) (D .parts) (D .owners) named) ∷ refuse 9 (bad9 splitIn) ∷ refuse 10 (bad10 (top (D .mesh)) (D .stencil)) ∷ []
 
--- what it tries first, and what it tries after 11
-unfoldable pub splitTests : SplitInput → List ℕ → List Test
-splitTests D named = meshTests (D .mesh) ++ mapTests D named
+  -- what it tries first, and what it tries after 11
+  unfoldable pub splitTests : List ℕ → List Test
+  splitTests named = meshTests (D .mesh) ++ mapTests named
 
-unfoldable pub sizeTests : SplitInput → List Test
-sizeTests D = refuse 12 (bad12 (splitIn D)) ∷ refuse 13 (bad13 (D .mesh) (D .stencil)) ∷ []
+  unfoldable pub sizeTests : List Test
+  sizeTests = refuse 12 (bad12 splitIn) ∷ refuse 13 (bad13 (D .mesh) (D .stencil)) ∷ []
 
 -- the numbers of the two, apart
 unfoldable pub splitNumber : Bytes → ℕ → Bytes → List ℕ → Bytes → ℕ

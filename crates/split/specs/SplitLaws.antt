@@ -13,12 +13,14 @@ use borrow.Author.Tests.{eqb-true, eqb-false, eq-eqb, ne-eqb, ltb-true, ltb-fals
 use Rattle.vocabulary.specs.Bytes.{Bytes}
 use Rattle.vocabulary.specs.ByteLaws.{Place, below, inside as within, above, place}
 use Rattle.vocabulary.specs.Lists.{All, someOf, everyOf, placeOf, repeats}
-use Rattle.vocabulary.specs.ListLaws.{repeats-none, repeats-once, and-true, and-intro, and-left, and-right, or-false, everyOf-at, everyOf-true, All-map, All-append, All-getD, All-intro, At, at-left, at-right, placeOf-is, placeOf-left, not-both, same-test, someOf-has}
+use Rattle.vocabulary.specs.ListLaws.{repeats-none, repeats-once, and-true, and-intro, and-left, and-right, or-false, everyOf-at, everyOf-true, All-map, All-append}
+use Rattle.vocabulary.specs.ListLaws.{All-getD, All-intro, At, at-left, at-right, placeOf-is, placeOf-left, not-both, same-test, someOf-has}
 use Rattle.vocabulary.specs.Intervals.{isUpTo, picked, blocks, total}
 use Rattle.vocabulary.specs.IntervalLaws.{picked-all, picked-in, picked-passes, picked-none, picked-cong, picked-rises, blocks-all, blocks-cases, blocks-at, blocks-have, blocks-length, upTo-true}
 use Rattle.vocabulary.specs.CountLaws.{picked-halves, total-short, picked-shared}
 use Rattle.vocabulary.specs.Tests.{Test, firstOf}
 use Rattle.vocabulary.specs.TestLaws.{numbered, numbered-append, small, small-append, passed-by, passed-append, firstOf-after, firstOf-left}
+use Rattle.layout.specs.Limits.{mostParts}
 use Rattle.mesh.specs.Mesh.{top, firstCell, cellCount, meshTests, meshNumber}
 use Rattle.mesh.specs.MeshLaws.{mesh-numbered, mesh-small, mesh-parted}
 use Rattle.mesh.specs.Walks.{bad10, bad13, reach}
@@ -346,15 +348,15 @@ module _ (S : Split) where
         (ap (λ xs. someOf xs (λ o. reaches S o (S .first + k))) (owned-none j h)))
 
     -- so sixteen numbers say no more than the parts
-    sixteen : (f : ℕ → List ℕ) → ((j : ℕ) → S .parts < j → f j ≡ []) → S .parts ≤ 16 → total 1 16 (λ j. length (f j)) ≡ total 1 (S .parts) (λ j. length (f j))
+    sixteen : (f : ℕ → List ℕ) → ((j : ℕ) → S .parts < j → f j ≡ []) → S .parts ≤ mostParts → total 1 mostParts (λ j. length (f j)) ≡ total 1 (S .parts) (λ j. length (f j))
     sixteen f none h =
-        let e : S .parts + (16 - S .parts) ≡ 16 = omega arith in
-        ap (λ n. total 1 n (λ j. length (f j))) (sym e) ∙ total-short 1 (S .parts) (16 - S .parts) (λ j. length (f j)) (λ k l q. ap length (none (1 + k) (omega arith)))
+        let e : S .parts + (mostParts - S .parts) ≡ mostParts = omega arith in
+        ap (λ n. total 1 n (λ j. length (f j))) (sym e) ∙ total-short 1 (S .parts) (mostParts - S .parts) (λ j. length (f j)) (λ k l q. ap length (none (1 + k) (omega arith)))
 
-    pub import-total : (i : ℕ) → S .parts ≤ 16 → total 1 16 (λ j. length (imports S i j)) ≡ total 1 (S .parts) (λ j. length (imports S i j))
+    pub import-total : (i : ℕ) → S .parts ≤ mostParts → total 1 mostParts (λ j. length (imports S i j)) ≡ total 1 (S .parts) (λ j. length (imports S i j))
     import-total i = sixteen (imports S i) (imports-none i)
 
-    pub export-total : (i : ℕ) → S .parts ≤ 16 → total 1 16 (λ j. length (exports S i j)) ≡ total 1 (S .parts) (λ j. length (exports S i j))
+    pub export-total : (i : ℕ) → S .parts ≤ mostParts → total 1 mostParts (λ j. length (exports S i j)) ≡ total 1 (S .parts) (λ j. length (exports S i j))
     export-total i = sixteen (exports S i) (exports-none i)
 
     -- ---- what is held, where a cell is in its own reach: the owned cells and the imports
@@ -399,7 +401,7 @@ module _ (S : Split) where
 
 -- an accepted part map, and the parts that a call names with it
 pub record Mapped (m : Bytes) (parts : ℕ) (owners : Bytes) (named : List ℕ) : Type 0 where
-  pub few : parts ≤ 16
+  pub few : parts ≤ mostParts
   pub named-in : All (λ i. (1 ≤ i) × (i ≤ parts)) named
   pub owner-in : (k : ℕ) → k < cellCount m → (1 ≤ ownerAt owners k) × (ownerAt owners k ≤ parts)
   pub unnamed : bad8 m parts owners [] ≡ false
@@ -407,7 +409,7 @@ pub record Mapped (m : Bytes) (parts : ℕ) (owners : Bytes) (named : List ℕ) 
 pub map-facts : (m : Bytes) (parts : ℕ) (owners : Bytes) (named : List ℕ) → bad8 m parts owners named ≡ false → Mapped m parts owners named
 unfolding bad8 everyOf
 map-facts m parts owners named e =
-    let a = not (isUpTo 16 parts) in
+    let a = not (isUpTo mostParts parts) in
     let b = not (everyOf named (isUpTo parts)) in
     let c = not (eqb (length owners) (cellCount m)) in
     let d = not (everyOf owners (isUpTo parts)) in
@@ -416,7 +418,7 @@ map-facts m parts owners named e =
     let r = or-false a b (q .0) in
     let l : length owners ≡ cellCount m = eqb-true _ _ (not-false _ (q .1)) in
     record {
-      few = upTo-true 16 parts (not-false _ (r .0)) .1;
+      few = upTo-true mostParts parts (not-false _ (r .0)) .1;
       named-in = All-map named (λ i t. upTo-true parts i t) (everyOf-true (isUpTo parts) named (not-false _ (r .1)));
       owner-in = λ k h. upTo-true parts (ownerAt owners k) (everyOf-at (isUpTo parts) owners 0 k (not-false _ (p .1)) (omega arith));
       unnamed = λ x. (r .0 x || false) || q .1 x || p .1 x;

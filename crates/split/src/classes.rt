@@ -7,6 +7,7 @@ ghost use mathlib.Core.Path.{_≡_};
 ghost use mathlib.Core.Bool.{_&&_, cond};
 ghost use Prim.Native.Nat.{_+_, _≤_, _<_};
 ghost use lib.ListN.{length, set};
+ghost use Rattle.layout.specs.Limits.{mostElements};
 ghost use Rattle.split.specs.Classes.{entryOwned, insideAt};
 ghost use Rattle.split.specs.Classes.{entryIs, reachHas, Classed, RowCleared, OwnersMarked};
 
@@ -20,8 +21,8 @@ pub const CLASSES: usize = 19;
 
 // Clears a row.
 pub fn clear_row(class: &mut [u8])
-    requires { ⌜ length (now class) ≡ 2000 ⌝ }
-    ensures { λ _. ⌜ RowCleared 2000 (now (class .exit)) ⌝ }
+    requires { ⌜ length (now class) ≡ mostElements ⌝ }
+    ensures { λ _. ⌜ RowCleared mostElements (now (class .exit)) ⌝ }
 {
     for q in 0..MOST_ELEMENTS {
         class[q] = 0;
@@ -94,7 +95,7 @@ fn owned_class(inside: bool) -> u8
 
 // Brings in the cell at place q: the first q cells have told what they tell.
 fn classify_cell(owners: &[u8], table: &[u8], ends: &[u16], i: usize, q: usize, class: &mut [u8])
-    requires { ⌜ (q < 2000) × Classed (now owners) (now table) (now ends) i q (now class) ⌝ }
+    requires { ⌜ (q < mostElements) × Classed (now owners) (now table) (now ends) i q (now class) ⌝ }
     ensures { λ _. ⌜ Classed (now (owners .entry)) (now (table .entry)) (now (ends .entry)) i (q + 1) (now (class .exit)) ⌝ }
 {
     if owner_of(owners, q) as usize != i {
@@ -106,7 +107,7 @@ fn classify_cell(owners: &[u8], table: &[u8], ends: &[u16], i: usize, q: usize, 
 
 // The classes of all cells for part i: interior, halo, the number of the part that a cell is imported from, and 0 for a cell that is not held.
 pub fn classify(owners: &[u8], table: &[u8], ends: &[u16], cells: usize, i: usize, class: &mut [u8])
-    requires { ⌜ (cells ≤ 2000) × (length (now class) ≡ 2000) ⌝ }
+    requires { ⌜ (cells ≤ mostElements) × (length (now class) ≡ mostElements) ⌝ }
     ensures { λ _. ⌜ Classed (now (owners .entry)) (now (table .entry)) (now (ends .entry)) i cells (now (class .exit)) ⌝ }
 {
     clear_row(class);

@@ -5,12 +5,13 @@ use layout::put_number_at;
 ghost use mathlib.Core.Path.{_≡_};
 ghost use Prim.Native.Nat.{_≤_};
 ghost use lib.ListN.{length, replicate};
+ghost use Rattle.layout.specs.Limits.{mostElements};
 ghost use Rattle.split.specs.Groups.{Grouped};
 
 // Links the cells of a row by their byte, in a cleared array of starts. It goes from the last cell to the first, so that each is put before those that it
 // precedes. A byte that has no start is linked to nothing.
 pub fn group_cells(row: &[u8], cells: usize, start: &mut [u16], next: &mut [u16])
-    requires { ⌜ (cells ≤ 2000) × (now start ≡ replicate 19 0) × (2000 ≤ length (now next)) ⌝ }
+    requires { ⌜ (cells ≤ mostElements) × (now start ≡ replicate 19 0) × (mostElements ≤ length (now next)) ⌝ }
     ensures { λ _. ⌜ Grouped (now (row .entry)) cells (now (start .exit)) (now (next .exit)) ⌝ }
 {
     for t in 0..cells {

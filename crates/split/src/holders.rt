@@ -12,12 +12,13 @@ ghost use Prim.Native.Nat.{_*_, _≤_, _<_};
 ghost use lib.Dec.{eqb};
 ghost use lib.ListN.{length};
 ghost use Rattle.vocabulary.specs.Bytes.{byteAt};
+ghost use Rattle.layout.specs.Limits.{mostElements, mostParts};
 ghost use Rattle.split.specs.Classes.{reachHas, Raised, Few, rowSum, Holders};
 ghost use Rattle.split.specs.Groups.{groupReach};
 
 // Counts part k at the cell at place x, unless the stamp there says that it is.
 fn add_holder(x: usize, k: u8, stamps: &mut [u8], holders: &mut [u8])
-    requires { ⌜ (length (now stamps) ≡ 2000) × (length (now holders) ≡ 2000) × (byteAt (now holders) x < 255) ⌝ }
+    requires { ⌜ (length (now stamps) ≡ mostElements) × (length (now holders) ≡ mostElements) × (byteAt (now holders) x < 255) ⌝ }
     ensures { λ _. ⌜ Raised k (now (stamps .entry)) (now (holders .entry)) (now (stamps .exit)) (now (holders .exit)) (eqb x) ⌝ }
 {
     if byte_at(stamps, x) == k {
@@ -30,7 +31,7 @@ fn add_holder(x: usize, k: u8, stamps: &mut [u8], holders: &mut [u8])
 
 // Counts part k at the cells in the reach of the cell at place q.
 fn add_reach(table: &[u8], ends: &[u16], q: usize, k: u8, stamps: &mut [u8], holders: &mut [u8])
-    requires { ⌜ (q < 65536) × (length (now stamps) ≡ 2000) × Few 16 (now holders) ⌝ }
+    requires { ⌜ (q < 65536) × (length (now stamps) ≡ mostElements) × Few mostParts (now holders) ⌝ }
     ensures { λ _. ⌜
         Raised k (now (stamps .entry)) (now (holders .entry)) (now (stamps .exit)) (now (holders .exit)) (reachHas (now (table .entry)) (now (ends .entry)) q)
         ⌝ }
@@ -53,7 +54,7 @@ fn count_part(
     stamps: &mut [u8],
     holders: &mut [u8],
 )
-    requires { ⌜ (length (now stamps) ≡ 2000) × Few 15 (now holders) ⌝ }
+    requires { ⌜ (length (now stamps) ≡ mostElements) × Few 15 (now holders) ⌝ }
     ensures { λ _. ⌜
         Raised k (now (stamps .entry)) (now (holders .entry)) (now (stamps .exit)) (now (holders .exit)) (groupReach (now (start .entry)) (now (next .entry))
         (now (table .entry)) (now (ends .entry)) cells k)
@@ -71,7 +72,7 @@ fn count_part(
 
 // The sum of the counts at the cells.
 fn sum_holders(holders: &[u8], cells: usize) -> usize
-    requires { ⌜ cells ≤ 2000 ⌝ }
+    requires { ⌜ cells ≤ mostElements ⌝ }
     ensures { λ s. ⌜ s ≡ rowSum (now (holders .entry)) cells ⌝ }
 {
     let mut s = 0;
@@ -92,7 +93,7 @@ pub fn count_holders(
     holders: &mut [u8],
     next: &mut [u16],
 ) -> usize
-    requires { ⌜ (cells ≤ 2000) × (parts ≤ 16) × (length (now stamps) ≡ 2000) × (length (now holders) ≡ 2000) × (2000 ≤ length (now next)) ⌝ }
+    requires { ⌜ (cells ≤ mostElements) × (parts ≤ mostParts) × (length (now stamps) ≡ mostElements) × (length (now holders) ≡ mostElements) × (mostElements ≤ length (now next)) ⌝ }
     ensures { λ s. ⌜ Holders (now (owners .entry)) (now (table .entry)) (now (ends .entry)) cells parts (now (holders .exit)) s ⌝ }
 {
     clear_row(stamps);

@@ -13,9 +13,10 @@ ghost use Prim.Native.Nat.{_≤_};
 ghost use lib.ListN.{length, replicate};
 ghost use Rattle.vocabulary.specs.Lists.{Zeros};
 ghost use Rattle.vocabulary.specs.Intervals.{isUpTo, every};
+ghost use Rattle.layout.specs.Limits.{elementPlaces, mostRecords};
 ghost use Rattle.split.specs.Split.{splitOf};
 ghost use Rattle.split.specs.Lists.{bad8, bad9, splitNumber};
-ghost use Rattle.split.specs.Classes.{ownerRight, OwnersSeen};
+ghost use Rattle.split.specs.Classes.{validOwner, OwnersSeen};
 
 // The most parts, as the number that calls are given.
 const PARTS: u32 = MOST_PARTS as u32;
@@ -30,8 +31,8 @@ pub fn is_part(parts: u32, i: u32) -> bool
     1 <= i && i <= parts
 }
 
-fn owners_right(parts: u32, owners: &[u8]) -> bool
-    ensures { λ b. ⌜ b ≡ every 0 (length (now (owners .entry))) (ownerRight parts (now (owners .entry))) ⌝ }
+fn valid_owners(parts: u32, owners: &[u8]) -> bool
+    ensures { λ b. ⌜ b ≡ every 0 (length (now (owners .entry))) (validOwner parts (now (owners .entry))) ⌝ }
 {
     for k in 0..owners.len() {
         if !is_part(parts, owner_of(owners, k) as u32) {
@@ -51,7 +52,7 @@ pub fn bad_map(m: &[u8], parts: u32, owners: &[u8]) -> bool
     if owners.len() != cell_count(m) {
         return true;
     }
-    !owners_right(parts, owners)
+    !valid_owners(parts, owners)
 }
 
 // Marks the owners of the first n cells, in a cleared array.
@@ -91,7 +92,7 @@ pub fn split_number(
     items: &mut [u16],
     ends: &mut [u16],
 ) -> u32
-    requires { ⌜ (12000 ≤ length (now items)) × Zeros 2001 (now ends) ⌝ }
+    requires { ⌜ (mostRecords ≤ length (now items)) × Zeros elementPlaces (now ends) ⌝ }
     ensures { λ r. ⌜ r ≡ splitNumber (now (m .entry)) parts (now (owners .entry)) (i ∷ j ∷ []) (now (stencil .entry)) ⌝ }
 {
     let number = mesh_number_in(m, items, ends);

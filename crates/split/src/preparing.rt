@@ -14,6 +14,7 @@ ghost use mathlib.Core.Bool.{true, false};
 ghost use mathlib.Core.List.{[]};
 ghost use Prim.Native.Nat.{_≤_};
 ghost use lib.ListN.{length, replicate};
+ghost use Rattle.layout.specs.Limits.{elementPlaces, mostElements, recordPlaces, tableBytes};
 ghost use Rattle.mesh.specs.Mesh.{top};
 ghost use Rattle.mesh.specs.Walks.{bad10, bad13};
 ghost use Rattle.mesh.specs.Accepted.{Accepted};
@@ -30,8 +31,8 @@ fn link(
     prev: &mut [u16],
     last: &mut [u16],
 )
-    requires { ⌜ Accepted (now m) × Sized (now m) sizes × (bad10 (top (now m)) (now stencil) ≡ false) × (length (now cell) ≡ 12001)
-        × (length (now prev) ≡ 12001) × (now last ≡ replicate 2001 0) ⌝ }
+    requires { ⌜ Accepted (now m) × Sized (now m) sizes × (bad10 (top (now m)) (now stencil) ≡ false) × (length (now cell) ≡ recordPlaces)
+        × (length (now prev) ≡ recordPlaces) × (now last ≡ replicate elementPlaces 0) ⌝ }
     ensures { λ _. ⌜ Ground (now (m .entry)) (now (stencil .entry)) (now (cell .exit)) (now (prev .exit)) (now (last .exit)) ⌝ }
 {
     invert(
@@ -98,9 +99,9 @@ pub fn prepare(
     holders: &mut [u8],
     class: &mut [u8],
 ) -> u32
-    requires { ⌜ Accepted (now m) × (bad8 (now m) parts (now owners) [] ≡ false) × (bad10 (top (now m)) (now stencil) ≡ false) × (length (now cell) ≡ 12001)
-        × (length (now prev) ≡ 12001) × (now last ≡ replicate 2001 0) × (length (now table) ≡ 32000) × (length (now ends) ≡ 2001)
-        × (length (now holders) ≡ 2000) × (length (now class) ≡ 2000) ⌝ }
+    requires { ⌜ Accepted (now m) × (bad8 (now m) parts (now owners) [] ≡ false) × (bad10 (top (now m)) (now stencil) ≡ false) × (length (now cell) ≡ recordPlaces)
+        × (length (now prev) ≡ recordPlaces) × (now last ≡ replicate elementPlaces 0) × (length (now table) ≡ tableBytes) × (length (now ends) ≡ elementPlaces)
+        × (length (now holders) ≡ mostElements) × (length (now class) ≡ mostElements) ⌝ }
     ensures { λ r. ⌜
         (r ≡ sizesNumber (now (m .entry)) parts (now (owners .entry)) (now (stencil .entry)))
         × (r ≡ 0 → Prepared (now (m .entry)) parts (now (owners .entry)) (now (stencil .entry)) (now (table .exit)) (now (ends .exit)) (now (holders

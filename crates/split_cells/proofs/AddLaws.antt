@@ -13,6 +13,7 @@ use Rattle.vocabulary.specs.ByteLaws.{over-none, over-more, over-one, over-fron
 use Rattle.vocabulary.specs.Intervals.{blocks}
 use Rattle.vocabulary.specs.ListLaws.{map-append}
 use Rattle.vocabulary.specs.IntervalLaws.{blocks-turn, blocks-start, at-last, blocks-length, total-bound, total-start, total-turn, total-cong}
+use Rattle.layout.specs.Limits.{mostElements, mostParts}
 use Rattle.split.specs.Classes.{ofClass, classCells, placeCount, classCount, classOrder, Appended}
 use Rattle.split.specs.Groups.{group, Grouped, groupCells, groupOrder, Linked}
 use Rattle.split.proofs.GroupLaws.{left-start, left-turn, left-all, left-stop, left-end, grouped-order}
@@ -51,11 +52,11 @@ module _ (g : ℕ → List ℕ) where
 
 -- v is added where its class y, which the code read as x, is the one wanted
 module _ (x y k v : ℕ) (e : x ≡ y) (b : List ℕ) (s : ℕ) where
-  pub sort-skips : (x ≡ k → ⊥) → Appended b b s s (cond (eqb y k) (v ∷ []) [])
-  sort-skips n = subst (λ c. Appended b b s s (cond c (v ∷ []) [])) (sym (ne-eqb y k (λ z. n (e ∙ z)))) (add-none b s)
+  pub class-skips : (x ≡ k → ⊥) → Appended b b s s (cond (eqb y k) (v ∷ []) [])
+  class-skips n = subst (λ c. Appended b b s s (cond c (v ∷ []) [])) (sym (ne-eqb y k (λ z. n (e ∙ z)))) (add-none b s)
 
-  pub sort-adds : (a : List ℕ) → x ≡ k → a ≡ set b s v → Appended b a s (s + 1) (cond (eqb y k) (v ∷ []) [])
-  sort-adds a n f = subst (λ c. Appended b a s (s + 1) (cond c (v ∷ []) [])) (sym (eq-eqb y k (sym e ∙ n))) (add-one b a s v f)
+  pub class-adds : (a : List ℕ) → x ≡ k → a ≡ set b s v → Appended b a s (s + 1) (cond (eqb y k) (v ∷ []) [])
+  class-adds a n f = subst (λ c. Appended b a s (s + 1) (cond c (v ∷ []) [])) (sym (eq-eqb y k (sym e ∙ n))) (add-one b a s v f)
 
 -- ---- the numbers of a class
 
@@ -125,7 +126,7 @@ module _ (start next : List ℕ) (first cells : ℕ) where
   unfolding groupOrder
   groups-added a b c d s t u parts X Y Z = add-both a b d 0 s u _ _ X (add-both b c d s t u _ _ Y Z)
 
-pub order-added : (class : Bytes) (first cells parts : ℕ) (start next a b : List ℕ) (t : ℕ) → Grouped class cells start next → parts ≤ 16
+pub order-added : (class : Bytes) (first cells parts : ℕ) (start next a b : List ℕ) (t : ℕ) → Grouped class cells start next → parts ≤ mostParts
     → Appended a b 0 t (groupOrder start next first cells parts) → Appended a b 0 t (classOrder class first cells parts)
 order-added class first cells parts start next a b t G h X = subst (Appended a b 0 t) (grouped-order class first cells parts start next G h) X
 
@@ -174,10 +175,10 @@ class-few class first cells k = omega (arith, blocks-length 0 (ofClass class fir
 
 -- ---- what was added to an empty list
 
-pub added-fits : (a b : List ℕ) (n : ℕ) (ws : List ℕ) → Appended a b 0 n ws → 2000 ≤ length a → length ws ≤ 2000 → n ≤ length b
+pub added-fits : (a b : List ℕ) (n : ℕ) (ws : List ℕ) → Appended a b 0 n ws → mostElements ≤ length a → length ws ≤ mostElements → n ≤ length b
 added-fits a b n ws X l h = omega (arith, X .size, X .count)
 
-pub added-take : (a b : List ℕ) (n : ℕ) (ws : List ℕ) → Appended a b 0 n ws → 2000 ≤ length a → length ws ≤ 2000 → take n b ≡ ws
+pub added-take : (a b : List ℕ) (n : ℕ) (ws : List ℕ) → Appended a b 0 n ws → mostElements ≤ length a → length ws ≤ mostElements → take n b ≡ ws
 added-take a b n ws X l h =
     let e : n ≡ length ws = omega (arith, X .count) in
     ap₂ (λ k (xs : List ℕ). take k xs) e (X .text (omega arith) ∙ over-front a ws) ∙ take-append-seam ws (drop (length ws) a)

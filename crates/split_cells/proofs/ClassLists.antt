@@ -10,6 +10,7 @@ use borrow.Author.Tests.{eqb-true, eqb-false, eq-eqb, ne-eqb}
 use Rattle.vocabulary.specs.Bytes.{Bytes, byteAt}
 use Rattle.vocabulary.specs.Intervals.{picked, blocks}
 use Rattle.vocabulary.specs.IntervalLaws.{picked-length-le, blocks-cong, blocks-picked}
+use Rattle.layout.specs.Limits.{mostElements, mostParts}
 use Rattle.mesh.specs.Mesh.{firstCell, cellCount}
 use Rattle.split.specs.Split.{Split, splitOf, ownerAt, owns, holds, held, inside, imports, interior, halo, locals}
 use Rattle.split.specs.SplitLaws.{map-facts, local-held, split-reach, split-own, split-owner}
@@ -19,7 +20,7 @@ use Rattle.mesh.proofs.AcceptedLaws.{cells-few}
 -- ---- an owner's number is never 17 or 18
 
 -- an owned cell's class is 17 where it is inside and 18 where it is not, and no other cell has either
-is-own : (y a b h : Bool) (o : ℕ) → o ≤ 16 → eqb (cond a (cond b 17 18) (cond h o 0)) (cond y 17 18) ≡ a && cond y b (not b)
+is-own : (y a b h : Bool) (o : ℕ) → o ≤ mostParts → eqb (cond a (cond b 17 18) (cond h o 0)) (cond y 17 18) ≡ a && cond y b (not b)
 is-own true true true h o l = refl
 is-own true true false h o l = refl
 is-own false true true h o l = refl
@@ -29,7 +30,7 @@ is-own false false b true o l = ne-eqb o 18 (omega arith)
 is-own true false b false o l = refl
 is-own false false b false o l = refl
 
-is-import : (b h : Bool) (o i j : ℕ) → 1 ≤ j → j ≤ 16 → eqb (cond (eqb o i) (cond b 17 18) (cond h o 0)) j ≡ not (eqb i j) && eqb o j && h
+is-import : (b h : Bool) (o i j : ℕ) → 1 ≤ j → j ≤ mostParts → eqb (cond (eqb o i) (cond b 17 18) (cond h o 0)) j ≡ not (eqb i j) && eqb o j && h
 is-import b h o i j low high = go (eqb o i) refl (eqb o j) refl
   where
     own : (b : Bool) → eqb (cond b 17 18) j ≡ false
@@ -57,7 +58,7 @@ is-import b h o i j low high = go (eqb o i) refl (eqb o j) refl
         none false = refl
 
 -- a row has what the tables tell
-pub row-cells : (owners table : Bytes) (ends : List ℕ) (j first cells k : ℕ) (class : Bytes) → cells ≤ 2000 → Classed owners table ends j cells class
+pub row-cells : (owners table : Bytes) (ends : List ℕ) (j first cells k : ℕ) (class : Bytes) → cells ≤ mostElements → Classed owners table ends j cells class
     → classCells class first cells k ≡ partCells owners table ends j first cells k
 unfolding classCells ofClass partCells
 row-cells owners table ends j first cells k class few C =
@@ -76,7 +77,8 @@ module _ (m : Bytes) (parts : ℕ) (owners st table : Bytes) (ends : List ℕ) (
         (subst (λ n. Classed owners table ends i n class) ce C) .each q (omega arith) ∙ R .classes i q h
 
     -- the cells of a class, by a test of the definitions that tells that class
-    class-is : (k : ℕ) (p : ℕ → Bool) → ((q : ℕ) → q < cellCount m → eqb (classIn S i (firstCell m + q)) k ≡ p (firstCell m + q)) → classCells class first cells k ≡ picked (firstCell m) (cellCount m) p
+    class-is : (k : ℕ) (p : ℕ → Bool) → ((q : ℕ) → q < cellCount m → eqb (classIn S i (firstCell m + q)) k ≡ p (firstCell m + q))
+        → classCells class first cells k ≡ picked (firstCell m) (cellCount m) p
     unfolding classCells ofClass
     class-is k p f =
         ap₂ (λ a n. blocks 0 n (λ q. cond (eqb (byteAt class q) k) ((a + q) ∷ []) [])) fe ce
@@ -84,12 +86,12 @@ module _ (m : Bytes) (parts : ℕ) (owners st table : Bytes) (ends : List ℕ) (
         (λ q h. let l : 0 + q < cellCount m = omega arith in ap (λ b. cond b ((firstCell m + (0 + q)) ∷ []) []) (ap (λ x. eqb x k) (class-at (0 + q) l) ∙ f (0 + q) l))
         ∙ blocks-picked (firstCell m) (cellCount m) p
 
-    owner-few : (q : ℕ) → q < cellCount m → S .owner (firstCell m + q) ≤ 16
+    owner-few : (q : ℕ) → q < cellCount m → S .owner (firstCell m + q) ≤ mostParts
     unfolding splitOf
     owner-few q h =
         let f = map-facts m parts owners [] (R .map) in
         let e : firstCell m + q - firstCell m ≡ q = omega arith in
-        subst (λ k. ownerAt owners k ≤ 16) (sym e) (omega (arith, f .owner-in q h .1, f .few))
+        subst (λ k. ownerAt owners k ≤ mostParts) (sym e) (omega (arith, f .owner-in q h .1, f .few))
 
     own-cells : (y : Bool) → classCells class first cells (cond y 17 18) ≡ picked (firstCell m) (cellCount m) (λ c. eqb (S .owner c) i && cond y (inside S i c) (not (inside S i c)))
     unfolding classIn owns
@@ -105,7 +107,7 @@ module _ (m : Bytes) (parts : ℕ) (owners st table : Bytes) (ends : List ℕ) (
     unfolding halo owns splitOf
     halo-is = own-cells false
 
-    pub imports-are : (j : ℕ) → 1 ≤ j → j ≤ 16 → classCells class first cells j ≡ imports S i j
+    pub imports-are : (j : ℕ) → 1 ≤ j → j ≤ mostParts → classCells class first cells j ≡ imports S i j
     unfolding imports owns splitOf classIn
     imports-are j low top =
         class-is j (λ c. not (eqb i j) && eqb (S .owner c) j && holds S i c)
@@ -118,7 +120,7 @@ module _ (m : Bytes) (parts : ℕ) (owners st table : Bytes) (ends : List ℕ) (
         (ap₂ _++_ halo-is (blocks-cong 1 (classCells class first cells) (imports S i) parts (λ j h. imports-are (1 + j) (omega arith) (omega (arith, map-facts m parts owners [] (R .map) .few)))))
 
   -- what part j imports from part i, by the tables
-  pub part-imports : (i j first cells : ℕ) → first ≡ firstCell m → cells ≡ cellCount m → 1 ≤ i → i ≤ 16 → partCells owners table ends j first cells i ≡ imports S j i
+  pub part-imports : (i j first cells : ℕ) → first ≡ firstCell m → cells ≡ cellCount m → 1 ≤ i → i ≤ mostParts → partCells owners table ends j first cells i ≡ imports S j i
   unfolding partCells imports owns splitOf classIn
   part-imports i j first cells fe ce low high =
       ap₂ (λ a n. blocks 0 n (λ q. cond (eqb (classAt owners table ends j n q) i) ((a + q) ∷ []) [])) fe ce
@@ -129,12 +131,12 @@ module _ (m : Bytes) (parts : ℕ) (owners st table : Bytes) (ends : List ℕ) (
       (ap (λ x. eqb x i) (R .classes j (0 + q) (omega arith)) ∙ is-import (inside S j (firstCell m + (0 + q))) (holds S j (firstCell m + (0 + q))) (S .owner (firstCell m + (0 + q))) j i low high))
       ∙ blocks-picked (firstCell m) (cellCount m) (λ c. not (eqb j i) && eqb (S .owner c) i && holds S j c)
 
-  pub picked-few : (p : ℕ → Bool) → length (picked (S .first) (S .cells) p) ≤ 2000
+  pub picked-few : (p : ℕ → Bool) → length (picked (S .first) (S .cells) p) ≤ mostElements
   unfolding splitOf
   picked-few p = omega (arith, picked-length-le (firstCell m) p (cellCount m), cells-few m (cellCount m) (R .mesh) refl)
 
-  pub locals-few : (i : ℕ) → length (locals S i) ≤ 2000
+  pub locals-few : (i : ℕ) → length (locals S i) ≤ mostElements
   locals-few i =
-      subst (λ n. n ≤ 2000)
+      subst (λ n. n ≤ mostElements)
       (sym (local-held S (split-reach m parts owners st) (split-owner m parts owners st (map-facts m parts owners [] (R .map) .owner-in)) (split-own m parts owners st) i))
       (unfold held in picked-few (holds S i))

@@ -9,6 +9,7 @@ use split::inner::INTERIOR;
 use split::inner::group_cells;
 ghost use Prim.Native.Nat.{_+_, _≤_, _<_};
 ghost use Rattle.vocabulary.specs.Intervals.{blocks};
+ghost use Rattle.layout.specs.Limits.{mostElements, mostParts};
 ghost use Rattle.split.specs.Classes.{ofClass, classCells, classOrder, Appended};
 ghost use Rattle.split.specs.Groups.{groupCells, groupOrder, Linked};
 
@@ -53,7 +54,7 @@ fn add_group(
     list: &mut [u16],
     s: usize,
 ) -> usize
-    requires { ⌜ (first + cells ≤ 65536) × (cells ≤ 2000) × Linked cells (now start) (now next) × (k < 19) × (s < 65536) ⌝ }
+    requires { ⌜ (first + cells ≤ 65536) × (cells ≤ mostElements) × Linked cells (now start) (now next) × (k < 19) × (s < 65536) ⌝ }
     ensures { λ t. ⌜
         Appended (now (list .entry)) (now (list .exit)) s t (groupCells (now (start .entry)) (now (next .entry)) first cells k)
         × (t ≤ s + cells)
@@ -82,7 +83,7 @@ fn add_imported(
     list: &mut [u16],
     s: usize,
 ) -> usize
-    requires { ⌜ (first + cells ≤ 65536) × (cells ≤ 2000) × Linked cells (now start) (now next) × (parts ≤ 16) × (s ≤ 4000) ⌝ }
+    requires { ⌜ (first + cells ≤ 65536) × (cells ≤ mostElements) × Linked cells (now start) (now next) × (parts ≤ mostParts) × (s ≤ 4000) ⌝ }
     ensures { λ t. ⌜
         Appended (now (list .entry)) (now (list .exit)) s t (blocks 1 parts (groupCells (now (start .entry)) (now (next .entry)) first cells))
         ⌝ }
@@ -103,7 +104,7 @@ fn add_groups(
     parts: usize,
     list: &mut [u16],
 ) -> usize
-    requires { ⌜ (first + cells ≤ 65536) × (cells ≤ 2000) × Linked cells (now start) (now next) × (parts ≤ 16) ⌝ }
+    requires { ⌜ (first + cells ≤ 65536) × (cells ≤ mostElements) × Linked cells (now start) (now next) × (parts ≤ mostParts) ⌝ }
     ensures { λ t. ⌜
         Appended (now (list .entry)) (now (list .exit)) 0 t (groupOrder (now (start .entry)) (now (next .entry)) first cells parts)
         ⌝ }
@@ -115,7 +116,7 @@ fn add_groups(
 
 // The local order of the part that the row is of, in the list from its start on. The cells are linked by their class first, so that each is met once.
 pub fn add_order(class: &[u8], first: usize, cells: usize, parts: usize, list: &mut [u16]) -> usize
-    requires { ⌜ (first + cells ≤ 65536) × (cells ≤ 2000) × (parts ≤ 16) ⌝ }
+    requires { ⌜ (first + cells ≤ 65536) × (cells ≤ mostElements) × (parts ≤ mostParts) ⌝ }
     ensures { λ t. ⌜ Appended (now (list .entry)) (now (list .exit)) 0 t (classOrder (now (class .entry)) first cells parts) ⌝ }
 {
     let mut start = [0u16; CLASSES];

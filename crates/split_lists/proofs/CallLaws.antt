@@ -15,6 +15,7 @@ use Rattle.layout.specs.Answers.{answer}
 use Rattle.layout.specs.AnswerLaws.{refuses}
 use Rattle.layout.specs.declared.Answer.{Answer}
 use Rattle.layout.specs.declared.Answer.the-variants.{Refused}
+use Rattle.layout.specs.Limits.{mostElements}
 use Rattle.split.specs.Lists.{SplitInput, splitTests, sizeTests, splitNumber, sizesNumber, others, listWords, listNumber, listAnswer, listOut, splitInput}
 use Rattle.split.proofs.PassedLaws.{Passed, twice, passed-facts}
 use Rattle.split.specs.SplitLaws.{split-numbered, sizes-numbered}
@@ -101,8 +102,8 @@ module _ (m : Bytes) (parts : ℕ) (owners : Bytes) (i : ℕ) (st : Bytes) (w : 
             chosen-is m parts owners st table ends holders R w i (f .i-in .0) (f .i-high) (f .j-in .0) (f .j-high) (f .few) cells ce class
             (subst (λ x. Classed owners table ends x cells class) re C)
 
-        chosen-few : length (chosen w m parts class holders i) ≤ 2000
-        chosen-few = subst (λ (xs : List ℕ). length xs ≤ 2000) (sym words-are) (unfold listWords in list-few m parts owners st table ends holders R w i)
+        chosen-few : length (chosen w m parts class holders i) ≤ mostElements
+        chosen-few = subst (λ (xs : List ℕ). length xs ≤ mostElements) (sym words-are) (unfold listWords in list-few m parts owners st table ends holders R w i)
 
         given : listNumber D i w out ≡ givenNumber ws out
         given = sizes-left ∙ ap (λ b. cond b (givenNumber ws out) (sizesNumber m parts owners st)) (eq-eqb _ 0 q)
@@ -119,7 +120,7 @@ module _ (m : Bytes) (parts : ℕ) (owners : Bytes) (i : ℕ) (st : Bytes) (w : 
         )
 
         -- the list as it was made in work space, and given from there
-        module _ (a b : List ℕ) (n : ℕ) (X : Appended a b 0 n (chosen w m parts class holders i)) (long : 2000 ≤ length a) where
+        module _ (a b : List ℕ) (n : ℕ) (X : Appended a b 0 n (chosen w m parts class holders i)) (long : mostElements ≤ length a) where
           pub give-fits : (n ≤ length b) × (n ≤ 65536)
           give-fits = (added-fits a b n (chosen w m parts class holders i) X long chosen-few, omega (arith, X .count, chosen-few))
 

@@ -5,12 +5,13 @@ use mathlib.Core.List.{List, []}
 use Prim.Native.Nat.{ℕ, _≤_}
 use borrow.Author.Tests.{eq-eqb, ne-eqb}
 use Rattle.vocabulary.specs.Bytes.{Bytes}
+use Rattle.layout.specs.Limits.{mostParts}
 use Rattle.mesh.specs.Mesh.{firstCell, cellCount}
 use Rattle.split.specs.Classes.{classCells, classOrder, Appended}
 use Rattle.split_cells.proofs.AddLaws.{add-none}
 use Rattle.split_ranges.specs.Lowers.{rangeOf, rowRange, Lowered}
 use Rattle.split_ranges.proofs.LowerLaws.{range-told}
-use Rattle.split_lists.specs.Giving.{otherOf, sortOf, dimensionOf, cellWords, chosen}
+use Rattle.split_lists.specs.Giving.{otherOf, rangeClass, dimensionOf, cellWords, chosen}
 use Rattle.split.specs.declared.Wanted.{Wanted}
 use Rattle.split.specs.declared.Wanted.the-variants.{Imports}
 
@@ -30,11 +31,11 @@ module _ (w u : Wanted) (m : Bytes) (parts : ℕ) (class : Bytes) (i : ℕ) (a :
     chose-order X q = rw (e, q, sym fe, sym ce) X
 
 -- what was added is the list that is chosen, of cells or a range
-module _ (w : Wanted) (m : Bytes) (parts : ℕ) (class holders : Bytes) (i : ℕ) (a b : List ℕ) (n s : ℕ) (e : s ≡ sortOf w) where
+module _ (w : Wanted) (m : Bytes) (parts : ℕ) (class holders : Bytes) (i : ℕ) (a b : List ℕ) (n s : ℕ) (e : s ≡ rangeClass w) where
   pub added-cells : s ≡ 0 → Appended a b 0 n (cellWords w m parts class i) → Appended a b 0 n (chosen w m parts class holders i)
   unfolding chosen
   added-cells z =
-      subst (Appended a b 0 n) (sym (ap (λ x. cond x (cellWords w m parts class i) (rangeOf m class holders (dimensionOf w) (sortOf w))) (eq-eqb (sortOf w) 0 (sym e ∙ z))))
+      subst (Appended a b 0 n) (sym (ap (λ x. cond x (cellWords w m parts class i) (rangeOf m class holders (dimensionOf w) (rangeClass w))) (eq-eqb (rangeClass w) 0 (sym e ∙ z))))
 
   pub added-range : (s ≡ 0 → ⊥) → (k : ℕ) → k ≡ dimensionOf w → (lower : Bytes) → Lowered m class holders k lower → Appended a b 0 n (rowRange m k lower s)
       → Appended a b 0 n (chosen w m parts class holders i)
@@ -42,9 +43,9 @@ module _ (w : Wanted) (m : Bytes) (parts : ℕ) (class holders : Bytes) (i : ℕ
   added-range z k ke lower L X =
       subst (Appended a b 0 n)
       (ap₂ (rangeOf m class holders) ke e
-      ∙ sym (ap (λ x. cond x (cellWords w m parts class i) (rangeOf m class holders (dimensionOf w) (sortOf w))) (ne-eqb (sortOf w) 0 (λ q. z (e ∙ q)))))
+      ∙ sym (ap (λ x. cond x (cellWords w m parts class i) (rangeOf m class holders (dimensionOf w) (rangeClass w))) (ne-eqb (rangeClass w) 0 (λ q. z (e ∙ q)))))
       (range-told m class holders k s lower a b n L X)
 
 -- the part that imports are from
-pub other-few : (w : Wanted) (i j : ℕ) → otherOf w i ≤ 16 → w ≡ Imports j → j ≤ 16
-other-few w i j few e = subst (λ x. otherOf x i ≤ 16) e few
+pub other-few : (w : Wanted) (i j : ℕ) → otherOf w i ≤ mostParts → w ≡ Imports j → j ≤ mostParts
+other-few w i j few e = subst (λ x. otherOf x i ≤ mostParts) e few

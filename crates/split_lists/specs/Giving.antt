@@ -36,16 +36,16 @@ rowOf (Shared k) i = i
 rowOf (Copied k) i = i
 
 -- the class of the lower elements in it, and their dimension; both are 0 where it is a list of cells
-abbrev pub sortOf : Wanted → ℕ
-sortOf Interior = 0
-sortOf Halo = 0
-sortOf Locals = 0
-sortOf (Imports j) = 0
-sortOf (Exports j) = 0
-sortOf (Private k) = 1
-sortOf (Exposed k) = 2
-sortOf (Shared k) = 3
-sortOf (Copied k) = 4
+abbrev pub rangeClass : Wanted → ℕ
+rangeClass Interior = 0
+rangeClass Halo = 0
+rangeClass Locals = 0
+rangeClass (Imports j) = 0
+rangeClass (Exports j) = 0
+rangeClass (Private k) = 1
+rangeClass (Exposed k) = 2
+rangeClass (Shared k) = 3
+rangeClass (Copied k) = 4
 
 abbrev pub dimensionOf : Wanted → ℕ
 dimensionOf Interior = 0
@@ -72,4 +72,4 @@ cellWords (Copied k) m parts class i = []
 
 -- its words, from that row and the parts that hold each cell
 unfoldable pub chosen : Wanted → Bytes → ℕ → Bytes → Bytes → ℕ → List ℕ
-chosen w m parts class holders i = cond (eqb (sortOf w) 0) (cellWords w m parts class i) (rangeOf m class holders (dimensionOf w) (sortOf w))
+chosen w m parts class holders i = cond (eqb (rangeClass w) 0) (cellWords w m parts class i) (rangeOf m class holders (dimensionOf w) (rangeClass w))

@@ -23,10 +23,11 @@ use split_ranges::inner::classify_lowers;
 use word_lists::inner::give;
 ghost use mathlib.Core.Path.{_≡_};
 ghost use Prim.Native.Nat.{_≤_};
+ghost use Rattle.layout.specs.Limits.{mostParts};
 ghost use Rattle.mesh.specs.Accepted.{Accepted};
 ghost use Rattle.split.specs.Lists.{splitInput, listAnswer, listOut};
 ghost use Rattle.split.specs.Classes.{Appended};
-ghost use Rattle.split_lists.specs.Giving.{otherOf, rowOf, sortOf, dimensionOf, cellWords};
+ghost use Rattle.split_lists.specs.Giving.{otherOf, rowOf, rangeClass, dimensionOf, cellWords};
 
 // The other part that the list names, and the part i itself where it names none.
 fn other_of(wanted: Wanted, i: u32) -> u32
@@ -63,8 +64,8 @@ fn row_of(wanted: Wanted, i: u32) -> u32
 }
 
 // The class of the lower elements in a range, and 0 for a list of cells.
-fn sort_of(wanted: Wanted) -> u8
-    ensures { λ r. ⌜ r ≡ sortOf wanted ⌝ }
+fn range_class(wanted: Wanted) -> u8
+    ensures { λ r. ⌜ r ≡ rangeClass wanted ⌝ }
 {
     match wanted {
         Wanted::Interior => 0,
@@ -105,7 +106,7 @@ fn cell_words(
     i: usize,
     list: &mut [u16],
 ) -> usize
-    requires { ⌜ Accepted (now m) × (parts ≤ 16) × (i ≤ 16) × (otherOf wanted i ≤ 16) ⌝ }
+    requires { ⌜ Accepted (now m) × (parts ≤ mostParts) × (i ≤ mostParts) × (otherOf wanted i ≤ mostParts) ⌝ }
     ensures { λ n. ⌜ Appended (now (list .entry)) (now (list .exit)) 0 n (cellWords wanted (now (m .entry)) parts (now (class .entry)) i) ⌝ }
 {
     let first = first_cell(m);
@@ -182,14 +183,14 @@ pub fn list(
         row_of(wanted, i) as usize,
         &mut class,
     );
-    let sort = sort_of(wanted);
-    if sort == 0 {
+    let wanted_class = range_class(wanted);
+    if wanted_class == 0 {
         let n = cell_words(wanted, m, parts as usize, &class, i as usize, &mut ends);
         return give(&ends, n, out);
     }
     let k = dimension_of(wanted) as usize;
     let mut lower = [0u8; MOST_ELEMENTS];
     classify_lowers(m, &cell, &prev, &last, &class, &holders, k, &mut lower);
-    let n = add_range(m, k, &lower, sort, &mut ends);
+    let n = add_range(m, k, &lower, wanted_class, &mut ends);
     give(&ends, n, out)
 }

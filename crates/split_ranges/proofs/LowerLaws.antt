@@ -15,8 +15,9 @@ use Rattle.vocabulary.specs.Intervals.{picked, every, blocks, some, total}
 use Rattle.vocabulary.specs.IntervalLaws.{at-last, picked-cong, some-cong, some-swap, picked-some, last-or, total-cong, blocks-cong, picked-all, picked-length-le, some-in, some-witness, blocks-picked}
 use Rattle.vocabulary.specs.Lists.{isIn, someOf, All}
 use Rattle.vocabulary.specs.ListLaws.{or-nothing, and-true, and-intro, same-test, All-map, All-getD, someOf-has, someOf-witness, someOf-cong, someOf-and, cond-has}
+use Rattle.layout.specs.Limits.{mostElements, mostParts, recordPlaces}
 use Rattle.mesh.specs.Mesh.{top, counted, below, firstCell, cellCount}
-use Rattle.mesh.specs.Walks.{incident, rightAt, bad10, stepTo, cellsAt}
+use Rattle.mesh.specs.Walks.{incident, validAt, bad10, stepTo, cellsAt}
 use Rattle.mesh.specs.Accepted.{Accepted}
 use Rattle.mesh.specs.WalkLaws.{below-grows}
 use Rattle.walk_incidence.specs.Links.{trail}
@@ -37,7 +38,7 @@ use Rattle.split_ranges.specs.Lowers.{sideAt, someSide, lowerClass, trai
 
 -- the stencil (d), which is always right: the chains turned round do not depend on the stencil
 alone-right : (d : ℕ) → bad10 d (d ∷ []) ≡ false
-unfolding bad10 rightAt every
+unfolding bad10 validAt every
 alone-right d = ap (λ b. not b) (eq-eqb d d refl)
 
 pub alone : (m st : Bytes) (cell prev last : List ℕ) → Ground m st cell prev last → Ground m (top m ∷ []) cell prev last
@@ -47,13 +48,13 @@ alone m st cell prev last G = record { mesh = G .mesh; stencil = alone-right (to
 
 -- the first n elements after lo have their classes in a row
 pub record Trailed (cell prev last : List ℕ) (first : ℕ) (class holders : Bytes) (lo n : ℕ) (lower : Bytes) : Type 0 where
-  pub room : length lower ≡ 2000
+  pub room : length lower ≡ mostElements
   pub each : (q : ℕ) → q < n → byteAt lower q ≡ trailClass cell prev last first class holders (lo + 1 + q)
 
-pub trailed-start : (cell prev last : List ℕ) (first : ℕ) (class holders : Bytes) (lo : ℕ) (lower : Bytes) → length lower ≡ 2000 → Trailed cell prev last first class holders lo 0 lower
+pub trailed-start : (cell prev last : List ℕ) (first : ℕ) (class holders : Bytes) (lo : ℕ) (lower : Bytes) → length lower ≡ mostElements → Trailed cell prev last first class holders lo 0 lower
 trailed-start cell prev last first class holders lo lower l = record { room = l; each = λ q h. let n : ⊥ = omega arith in absurd n }
 
-pub trailed-turn : (cell prev last : List ℕ) (first : ℕ) (class holders : Bytes) (lo q n : ℕ) (a b : Bytes) (x : ℕ) → q < n → n ≤ 2000 → Trailed cell prev last first class holders lo q a
+pub trailed-turn : (cell prev last : List ℕ) (first : ℕ) (class holders : Bytes) (lo q n : ℕ) (a b : Bytes) (x : ℕ) → q < n → n ≤ mostElements → Trailed cell prev last first class holders lo q a
     → x ≡ trailClass cell prev last first class holders (lo + 1 + q) → b ≡ set a q x → Trailed cell prev last first class holders lo (q + 1) b
 trailed-turn cell prev last first class holders lo q n a b x h nl T xe e = record {
   room = ap length e ∙ length-set a q x ∙ T .room;
@@ -74,13 +75,13 @@ trailed-end cell prev last first class holders lo q n lower g h T = at-last (λ 
 
 module _ (m : Bytes) (cell prev last : List ℕ) (G : Ground m (top m ∷ []) cell prev last) where
   -- the cells on a lower element's trail are those incident to it
-  trail-told : (e z : ℕ) → 1 ≤ e → e ≤ below m (top m) → isIn z (trail cell prev 12001 (getD last e 0)) ≡ isIn z (picked (firstCell m) (cellCount m) (incident m e))
+  trail-told : (e z : ℕ) → 1 ≤ e → e ≤ below m (top m) → isIn z (trail cell prev recordPlaces (getD last e 0)) ≡ isIn z (picked (firstCell m) (cellCount m) (incident m e))
   trail-told e z low high =
       turned
       ∙ stepping
       ∙ ap (isIn z) (picked-cong (firstCell m) (λ x. someOf (e ∷ []) (λ y. incident m y x)) (incident m e) (cellCount m) (λ k h. unfold someOf in or-nothing (incident m e (firstCell m + k))))
     where
-      turned : isIn z (trail cell prev 12001 (getD last e 0)) ≡ isIn z (blocks 0 1 (up cell prev last (e ∷ [])))
+      turned : isIn z (trail cell prev recordPlaces (getD last e 0)) ≡ isIn z (blocks 0 1 (up cell prev last (e ∷ [])))
       turned = unfold blocks up in refl
 
       stepping : isIn z (blocks 0 1 (up cell prev last (e ∷ []))) ≡ isIn z (picked (firstCell m) (cellCount m) (λ x. someOf (e ∷ []) (λ y. incident m y x)))
@@ -93,9 +94,9 @@ module _ (m : Bytes) (cell prev last : List ℕ) (G : Ground m (top m ∷ []) ce
     unfolding trailClass elementClass lowerClass cellsAt
     class-like e low high = λ x. cond (side Mine x) (cond (side Anothers x) 3 (cond (side HeldByAnother x) 2 1)) (cond (side Held x) 4 0)
       where
-        side : (k : Side) → someSide (trail cell prev 12001 (getD last e 0)) first k class holders ≡ someSide (picked (firstCell m) (cellCount m) (incident m e)) (firstCell m) k class holders
+        side : (k : Side) → someSide (trail cell prev recordPlaces (getD last e 0)) first k class holders ≡ someSide (picked (firstCell m) (cellCount m) (incident m e)) (firstCell m) k class holders
         side k =
-            unfold someSide in someOf-like (trail cell prev 12001 (getD last e 0)) (picked (firstCell m) (cellCount m) (incident m e))
+            unfold someSide in someOf-like (trail cell prev recordPlaces (getD last e 0)) (picked (firstCell m) (cellCount m) (incident m e))
             (λ y. sideAt k class holders (y - first)) (λ z. trail-told e z low high)
             ∙ ap (λ f. someOf (picked (firstCell m) (cellCount m) (incident m e)) (λ y. sideAt k class holders (y - f))) fe
 
@@ -108,44 +109,44 @@ module _ (m : Bytes) (cell prev last : List ℕ) (G : Ground m (top m ∷ []) ce
           ∙ class-like (below m k + 1 + q) (omega arith) (omega (arith, below-grows m (k + 1) (top m) (omega arith), below-next m k));
     }
 
-pub lowered-none : (m class holders : Bytes) (k d : ℕ) (lower : Bytes) → d ≡ top m → d ≤ k → length lower ≡ 2000 → Lowered m class holders k lower
+pub lowered-none : (m class holders : Bytes) (k d : ℕ) (lower : Bytes) → d ≡ top m → d ≤ k → length lower ≡ mostElements → Lowered m class holders k lower
 lowered-none m class holders k d lower e h l = record { room = l; each = λ q a b. let n : ⊥ = omega arith in absurd n }
 
-pub range-fits : (m : Bytes) (d k lo n : ℕ) → Accepted m → d ≡ top m → k < d → lo ≡ below m k → n ≡ counted m k → (lo + n < 65535) × (n ≤ 2000)
+pub range-fits : (m : Bytes) (d k lo n : ℕ) → Accepted m → d ≡ top m → k < d → lo ≡ below m k → n ≡ counted m k → (lo + n < 65535) × (n ≤ mostElements)
 range-fits m d k lo n A e h loe ne =
     let grows = below-grows m (k + 1) 4 (omega (arith, A .sizes .d-high)) in
     (omega (arith, below-next m k, grows, A .sizes .n-high), omega (arith, below-next m k, grows, A .sizes .n-high))
 
 -- ---- a range by its row
 
-pub range-none : (m : Bytes) (k : ℕ) (lower : Bytes) (sort d : ℕ) (b : List ℕ) → d ≡ top m → d ≤ k → Appended b b 0 0 (rowRange m k lower sort)
+pub range-none : (m : Bytes) (k : ℕ) (lower : Bytes) (wanted d : ℕ) (b : List ℕ) → d ≡ top m → d ≤ k → Appended b b 0 0 (rowRange m k lower wanted)
 unfolding rowRange
-range-none m k lower sort d b e h = subst (Appended b b 0 0) (sym (ap (λ c. cond c (classCells lower (below m k + 1) (counted m k) sort) []) (le-ltb k (top m) (omega arith)))) (add-none b 0)
+range-none m k lower wanted d b e h = subst (Appended b b 0 0) (sym (ap (λ c. cond c (classCells lower (below m k + 1) (counted m k) wanted) []) (le-ltb k (top m) (omega arith)))) (add-none b 0)
 
-pub range-added : (m : Bytes) (k : ℕ) (lower : Bytes) (sort d lo n : ℕ) (a b : List ℕ) (t : ℕ) → d ≡ top m → k < d → lo ≡ below m k → n ≡ counted m k
-    → Appended a b 0 t (classCells lower (lo + 1) n sort) → Appended a b 0 t (rowRange m k lower sort)
+pub range-added : (m : Bytes) (k : ℕ) (lower : Bytes) (wanted d lo n : ℕ) (a b : List ℕ) (t : ℕ) → d ≡ top m → k < d → lo ≡ below m k → n ≡ counted m k
+    → Appended a b 0 t (classCells lower (lo + 1) n wanted) → Appended a b 0 t (rowRange m k lower wanted)
 unfolding rowRange
-range-added m k lower sort d lo n a b t e h loe ne X =
+range-added m k lower wanted d lo n a b t e h loe ne X =
     subst (Appended a b 0 t)
-    (ap₂ (λ l c. classCells lower (l + 1) c sort) loe ne ∙ sym (ap (λ c. cond c (classCells lower (below m k + 1) (counted m k) sort) []) (lt-ltb k (top m) (omega arith)))) X
+    (ap₂ (λ l c. classCells lower (l + 1) c wanted) loe ne ∙ sym (ap (λ c. cond c (classCells lower (below m k + 1) (counted m k) wanted) []) (lt-ltb k (top m) (omega arith)))) X
 
-pub row-range : (m class holders : Bytes) (k sort : ℕ) (lower : Bytes) → Lowered m class holders k lower → rowRange m k lower sort ≡ rangeOf m class holders k sort
+pub row-range : (m class holders : Bytes) (k wanted : ℕ) (lower : Bytes) → Lowered m class holders k lower → rowRange m k lower wanted ≡ rangeOf m class holders k wanted
 unfolding rowRange rangeOf range classCells ofClass
-row-range m class holders k sort lower L = go (ltb k (top m)) refl
+row-range m class holders k wanted lower L = go (ltb k (top m)) refl
   where
     go : (b : Bool) → ltb k (top m) ≡ b
-        → cond b (blocks 0 (counted m k) (λ q. cond (eqb (byteAt lower q) sort) ((below m k + 1 + q) ∷ []) [])) []
-        ≡ cond b (picked (below m k + 1) (counted m k) (λ e. eqb (elementClass m class holders e) sort)) []
+        → cond b (blocks 0 (counted m k) (λ q. cond (eqb (byteAt lower q) wanted) ((below m k + 1 + q) ∷ []) [])) []
+        ≡ cond b (picked (below m k + 1) (counted m k) (λ e. eqb (elementClass m class holders e) wanted)) []
     go true e =
-        blocks-cong 0 (λ q. cond (eqb (byteAt lower q) sort) ((below m k + 1 + q) ∷ []) [])
-        (λ q. cond (eqb (elementClass m class holders (below m k + 1 + q)) sort) ((below m k + 1 + q) ∷ []) []) (counted m k)
-        (λ q h. ap (λ x. cond (eqb x sort) ((below m k + 1 + (0 + q)) ∷ []) []) (L .each (0 + q) (ltb-true k (top m) e) (omega arith)))
-        ∙ blocks-picked (below m k + 1) (counted m k) (λ e. eqb (elementClass m class holders e) sort)
+        blocks-cong 0 (λ q. cond (eqb (byteAt lower q) wanted) ((below m k + 1 + q) ∷ []) [])
+        (λ q. cond (eqb (elementClass m class holders (below m k + 1 + q)) wanted) ((below m k + 1 + q) ∷ []) []) (counted m k)
+        (λ q h. ap (λ x. cond (eqb x wanted) ((below m k + 1 + (0 + q)) ∷ []) []) (L .each (0 + q) (ltb-true k (top m) e) (omega arith)))
+        ∙ blocks-picked (below m k + 1) (counted m k) (λ e. eqb (elementClass m class holders e) wanted)
     go false e = refl
 
-pub range-told : (m class holders : Bytes) (k sort : ℕ) (lower : Bytes) (a b : List ℕ) (t : ℕ) → Lowered m class holders k lower → Appended a b 0 t (rowRange m k lower sort)
-    → Appended a b 0 t (rangeOf m class holders k sort)
-range-told m class holders k sort lower a b t L X = subst (Appended a b 0 t) (row-range m class holders k sort lower L) X
+pub range-told : (m class holders : Bytes) (k wanted : ℕ) (lower : Bytes) (a b : List ℕ) (t : ℕ) → Lowered m class holders k lower → Appended a b 0 t (rowRange m k lower wanted)
+    → Appended a b 0 t (rangeOf m class holders k wanted)
+range-told m class holders k wanted lower a b t L X = subst (Appended a b 0 t) (row-range m class holders k wanted lower L) X
 
 -- ---- how many parts pass, and whether another than part i does
 
@@ -193,22 +194,22 @@ another-counts p i n low high = ap (ltb (cond (p i) 1 0)) whole ∙ above ∙ ap
 -- ---- a range is that of the definitions
 
 -- the class of an element, by its four tests
-abbrev pub sortBy : Bool → Bool → Bool → Bool → ℕ
-sortBy t a e h = cond t (cond a 3 (cond e 2 1)) (cond h 4 0)
+abbrev pub classBy : Bool → Bool → Bool → Bool → ℕ
+classBy t a e h = cond t (cond a 3 (cond e 2 1)) (cond h 4 0)
 
 -- private, exposed, shared and copied
-abbrev pub Sorts : Bool → Bool → Bool → Bool → Type 0
-Sorts t a e h = (eqb (sortBy t a e h) 1 ≡ t && not a && not e) × (eqb (sortBy t a e h) 2 ≡ t && not a && e) × (eqb (sortBy t a e h) 3 ≡ t && a) × (eqb (sortBy t a e h) 4 ≡ h && not t)
+abbrev pub RangeClasses : Bool → Bool → Bool → Bool → Type 0
+RangeClasses t a e h = (eqb (classBy t a e h) 1 ≡ t && not a && not e) × (eqb (classBy t a e h) 2 ≡ t && not a && e) × (eqb (classBy t a e h) 3 ≡ t && a) × (eqb (classBy t a e h) 4 ≡ h && not t)
 
-pub sort-tells : (t a e h : Bool) → Sorts t a e h
-sort-tells true true e true = (refl, refl, refl, refl)
-sort-tells true true e false = (refl, refl, refl, refl)
-sort-tells true false true true = (refl, refl, refl, refl)
-sort-tells true false true false = (refl, refl, refl, refl)
-sort-tells true false false true = (refl, refl, refl, refl)
-sort-tells true false false false = (refl, refl, refl, refl)
-sort-tells false a e true = (refl, refl, refl, refl)
-sort-tells false a e false = (refl, refl, refl, refl)
+pub range-classes : (t a e h : Bool) → RangeClasses t a e h
+range-classes true true e true = (refl, refl, refl, refl)
+range-classes true true e false = (refl, refl, refl, refl)
+range-classes true false true true = (refl, refl, refl, refl)
+range-classes true false true false = (refl, refl, refl, refl)
+range-classes true false false true = (refl, refl, refl, refl)
+range-classes true false false false = (refl, refl, refl, refl)
+range-classes false a e true = (refl, refl, refl, refl)
+range-classes false a e false = (refl, refl, refl, refl)
 
 module _ (m : Bytes) (parts : ℕ) (owners st table : Bytes) (ends : List ℕ) (holders : Bytes) (R : Prepared m parts owners st table ends holders) where
   abbrev S : Split
@@ -231,7 +232,7 @@ module _ (m : Bytes) (parts : ℕ) (owners st table : Bytes) (ends : List ℕ) (
       class-of : byteAt class (y - firstCell m) ≡ classIn S i y
       class-of = class-at m parts owners st table ends holders R i (firstCell m) cells refl ce class C (y - firstCell m) (omega arith) ∙ ap (classIn S i) place
 
-      owner-few : S .owner y ≤ 16
+      owner-few : S .owner y ≤ mostParts
       owner-few = let f = map-facts m parts owners [] (R .map) in omega (arith, own-is y, f .owner-in (y - firstCell m) (omega arith) .1, f .few)
 
       mine-told : leb 17 (byteAt class (y - firstCell m)) ≡ owns S i y
@@ -332,18 +333,18 @@ module _ (m : Bytes) (parts : ℕ) (owners st table : Bytes) (ends : List ℕ) (
           start = unfold elementClass cellsAt splitOf in refl
 
     -- a range, by a test of the definitions that tells its class
-    pub range-is : (k sort : ℕ) (p : ℕ → Bool)
-        → ((e : ℕ) → eqb (cond (touches S e i) (cond (another S i (touches S e)) 3 (cond (another S i (λ j. holdsLower S j e)) 2 1)) (cond (holdsLower S i e) 4 0)) sort ≡ p e)
-        → rangeOf m class holders k sort ≡ range m k p
+    pub range-is : (k wanted : ℕ) (p : ℕ → Bool)
+        → ((e : ℕ) → eqb (cond (touches S e i) (cond (another S i (touches S e)) 3 (cond (another S i (λ j. holdsLower S j e)) 2 1)) (cond (holdsLower S i e) 4 0)) wanted ≡ p e)
+        → rangeOf m class holders k wanted ≡ range m k p
     unfolding rangeOf range
-    range-is k sort p f =
+    range-is k wanted p f =
         ap (λ xs. cond (ltb k (top m)) xs [])
-        (picked-cong (below m k + 1) (λ e. eqb (elementClass m class holders e) sort) p (counted m k) (λ q h. ap (λ x. eqb x sort) (element-is (below m k + 1 + q)) ∙ f (below m k + 1 + q)))
+        (picked-cong (below m k + 1) (λ e. eqb (elementClass m class holders e) wanted) p (counted m k) (λ q h. ap (λ x. eqb x wanted) (element-is (below m k + 1 + q)) ∙ f (below m k + 1 + q)))
 
-  pub range-few : (k : ℕ) (p : ℕ → Bool) → length (range m k p) ≤ 2000
+  pub range-few : (k : ℕ) (p : ℕ → Bool) → length (range m k p) ≤ mostElements
   unfolding range
-  range-few k p = cond-has (λ (xs : List ℕ). length xs ≤ 2000) (ltb k (top m)) (picked (below m k + 1) (counted m k) p) [] some-of (λ e. omega arith)
+  range-few k p = cond-has (λ (xs : List ℕ). length xs ≤ mostElements) (ltb k (top m)) (picked (below m k + 1) (counted m k) p) [] some-of (λ e. omega arith)
     where
-      some-of : ltb k (top m) ≡ true → length (picked (below m k + 1) (counted m k) p) ≤ 2000
+      some-of : ltb k (top m) ≡ true → length (picked (below m k + 1) (counted m k) p) ≤ mostElements
       some-of e =
           omega (arith, picked-length-le (below m k + 1) p (counted m k), below-next m k, below-grows m (k + 1) 4 (omega (arith, ltb-true k (top m) e, R .mesh .sizes .d-high)), R .mesh .sizes .n-high)

@@ -9,6 +9,7 @@ use borrow.Author.Tests.{eq-eqb, ne-eqb}
 use lib.ListN.{getD}
 use Rattle.vocabulary.specs.Bytes.{Bytes, byteAt}
 use Rattle.vocabulary.specs.Lists.{someOf}
+use Rattle.layout.specs.Limits.{recordPlaces}
 use Rattle.walk_incidence.specs.Links.{trail}
 use Rattle.walk_incidence.proofs.TrailLaws.{trail-end, trail-more}
 use Rattle.split.specs.Classes.{heldOne}
@@ -52,47 +53,47 @@ place-low first y h = omega arith
 module _ (cell prev : List ℕ) (first : ℕ) (side : Side) (class holders : Bytes) where
   -- the rest of the trail tells what the whole does
   pub record Rest (t k s : ℕ) : Type 0 where
-    pub same : someSide (trail cell prev (12001 - k) s) first side class holders ≡ someSide (trail cell prev 12001 t) first side class holders
+    pub same : someSide (trail cell prev (recordPlaces - k) s) first side class holders ≡ someSide (trail cell prev recordPlaces t) first side class holders
 
   pub rest-start : (t : ℕ) → Rest t 0 t
   rest-start t = record { same = refl }
 
-  pub rest-end : (t k s : ℕ) → s < 1 → Rest t k s → false ≡ someSide (trail cell prev 12001 t) first side class holders
+  pub rest-end : (t k s : ℕ) → s < 1 → Rest t k s → false ≡ someSide (trail cell prev recordPlaces t) first side class holders
   rest-end t k s h R = none ∙ R .same
     where
       z : s ≡ 0
       z = omega arith
 
-      none : false ≡ someSide (trail cell prev (12001 - k) s) first side class holders
-      none = rw (z, trail-end cell prev (12001 - k)) (unfold someSide someOf in refl)
+      none : false ≡ someSide (trail cell prev (recordPlaces - k) s) first side class holders
+      none = rw (z, trail-end cell prev (recordPlaces - k)) (unfold someSide someOf in refl)
 
-  pub rest-spent : (t k s : ℕ) → 12001 ≤ k → Rest t k s → false ≡ someSide (trail cell prev 12001 t) first side class holders
+  pub rest-spent : (t k s : ℕ) → recordPlaces ≤ k → Rest t k s → false ≡ someSide (trail cell prev recordPlaces t) first side class holders
   rest-spent t k s h R = none ∙ R .same
     where
-      z : 12001 - k ≡ 0
+      z : recordPlaces - k ≡ 0
       z = omega arith
 
-      none : false ≡ someSide (trail cell prev (12001 - k) s) first side class holders
+      none : false ≡ someSide (trail cell prev (recordPlaces - k) s) first side class holders
       none = rw z (unfold someSide someOf trail in refl)
 
-  module _ (t k s : ℕ) (h : k < 12001) (low : 1 ≤ s) (x q : ℕ) (xe : x ≡ getD cell s 0) (qe : q ≡ x - first) (b : Bool) (be : b ≡ sideAt side class holders q) where
-    next : someSide (trail cell prev (12001 - k) s) first side class holders
-        ≡ b || someSide (trail cell prev (12001 - (k + 1)) (getD prev s 0)) first side class holders
+  module _ (t k s : ℕ) (h : k < recordPlaces) (low : 1 ≤ s) (x q : ℕ) (xe : x ≡ getD cell s 0) (qe : q ≡ x - first) (b : Bool) (be : b ≡ sideAt side class holders q) where
+    next : someSide (trail cell prev (recordPlaces - k) s) first side class holders
+        ≡ b || someSide (trail cell prev (recordPlaces - (k + 1)) (getD prev s 0)) first side class holders
     next =
-        let l : 12001 - k ≡ suc (12001 - (k + 1)) = omega arith in
+        let l : recordPlaces - k ≡ suc (recordPlaces - (k + 1)) = omega arith in
         ap (λ n. someSide (trail cell prev n s) first side class holders) l
-        ∙ ap (λ xs. someSide xs first side class holders) (trail-more cell prev (12001 - (k + 1)) s (omega arith))
-        ∙ (unfold someSide someOf in ap (λ c. c || someOf (trail cell prev (12001 - (k + 1)) (getD prev s 0)) (λ y. sideAt side class holders (y - first)))
+        ∙ ap (λ xs. someSide xs first side class holders) (trail-more cell prev (recordPlaces - (k + 1)) s (omega arith))
+        ∙ (unfold someSide someOf in ap (λ c. c || someOf (trail cell prev (recordPlaces - (k + 1)) (getD prev s 0)) (λ y. sideAt side class holders (y - first)))
         (ap (sideAt side class holders) (ap (λ y. y - first) (sym xe) ∙ sym qe) ∙ sym be))
 
-    pub rest-found : Rest t k s → b ≡ true → true ≡ someSide (trail cell prev 12001 t) first side class holders
-    rest-found R e = sym (ap (λ c. c || someSide (trail cell prev (12001 - (k + 1)) (getD prev s 0)) first side class holders) e) ∙ sym next ∙ R .same
+    pub rest-found : Rest t k s → b ≡ true → true ≡ someSide (trail cell prev recordPlaces t) first side class holders
+    rest-found R e = sym (ap (λ c. c || someSide (trail cell prev (recordPlaces - (k + 1)) (getD prev s 0)) first side class holders) e) ∙ sym next ∙ R .same
 
     pub rest-turn : (u : ℕ) → Rest t k s → b ≡ false → u ≡ getD prev s 0 → Rest t (k + 1) u
     rest-turn u R e ue = record {
       same =
-          ap (λ v. someSide (trail cell prev (12001 - (k + 1)) v) first side class holders) ue
-          ∙ sym (ap (λ c. c || someSide (trail cell prev (12001 - (k + 1)) (getD prev s 0)) first side class holders) e)
+          ap (λ v. someSide (trail cell prev (recordPlaces - (k + 1)) v) first side class holders) ue
+          ∙ sym (ap (λ c. c || someSide (trail cell prev (recordPlaces - (k + 1)) (getD prev s 0)) first side class holders) e)
           ∙ sym next
           ∙ R .same;
     }
@@ -100,21 +101,22 @@ module _ (cell prev : List ℕ) (first : ℕ) (side : Side) (class holders : Byt
 -- ---- classes, by the last answer y
 
 module _ (y : Bool) (cell prev last : List ℕ) (first : ℕ) (class holders : Bytes) (e t : ℕ) (te : t ≡ getD last e 0) (a : Bool)
-    (ae : a ≡ someSide (trail cell prev 12001 t) first Mine class holders) (b : Bool) where
+    (ae : a ≡ someSide (trail cell prev recordPlaces t) first Mine class holders) (b : Bool) where
   abbrev told : Side → Bool
-  told side = someSide (trail cell prev 12001 t) first side class holders
+  told side = someSide (trail cell prev recordPlaces t) first side class holders
 
-  sort-is : trailClass cell prev last first class holders e ≡ cond (told Mine) (cond (told Anothers) 3 (cond (told HeldByAnother) 2 1)) (cond (told Held) 4 0)
+  range-class-is : trailClass cell prev last first class holders e ≡ cond (told Mine) (cond (told Anothers) 3 (cond (told HeldByAnother) 2 1)) (cond (told Held) 4 0)
   unfolding trailClass lowerClass
-  sort-is = ap (λ u. lowerClass (trail cell prev 12001 u) first class holders) (sym te)
+  range-class-is = ap (λ u. lowerClass (trail cell prev recordPlaces u) first class holders) (sym te)
 
-  pub is-shared : a ≡ true → b ≡ someSide (trail cell prev 12001 t) first Anothers class holders → b ≡ true → 3 ≡ trailClass cell prev last first class holders e
-  is-shared at be bt = sym (sort-is ∙ ap₂ (λ x z. cond x (cond z 3 (cond (told HeldByAnother) 2 1)) (cond (told Held) 4 0)) (sym ae ∙ at) (sym be ∙ bt))
+  pub is-shared : a ≡ true → b ≡ someSide (trail cell prev recordPlaces t) first Anothers class holders → b ≡ true → 3 ≡ trailClass cell prev last first class holders e
+  is-shared at be bt = sym (range-class-is ∙ ap₂ (λ x z. cond x (cond z 3 (cond (told HeldByAnother) 2 1)) (cond (told Held) 4 0)) (sym ae ∙ at) (sym be ∙ bt))
 
-  pub is-alone : (c : Bool) → a ≡ true → b ≡ someSide (trail cell prev 12001 t) first Anothers class holders → b ≡ false → c ≡ someSide (trail cell prev 12001 t) first HeldByAnother class holders
+  pub is-alone : (c : Bool) → a ≡ true → b ≡ someSide (trail cell prev recordPlaces t) first Anothers class holders → b ≡ false
+      → c ≡ someSide (trail cell prev recordPlaces t) first HeldByAnother class holders
       → c ≡ y → cond y 2 1 ≡ trailClass cell prev last first class holders e
   is-alone c at be bf ce ct =
-      sym (sort-is ∙ ap₂ (λ x z. cond x (cond z 3 (cond (told HeldByAnother) 2 1)) (cond (told Held) 4 0)) (sym ae ∙ at) (sym be ∙ bf) ∙ ap (λ x. cond x 2 1) (sym ce ∙ ct))
+      sym (range-class-is ∙ ap₂ (λ x z. cond x (cond z 3 (cond (told HeldByAnother) 2 1)) (cond (told Held) 4 0)) (sym ae ∙ at) (sym be ∙ bf) ∙ ap (λ x. cond x 2 1) (sym ce ∙ ct))
 
-  pub is-theirs : a ≡ false → b ≡ someSide (trail cell prev 12001 t) first Held class holders → b ≡ y → cond y 4 0 ≡ trailClass cell prev last first class holders e
-  is-theirs af be bt = sym (sort-is ∙ ap₂ (λ x z. cond x (cond (told Anothers) 3 (cond (told HeldByAnother) 2 1)) (cond z 4 0)) (sym ae ∙ af) (sym be ∙ bt))
+  pub is-theirs : a ≡ false → b ≡ someSide (trail cell prev recordPlaces t) first Held class holders → b ≡ y → cond y 4 0 ≡ trailClass cell prev last first class holders e
+  is-theirs af be bt = sym (range-class-is ∙ ap₂ (λ x z. cond x (cond (told Anothers) 3 (cond (told HeldByAnother) 2 1)) (cond z 4 0)) (sym ae ∙ af) (sym be ∙ bt))

@@ -8,6 +8,7 @@ use lib.Dec.{eqb, leb, ltb}
 use lib.ListN.{length, getD}
 use Rattle.vocabulary.specs.Bytes.{Bytes, byteAt}
 use Rattle.vocabulary.specs.Lists.{someOf}
+use Rattle.layout.specs.Limits.{mostElements, recordPlaces}
 use Rattle.mesh.specs.Mesh.{top, counted, below, firstCell}
 use Rattle.mesh.specs.Walks.{cellsAt}
 use Rattle.walk_incidence.specs.Links.{trail}
@@ -36,19 +37,19 @@ lowerClass cells first class holders =
 
 -- by the cells on an element's trail, or by those incident to it
 unfoldable pub trailClass : List ℕ → List ℕ → List ℕ → ℕ → Bytes → Bytes → ℕ → ℕ
-trailClass cell prev last first class holders e = lowerClass (trail cell prev 12001 (getD last e 0)) first class holders
+trailClass cell prev last first class holders e = lowerClass (trail cell prev recordPlaces (getD last e 0)) first class holders
 
 unfoldable pub elementClass : Bytes → Bytes → Bytes → ℕ → ℕ
 elementClass m class holders e = lowerClass (cellsAt m e) (firstCell m) class holders
 
 -- the elements of dimension k have their classes in a row, where they are lower elements
 pub record Lowered (m class holders : Bytes) (k : ℕ) (lower : Bytes) : Type 0 where
-  pub room : length lower ≡ 2000
+  pub room : length lower ≡ mostElements
   pub each : (q : ℕ) → k < top m → q < counted m k → byteAt lower q ≡ elementClass m class holders (below m k + 1 + q)
 
 -- those of a class, by the cells incident to each, or by their row
 unfoldable pub rangeOf : Bytes → Bytes → Bytes → ℕ → ℕ → List ℕ
-rangeOf m class holders k sort = range m k (λ e. eqb (elementClass m class holders e) sort)
+rangeOf m class holders k wanted = range m k (λ e. eqb (elementClass m class holders e) wanted)
 
 unfoldable pub rowRange : Bytes → ℕ → Bytes → ℕ → List ℕ
-rowRange m k lower sort = cond (ltb k (top m)) (classCells lower (below m k + 1) (counted m k) sort) []
+rowRange m k lower wanted = cond (ltb k (top m)) (classCells lower (below m k + 1) (counted m k) wanted) []

@@ -12,6 +12,7 @@ ghost use mathlib.Core.Path.{_≡_};
 ghost use mathlib.Core.List.{[], _∷_};
 ghost use Prim.Native.Nat.{_-_, _≤_};
 ghost use lib.ListN.{length};
+ghost use Rattle.layout.specs.Limits.{mostElements, recordPlaces};
 ghost use Rattle.mesh.specs.Mesh.{top};
 ghost use Rattle.mesh.specs.Accepted.{Accepted};
 ghost use Rattle.walk_incidence.specs.Links.{trail};
@@ -76,7 +77,7 @@ fn some_cell(
     class: &[u8],
     holders: &[u8],
 ) -> bool
-    ensures { λ b. ⌜ b ≡ someSide (trail (now (cell .entry)) (now (prev .entry)) 12001 t) first side (now (class .entry)) (now (holders .entry)) ⌝ }
+    ensures { λ b. ⌜ b ≡ someSide (trail (now (cell .entry)) (now (prev .entry)) recordPlaces t) first side (now (class .entry)) (now (holders .entry)) ⌝ }
 {
     let mut s = t;
     for _k in 0..RECORD_PLACES {
@@ -131,7 +132,7 @@ pub fn classify_lowers(
     k: usize,
     lower: &mut [u8],
 )
-    requires { ⌜ Ground (now m) (top (now m) ∷ []) (now cell) (now prev) (now last) × (length (now lower) ≡ 2000) ⌝ }
+    requires { ⌜ Ground (now m) (top (now m) ∷ []) (now cell) (now prev) (now last) × (length (now lower) ≡ mostElements) ⌝ }
     ensures { λ _. ⌜ Lowered (now (m .entry)) (now (class .entry)) (now (holders .entry)) k (now (lower .exit)) ⌝ }
 {
     if top_of(m) <= k {
@@ -146,12 +147,12 @@ pub fn classify_lowers(
 }
 
 // The range of dimension k and of one class, in the list from its start on, by the classes of the elements.
-pub fn add_range(m: &[u8], k: usize, lower: &[u8], sort: u8, list: &mut [u16]) -> usize
+pub fn add_range(m: &[u8], k: usize, lower: &[u8], wanted: u8, list: &mut [u16]) -> usize
     requires { ⌜ Accepted (now m) ⌝ }
-    ensures { λ t. ⌜ Appended (now (list .entry)) (now (list .exit)) 0 t (rowRange (now (m .entry)) k (now (lower .entry)) sort) ⌝ }
+    ensures { λ t. ⌜ Appended (now (list .entry)) (now (list .exit)) 0 t (rowRange (now (m .entry)) k (now (lower .entry)) wanted) ⌝ }
 {
     if top_of(m) <= k {
         return 0;
     }
-    add_class(lower, below_of(m, k) + 1, count_of(m, k), sort, list, 0)
+    add_class(lower, below_of(m, k) + 1, count_of(m, k), wanted, list, 0)
 }

@@ -14,7 +14,8 @@ use borrow.Author.Tests.{eqb-true, eqb-false, ltb-true, ltb-false, lt-ltb, leb-t
 use Rattle.vocabulary.specs.Bytes.{Bytes, over}
 use Rattle.vocabulary.specs.ByteLaws.{over-none}
 use Rattle.vocabulary.specs.Lists.{isIn, someOf, repeats, joined, All}
-use Rattle.vocabulary.specs.ListLaws.{isIn-append, someOf-append, someOf-witness, someOf-has, or-nothing, same-test, and-true, and-intro, or-left, or-right, or-true, or-none, not-both, not-or-not, All-append, All-getD, At, at-left, at-right, repeats-none, map-append, joined-last}
+use Rattle.vocabulary.specs.ListLaws.{isIn-append, someOf-append, someOf-witness, someOf-has, or-nothing, same-test, and-true, and-intro, or-left, or-right}
+use Rattle.vocabulary.specs.ListLaws.{or-true, or-none, not-both, not-or-not, All-append, All-getD, At, at-left, at-right, repeats-none, map-append, joined-last}
 use Rattle.vocabulary.specs.Intervals.{isUpTo, picked, every, some, listed, blocks, total}
 
 -- a loop that has come to its end: what holds so far holds in all

@@ -15,6 +15,7 @@ use Rattle.vocabulary.specs.ListLaws.{or-nothing, or-always, or-assoc, and-righ
 use Rattle.vocabulary.specs.Bytes.{Bytes}
 use Rattle.vocabulary.specs.Intervals.{blocks}
 use Rattle.vocabulary.specs.IntervalLaws.{blocks-turn, at-last}
+use Rattle.layout.specs.Limits.{mostElements, recordPlaces}
 use Rattle.mesh.specs.Mesh.{recordCount, headOf, elementIn, nextOf, follow, records, chain}
 use Rattle.mesh.proofs.FollowLaws.{chain-ended, chain-spent, chain-more}
 use Rattle.walk_frontier.specs.Visits.{Frontier, Toward, with, between, down, up, Grown, Upward}
@@ -36,8 +37,8 @@ grown-both a b c n s t X Y = record {
 }
 
 -- how many there can be
-pub few : (v n : ℕ) (marks found : List ℕ) → Frontier v marks found n → n ≤ 2000
-few v n marks found G = omega (arith, once-few 2000 (take n found) (G .in-range) (G .once), G .count)
+pub few : (v n : ℕ) (marks found : List ℕ) → Frontier v marks found n → n ≤ mostElements
+few v n marks found G = omega (arith, once-few mostElements (take n found) (G .in-range) (G .once), G .count)
 
 module _ (v y n : ℕ) (marks found : List ℕ) (G : Frontier v marks found n) where
   -- y bears the mark already
@@ -52,7 +53,7 @@ module _ (v y n : ℕ) (marks found : List ℕ) (G : Frontier v marks found n) w
       go z true q = or-nothing (isIn z (take n found)) ∙ ap (λ k. isIn k (take n found)) (eqb-true z y q) ∙ here ∙ sym (or-always (isIn z (take n found)))
       go z false q = refl
 
-  module _ (x : ℕ) (xe : x ≡ getD marks y 0) (new : x ≡ v → ⊥) (low : 1 ≤ y) (high : y ≤ 2000) (marks′ found′ : List ℕ)
+  module _ (x : ℕ) (xe : x ≡ getD marks y 0) (new : x ≡ v → ⊥) (low : 1 ≤ y) (high : y ≤ mostElements) (marks′ found′ : List ℕ)
       (me : marks′ ≡ set marks y v) (fe : found′ ≡ set found n y) where
     fits : n < length found
     fits = omega (arith, few v n marks found G, G .room)
@@ -71,7 +72,7 @@ module _ (v y n : ℕ) (marks found : List ℕ) (G : Frontier v marks found n) w
       top = λ z. under z (eqb z y) refl;
       marked = λ z. mark z (eqb z y) refl ∙ sym (ap (isIn z) longer ∙ isIn-append z (take n found) (y ∷ []));
       once = rw longer (repeats-snoc (take n found) y (G .once) out);
-      in-range = rw longer (All-append (λ y. (1 ≤ y) × (y ≤ 2000)) (take n found) (y ∷ []) (G .in-range) ((low, high), tt));
+      in-range = rw longer (All-append (λ y. (1 ≤ y) × (y ≤ mostElements)) (take n found) (y ∷ []) (G .in-range) ((low, high), tt));
       count = rw longer (length-append (take n found) (y ∷ []) ∙ ap (λ k. k + 1) (G .count));
     }
       where
@@ -93,7 +94,7 @@ module _ (v y n : ℕ) (marks found : List ℕ) (G : Frontier v marks found n) w
     unfolding with isIn
     visit-adds = record { each = λ z. or-nothing (isIn z (take (n + 1) found′)) ∙ ap (isIn z) longer ∙ isIn-append z (take n found) (y ∷ []) }
 
-    pub visit-few : n + 1 ≤ 2000
+    pub visit-few : n + 1 ≤ mostElements
     visit-few = few v (n + 1) marks′ found′ visit-new
 
 -- ---- one more of a list of which only some are wanted
@@ -180,17 +181,17 @@ module _ (cell prev : List ℕ) (n k i : ℕ) where
   pub trail-next : (x y : ℕ) → k < n → 1 ≤ i → x ≡ getD cell i 0 → y ≡ getD prev i 0 → trail cell prev (n - k) i ≡ (x ∷ []) ++ trail cell prev (n - (k + 1)) y
   trail-next x y h z e f = rw (e, f) (trail-opened h z)
 
-  module _ (A : All (λ y. (1 ≤ y) × (y ≤ 2000)) (trail cell prev (n - k) i)) (h : k < n) (z : 1 ≤ i) where
-    all-opened : All (λ y. (1 ≤ y) × (y ≤ 2000)) (getD cell i 0 ∷ trail cell prev (n - (k + 1)) (getD prev i 0))
+  module _ (A : All (λ y. (1 ≤ y) × (y ≤ mostElements)) (trail cell prev (n - k) i)) (h : k < n) (z : 1 ≤ i) where
+    all-opened : All (λ y. (1 ≤ y) × (y ≤ mostElements)) (getD cell i 0 ∷ trail cell prev (n - (k + 1)) (getD prev i 0))
     all-opened = rw (trail-opened h z) at A
 
     pub trail-low : (x : ℕ) → x ≡ getD cell i 0 → 1 ≤ x
     trail-low x e = omega (arith, all-opened .0 .0)
 
-    pub trail-high : (x : ℕ) → x ≡ getD cell i 0 → x ≤ 2000
+    pub trail-high : (x : ℕ) → x ≡ getD cell i 0 → x ≤ mostElements
     trail-high x e = omega (arith, all-opened .0 .1)
 
-    pub trail-rest : (y : ℕ) → y ≡ getD prev i 0 → All (λ y. (1 ≤ y) × (y ≤ 2000)) (trail cell prev (n - (k + 1)) y)
+    pub trail-rest : (y : ℕ) → y ≡ getD prev i 0 → All (λ y. (1 ≤ y) × (y ≤ mostElements)) (trail cell prev (n - (k + 1)) y)
     trail-rest y e = rw e (all-opened .1)
 
 -- ---- the loops over a list of elements
@@ -219,12 +220,12 @@ pub down-is : (m : Bytes) (r lo hi h x j : ℕ) (from : List ℕ) → r ≡ reco
 unfolding down chain records
 down-is m r lo hi h x j from re xe he = rw (he, xe, re)
 
-pub up-is : (cell prev last from : List ℕ) (x u j : ℕ) → x ≡ getD from j 0 → u ≡ getD last x 0 → trail cell prev 12001 u ≡ up cell prev last from j
+pub up-is : (cell prev last from : List ℕ) (x u j : ℕ) → x ≡ getD from j 0 → u ≡ getD last x 0 → trail cell prev recordPlaces u ≡ up cell prev last from j
 unfolding up
 up-is cell prev last from x u j xe ue = rw (ue, xe)
 
 pub up-fits : (cell prev last from : List ℕ) (n x u j : ℕ) → Upward cell prev last from n → j < n → x ≡ getD from j 0 → u ≡ getD last x 0
-    → All (λ y. (1 ≤ y) × (y ≤ 2000)) (trail cell prev 12001 u)
+    → All (λ y. (1 ≤ y) × (y ≤ mostElements)) (trail cell prev recordPlaces u)
 up-fits cell prev last from n x u j U h xe ue = rw (up-is cell prev last from x u j xe ue) (U .each j h)
 
 -- ---- the loop over a list that is gathered itself
@@ -244,13 +245,13 @@ module _ (from : List ℕ) (j n : ℕ) (len : length (take n from) ≡ n) (h : j
       longer : take (j + 1) from ≡ take j from ++ (y ∷ [])
       longer = rw (add-one j, e) (take-suc from j 0 (omega (arith, len, length-take n from)))
 
-  list-fits : (y : ℕ) → All (λ y. (1 ≤ y) × (y ≤ 2000)) (take n from) → y ≡ getD from j 0 → (1 ≤ y) × (y ≤ 2000)
-  list-fits y A e = rw (e, ← getD-take n from j 0 h) (All-getD (λ y. (1 ≤ y) × (y ≤ 2000)) (take n from) j 0 A (omega arith))
+  list-fits : (y : ℕ) → All (λ y. (1 ≤ y) × (y ≤ mostElements)) (take n from) → y ≡ getD from j 0 → (1 ≤ y) × (y ≤ mostElements)
+  list-fits y A e = rw (e, ← getD-take n from j 0 h) (All-getD (λ y. (1 ≤ y) × (y ≤ mostElements)) (take n from) j 0 A (omega arith))
 
-  pub list-low : (y : ℕ) → All (λ y. (1 ≤ y) × (y ≤ 2000)) (take n from) → y ≡ getD from j 0 → 1 ≤ y
+  pub list-low : (y : ℕ) → All (λ y. (1 ≤ y) × (y ≤ mostElements)) (take n from) → y ≡ getD from j 0 → 1 ≤ y
   list-low y A e = list-fits y A e .0
 
-  pub list-high : (y : ℕ) → All (λ y. (1 ≤ y) × (y ≤ 2000)) (take n from) → y ≡ getD from j 0 → y ≤ 2000
+  pub list-high : (y : ℕ) → All (λ y. (1 ≤ y) × (y ≤ mostElements)) (take n from) → y ≡ getD from j 0 → y ≤ mostElements
   list-high y A e = list-fits y A e .1
 
 pub list-end : (from found₀ found : List ℕ) (n j s : ℕ) → j ≤ n → n ≤ j → Toward found s [] (with found₀ 0 (take j from)) → Toward found s [] (with found₀ 0 (take n from))

@@ -7,6 +7,7 @@ use lib.Dec.{eqb, ltb, leb}
 use lib.ListN.{length, getD, take}
 use Rattle.vocabulary.specs.Bytes.{Bytes}
 use Rattle.vocabulary.specs.Lists.{isIn, repeats, All}
+use Rattle.layout.specs.Limits.{elementPlaces, mostElements, recordPlaces}
 use Rattle.mesh.specs.Mesh.{chain}
 use Rattle.walk_incidence.specs.Links.{trail}
 
@@ -17,12 +18,12 @@ between lo hi (g ∷ gs) = cond (ltb lo g && leb g hi) (g ∷ between lo hi gs) 
 
 -- the first n numbers of `found` are the elements that bear the mark v, each once
 pub record Frontier (v : ℕ) (marks found : List ℕ) (n : ℕ) : Type 0 where
-  pub size : length marks ≡ 2001
-  pub room : length found ≡ 2001
+  pub size : length marks ≡ elementPlaces
+  pub room : length found ≡ elementPlaces
   pub top : (y : ℕ) → getD marks y 0 ≤ v
   pub marked : (y : ℕ) → eqb (getD marks y 0) v ≡ isIn y (take n found)
   pub once : repeats (take n found) ≡ false
-  pub in-range : All (λ y. (1 ≤ y) × (y ≤ 2000)) (take n found)
+  pub in-range : All (λ y. (1 ≤ y) × (y ≤ mostElements)) (take n found)
   pub count : length (take n found) ≡ n
 
 -- the first n numbers of `found` with those of `rest` are the ones that pass
@@ -42,7 +43,7 @@ pub record Grown (before : List ℕ) (n : ℕ) (after : List ℕ) (s : ℕ) : Ty
 pub record Added (v : ℕ) (marks before : List ℕ) (n : ℕ) (found : List ℕ) (s : ℕ) (p : ℕ → Bool) : Type 0 where
   pub gathered : Frontier v marks found s
   pub all : Toward found s [] p
-  pub few : s ≤ 2000
+  pub few : s ≤ mostElements
   pub grown : Grown before n found s
 
 -- what a step down gathers from the j-th of the cells in `from`: the elements of its chain after lo and up to hi
@@ -51,8 +52,8 @@ down m lo hi from j = between lo hi (chain m (getD from j 0))
 
 -- what a step up gathers from the j-th of the elements in `from`: its cells
 unfoldable pub up : List ℕ → List ℕ → List ℕ → List ℕ → ℕ → List ℕ
-up cell prev last from j = trail cell prev 12001 (getD last (getD from j 0) 0)
+up cell prev last from j = trail cell prev recordPlaces (getD last (getD from j 0) 0)
 
 -- what a step up gathers are elements
 pub record Upward (cell prev last from : List ℕ) (n : ℕ) : Type 0 where
-  pub each : (j : ℕ) → j < n → All (λ y. (1 ≤ y) × (y ≤ 2000)) (up cell prev last from j)
+  pub each : (j : ℕ) → j < n → All (λ y. (1 ≤ y) × (y ≤ mostElements)) (up cell prev last from j)

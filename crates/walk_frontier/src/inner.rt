@@ -12,6 +12,7 @@ ghost use Rattle.walk_frontier.specs.Visits.{Frontier, Toward, with, bet
 ghost use Rattle.walk_incidence.specs.Links.{trail};
 ghost use Rattle.vocabulary.specs.Lists.{All};
 ghost use Rattle.vocabulary.specs.Intervals.{blocks};
+ghost use Rattle.layout.specs.Limits.{mostElements, mostRecords, recordPlaces};
 ghost use Rattle.mesh.specs.Mesh.{elements, recordCount, elementIn, follow};
 
 // The number at i of a list, and 0 past the end.
@@ -22,17 +23,17 @@ pub fn index_at(list: &[u16], i: usize) -> usize
 }
 
 // Gathers y, unless it bears the mark.
-pub fn visit(mark: u16, y: usize, marks: &mut [u16], found: &mut [u16], n: usize) -> usize
-    requires { ⌜ Frontier mark (now marks) (now found) n × (n ≤ 2000) × (1 ≤ y) × (y ≤ 2000) ⌝ }
-    ensures { λ r. ⌜ Added mark (now (marks .exit)) (now (found .entry)) n (now (found .exit)) r
-        (with (now (found .entry)) n (y ∷ [])) ⌝ }
+pub fn visit(mark: u16, y: usize, marks: &mut [u16], found: &mut [u16], count: usize) -> usize
+    requires { ⌜ Frontier mark (now marks) (now found) count × (count ≤ mostElements) × (1 ≤ y) × (y ≤ mostElements) ⌝ }
+    ensures { λ r. ⌜ Added mark (now (marks .exit)) (now (found .entry)) count (now (found .exit)) r
+        (with (now (found .entry)) count (y ∷ [])) ⌝ }
 {
     if number_at(marks, y) == mark {
-        return n;
+        return count;
     }
     put_number_at(marks, y, mark);
-    put_number_at(found, n, y as u16);
-    n + 1
+    put_number_at(found, count, y as u16);
+    count + 1
 }
 
 // Gathers y, if it comes after lo and is at most hi.
@@ -43,25 +44,25 @@ fn visit_between(
     mark: u16,
     marks: &mut [u16],
     found: &mut [u16],
-    n: usize,
+    count: usize,
 ) -> usize
-    requires { ⌜ (hi ≤ 2000) × Frontier mark (now marks) (now found) n × (n ≤ 2000) ⌝ }
-    ensures { λ s. ⌜ Added mark (now (marks .exit)) (now (found .entry)) n (now (found .exit)) s
-        (with (now (found .entry)) n (between lo hi (y ∷ []))) ⌝ }
+    requires { ⌜ (hi ≤ mostElements) × Frontier mark (now marks) (now found) count × (count ≤ mostElements) ⌝ }
+    ensures { λ s. ⌜ Added mark (now (marks .exit)) (now (found .entry)) count (now (found .exit)) s
+        (with (now (found .entry)) count (between lo hi (y ∷ []))) ⌝ }
 {
     if y <= lo {
-        return n;
+        return count;
     }
     if hi < y {
-        return n;
+        return count;
     }
-    visit(mark, y, marks, found, n)
+    visit(mark, y, marks, found, count)
 }
 
 // Gathers the elements after lo and up to hi of the chain from record h on.
 pub fn visit_chain(
     m: &[u8],
-    e: usize,
+    n: usize,
     r: usize,
     h: usize,
     lo: usize,
@@ -69,19 +70,19 @@ pub fn visit_chain(
     mark: u16,
     marks: &mut [u16],
     found: &mut [u16],
-    n: usize,
+    count: usize,
 ) -> usize
-    requires { ⌜ (e ≡ elements (now m)) × (e ≤ 2000) × (r ≤ 12000) × (h < 65536) × (hi ≤ 2000) × Frontier mark (now marks) (now found) n × (n ≤ 2000) ⌝ }
-    ensures { λ s. ⌜ Added mark (now (marks .exit)) (now (found .entry)) n (now (found .exit)) s
-        (with (now (found .entry)) n (between lo hi (map (elementIn (now (m .entry))) (follow (now (m .entry)) (r + 1) h)))) ⌝ }
+    requires { ⌜ (n ≡ elements (now m)) × (n ≤ mostElements) × (r ≤ mostRecords) × (h < 65536) × (hi ≤ mostElements) × Frontier mark (now marks) (now found) count × (count ≤ mostElements) ⌝ }
+    ensures { λ s. ⌜ Added mark (now (marks .exit)) (now (found .entry)) count (now (found .exit)) s
+        (with (now (found .entry)) count (between lo hi (map (elementIn (now (m .entry))) (follow (now (m .entry)) (r + 1) h)))) ⌝ }
 {
     let mut i = h;
-    let mut s = n;
+    let mut s = count;
     for _k in 0..r + 1 {
         if i < 1 {
             return s;
         }
-        let here = read_record(m, e, i);
+        let here = read_record(m, n, i);
         s = visit_between(here.element, lo, hi, mark, marks, found, s);
         i = here.next;
     }
@@ -96,14 +97,14 @@ pub fn visit_trail(
     mark: u16,
     marks: &mut [u16],
     found: &mut [u16],
-    n: usize,
+    count: usize,
 ) -> usize
-    requires { ⌜ All (λ y. (1 ≤ y) × (y ≤ 2000)) (trail (now cell) (now prev) 12001 t) × Frontier mark (now marks) (now found) n × (n ≤ 2000) ⌝ }
-    ensures { λ s. ⌜ Added mark (now (marks .exit)) (now (found .entry)) n (now (found .exit)) s
-        (with (now (found .entry)) n (trail (now (cell .entry)) (now (prev .entry)) 12001 t)) ⌝ }
+    requires { ⌜ All (λ y. (1 ≤ y) × (y ≤ mostElements)) (trail (now cell) (now prev) recordPlaces t) × Frontier mark (now marks) (now found) count × (count ≤ mostElements) ⌝ }
+    ensures { λ s. ⌜ Added mark (now (marks .exit)) (now (found .entry)) count (now (found .exit)) s
+        (with (now (found .entry)) count (trail (now (cell .entry)) (now (prev .entry)) recordPlaces t)) ⌝ }
 {
     let mut i = t;
-    let mut s = n;
+    let mut s = count;
     for _k in 0..RECORD_PLACES {
         if i < 1 {
             return s;
@@ -114,13 +115,13 @@ pub fn visit_trail(
     s
 }
 
-// From the first n cells of `from` to the elements after lo and up to hi in their chains, after those gathered before.
+// From the first `count` cells of `from` to the elements after lo and up to hi in their chains, after those gathered before.
 pub fn step_down(
     m: &[u8],
-    e: usize,
+    n: usize,
     r: usize,
     from: &[u16],
-    n: usize,
+    count: usize,
     lo: usize,
     hi: usize,
     mark: u16,
@@ -128,48 +129,49 @@ pub fn step_down(
     found: &mut [u16],
     base: usize,
 ) -> usize
-    requires { ⌜ (e ≡ elements (now m)) × (e ≤ 2000) × (r ≡ recordCount (now m)) × (r ≤ 12000) × (hi ≤ 2000) × Frontier mark (now marks) (now found) base × (base ≤ 2000) ⌝ }
+    requires { ⌜ (n ≡ elements (now m)) × (n ≤ mostElements) × (r ≡ recordCount (now m)) × (r ≤ mostRecords) × (hi ≤ mostElements) × Frontier mark (now marks) (now found) base
+        × (base ≤ mostElements) ⌝ }
     ensures { λ s. ⌜ Added mark (now (marks .exit)) (now (found .entry)) base (now (found .exit)) s
-        (with (now (found .entry)) base (blocks 0 n (down (now (m .entry)) lo hi (now (from .entry))))) ⌝ }
+        (with (now (found .entry)) base (blocks 0 count (down (now (m .entry)) lo hi (now (from .entry))))) ⌝ }
 {
     let mut s = base;
-    for j in 0..n {
+    for j in 0..count {
         let h = head_of(m, index_at(from, j));
-        s = visit_chain(m, e, r, h, lo, hi, mark, marks, found, s);
+        s = visit_chain(m, n, r, h, lo, hi, mark, marks, found, s);
     }
     s
 }
 
-// Gathers the first n numbers of `from`.
-pub fn visit_all(from: &[u16], n: usize, mark: u16, marks: &mut [u16], found: &mut [u16]) -> usize
-    requires { ⌜ (length (take n (now from)) ≡ n) × All (λ y. (1 ≤ y) × (y ≤ 2000)) (take n (now from)) × Frontier mark (now marks) (now found) 0 ⌝ }
-    ensures { λ s. ⌜ Frontier mark (now (marks .exit)) (now (found .exit)) s × Toward (now (found .exit)) s [] (with (now (found .entry)) 0 (take n (now (from .entry)))) × (s ≤ 2000) ⌝ }
+// Gathers the first `count` numbers of `from`.
+pub fn visit_all(from: &[u16], count: usize, mark: u16, marks: &mut [u16], found: &mut [u16]) -> usize
+    requires { ⌜ (length (take count (now from)) ≡ count) × All (λ y. (1 ≤ y) × (y ≤ mostElements)) (take count (now from)) × Frontier mark (now marks) (now found) 0 ⌝ }
+    ensures { λ s. ⌜ Frontier mark (now (marks .exit)) (now (found .exit)) s × Toward (now (found .exit)) s [] (with (now (found .entry)) 0 (take count (now (from .entry)))) × (s ≤ mostElements) ⌝ }
 {
     let mut s = 0;
-    for j in 0..n {
+    for j in 0..count {
         s = visit(mark, index_at(from, j), marks, found, s);
     }
     s
 }
 
-// From the first n elements of `from` to their cells, after those gathered before.
+// From the first `count` elements of `from` to their cells, after those gathered before.
 pub fn step_up(
     cell: &[u16],
     prev: &[u16],
     last: &[u16],
     from: &[u16],
-    n: usize,
+    count: usize,
     mark: u16,
     marks: &mut [u16],
     found: &mut [u16],
     base: usize,
 ) -> usize
-    requires { ⌜ Upward (now cell) (now prev) (now last) (now from) n × Frontier mark (now marks) (now found) base × (base ≤ 2000) ⌝ }
+    requires { ⌜ Upward (now cell) (now prev) (now last) (now from) count × Frontier mark (now marks) (now found) base × (base ≤ mostElements) ⌝ }
     ensures { λ s. ⌜ Added mark (now (marks .exit)) (now (found .entry)) base (now (found .exit)) s
-        (with (now (found .entry)) base (blocks 0 n (up (now (cell .entry)) (now (prev .entry)) (now (last .entry)) (now (from .entry))))) ⌝ }
+        (with (now (found .entry)) base (blocks 0 count (up (now (cell .entry)) (now (prev .entry)) (now (last .entry)) (now (from .entry))))) ⌝ }
 {
     let mut s = base;
-    for j in 0..n {
+    for j in 0..count {
         let t = index_at(last, index_at(from, j));
         s = visit_trail(cell, prev, t, mark, marks, found, s);
     }

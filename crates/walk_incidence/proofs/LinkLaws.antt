@@ -7,6 +7,7 @@ use lib.ListN.{length, getD, set, length-append, length-map}
 use Rattle.vocabulary.specs.Bytes.{Bytes}
 use Rattle.vocabulary.specs.Intervals.{blocks}
 use Rattle.vocabulary.specs.IntervalLaws.{blocks-turn, blocks-length, blocks-inner, total-cong, at-last}
+use Rattle.layout.specs.Limits.{mostRecords}
 use Rattle.mesh.specs.Mesh.{elements, recordCount, firstCell, cellCount, headOf, elementIn, nextOf, follow, records, chain, allRecords}
 use Rattle.mesh.specs.Accepted.{Accepted}
 use Rattle.mesh.proofs.FollowLaws.{chain-more}
@@ -79,7 +80,7 @@ module _ (m : Bytes) (r : ℕ) (re : r ≡ recordCount m) (first e h : ℕ) (he 
 
   -- there is room for the entries of the next cell
   pub cells-room : (cells s : ℕ) → Accepted m → first ≡ firstCell m → cells ≡ cellCount m → e < first + cells → s ≡ length (blocks first (e - first) (chain m))
-      → s + length (follow m (r + 1) h) ≤ 12000
+      → s + length (follow m (r + 1) h) ≤ mostRecords
   unfolding allRecords chain
   cells-room cells s A fe ce g i =
       let w = e - first + 1 in

@@ -12,6 +12,7 @@ use Rattle.vocabulary.specs.Bytes.{Bytes}
 use Rattle.vocabulary.specs.Intervals.{some, blocks}
 use Rattle.vocabulary.specs.Lists.{isIn, repeats, All}
 use Rattle.vocabulary.specs.ListLaws.{or-swap, or-nothing, or-false, not-both, zeros-at}
+use Rattle.layout.specs.Limits.{elementPlaces, mostElements, mostRecords, recordPlaces}
 use Rattle.mesh.specs.Mesh.{chain}
 use Rattle.walk_incidence.specs.Links.{Links, links, link, linkAll, linkCells, trail, pickedDown, cellsWith}
 use Rattle.walk_incidence.proofs.LinkLaws.{entries, linkAll-count}
@@ -51,14 +52,14 @@ trail-same cell prev cell′ prev′ t low same (suc n) (suc n′) s a b c =
 -- ---- what the links tell: W x, the cells in whose chains element x stands
 
 pub record Linked (t : ℕ) (cell prev last : List ℕ) (W : ℕ → List ℕ) : Type 0 where
-  pub cells-long : length cell ≡ 12001
-  pub prev-long : length prev ≡ 12001
-  pub last-long : length last ≡ 2001
+  pub cells-long : length cell ≡ recordPlaces
+  pub prev-long : length prev ≡ recordPlaces
+  pub last-long : length last ≡ elementPlaces
   pub falls : (s : ℕ) → 1 ≤ s → s ≤ t → getD prev s 0 < s
   pub within : (x : ℕ) → getD last x 0 ≤ t
-  pub told : (x : ℕ) → x ≤ 2000 → trail cell prev t (getD last x 0) ≡ W x
+  pub told : (x : ℕ) → x ≤ mostElements → trail cell prev t (getD last x 0) ≡ W x
 
-module _ (t : ℕ) (cell prev last : List ℕ) (W : ℕ → List ℕ) (K : Linked t cell prev last W) (room : t < 12000) (c g : ℕ) (small : g ≤ 2000) where
+module _ (t : ℕ) (cell prev last : List ℕ) (W : ℕ → List ℕ) (K : Linked t cell prev last W) (room : t < mostRecords) (c g : ℕ) (small : g ≤ mostElements) where
   abbrev cell′ : List ℕ
   cell′ = set cell (t + 1) c
 
@@ -119,7 +120,7 @@ module _ (t : ℕ) (cell prev last : List ℕ) (W : ℕ → List ℕ) (K : Linke
       bound x true e = omega (arith, ap (λ y. getD last′ y 0) (eqb-true x g e), last-here)
       bound x false e = omega (arith, last-there x (eqb-false x g e), K .within x)
 
-      tell : (x : ℕ) → x ≤ 2000 → (b : Bool) → eqb x g ≡ b → trail cell′ prev′ (t + 1) (getD last′ x 0) ≡ cond b (c ∷ W x) (W x)
+      tell : (x : ℕ) → x ≤ mostElements → (b : Bool) → eqb x g ≡ b → trail cell′ prev′ (t + 1) (getD last′ x 0) ≡ cond b (c ∷ W x) (W x)
       tell x h true e =
           let z : x ≡ g = eqb-true x g e in
           ap (λ s. trail cell′ prev′ (t + 1) s) (ap (λ w. getD last′ w 0) z ∙ last-here) ∙ new-trail ∙ ap (λ r. c ∷ r) (K .told g small ∙ ap W (sym z))
@@ -145,7 +146,7 @@ linked-as (links t cell prev last) U W f K = record {
 -- ---- a chain, and the chains of all cells
 
 -- a chain that names no element twice
-linked-all : (c : ℕ) (L : Links) (W : ℕ → List ℕ) (gs : List ℕ) → LinkedAs L W → entries L + length gs ≤ 12000 → All (λ g. g ≤ 2000) gs → repeats gs ≡ false
+linked-all : (c : ℕ) (L : Links) (W : ℕ → List ℕ) (gs : List ℕ) → LinkedAs L W → entries L + length gs ≤ mostRecords → All (λ g. g ≤ mostElements) gs → repeats gs ≡ false
     → LinkedAs (linkAll c L gs) (λ x. cond (isIn x gs) (c ∷ W x) (W x))
 unfolding linkAll link isIn repeats
 linked-all c (links t cell prev last) W [] K room a once = K
@@ -162,7 +163,7 @@ linked-all c (links t cell prev last) W (g ∷ gs) K room a once =
 
 -- no entries: whatever stands in the tables is not read
 abbrev pub empty : List ℕ → List ℕ → Links
-empty cell prev = links 0 cell prev (replicate 2001 0)
+empty cell prev = links 0 cell prev (replicate elementPlaces 0)
 
 module _ (cell prev : List ℕ) where
   pub count-cells : (m : Bytes) (first n : ℕ) → entries (linkCells m first n (empty cell prev)) ≡ length (blocks first n (chain m))
@@ -173,20 +174,20 @@ module _ (cell prev : List ℕ) where
       ∙ ap (λ x. x + length (chain m (first + n))) (count-cells m first n)
       ∙ sym (length-append (blocks first n (chain m)) (chain m (first + n)))
 
-  module _ (cl : length cell ≡ 12001) (pl : length prev ≡ 12001) where
+  module _ (cl : length cell ≡ recordPlaces) (pl : length prev ≡ recordPlaces) where
     linked-none : LinkedAs (empty cell prev) (λ x. [])
     unfolding trail
     linked-none = record {
       cells-long = cl;
       prev-long = pl;
-      last-long = length-replicate {A = ℕ} 2001 0;
+      last-long = length-replicate {A = ℕ} elementPlaces 0;
       falls = λ s l h. let z : ⊥ = omega arith in absurd z;
-      within = λ x. omega (arith, zeros-at 2001 x);
+      within = λ x. omega (arith, zeros-at elementPlaces x);
       told = λ x h. refl;
     }
 
-    pub linked-cells : (m : Bytes) (first n : ℕ) → length (blocks first n (chain m)) ≤ 12000
-        → ((j : ℕ) → j < n → All (λ g. g ≤ 2000) (chain m (first + j)) × (repeats (chain m (first + j)) ≡ false))
+    pub linked-cells : (m : Bytes) (first n : ℕ) → length (blocks first n (chain m)) ≤ mostRecords
+        → ((j : ℕ) → j < n → All (λ g. g ≤ mostElements) (chain m (first + j)) × (repeats (chain m (first + j)) ≡ false))
         → LinkedAs (linkCells m first n (empty cell prev)) (cellsWith m first n)
     unfolding linkCells cellsWith pickedDown
     linked-cells m first zero room a = linked-none

@@ -7,13 +7,14 @@ ghost use mathlib.Core.Path.{_≡_};
 ghost use mathlib.Core.List.{map};
 ghost use Prim.Native.Nat.{_+_, _<_, _≤_};
 ghost use lib.ListN.{length};
+ghost use Rattle.layout.specs.Limits.{mostElements, mostRecords};
 ghost use Rattle.mesh.specs.Mesh.{elements, recordCount, firstCell, cellCount, elementIn, follow};
 ghost use Rattle.mesh.specs.Accepted.{Accepted};
 ghost use Rattle.walk_incidence.specs.Links.{Links, link, linkAll, linkCells};
 
 // One entry more: element g in the chain of cell c.
 fn link(c: u16, g: usize, t: usize, cell: &mut [u16], prev: &mut [u16], last: &mut [u16]) -> usize
-    requires { ⌜ t < 12000 ⌝ }
+    requires { ⌜ t < mostRecords ⌝ }
     ensures { λ r. ⌜ (Links.links r (now (cell .exit)) (now (prev .exit)) (now (last .exit)) ≡ link c g (Links.links t (now (cell .entry)) (now (prev .entry)) (now (last .entry)))) × (r ≡ t + 1) ⌝ }
 {
     let s = t + 1;
@@ -35,7 +36,7 @@ fn link_chain(
     prev: &mut [u16],
     last: &mut [u16],
 ) -> usize
-    requires { ⌜ (n ≡ elements (now m)) × (n ≤ 2000) × (r ≤ 12000) × (h < 65536) × (t + length (follow (now m) (r + 1) h) ≤ 12000) ⌝ }
+    requires { ⌜ (n ≡ elements (now m)) × (n ≤ mostElements) × (r ≤ mostRecords) × (h < 65536) × (t + length (follow (now m) (r + 1) h) ≤ mostRecords) ⌝ }
     ensures { λ s. ⌜
         Links.links s (now (cell .exit)) (now (prev .exit)) (now (last .exit)) ≡ linkAll c (Links.links t (now (cell .entry)) (now (prev .entry)) (now
         (last .entry))) (map (elementIn (now (m .entry))) (follow (now (m .entry)) (r + 1) h))

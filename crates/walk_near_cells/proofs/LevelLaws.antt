@@ -13,6 +13,7 @@ use Rattle.vocabulary.specs.Intervals.{some}
 use Rattle.vocabulary.specs.IntervalLaws.{some-next, some-has, some-witness, at-last}
 use Rattle.vocabulary.specs.Lists.{isIn, repeats, All}
 use Rattle.vocabulary.specs.ListLaws.{and-true, not-both, same-test, or-nothing, or-always, once-few, All-append, isIn-append, repeats-snoc}
+use Rattle.layout.specs.Limits.{elementPlaces, mostElements}
 use Rattle.walk_frontier.specs.Visits.{Grown}
 use Rattle.walk_frontier.proofs.VisitLaws.{grown-none, grown-new, grown-both}
 use Rattle.walk_steps.specs.Walking.{noted}
@@ -23,7 +24,7 @@ module _ (k y n x : ℕ) (layers found : List ℕ) (L : LayerList layers found n
   pub reach-old : (x ≡ 0 → ⊥) → Spread k layers found n layers found n (eqb y)
   reach-old ne = record { notes = note-old k y x layers xe ne; listed = L; grown = grown-none found n }
 
-  module _ (low : 1 ≤ y) (high : y ≤ 2000) (z : x ≡ 0) (layers′ found′ : List ℕ) (le : layers′ ≡ set layers y (k + 1)) (fe : found′ ≡ set found n y) where
+  module _ (low : 1 ≤ y) (high : y ≤ mostElements) (z : x ≡ 0) (layers′ found′ : List ℕ) (le : layers′ ≡ set layers y (k + 1)) (fe : found′ ≡ set found n y) where
     longer : take (n + 1) found′ ≡ take n found ++ (y ∷ [])
     longer = rw (add-one n, fe) (take-suc-set found n y (omega (arith, L .few, L .room)))
 
@@ -33,8 +34,8 @@ module _ (k y n x : ℕ) (layers found : List ℕ) (L : LayerList layers found n
     once : repeats (take (n + 1) found′) ≡ false
     once = rw longer (repeats-snoc (take n found) y (L .once) out)
 
-    in-range : All (λ y. (1 ≤ y) × (y ≤ 2000)) (take (n + 1) found′)
-    in-range = rw longer (All-append (λ y. (1 ≤ y) × (y ≤ 2000)) (take n found) (y ∷ []) (L .in-range) ((low, high), tt))
+    in-range : All (λ y. (1 ≤ y) × (y ≤ mostElements)) (take (n + 1) found′)
+    in-range = rw longer (All-append (λ y. (1 ≤ y) × (y ≤ mostElements)) (take n found) (y ∷ []) (L .in-range) ((low, high), tt))
 
     count : length (take (n + 1) found′) ≡ n + 1
     count = rw longer (length-append (take n found) (y ∷ []) ∙ ap (λ k. k + 1) (L .count))
@@ -50,7 +51,7 @@ module _ (k y n x : ℕ) (layers found : List ℕ) (L : LayerList layers found n
         once = once;
         in-range = in-range;
         count = count;
-        few = omega (arith, once-few 2000 (take (n + 1) found′) in-range once, count);
+        few = omega (arith, once-few mostElements (take (n + 1) found′) in-range once, count);
       };
       grown = grown-new found found′ n y fe;
     }
@@ -140,7 +141,7 @@ row-stop k lo hi t y n s near l₀ l₁ f₀ f₁ F l h e z A =
 pub row-end : (k lo hi t n s : ℕ) (near l₀ l₁ f₀ f₁ : List ℕ) → t ≤ hi → hi ≤ t → Spread k l₀ f₀ n l₁ f₁ s (inRow near lo t) → Spread k l₀ f₀ n l₁ f₁ s (inRow near lo hi)
 row-end k lo hi t n s near l₀ l₁ f₀ f₁ a b S = at-last (λ i. Spread k l₀ f₀ n l₁ f₁ s (inRow near lo i)) t hi a b S
 
-pub row-high : (near : List ℕ) (lo hi t y : ℕ) → RowFits near lo hi → lo ≤ t → t < hi → y ≡ getD near t 0 → y ≤ 2000
+pub row-high : (near : List ℕ) (lo hi t y : ℕ) → RowFits near lo hi → lo ≤ t → t < hi → y ≡ getD near t 0 → y ≤ mostElements
 row-high near lo hi t y F l h e = omega (arith, F .each t l h)
 
 -- ---- the loop over the cells of a level
@@ -160,7 +161,7 @@ module _ (k w first old n s i x : ℕ) (near l₀ l₁ f₀ f₁ : List ℕ) (F 
   pub level-low : first ≤ x
   level-low = omega (arith, here, F .cells i a h)
 
-  pub level-high : (x - first) * w + w ≤ 2001
+  pub level-high : (x - first) * w + w ≤ elementPlaces
   level-high = rw here (F .room i a h)
 
   pub level-row : RowFits near ((x - first) * w) ((x - first) * w + w)

@@ -14,6 +14,7 @@ use Rattle.vocabulary.specs.Intervals.{picked, some}
 use Rattle.vocabulary.specs.IntervalLaws.{picked-some, some-in, some-witness}
 use Rattle.vocabulary.specs.Lists.{isIn, repeats, All, Zeros}
 use Rattle.vocabulary.specs.ListLaws.{and-true, and-intro, not-both, same-test, eqb-swap, isIn-at, at-isIn, at-all, All-intro}
+use Rattle.layout.specs.Limits.{elementPlaces, mostElements}
 use Rattle.mesh.specs.Mesh.{top, firstCell, cellCount}
 use Rattle.mesh.specs.Walks.{stepTo}
 use Rattle.mesh.specs.WalkLaws.{stencil-parts, stencil-even}
@@ -92,7 +93,7 @@ module _ (m st : Bytes) (near : List ℕ) (w : ℕ) (G : NearGround m st near w)
     unfolding fromCell
     row-told x z K n = row-at x K .told z n
 
-    row-room : (x : ℕ) → Cell m x → (x - first) * w + w ≤ 2001
+    row-room : (x : ℕ) → Cell m x → (x - first) * w + w ≤ elementPlaces
     row-room x K = omega (arith, G .room, mul-le-mul-right {m = x - first + 1} {n = cellCount m} w (omega (arith, K .low, K .high)))
 
     -- ---- one level
@@ -120,7 +121,7 @@ module _ (m st : Bytes) (near : List ℕ) (w : ℕ) (G : NearGround m st near w)
           row-fits : {a x lo hi : ℕ} → NearRow m a x near lo hi → RowFits near lo hi
           row-fits {a} {x} {lo} {hi} R = record { rising = R .rising; each = λ t l g. small t l g (eqb (getD near t 0) 0) refl; closed = R .closed }
             where
-              small : (t : ℕ) → lo ≤ t → t < hi → (b : Bool) → eqb (getD near t 0) 0 ≡ b → getD near t 0 ≤ 2000
+              small : (t : ℕ) → lo ≤ t → t < hi → (b : Bool) → eqb (getD near t 0) 0 ≡ b → getD near t 0 ≤ mostElements
               small t l g true q = omega (arith, eqb-true (getD near t 0) 0 q)
               small t l g false q = omega (arith, R .each t l g (eqb-false (getD near t 0) 0 q) .high, G .mesh .cells-in, G .mesh .sizes .n-high)
 
@@ -203,7 +204,7 @@ module _ (m st : Bytes) (near : List ℕ) (w : ℕ) (G : NearGround m st near w)
 
 -- ---- before the first level
 
-pub none-listed : (layers found : List ℕ) → Zeros 2001 layers → length found ≡ 2001 → LayerList layers found 0
+pub none-listed : (layers found : List ℕ) → Zeros elementPlaces layers → length found ≡ elementPlaces → LayerList layers found 0
 unfolding isIn repeats
 none-listed layers found K r = record {
   size = K .size;
@@ -215,7 +216,8 @@ none-listed layers found K r = record {
   few = omega arith;
 }
 
-pub level-none : (m st : Bytes) (c s : ℕ) (layers found layers′ found′ : List ℕ) → Zeros 2001 layers → Spread 0 layers found 0 layers′ found′ s (eqb c) → Level m st c (2 * 0) layers′ found′ 0 s
+pub level-none : (m st : Bytes) (c s : ℕ) (layers found layers′ found′ : List ℕ) → Zeros elementPlaces layers → Spread 0 layers found 0 layers′ found′ s (eqb c)
+    → Level m st c (2 * 0) layers′ found′ 0 s
 unfolding isIn
 level-none m st c s layers found layers′ found′ K S = record {
   listed = S .listed;
@@ -273,5 +275,5 @@ module _ (m st : Bytes) (near : List ℕ) (w : ℕ) (G : NearGround m st near w)
             go true q = eqb-true (getD layers z 0) 0 q
             go false q = absurd (out (at-all (λ y. (low ≤ y) × (y < high)) z (take met found) (U .each) (isIn-at z (take met found) (sym (L .listed .marked z) ∙ ap not q))))
 
-pub cell-small : (m : Bytes) (c : ℕ) → Accepted m → Cell m c → (1 ≤ c) × (c ≤ 2000)
+pub cell-small : (m : Bytes) (c : ℕ) → Accepted m → Cell m c → (1 ≤ c) × (c ≤ mostElements)
 cell-small m c A C = (omega (arith, C .low), omega (arith, C .high, A .cells-in, A .sizes .n-high))

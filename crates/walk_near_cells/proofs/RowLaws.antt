@@ -15,6 +15,7 @@ use Rattle.vocabulary.specs.Intervals.{some}
 use Rattle.vocabulary.specs.IntervalLaws.{some-in, some-has, some-witness}
 use Rattle.vocabulary.specs.Lists.{isIn, Zeros}
 use Rattle.vocabulary.specs.ListLaws.{At, and-true, and-intro, not-both, or-true, or-right, or-nothing, same-test, isIn-at, at-isIn, at-all, All-intro}
+use Rattle.layout.specs.Limits.{elementPlaces, mostElements}
 use Rattle.mesh.specs.Meet.{Under}
 use Rattle.mesh.specs.Mesh.{top, firstCell, cellCount}
 use Rattle.mesh.specs.Walks.{stepTo}
@@ -34,7 +35,7 @@ use Rattle.walk_near_cells.specs.NearCells.{nearTo, names, inRow, NearRo
 pub next-mark : (v n : ℕ) (marks found : List ℕ) → Frontier v marks found n → Under (v + 1) marks
 next-mark v n marks found G = record { size = G .size; each = λ y. omega (arith, G .top y) }
 
-pub begin-next : (v n c : ℕ) (marks found list after : List ℕ) → Frontier v marks found n → length list ≡ 2001 → after ≡ set list 0 c → Frontier (v + 1) marks after 0
+pub begin-next : (v n c : ℕ) (marks found list after : List ℕ) → Frontier v marks found n → length list ≡ elementPlaces → after ≡ set list 0 c → Frontier (v + 1) marks after 0
 begin-next v n c marks found list after G r e = begin (v + 1) marks after (next-mark v n marks found G) (ap length e ∙ length-set list 0 c ∙ r)
 
 module _ (m : Bytes) (a c n : ℕ) (from found₀ found : List ℕ) (one : take 1 from ≡ c ∷ []) (D : Toward found n [] (orAmong found₀ 0 (stepped m a from 1))) where
@@ -96,7 +97,7 @@ module _ (m : Bytes) (a c n : ℕ) (from found₀ found : List ℕ) (one : take 
         stands t h = at-isIn (getD from₂ t 0) (take s from₂) (record { place = t; place-lt = omega (arith, U .gathered .count); place-is = getD-take s from₂ t 0 h })
 
         positive : (t : ℕ) → t < s → 1 ≤ getD from₂ t 0
-        positive t h = at-all (λ y. (1 ≤ y) × (y ≤ 2000)) (getD from₂ t 0) (take s from₂) (U .gathered .in-range) (isIn-at _ (take s from₂) (stands t h)) .0
+        positive t h = at-all (λ y. (1 ≤ y) × (y ≤ mostElements)) (getD from₂ t 0) (take s from₂) (U .gathered .in-range) (isIn-at _ (take s from₂) (stands t h)) .0
 
         there : (z : ℕ) → (z ≡ c → ⊥) → some 1 (s - 1) (λ t. names (getD from₂ t 0) z) ≡ true → isIn z (nearTo m a c) ≡ true
         there z ne e =
@@ -168,7 +169,7 @@ module _ (m : Bytes) (a c lo hi lo′ hi′ : ℕ) (xs ys : List ℕ) (R : NearR
           ∙ R .closed (lo + (t - lo′)) (lo + (u - lo′)) (omega arith) (omega arith) (omega (arith, R .rising)) (sym (same (t - lo′) (omega arith)) ∙ ap (λ i. getD ys i 0) te ∙ e)
       zero t u l g h e false q = bare u (ltb-false u (lo′ + (hi - lo)) q) h
 
-pub rows-start : (m : Bytes) (a w : ℕ) (near : List ℕ) → Zeros 2001 near → Filled m a near w 0
+pub rows-start : (m : Bytes) (a w : ℕ) (near : List ℕ) → Zeros elementPlaces near → Filled m a near w 0
 rows-start m a w near K = record { rows = record { each = λ q h. let o : ⊥ = omega arith in absurd o }; bare = λ i h. K .each i }
 
 module _ (m : Bytes) (a q w s c : ℕ) (from near near′ : List ℕ) (F : Filled m a near w q) (R : NearRow m a c from 1 s) (ce : c ≡ firstCell m + q) (few : s - 1 ≤ w)
@@ -217,17 +218,17 @@ rows-end m a q n w near g h e F = let z : q ≡ cellCount m = omega arith in sub
 pub under-more : (v w : ℕ) (marks : List ℕ) → v ≤ w → Under v marks → Under w marks
 under-more v w marks h U = record { size = U .size; each = λ y. omega (arith, U .each y) }
 
-pub row-room : (q n k w : ℕ) → q < n → n ≡ k → k * w ≤ 2001 → q * w + w ≤ 2001
+pub row-room : (q n k w : ℕ) → q < n → n ≡ k → k * w ≤ elementPlaces → q * w + w ≤ elementPlaces
 row-room q n k w h e b = omega (arith, mul-le-mul-right {m = q + 1} {n = k} w (omega arith))
 
 module _ (m : Bytes) (A : Accepted m) (first cells q : ℕ) (fe : first ≡ firstCell m) (ce : cells ≡ cellCount m) (h : q < cells) where
   pub cell-at : Cell m (first + q)
   cell-at = record { low = omega arith; high = omega arith }
 
-  pub cell-high : first + q ≤ 2000
+  pub cell-high : first + q ≤ mostElements
   cell-high = omega (arith, A .cells-in, A .sizes .n-high)
 
-  pub place-high : q < 2000
+  pub place-high : q < mostElements
   place-high = omega (arith, A .cells-in, A .sizes .n-high)
 
 -- ---- the width
@@ -236,12 +237,12 @@ pub some-cells : (m : Bytes) (cells : ℕ) → Accepted m → cells ≡ cellCoun
 some-cells m cells A e = omega (arith, A .some-counted (top m) (omega arith))
 
 module _ (m : Bytes) (cells w : ℕ) (A : Accepted m) (e : cells ≡ cellCount m) where
-  pub rows-fit : w ≤ 2001 / cells → cellCount m * w ≤ 2001
-  rows-fit h = subst (λ k. k * w ≤ 2001) e (le-trans (mul-le-mul-left cells h) (mul-div-le 2001 cells))
+  pub rows-fit : w ≤ elementPlaces / cells → cellCount m * w ≤ elementPlaces
+  rows-fit h = subst (λ k. k * w ≤ elementPlaces) e (le-trans (mul-le-mul-left cells h) (mul-div-le elementPlaces cells))
 
-  pub some-width : ((x : ℕ) → x ≤ 12 → x ≤ 2001 / cells → x ≤ w) → w ≡ 0 → ⊥
+  pub some-width : ((x : ℕ) → x ≤ 12 → x ≤ elementPlaces / cells → x ≤ w) → w ≡ 0 → ⊥
   some-width most z =
-      let one : 1 ≤ 2001 / cells = le-div-iff-mul-le {k = cells} {x = 1} {y = 2001} (some-cells m cells A e) .1 (omega (arith, A .cells-in, A .sizes .n-high)) in
+      let one : 1 ≤ elementPlaces / cells = le-div-iff-mul-le {k = cells} {x = 1} {y = elementPlaces} (some-cells m cells A e) .1 (omega (arith, A .cells-in, A .sizes .n-high)) in
       let o : ⊥ = omega (arith, most 1 (omega arith) one) in o
 
 pub through : (m st : Bytes) (cell prev last : List ℕ) (a : ℕ) → Ground m st cell prev last → 2 ≤ length st → a ≡ byteAt st 1 → a < top m
@@ -249,7 +250,7 @@ through m st cell prev last a G h e = omega (arith, stencil-odd (top m) st (G .s
 
 -- ---- what is ready
 
-pub ready-steps : (m st : Bytes) (v : ℕ) (marks from found near : List ℕ) → Under v marks → v ≤ 4001 → length from ≡ 2001 → length found ≡ 2001 → Zeros 2001 near
+pub ready-steps : (m st : Bytes) (v : ℕ) (marks from found near : List ℕ) → Under v marks → v ≤ 4001 → length from ≡ elementPlaces → length found ≡ elementPlaces → Zeros elementPlaces near
     → WalksReady m st 0 4001 marks from found near
 ready-steps m st v marks from found near U h f g K = record {
   marks-low = under-more v 4001 marks h U;
@@ -261,7 +262,8 @@ ready-steps m st v marks from found near U h f g K = record {
 }
 
 pub ready-rows : (m st : Bytes) (cell prev last marks from found near : List ℕ) (single : Bool) (a w : ℕ) → Ground m st cell prev last → single ≡ throughOne st → not single ≡ false
-    → a ≡ byteAt st 1 → (w ≡ 0 → ⊥) → cellCount m * w ≤ 2001 → NearRows m a near w (cellCount m) → Under 4001 marks → length found ≡ 2001 → length near ≡ 2001 → Zeros 2001 from
+    → a ≡ byteAt st 1 → (w ≡ 0 → ⊥) → cellCount m * w ≤ elementPlaces → NearRows m a near w (cellCount m) → Under 4001 marks → length found ≡ elementPlaces → length near ≡ elementPlaces
+    → Zeros elementPlaces from
     → WalksReady m st w 4001 marks from found near
 ready-rows m st cell prev last marks from found near single a w G se t e some-w fit R U g l K = record {
   marks-low = U;

@@ -9,6 +9,7 @@ use lib.ListN.{length, getD, take}
 use Rattle.vocabulary.specs.Bytes.{Bytes, byteAt}
 use Rattle.vocabulary.specs.Intervals.{some}
 use Rattle.vocabulary.specs.Lists.{isIn, repeats, All, Zeros}
+use Rattle.layout.specs.Limits.{elementPlaces, mostElements}
 use Rattle.mesh.specs.Meet.{Under}
 use Rattle.mesh.specs.Mesh.{top, firstCell, cellCount}
 use Rattle.mesh.specs.Walks.{bad10, stepTo}
@@ -54,17 +55,17 @@ pub record NearGround (m st : Bytes) (near : List ℕ) (w : ℕ) : Type 0 where
   pub stencil : bad10 (top m) st ≡ false
   pub one : throughOne st ≡ true
   pub rows : NearRows m (byteAt st 1) near w (cellCount m)
-  pub room : cellCount m * w ≤ 2001
+  pub room : cellCount m * w ≤ elementPlaces
 
 -- the first n numbers of `found` are the cells that have a layer, each once
 pub record LayerList (layers found : List ℕ) (n : ℕ) : Type 0 where
-  pub size : length layers ≡ 2001
-  pub room : length found ≡ 2001
+  pub size : length layers ≡ elementPlaces
+  pub room : length found ≡ elementPlaces
   pub marked : (y : ℕ) → not (eqb (getD layers y 0) 0) ≡ isIn y (take n found)
   pub once : repeats (take n found) ≡ false
-  pub in-range : All (λ y. (1 ≤ y) × (y ≤ 2000)) (take n found)
+  pub in-range : All (λ y. (1 ≤ y) × (y ≤ mostElements)) (take n found)
   pub count : length (take n found) ≡ n
-  pub few : n ≤ 2000
+  pub few : n ≤ mostElements
 
 -- those that pass got the layer k unless they had one, and were listed after the first n, which makes s of them
 pub record Spread (k : ℕ) (layers found : List ℕ) (n : ℕ) (layers′ found′ : List ℕ) (s : ℕ) (p : ℕ → Bool) : Type 0 where
@@ -75,7 +76,7 @@ pub record Spread (k : ℕ) (layers found : List ℕ) (n : ℕ) (layers′ found
 -- what stands in a row can be listed
 pub record RowFits (near : List ℕ) (lo hi : ℕ) : Type 0 where
   pub rising : lo ≤ hi
-  pub each : (t : ℕ) → lo ≤ t → t < hi → getD near t 0 ≤ 2000
+  pub each : (t : ℕ) → lo ≤ t → t < hi → getD near t 0 ≤ mostElements
   pub closed : (t u : ℕ) → lo ≤ t → t ≤ u → u < hi → getD near t 0 ≡ 0 → getD near u 0 ≡ 0
 
 -- z stands in the row of cell x, or in the row of one of the numbers of `found` from place old on and before n
@@ -89,7 +90,7 @@ fromLevel near w first found old n z = some old (n - old) (λ i. fromCell near w
 pub record LevelFits (near : List ℕ) (w first : ℕ) (found : List ℕ) (old n : ℕ) : Type 0 where
   pub rising : old ≤ n
   pub cells : (i : ℕ) → old ≤ i → i < n → first ≤ getD found i 0
-  pub room : (i : ℕ) → old ≤ i → i < n → (getD found i 0 - first) * w + w ≤ 2001
+  pub room : (i : ℕ) → old ≤ i → i < n → (getD found i 0 - first) * w + w ≤ elementPlaces
   pub rows : (i : ℕ) → old ≤ i → i < n → RowFits near ((getD found i 0 - first) * w) ((getD found i 0 - first) * w + w)
 
 -- x was walked to from cell c by some even number of steps, and two more make at most k
@@ -108,14 +109,14 @@ pub record Level (m st : Bytes) (c k : ℕ) (layers found : List ℕ) (old met :
 
 -- the layers of the cells walked to by at most k steps
 pub record Layered (m st : Bytes) (cs : List ℕ) (k : ℕ) (layers : List ℕ) : Type 0 where
-  pub size : length layers ≡ 2001
+  pub size : length layers ≡ elementPlaces
   pub each : (z : ℕ) → getD layers z 0 ≡ layerMark m st cs k z
 
 -- ready for the walks from all cells: either the rows are listed, each w places wide, and `from` is free for the layers, or w is 0 and `near` is
 pub record WalksReady (m st : Bytes) (w v : ℕ) (marks from found near : List ℕ) : Type 0 where
   pub marks-low : Under v marks
-  pub from-room : length from ≡ 2001
-  pub found-room : length found ≡ 2001
-  pub near-room : length near ≡ 2001
-  pub rows : (w ≡ 0 → ⊥) → NearGround m st near w × Zeros 2001 from
-  pub steps : w ≡ 0 → Zeros 2001 near
+  pub from-room : length from ≡ elementPlaces
+  pub found-room : length found ≡ elementPlaces
+  pub near-room : length near ≡ elementPlaces
+  pub rows : (w ≡ 0 → ⊥) → NearGround m st near w × Zeros elementPlaces from
+  pub steps : w ≡ 0 → Zeros elementPlaces near

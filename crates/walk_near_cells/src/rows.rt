@@ -14,6 +14,7 @@ ghost use mathlib.Core.Bool.{true};
 ghost use Prim.Native.Nat.{_+_, _*_, _<_, _≤_};
 ghost use lib.ListN.{length};
 ghost use Rattle.vocabulary.specs.Lists.{Zeros};
+ghost use Rattle.layout.specs.Limits.{elementPlaces, mostElements};
 ghost use Rattle.mesh.specs.Meet.{Under};
 ghost use Rattle.mesh.specs.Mesh.{top, cellCount};
 ghost use Rattle.mesh.specs.Accepted.{Cell};
@@ -39,9 +40,9 @@ fn near_to(
     found: &mut [u16],
 ) -> usize
     requires { ⌜ Ground (now m) (now stencil) (now cell) (now prev) (now last) × Sized (now m) sizes × (a < top (now m)) × Cell (now m) c × (mark ≤ 60000) × Under mark (now marks)
-        × (length (now from) ≡ 2001) × (length (now found) ≡ 2001) ⌝ }
-    ensures { λ s. ⌜ NearRow (now (m .entry)) a c (now (from .exit)) 1 s × (s ≤ 2000) × Under (mark + 2) (now (marks .exit)) × (length (now (from .exit)) ≡ 2001)
-        × (length (now (found .exit)) ≡ 2001) ⌝ }
+        × (length (now from) ≡ elementPlaces) × (length (now found) ≡ elementPlaces) ⌝ }
+    ensures { λ s. ⌜ NearRow (now (m .entry)) a c (now (from .exit)) 1 s × (s ≤ mostElements) × Under (mark + 2) (now (marks .exit)) × (length (now (from .exit)) ≡ elementPlaces)
+        × (length (now (found .exit)) ≡ elementPlaces) ⌝ }
 {
     put_number_at(from, 0, c as u16);
     let n = walk_down(m, sizes, a, from, 1, mark as u16, marks, found, 0);
@@ -76,10 +77,10 @@ fn list_rows(
     found: &mut [u16],
     near: &mut [u16],
 ) -> bool
-    requires { ⌜ Ground (now m) (now stencil) (now cell) (now prev) (now last) × Sized (now m) sizes × (a < top (now m)) × (cellCount (now m) * w ≤ 2001) × Under 1 (now marks)
-        × (length (now from) ≡ 2001) × (length (now found) ≡ 2001) × Zeros 2001 (now near) ⌝ }
+    requires { ⌜ Ground (now m) (now stencil) (now cell) (now prev) (now last) × Sized (now m) sizes × (a < top (now m)) × (cellCount (now m) * w ≤ elementPlaces) × Under 1 (now marks)
+        × (length (now from) ≡ elementPlaces) × (length (now found) ≡ elementPlaces) × Zeros elementPlaces (now near) ⌝ }
     ensures { λ b. ⌜ (b ≡ true → NearRows (now (m .entry)) a (now (near .exit)) w (cellCount (now (m .entry)))) × Under 4001 (now (marks .exit))
-        × (length (now (from .exit)) ≡ 2001) × (length (now (found .exit)) ≡ 2001) × (length (now (near .exit)) ≡ 2001) ⌝ }
+        × (length (now (from .exit)) ≡ elementPlaces) × (length (now (found .exit)) ≡ elementPlaces) × (length (now (near .exit)) ≡ elementPlaces) ⌝ }
 {
     for q in 0..sizes.cells {
         let s = near_to(
@@ -121,7 +122,7 @@ pub fn near_rows(
     near: &mut [u16],
 ) -> usize
     requires { ⌜ Ground (now m) (now stencil) (now cell) (now prev) (now last) × Sized (now m) sizes × (single ≡ throughOne (now stencil)) × Under 1 (now marks)
-        × (length (now from) ≡ 2001) × (length (now found) ≡ 2001) × Zeros 2001 (now near) ⌝ }
+        × (length (now from) ≡ elementPlaces) × (length (now found) ≡ elementPlaces) × Zeros elementPlaces (now near) ⌝ }
     ensures { λ w. ⌜ WalksReady (now (m .entry)) (now (stencil .entry)) w 4001 (now (marks .exit)) (now (from .exit)) (now (found .exit)) (now (near .exit)) ⌝ }
 {
     if !single {

@@ -15,6 +15,7 @@ use Rattle.vocabulary.specs.Intervals.{picked, total}
 use Rattle.vocabulary.specs.IntervalLaws.{some-cong, picked-all, picked-yes, picked-no, picked-some, some-swap, at-last, total-start, total-turn, total-cong}
 use Rattle.vocabulary.specs.Lists.{isIn, someOf, All, Zeros}
 use Rattle.vocabulary.specs.ListLaws.{same-test, All-intro, someOf-has, someOf-witness, someOf-cong, isIn-some}
+use Rattle.layout.specs.Limits.{elementPlaces, mostElements, mostSteps}
 use Rattle.mesh.specs.Mesh.{firstCell, cellCount}
 use Rattle.mesh.specs.Walks.{stepTo, stepsTo, walked}
 use Rattle.mesh.specs.Accepted.{Accepted, Cell}
@@ -28,7 +29,7 @@ use Rattle.walk_steps.proofs.GroundLaws.{steps-is}
 -- ---- the cells of a row
 
 module _ (first : ℕ) (rows : Bytes) (i : ℕ) where
-  pub rowed-start : (list : List ℕ) → length list ≡ 2001 → Rowed first rows i 0 0 list
+  pub rowed-start : (list : List ℕ) → length list ≡ elementPlaces → Rowed first rows i 0 0 list
   unfolding rowCells picked
   rowed-start list r = record { room = r; few = omega arith; cells = refl }
 
@@ -44,7 +45,7 @@ module _ (first : ℕ) (rows : Bytes) (i : ℕ) where
       cells = R .cells ∙ sym (picked-no first (λ x. eqb (byteAt rows (x - first)) i) q (ne-eqb _ i (λ w. n (sym here ∙ w))));
     }
 
-    pub rowed-put : (after : List ℕ) → x ≡ i → first + q ≤ 2000 → after ≡ set list k (first + q) → Rowed first rows i (q + 1) (k + 1) after
+    pub rowed-put : (after : List ℕ) → x ≡ i → first + q ≤ mostElements → after ≡ set list k (first + q) → Rowed first rows i (q + 1) (k + 1) after
     unfolding rowCells
     rowed-put after y h f = record {
       room = ap length f ∙ length-set list k (first + q) ∙ R .room;
@@ -100,10 +101,10 @@ module _ (m : Bytes) (sizes : MeshSizes) (A : Accepted m) (S : Sized m sizes) wh
   pub first-small : sizes .first < 65536
   first-small = omega (arith, S .first-is, A .cells-in, A .sizes .n-high)
 
-  pub cells-small : sizes .cells ≤ 2000
+  pub cells-small : sizes .cells ≤ mostElements
   cells-small = omega (arith, S .cells-is, A .cells-in, A .sizes .n-high)
 
-  pub last-small : sizes .first + sizes .cells ≤ 2001
+  pub last-small : sizes .first + sizes .cells ≤ elementPlaces
   last-small = omega (arith, S .first-is, S .cells-is, A .cells-in, A .sizes .n-high)
 
   pub row-starts : (rows : Bytes) (i s : ℕ) (from : List ℕ) → Rowed (sizes .first) rows i (sizes .cells) s from → AllCells m from s
@@ -123,7 +124,7 @@ space-after m st single cs n v k met marks from found layers W = record {
   layers-long = W .size;
 }
 
-pub space-start : (marks₀ marks from found layers : List ℕ) → Arrays marks₀ from found layers → Zeros 2001 marks → Space 1 marks from found layers
+pub space-start : (marks₀ marks from found layers : List ℕ) → Arrays marks₀ from found layers → Zeros elementPlaces marks → Space 1 marks from found layers
 space-start marks₀ marks from found layers R Z = record {
   fresh = record { size = Z .size; each = λ i. omega (arith, Z .each i) };
   from-long = R .from-room;
@@ -181,8 +182,8 @@ module _ (m st : Bytes) (cell prev last : List ℕ) (sizes : MeshSizes) (n : ℕ
           ∙ reach-some m st (take s from) cell prev last n (firstCell m + q) G (row-starts m sizes (G .mesh) S rows i s from R .each) (record { low = omega arith; high = omega arith }) ne
           ∙ ap (λ cs. someOf cs (λ c. walkedTo m st c (firstCell m + q))) row)
 
-pub counted-turn : (m st rows : Bytes) (n i v : ℕ) (marks from found layers marks′ from′ found′ layers′ : List ℕ) (s k : ℕ) → n ≤ 8 → ReachCounted m st rows i v marks from found layers s
-    → k ≡ rowReachCount m st rows (i + 1) → k ≤ 2000 → Space (v + (n + 1)) marks′ from′ found′ layers′ → ReachCounted m st rows (i + 1) (v + (n + 1)) marks′ from′ found′ layers′ (s + k)
+pub counted-turn : (m st rows : Bytes) (n i v : ℕ) (marks from found layers marks′ from′ found′ layers′ : List ℕ) (s k : ℕ) → n ≤ mostSteps → ReachCounted m st rows i v marks from found layers s
+    → k ≡ rowReachCount m st rows (i + 1) → k ≤ mostElements → Space (v + (n + 1)) marks′ from′ found′ layers′ → ReachCounted m st rows (i + 1) (v + (n + 1)) marks′ from′ found′ layers′ (s + k)
 counted-turn m st rows n i v marks from found layers marks′ from′ found′ layers′ s k few C ke kl sp = record {
   turns = omega (arith, C .turns);
   space = sp;

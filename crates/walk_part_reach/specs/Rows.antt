@@ -9,6 +9,7 @@ use Rattle.mesh.specs.Meet.{Under}
 use Rattle.vocabulary.specs.Bytes.{Bytes, byteAt}
 use Rattle.vocabulary.specs.Intervals.{picked, total}
 use Rattle.vocabulary.specs.Lists.{someOf}
+use Rattle.layout.specs.Limits.{elementPlaces, mostElements}
 use Rattle.mesh.specs.Mesh.{firstCell, cellCount}
 use Rattle.mesh.specs.Walks.{stepsTo}
 
@@ -22,16 +23,16 @@ rowCells first rows i n = picked first n (λ x. eqb (byteAt rows (x - first)) i)
 
 -- they stand at the front of a list, k of them
 pub record Rowed (first : ℕ) (rows : Bytes) (i n k : ℕ) (list : List ℕ) : Type 0 where
-  pub room : length list ≡ 2001
+  pub room : length list ≡ elementPlaces
   pub few : k ≤ n
   pub cells : take k list ≡ rowCells first rows i n
 
 -- the work space of a walk
 pub record Space (v : ℕ) (marks from found layers : List ℕ) : Type 0 where
   pub fresh : Under v marks
-  pub from-long : length from ≡ 2001
-  pub found-long : length found ≡ 2001
-  pub layers-long : length layers ≡ 2001
+  pub from-long : length from ≡ elementPlaces
+  pub found-long : length found ≡ elementPlaces
+  pub layers-long : length layers ≡ elementPlaces
 
 -- one where place q has a layer; how many of the first n places have one
 unfoldable pub layerOne : List ℕ → ℕ → ℕ → ℕ
@@ -49,4 +50,4 @@ pub record ReachCounted (m st rows : Bytes) (n v : ℕ) (marks from found layers
   pub turns : v ≤ 1 + 9 * n
   pub space : Space v marks from found layers
   pub told : s ≡ total 1 n (rowReachCount m st rows)
-  pub few : s ≤ 2000 * n
+  pub few : s ≤ mostElements * n

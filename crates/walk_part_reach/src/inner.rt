@@ -10,12 +10,13 @@ ghost use mathlib.Core.Path.{_≡_};
 ghost use Prim.Native.Nat.{_+_, _<_, _≤_};
 ghost use lib.ListN.{length};
 ghost use Rattle.vocabulary.specs.Intervals.{total};
+ghost use Rattle.layout.specs.Limits.{elementPlaces, mostElements, mostParts, mostSteps};
 ghost use Rattle.walk_steps.specs.Walking.{Ground, Sized, Arrays, throughOne};
 ghost use Rattle.walk_part_reach.specs.Rows.{Rowed, Space, layerOne, layerCount, rowReachCount};
 
 // Adds the cell at place q to the k cells in a list, if it is of row i.
 fn add_cell(rows: &[u8], i: usize, first: usize, q: usize, list: &mut [u16], k: usize) -> usize
-    requires { ⌜ (first + q ≤ 2000) × Rowed first (now rows) i q k (now list) ⌝ }
+    requires { ⌜ (first + q ≤ mostElements) × Rowed first (now rows) i q k (now list) ⌝ }
     ensures { λ n. ⌜ Rowed first (now (rows .entry)) i (q + 1) n (now (list .exit)) ⌝ }
 {
     if byte_at(rows, q) as usize != i {
@@ -27,7 +28,7 @@ fn add_cell(rows: &[u8], i: usize, first: usize, q: usize, list: &mut [u16], k: 
 
 // Puts the cells of row i into a list: how many they are.
 fn row_cells(rows: &[u8], i: usize, first: usize, cells: usize, list: &mut [u16]) -> usize
-    requires { ⌜ (first + cells ≤ 2001) × (length (now list) ≡ 2001) ⌝ }
+    requires { ⌜ (first + cells ≤ elementPlaces) × (length (now list) ≡ elementPlaces) ⌝ }
     ensures { λ n. ⌜ Rowed first (now (rows .entry)) i cells n (now (list .exit)) ⌝ }
 {
     let mut n = 0;
@@ -66,7 +67,7 @@ fn count_reach(
     m: &[u8],
     sizes: MeshSizes,
     stencil: &[u8],
-    n: usize,
+    steps: usize,
     single: bool,
     cell: &[u16],
     prev: &[u16],
@@ -79,10 +80,10 @@ fn count_reach(
     found: &mut [u16],
     layers: &mut [u16],
 ) -> usize
-    requires { ⌜ Ground (now m) (now stencil) (now cell) (now prev) (now last) × Sized (now m) sizes × (n + 1 ≡ length (now stencil)) × (n ≤ 8) × (single ≡ throughOne (now stencil))
+    requires { ⌜ Ground (now m) (now stencil) (now cell) (now prev) (now last) × Sized (now m) sizes × (steps + 1 ≡ length (now stencil)) × (steps ≤ mostSteps) × (single ≡ throughOne (now stencil))
         × (mark ≤ 60000) × Space mark (now marks) (now from) (now found) (now layers) ⌝ }
-    ensures { λ k. ⌜ (k ≡ rowReachCount (now (m .entry)) (now (stencil .entry)) (now (rows .entry)) i) × (k ≤ 2000)
-        × Space (mark + (n + 1)) (now (marks .exit)) (now (from .exit)) (now (found .exit)) (now (layers .exit)) ⌝ }
+    ensures { λ k. ⌜ (k ≡ rowReachCount (now (m .entry)) (now (stencil .entry)) (now (rows .entry)) i) × (k ≤ mostElements)
+        × Space (mark + (steps + 1)) (now (marks .exit)) (now (from .exit)) (now (found .exit)) (now (layers .exit)) ⌝ }
 {
     let s = row_cells(rows, i, sizes.first, sizes.cells, from);
     clear(layers);
@@ -95,7 +96,7 @@ fn count_reach(
         prev,
         last,
         s,
-        n,
+        steps,
         mark,
         marks,
         from,
@@ -121,7 +122,7 @@ pub fn count_all(
     found: &mut [u16],
     layers: &mut [u16],
 ) -> usize
-    requires { ⌜ Ground (now m) (now stencil) (now cell) (now prev) (now last) × Sized (now m) sizes × (count ≤ 16) × Arrays (now marks) (now from) (now found) (now layers) ⌝ }
+    requires { ⌜ Ground (now m) (now stencil) (now cell) (now prev) (now last) × Sized (now m) sizes × (count ≤ mostParts) × Arrays (now marks) (now from) (now found) (now layers) ⌝ }
     ensures { λ s. ⌜ s ≡ total 1 count (rowReachCount (now (m .entry)) (now (stencil .entry)) (now (rows .entry))) ⌝ }
 {
     let n = stencil.len() - 1;

@@ -13,6 +13,7 @@ use Rattle.vocabulary.specs.CountLaws.{total-double}
 use Rattle.vocabulary.specs.ListLaws.{pairs-length, pairs-at}
 use Rattle.layout.specs.Words.{word, wordAt, bytesOf}
 use Rattle.layout.specs.WordLaws.{length-bytesOf, wordAt-first}
+use Rattle.layout.specs.Limits.{mostReached, tableBytes}
 use Rattle.mesh.specs.Mesh.{firstCell, cellCount}
 use Rattle.mesh.specs.Walks.{Near, reach}
 use Rattle.walk_reach_table.specs.Tables.{placedWords, reachEntries, tableWords, entryCount, Tabled}
@@ -75,11 +76,11 @@ module _ (m st before after : Bytes) (text : after ≡ over before 0 (bytesOf (t
         word-is j (2 * t + 1) (2 * (entryCount m st j + t) + 1) h (omega arith) (omega arith) ∙ w .1,
       )
 
-module _ (m st before after : Bytes) (ends : List ℕ) (r : ℕ) (table : Tabled m st before after ends r) (few : r ≤ 8000) (room : length before ≡ 32000) where
-  pub counted-few : entryCount m st (cellCount m) ≤ 8000
+module _ (m st before after : Bytes) (ends : List ℕ) (r : ℕ) (table : Tabled m st before after ends r) (few : r ≤ mostReached) (room : length before ≡ tableBytes) where
+  pub counted-few : entryCount m st (cellCount m) ≤ mostReached
   counted-few = omega (arith, capped-few (entryCount m st (cellCount m)) r (table .count) few)
 
-  pub table-length : length after ≡ 32000
+  pub table-length : length after ≡ tableBytes
   table-length =
       let ws : List ℕ = tableWords m st (cellCount m) in
       let e : after ≡ over before 0 (bytesOf ws) = table .text few in
@@ -88,7 +89,7 @@ module _ (m st before after : Bytes) (ends : List ℕ) (r : ℕ) (table : Tabled
   pub row-start : (j : ℕ) → j ≤ cellCount m → getD ends j 0 ≡ entryCount m st j
   row-start j h = table .ended few .each j h
 
-  pub row-fits : (j : ℕ) → j < cellCount m → getD ends j 0 + length (reach m st (firstCell m + j)) ≤ 8000
+  pub row-fits : (j : ℕ) → j < cellCount m → getD ends j 0 + length (reach m st (firstCell m + j)) ≤ mostReached
   row-fits j h = omega (arith, counted-few, row-start j (omega arith), count-fits m st (cellCount m) j h)
 
   -- how many entries a cell has

@@ -14,6 +14,7 @@ use Rattle.vocabulary.specs.Intervals.{picked, blocks, total}
 use Rattle.vocabulary.specs.IntervalLaws.{blocks-turn, total-grows, picked-cong, blocks-part}
 use Rattle.vocabulary.specs.Lists.{isIn, joined, Zeros}
 use Rattle.vocabulary.specs.ListLaws.{map-append}
+use Rattle.layout.specs.Limits.{elementPlaces, mostReached, tableBytes}
 use Rattle.mesh.specs.Meet.{Under}
 use Rattle.mesh.specs.Mesh.{firstCell, cellCount}
 use Rattle.mesh.specs.Walks.{Near, steps, stepsTo, layer, reach, stepTo, walked}
@@ -109,7 +110,7 @@ module _ (m st : Bytes) (cell prev last : List ℕ) (c n low high first : ℕ) (
   emitted-cell s t before after E = subst (Emitted before after s t) words-are E
 
 -- and its layers are cleared
-pub all-clear : (m : Bytes) (low high : ℕ) (layers after : List ℕ) → length layers ≡ 2001 → Within m layers low high → Cleared low high layers after → Zeros 2001 after
+pub all-clear : (m : Bytes) (low high : ℕ) (layers after : List ℕ) → length layers ≡ elementPlaces → Within m layers low high → Cleared low high layers after → Zeros elementPlaces after
 all-clear m low high layers after r I C = record { size = C .size ∙ r; each = λ z. go z (ltb z low) refl (ltb z high) refl }
   where
     go : (z : ℕ) (a : Bool) → ltb z low ≡ a → (b : Bool) → ltb z high ≡ b → getD after z 0 ≡ 0
@@ -119,7 +120,8 @@ all-clear m low high layers after r I C = record { size = C .size ∙ r; each = 
 
 -- ---- ready for the next cell
 
-pub ready-by-rows : (m st : Bytes) (w v n : ℕ) (marks from found near from′ found′ : List ℕ) → WalksReady m st w v marks from found near → (w ≡ 0 → ⊥) → Zeros 2001 from′ → length found′ ≡ 2001
+pub ready-by-rows : (m st : Bytes) (w v n : ℕ) (marks from found near from′ found′ : List ℕ) → WalksReady m st w v marks from found near → (w ≡ 0 → ⊥) → Zeros elementPlaces from′
+    → length found′ ≡ elementPlaces
     → WalksReady m st w (v + (n + 1)) marks from′ found′ near
 ready-by-rows m st w v n marks from found near from′ found′ R nz K r = record {
   marks-low = under-more v (v + (n + 1)) marks (omega arith) (R .marks-low);
@@ -130,7 +132,7 @@ ready-by-rows m st w v n marks from found near from′ found′ R nz K r = recor
   steps = λ z. absurd (nz z);
 }
 
-pub ready-by-steps : (m st : Bytes) (w v : ℕ) (marks from found near : List ℕ) → w ≡ 0 → Under v marks → length from ≡ 2001 → length found ≡ 2001 → Zeros 2001 near
+pub ready-by-steps : (m st : Bytes) (w v : ℕ) (marks from found near : List ℕ) → w ≡ 0 → Under v marks → length from ≡ elementPlaces → length found ≡ elementPlaces → Zeros elementPlaces near
     → WalksReady m st w v marks from found near
 ready-by-steps m st w v marks from found near z U f g K = record {
   marks-low = U;
@@ -160,7 +162,7 @@ table-count m st (suc n) = omega (arith, length-append (blocks (firstCell m) n (
 pub first-small : (m : Bytes) (first : ℕ) → Accepted m → first ≡ firstCell m → first < 65536
 first-small m first A e = omega (arith, A .cells-in, A .sizes .n-high)
 
-pub high-small : (m : Bytes) (layers : List ℕ) (low high : ℕ) → Accepted m → Within m layers low high → high ≤ 2001
+pub high-small : (m : Bytes) (layers : List ℕ) (low high : ℕ) → Accepted m → Within m layers low high → high ≤ elementPlaces
 high-small m layers low high A I = omega (arith, I .stops, A .cells-in, A .sizes .n-high)
 
 -- ---- the loop over the cells
@@ -172,8 +174,9 @@ pub table-start : (m st b : Bytes) (first : ℕ) → Emitted b b 0 0 (tableWords
 unfolding tableWords blocks
 table-start m st b first = let z : first - first ≡ 0 = omega arith in subst (λ k. Emitted b b 0 0 (blocks (firstCell m) k (reachEntries m st))) (sym z) (emit-none b 0 (omega arith))
 
-pub ends-start : (m st : Bytes) (first : ℕ) (ends after : List ℕ) → length ends ≡ 2001 → after ≡ set ends 0 0 → EndTable m st after (first - first)
-ends-start m st first ends after r f = record { each = λ j h. let z : j ≡ 0 = omega arith in subst (λ k. getD after k 0 ≡ entryCount m st k) (sym z) (ap (λ (l : List ℕ). getD l 0 0) f ∙ getD-set-same ends 0 0 0 (omega arith) ∙ none) }
+pub ends-start : (m st : Bytes) (first : ℕ) (ends after : List ℕ) → length ends ≡ elementPlaces → after ≡ set ends 0 0 → EndTable m st after (first - first)
+ends-start m st first ends after r f =
+    record { each = λ j h. let z : j ≡ 0 = omega arith in subst (λ k. getD after k 0 ≡ entryCount m st k) (sym z) (ap (λ (l : List ℕ). getD l 0 0) f ∙ getD-set-same ends 0 0 0 (omega arith) ∙ none) }
   where
     none : 0 ≡ entryCount m st 0
     none = unfold entryCount total in refl
@@ -184,16 +187,19 @@ module _ (m st : Bytes) (first x : ℕ) (fe : first ≡ firstCell m) (l : first 
   next =
       let q : x + 1 - first ≡ x - first + 1 = omega arith in
       let p : firstCell m + (x - first) ≡ x = omega arith in
-      ap (λ k. blocks (firstCell m) k (reachEntries m st)) q ∙ blocks-turn (firstCell m) (reachEntries m st) (x - first) ∙ ap (λ c. blocks (firstCell m) (x - first) (reachEntries m st) ++ reachEntries m st c) p
+      ap (λ k. blocks (firstCell m) k (reachEntries m st)) q ∙ blocks-turn (firstCell m) (reachEntries m st) (x - first)
+      ∙ ap (λ c. blocks (firstCell m) (x - first) (reachEntries m st) ++ reachEntries m st c) p
 
-  pub table-turn : (a b c : Bytes) (t s : ℕ) → length a ≡ 32000 → Emitted a b 0 t (tableWords m st (x - first)) → Emitted b c t s (reachEntries m st x) → Emitted a c 0 s (tableWords m st (x + 1 - first))
+  pub table-turn : (a b c : Bytes) (t s : ℕ) → length a ≡ tableBytes → Emitted a b 0 t (tableWords m st (x - first)) → Emitted b c t s (reachEntries m st x)
+      → Emitted a c 0 s (tableWords m st (x + 1 - first))
   table-turn a b c t s r E F = subst (Emitted a c 0 s) (sym next) (emit-both a b c 0 t s _ _ r E F)
 
   counted : (a b : Bytes) (s j : ℕ) → Emitted a b 0 s (tableWords m st j) → s ≡ capped (entryCount m st j)
   counted a b s j E = E .count ∙ ap capped (let q : 0 + length (tableWords m st j) / 2 ≡ entryCount m st j = omega (arith, table-count m st j) in q)
 
-  pub ends-turn : (a b c : Bytes) (t s : ℕ) (ends after : List ℕ) (cells : ℕ) → Accepted m → cells ≡ cellCount m → x < first + cells → length a ≡ 32000 → length ends ≡ 2001 → Emitted a b 0 t (tableWords m st (x - first)) → Emitted b c t s (reachEntries m st x)
-      → s ≤ 8000 → EndTable m st ends (x - first) → after ≡ set ends (x + 1 - first) s → EndTable m st after (x + 1 - first)
+  pub ends-turn : (a b c : Bytes) (t s : ℕ) (ends after : List ℕ) (cells : ℕ) → Accepted m → cells ≡ cellCount m → x < first + cells → length a ≡ tableBytes → length ends ≡ elementPlaces
+      → Emitted a b 0 t (tableWords m st (x - first)) → Emitted b c t s (reachEntries m st x)
+      → s ≤ mostReached → EndTable m st ends (x - first) → after ≡ set ends (x + 1 - first) s → EndTable m st after (x + 1 - first)
   ends-turn a b c t s ends after cells A ce xh r re E F h N f = record { each = λ j k. ap (λ (q : List ℕ). getD q j 0) f ∙ go j k (eqb j (x + 1 - first)) refl }
     where
       sum : s ≡ entryCount m st (x + 1 - first)
@@ -208,8 +214,9 @@ module _ (m st : Bytes) (first x : ℕ) (fe : first ≡ firstCell m) (l : first 
           getD-set-other ends (x + 1 - first) j s 0 n ∙ N .each j (omega arith)
 
   -- too many already
-  pub table-over : (a b c : Bytes) (t s cells : ℕ) (ends : List ℕ) → length a ≡ 32000 → cells ≡ cellCount m → x < first + cells → Emitted a b 0 t (tableWords m st (x - first)) → Emitted b c t s (reachEntries m st x)
-      → 8000 < s → Tabled m st a c ends s
+  pub table-over : (a b c : Bytes) (t s cells : ℕ) (ends : List ℕ) → length a ≡ tableBytes → cells ≡ cellCount m → x < first + cells → Emitted a b 0 t (tableWords m st (x - first))
+      → Emitted b c t s (reachEntries m st x)
+      → mostReached < s → Tabled m st a c ends s
   table-over a b c t s cells ends r ce h E F k = record {
     count = all;
     text = λ q. let z : ⊥ = omega arith in absurd z;
@@ -219,12 +226,12 @@ module _ (m st : Bytes) (first x : ℕ) (fe : first ≡ firstCell m) (l : first 
       here : s ≡ capped (entryCount m st (x + 1 - first))
       here = counted a c s (x + 1 - first) (table-turn a b c t s r E F)
 
-      many : 8000 < entryCount m st (x + 1 - first)
-      many = lots (leb (entryCount m st (x + 1 - first)) 8000) refl
+      many : mostReached < entryCount m st (x + 1 - first)
+      many = lots (leb (entryCount m st (x + 1 - first)) mostReached) refl
         where
-          lots : (d : Bool) → leb (entryCount m st (x + 1 - first)) 8000 ≡ d → 8000 < entryCount m st (x + 1 - first)
-          lots true e = let z : ⊥ = omega (arith, here, capped-low (entryCount m st (x + 1 - first)) (leb-true _ 8000 e), leb-true (entryCount m st (x + 1 - first)) 8000 e) in absurd z
-          lots false e = leb-false (entryCount m st (x + 1 - first)) 8000 e
+          lots : (d : Bool) → leb (entryCount m st (x + 1 - first)) mostReached ≡ d → mostReached < entryCount m st (x + 1 - first)
+          lots true e = let z : ⊥ = omega (arith, here, capped-low (entryCount m st (x + 1 - first)) (leb-true _ mostReached e), leb-true (entryCount m st (x + 1 - first)) mostReached e) in absurd z
+          lots false e = leb-false (entryCount m st (x + 1 - first)) mostReached e
 
       grows : entryCount m st (x + 1 - first) ≤ entryCount m st (cellCount m)
       grows = unfold entryCount in total-grows (firstCell m) (λ c. length (reach m st c)) (x + 1 - first) (cellCount m) (omega arith)

@@ -14,6 +14,7 @@ use Rattle.vocabulary.specs.Intervals.{blocks}
 use Rattle.vocabulary.specs.IntervalLaws.{blocks-turn, at-last}
 use Rattle.layout.specs.Words.{wordBytes, bytesOf}
 use Rattle.layout.specs.WordLaws.{length-bytesOf, bytesOf-append}
+use Rattle.layout.specs.Limits.{elementPlaces, mostReached, tableBytes}
 use Rattle.walk_reach_table.specs.Tables.{capped, row, Cleared, Emitted}
 
 pub entry-stored : (b x y : Bytes) (o p l : ℕ) → o + 4 ≤ length b → x ≡ over b o (wordBytes p) → y ≡ over x (o + 2) (wordBytes l) → y ≡ over b o (bytesOf (p ∷ l ∷ []))
@@ -22,45 +23,45 @@ entry-stored b x y o p l h e f = f ∙ ap (λ (c : Bytes). over c (o + 2) (wordB
 
 -- ---- counts that are capped
 
-pub capped-low : (n : ℕ) → n ≤ 8000 → capped n ≡ n
+pub capped-low : (n : ℕ) → n ≤ mostReached → capped n ≡ n
 unfolding capped
-capped-low n h = ap (λ b. cond b n 8001) (le-leb n 8000 h)
+capped-low n h = ap (λ b. cond b n (mostReached + 1)) (le-leb n mostReached h)
 
-pub capped-high : (n : ℕ) → 8000 < n → capped n ≡ 8001
+pub capped-high : (n : ℕ) → mostReached < n → capped n ≡ (mostReached + 1)
 unfolding capped
-capped-high n h = ap (λ b. cond b n 8001) (lt-leb n 8000 h)
+capped-high n h = ap (λ b. cond b n (mostReached + 1)) (lt-leb n mostReached h)
 
 -- more after a capped count
 capped-more : (a b : ℕ) → capped (capped a + b) ≡ capped (a + b)
-capped-more a b = go (leb a 8000) refl
+capped-more a b = go (leb a mostReached) refl
   where
-    go : (t : Bool) → leb a 8000 ≡ t → capped (capped a + b) ≡ capped (a + b)
-    go true e = ap (λ x. capped (x + b)) (capped-low a (leb-true a 8000 e))
+    go : (t : Bool) → leb a mostReached ≡ t → capped (capped a + b) ≡ capped (a + b)
+    go true e = ap (λ x. capped (x + b)) (capped-low a (leb-true a mostReached e))
     go false e =
-        let h : 8000 < a = leb-false a 8000 e in
-        ap (λ x. capped (x + b)) (capped-high a h) ∙ capped-high (8001 + b) (omega arith) ∙ sym (capped-high (a + b) (omega arith))
+        let h : mostReached < a = leb-false a mostReached e in
+        ap (λ x. capped (x + b)) (capped-high a h) ∙ capped-high ((mostReached + 1) + b) (omega arith) ∙ sym (capped-high (a + b) (omega arith))
 
-pub capped-few : (a t : ℕ) → t ≡ capped a → t ≤ 8000 → t ≡ a
-capped-few a t e h = go (leb a 8000) refl
+pub capped-few : (a t : ℕ) → t ≡ capped a → t ≤ mostReached → t ≡ a
+capped-few a t e h = go (leb a mostReached) refl
   where
-    go : (b : Bool) → leb a 8000 ≡ b → t ≡ a
-    go true q = e ∙ capped-low a (leb-true a 8000 q)
-    go false q = let z : ⊥ = omega (arith, e, capped-high a (leb-false a 8000 q)) in absurd z
+    go : (b : Bool) → leb a mostReached ≡ b → t ≡ a
+    go true q = e ∙ capped-low a (leb-true a mostReached q)
+    go false q = let z : ⊥ = omega (arith, e, capped-high a (leb-false a mostReached q)) in absurd z
 
 -- ---- nothing, and one after another
 
-pub emit-none : (b : Bytes) (t : ℕ) → t ≤ 8001 → Emitted b b t t []
+pub emit-none : (b : Bytes) (t : ℕ) → t ≤ (mostReached + 1) → Emitted b b t t []
 unfolding bytesOf
-emit-none b t h = record { size = refl; even = refl; count = go (leb t 8000) refl; text = λ k. sym (over-none b (4 * t)) }
+emit-none b t h = record { size = refl; even = refl; count = go (leb t mostReached) refl; text = λ k. sym (over-none b (4 * t)) }
   where
     q : t + 0 / 2 ≡ t
     q = omega arith
 
-    go : (x : Bool) → leb t 8000 ≡ x → t ≡ capped (t + 0 / 2)
-    go true e = sym (ap capped q ∙ capped-low t (leb-true t 8000 e))
-    go false e = let k : 8000 < t = leb-false t 8000 e in (let z : t ≡ 8001 = omega arith in z) ∙ sym (ap capped q ∙ capped-high t k)
+    go : (x : Bool) → leb t mostReached ≡ x → t ≡ capped (t + 0 / 2)
+    go true e = sym (ap capped q ∙ capped-low t (leb-true t mostReached e))
+    go false e = let k : mostReached < t = leb-false t mostReached e in (let z : t ≡ (mostReached + 1) = omega arith in z) ∙ sym (ap capped q ∙ capped-high t k)
 
-pub emit-both : (a b c : Bytes) (s t u : ℕ) (xs ys : List ℕ) → length a ≡ 32000 → Emitted a b s t xs → Emitted b c t u ys → Emitted a c s u (xs ++ ys)
+pub emit-both : (a b c : Bytes) (s t u : ℕ) (xs ys : List ℕ) → length a ≡ tableBytes → Emitted a b s t xs → Emitted b c t u ys → Emitted a c s u (xs ++ ys)
 emit-both a b c s t u xs ys room X Y = record {
   size = Y .size ∙ X .size;
   even = omega (arith, length-append xs ys, X .even, Y .even);
@@ -71,7 +72,7 @@ emit-both a b c s t u xs ys room X Y = record {
     sum : s + length xs / 2 + length ys / 2 ≡ s + length (xs ++ ys) / 2
     sum = omega (arith, length-append xs ys, X .even, Y .even)
 
-    text : u ≤ 8000 → c ≡ over a (4 * s) (bytesOf (xs ++ ys))
+    text : u ≤ mostReached → c ≡ over a (4 * s) (bytesOf (xs ++ ys))
     text h =
         let ue : u ≡ t + length ys / 2 = capped-few (t + length ys / 2) u (Y .count) h in
         let te : t ≡ s + length xs / 2 = capped-few (s + length xs / 2) t (X .count) (omega arith) in
@@ -85,7 +86,7 @@ emit-both a b c s t u xs ys room X Y = record {
 -- ---- one place
 
 module _ (layers : List ℕ) (first q x t : ℕ) (b : Bytes) (e : x ≡ getD layers (first + q) 0) where
-  pub emit-skip : x < 1 → t ≤ 8001 → Emitted b b t t (row layers first q)
+  pub emit-skip : x < 1 → t ≤ (mostReached + 1) → Emitted b b t t (row layers first q)
   emit-skip h k = subst (Emitted b b t t) (sym empty) (emit-none b t k)
     where
       empty : row layers first q ≡ []
@@ -98,15 +99,15 @@ module _ (layers : List ℕ) (first q x t : ℕ) (b : Bytes) (e : x ≡ getD lay
         ap (λ c. cond c [] (q ∷ (getD layers (first + q) 0 - 1) ∷ [])) (ne-eqb (getD layers (first + q) 0) 0 (omega arith))
         ∙ ap (λ y. q ∷ (y - 1) ∷ []) (sym e)
 
-    pub emit-full : 8000 ≤ t → Emitted b b t 8001 (row layers first q)
-    emit-full k = subst (Emitted b b t 8001) (sym full) (record {
+    pub emit-full : mostReached ≤ t → Emitted b b t (mostReached + 1) (row layers first q)
+    emit-full k = subst (Emitted b b t (mostReached + 1)) (sym full) (record {
       size = refl;
       even = refl;
       count = sym (capped-high (t + 2 / 2) (omega arith));
       text = λ l. let z : ⊥ = omega arith in absurd z;
     })
 
-    pub emit-put : (c : Bytes) → t < 8000 → length b ≡ 32000 → c ≡ over b (4 * t) (bytesOf (q ∷ (x - 1) ∷ [])) → Emitted b c t (t + 1) (row layers first q)
+    pub emit-put : (c : Bytes) → t < mostReached → length b ≡ tableBytes → c ≡ over b (4 * t) (bytesOf (q ∷ (x - 1) ∷ [])) → Emitted b c t (t + 1) (row layers first q)
     emit-put c k room f = subst (Emitted b c t (t + 1)) (sym full) (record {
       size = ap length f ∙ over-length b (4 * t) (bytesOf (q ∷ (x - 1) ∷ [])) (omega (arith, length-bytesOf (q ∷ (x - 1) ∷ [])));
       even = refl;
@@ -119,7 +120,8 @@ module _ (layers : List ℕ) (first q x t : ℕ) (b : Bytes) (e : x ≡ getD lay
 pub cleared-start : (low : ℕ) (layers : List ℕ) → Cleared low low layers layers
 cleared-start low layers = record { size = refl; inside = λ z h l. let n : ⊥ = omega arith in absurd n; lower = λ z h. refl; upper = λ z h. refl }
 
-pub cleared-turn : (first low high x : ℕ) (l₀ l₁ l₂ : List ℕ) → first ≤ low → low ≤ x → x < high → high ≤ 2001 → length l₀ ≡ 2001 → Cleared low x l₀ l₁ → l₂ ≡ set l₁ (first + (x - first)) 0
+pub cleared-turn : (first low high x : ℕ) (l₀ l₁ l₂ : List ℕ) → first ≤ low → low ≤ x → x < high → high ≤ elementPlaces → length l₀ ≡ elementPlaces → Cleared low x l₀ l₁
+    → l₂ ≡ set l₁ (first + (x - first)) 0
     → Cleared low (x + 1) l₀ l₂
 cleared-turn first low high x l₀ l₁ l₂ h l k w r C e = record {
   size = ap length f ∙ length-set l₁ x 0 ∙ C .size;
@@ -158,10 +160,10 @@ row-kept first low x l₀ l₁ h l C = ap (λ y. cond (eqb y 0) [] ((x - first) 
 -- ---- the loop over the places
 
 module _ (first low : ℕ) (layers : List ℕ) where
-  pub emit-start : (b : Bytes) (t : ℕ) → t ≤ 8001 → Emitted b b t t (blocks (low - first) (low - low) (row layers first))
+  pub emit-start : (b : Bytes) (t : ℕ) → t ≤ (mostReached + 1) → Emitted b b t t (blocks (low - first) (low - low) (row layers first))
   emit-start b t h = let z : low - low ≡ 0 = omega arith in subst (λ k. Emitted b b t t (blocks (low - first) k (row layers first))) (sym z) (unfold blocks in emit-none b t h)
 
-  pub emit-turn : (a b c : Bytes) (s t u x : ℕ) (now : List ℕ) → length a ≡ 32000 → first ≤ low → low ≤ x → Cleared low x layers now
+  pub emit-turn : (a b c : Bytes) (s t u x : ℕ) (now : List ℕ) → length a ≡ tableBytes → first ≤ low → low ≤ x → Cleared low x layers now
       → Emitted a b s t (blocks (low - first) (x - low) (row layers first))
       → Emitted b c t u (row now first (x - first)) → Emitted a c s u (blocks (low - first) (x + 1 - low) (row layers first))
   emit-turn a b c s t u x now room h l C X Y =

@@ -10,6 +10,7 @@ use Rattle.vocabulary.specs.Bytes.{Bytes, over}
 use Rattle.vocabulary.specs.Intervals.{blocks, total}
 use Rattle.vocabulary.specs.Lists.{joined}
 use Rattle.layout.specs.Words.{bytesOf}
+use Rattle.layout.specs.Limits.{mostReached}
 use Rattle.mesh.specs.Mesh.{firstCell, cellCount}
 use Rattle.mesh.specs.Walks.{Near, reach}
 
@@ -30,7 +31,7 @@ entryCount m st n = total (firstCell m) n (λ c. length (reach m st c))
 
 -- a count, as far as it is counted: 8,001 stands for all above 8,000
 unfoldable pub capped : ℕ → ℕ
-capped n = cond (leb n 8000) n 8001
+capped n = cond (leb n mostReached) n (mostReached + 1)
 
 -- ---- how the code writes them; no public contract rests on what follows
 
@@ -50,7 +51,7 @@ pub record Emitted (before after : Bytes) (s t : ℕ) (ws : List ℕ) : Type 0 w
   pub size : length after ≡ length before
   pub even : length ws % 2 ≡ 0
   pub count : t ≡ capped (s + length ws / 2)
-  pub text : t ≤ 8000 → after ≡ over before (4 * s) (bytesOf ws)
+  pub text : t ≤ mostReached → after ≡ over before (4 * s) (bytesOf ws)
 
 -- ends j is the count of entries of the first j cells, for j up to n
 pub record EndTable (m st : Bytes) (ends : List ℕ) (n : ℕ) : Type 0 where
@@ -59,5 +60,5 @@ pub record EndTable (m st : Bytes) (ends : List ℕ) (n : ℕ) : Type 0 where
 -- the reaches of all cells: r entries, unless they are too many, and then nothing is said of the table
 pub record Tabled (m st : Bytes) (before after : Bytes) (ends : List ℕ) (r : ℕ) : Type 0 where
   pub count : r ≡ capped (entryCount m st (cellCount m))
-  pub text : r ≤ 8000 → after ≡ over before 0 (bytesOf (tableWords m st (cellCount m)))
-  pub ended : r ≤ 8000 → EndTable m st ends (cellCount m)
+  pub text : r ≤ mostReached → after ≡ over before 0 (bytesOf (tableWords m st (cellCount m)))
+  pub ended : r ≤ mostReached → EndTable m st ends (cellCount m)

@@ -22,6 +22,7 @@ ghost use Rattle.vocabulary.specs.Bytes.{over};
 ghost use Rattle.vocabulary.specs.Lists.{Zeros};
 ghost use Rattle.vocabulary.specs.Intervals.{blocks};
 ghost use Rattle.layout.specs.Words.{bytesOf};
+ghost use Rattle.layout.specs.Limits.{elementPlaces, mostReached, mostSteps, recordPlaces, tableBytes};
 ghost use Rattle.walk_reach_table.specs.Tables.{row, Cleared, Emitted, reachEntries, Tabled};
 ghost use Rattle.walk_steps.specs.Walking.{Ground, Sized, Arrays, throughOne};
 ghost use Rattle.walk_near_cells.specs.NearCells.{WalksReady};
@@ -38,7 +39,7 @@ const AFTER_ROWS: usize = 2 * MOST_ELEMENTS + 1;
 
 // Writes entry t.
 fn put_entry(table: &mut [u8], t: usize, place: usize, layer: usize)
-    requires { ⌜ (t < 8000) × (length (now table) ≡ 32000) × (place < 65536) × (layer < 65536) ⌝ }
+    requires { ⌜ (t < mostReached) × (length (now table) ≡ tableBytes) × (place < 65536) × (layer < 65536) ⌝ }
     ensures { λ _. ⌜ now (table .exit) ≡ over (now (table .entry)) (4 * t) (bytesOf (place ∷ layer ∷ [])) ⌝ }
 {
     put_word(table, 4 * t, place);
@@ -47,8 +48,9 @@ fn put_entry(table: &mut [u8], t: usize, place: usize, layer: usize)
 
 // The entry at place q, if that cell has a layer; 8,001 where there is no room. The layer is cleared.
 fn emit_one(layers: &mut [u16], first: usize, q: usize, table: &mut [u8], t: usize) -> usize
-    requires { ⌜ (first < 65536) × (q < 65536) × (t ≤ 8001) × (length (now table) ≡ 32000) ⌝ }
-    ensures { λ s. ⌜ Emitted (now (table .entry)) (now (table .exit)) t s (row (now (layers .entry)) first q) × (s ≤ 8001) × (now (layers .exit) ≡ set (now (layers .entry)) (first + q) 0) ⌝ }
+    requires { ⌜ (first < 65536) × (q < 65536) × (t ≤ (mostReached + 1)) × (length (now table) ≡ tableBytes) ⌝ }
+    ensures { λ s. ⌜ Emitted (now (table .entry)) (now (table .exit)) t s (row (now (layers .entry)) first q) × (s ≤ (mostReached + 1))
+        × (now (layers .exit) ≡ set (now (layers .entry)) (first + q) 0) ⌝ }
 {
     let x = index_at(layers, first + q);
     put_number_at(layers, first + q, 0);
@@ -71,8 +73,8 @@ fn emit(
     table: &mut [u8],
     t: usize,
 ) -> usize
-    requires { ⌜ (first ≤ low) × (high ≤ 2001) × (length (now layers) ≡ 2001) × (t ≤ 8001) × (length (now table) ≡ 32000) ⌝ }
-    ensures { λ s. ⌜ Emitted (now (table .entry)) (now (table .exit)) t s (blocks (low - first) (high - low) (row (now (layers .entry)) first)) × (s ≤ 8001)
+    requires { ⌜ (first ≤ low) × (high ≤ elementPlaces) × (length (now layers) ≡ elementPlaces) × (t ≤ (mostReached + 1)) × (length (now table) ≡ tableBytes) ⌝ }
+    ensures { λ s. ⌜ Emitted (now (table .entry)) (now (table .exit)) t s (blocks (low - first) (high - low) (row (now (layers .entry)) first)) × (s ≤ (mostReached + 1))
         × Cleared low high (now (layers .entry)) (now (layers .exit)) ⌝ }
 {
     let mut s = t;
@@ -82,13 +84,13 @@ fn emit(
     s
 }
 
-// The entries of the reach of cell c, for a stencil of n steps: by the rows of near cells, each w places wide, or step by step where w is 0. The layers
+// The entries of the reach of cell c, for a stencil of `steps` steps: by the rows of near cells, each w places wide, or step by step where w is 0. The layers
 // stand in `from` or in `near`, whichever the walk leaves free.
 fn reach_of(
     m: &[u8],
     sizes: MeshSizes,
     stencil: &[u8],
-    n: usize,
+    steps: usize,
     single: bool,
     cell: &[u16],
     prev: &[u16],
@@ -103,13 +105,14 @@ fn reach_of(
     table: &mut [u8],
     t: usize,
 ) -> usize
-    requires { ⌜ Ground (now m) (now stencil) (now cell) (now prev) (now last) × Sized (now m) sizes × Cell (now m) c × (n + 1 ≡ length (now stencil)) × (single ≡ throughOne (now stencil)) × (n ≤ 8)
-        × WalksReady (now m) (now stencil) w mark (now marks) (now from) (now found) (now near) × (mark ≤ 60000) × (length (now table) ≡ 32000) × (t ≤ 8001) ⌝ }
-    ensures { λ s. ⌜ Emitted (now (table .entry)) (now (table .exit)) t s (reachEntries (now (m .entry)) (now (stencil .entry)) c) × (s ≤ 8001)
-        × WalksReady (now (m .entry)) (now (stencil .entry)) w (mark + (n + 1)) (now (marks .exit)) (now (from .exit)) (now (found .exit)) (now (near .exit)) ⌝ }
+    requires { ⌜ Ground (now m) (now stencil) (now cell) (now prev) (now last) × Sized (now m) sizes × Cell (now m) c × (steps + 1 ≡ length (now stencil))
+        × (single ≡ throughOne (now stencil)) × (steps ≤ mostSteps)
+        × WalksReady (now m) (now stencil) w mark (now marks) (now from) (now found) (now near) × (mark ≤ 60000) × (length (now table) ≡ tableBytes) × (t ≤ (mostReached + 1)) ⌝ }
+    ensures { λ s. ⌜ Emitted (now (table .entry)) (now (table .exit)) t s (reachEntries (now (m .entry)) (now (stencil .entry)) c) × (s ≤ (mostReached + 1))
+        × WalksReady (now (m .entry)) (now (stencil .entry)) w (mark + (steps + 1)) (now (marks .exit)) (now (from .exit)) (now (found .exit)) (now (near .exit)) ⌝ }
 {
     if w != 0 {
-        let b = walk_near(m, stencil, near, w, sizes.first, c, n, from, found);
+        let b = walk_near(m, stencil, near, w, sizes.first, c, steps, from, found);
         return emit(from, sizes.first, b.low, b.high, table, t);
     }
     put_number_at(from, 0, c as u16);
@@ -122,7 +125,7 @@ fn reach_of(
         prev,
         last,
         1,
-        n,
+        steps,
         mark,
         marks,
         from,
@@ -147,8 +150,8 @@ pub fn reach_all(
     table: &mut [u8],
     ends: &mut [u16],
 ) -> usize
-    requires { ⌜ Ground (now m) (now stencil) (now cell) (now prev) (now last) × Sized (now m) sizes × Under 1 (now marks) × (length (now from) ≡ 2001) × (length (now found) ≡ 2001)
-        × Zeros 2001 (now near) × (length (now table) ≡ 32000) × (length (now ends) ≡ 2001) ⌝ }
+    requires { ⌜ Ground (now m) (now stencil) (now cell) (now prev) (now last) × Sized (now m) sizes × Under 1 (now marks) × (length (now from) ≡ elementPlaces) × (length (now found) ≡ elementPlaces)
+        × Zeros elementPlaces (now near) × (length (now table) ≡ tableBytes) × (length (now ends) ≡ elementPlaces) ⌝ }
     ensures { λ s. ⌜ Tabled (now (m .entry)) (now (stencil .entry)) (now (table .entry)) (now (table .exit)) (now (ends .exit)) s
         × Arrays (now (marks .exit)) (now (from .exit)) (now (found .exit)) (now (near .exit)) ⌝ }
 {
@@ -209,7 +212,7 @@ pub fn reach_table(
     table: &mut [u8],
     ends: &mut [u16],
 ) -> usize
-    requires { ⌜ Accepted (now m) × (bad10 (top (now m)) (now stencil) ≡ false) × (length (now cell) ≡ 12001) × (length (now table) ≡ 32000) × (length (now ends) ≡ 2001) ⌝ }
+    requires { ⌜ Accepted (now m) × (bad10 (top (now m)) (now stencil) ≡ false) × (length (now cell) ≡ recordPlaces) × (length (now table) ≡ tableBytes) × (length (now ends) ≡ elementPlaces) ⌝ }
     ensures { λ s. ⌜ Tabled (now (m .entry)) (now (stencil .entry)) (now (table .entry)) (now (table .exit)) (now (ends .exit)) s ⌝ }
 {
     let sizes = sizes_of(m);

@@ -8,16 +8,17 @@ use lib.ListN.{length}
 use borrow.Author.Tests.{eq-eqb, ne-eqb, lt-ltb, le-ltb}
 use Rattle.vocabulary.specs.Bytes.{Bytes, byteAt}
 use Rattle.vocabulary.specs.Intervals.{every}
+use Rattle.layout.specs.Limits.{stencilBytes}
 use Rattle.mesh.specs.Mesh.{top}
-use Rattle.mesh.specs.Walks.{rightAt, bad10}
+use Rattle.mesh.specs.Walks.{validAt, bad10}
 use Rattle.mesh.specs.WalkLaws.{stencil-parts}
 
-pub right-even : (d a k : ℕ) (st : Bytes) → a ≡ byteAt st k → k % 2 ≡ 0 → eqb a d ≡ rightAt d st k
-unfolding rightAt
+pub right-even : (d a k : ℕ) (st : Bytes) → a ≡ byteAt st k → k % 2 ≡ 0 → eqb a d ≡ validAt d st k
+unfolding validAt
 right-even d a k st e h = simp (eq-eqb _ _ h, sym e)
 
-pub right-odd : (d a k : ℕ) (st : Bytes) → a ≡ byteAt st k → (k % 2 ≡ 0 → ⊥) → ltb a d ≡ rightAt d st k
-unfolding rightAt
+pub right-odd : (d a k : ℕ) (st : Bytes) → a ≡ byteAt st k → (k % 2 ≡ 0 → ⊥) → ltb a d ≡ validAt d st k
+unfolding validAt
 right-odd d a k st e h = simp (ne-eqb _ _ h, sym e)
 
 module _ (d : ℕ) (st : Bytes) where
@@ -25,11 +26,11 @@ module _ (d : ℕ) (st : Bytes) where
   unfolding bad10
   stencil-odd-length h = simp (ne-eqb _ _ h)
 
-  pub stencil-long : length st % 2 ≡ 1 → 9 < length st → true ≡ bad10 d st
+  pub stencil-long : length st % 2 ≡ 1 → stencilBytes < length st → true ≡ bad10 d st
   unfolding bad10
   stencil-long h k = simp (eq-eqb _ _ h, lt-ltb _ _ k)
 
-  pub stencil-places : (b : Bool) → length st % 2 ≡ 1 → length st ≤ 9 → b ≡ every 0 (length st) (rightAt d st) → not b ≡ bad10 d st
+  pub stencil-places : (b : Bool) → length st % 2 ≡ 1 → length st ≤ stencilBytes → b ≡ every 0 (length st) (validAt d st) → not b ≡ bad10 d st
   unfolding bad10
   stencil-places b h k e = simp (eq-eqb _ _ h, le-ltb _ _ k, sym e)
 

@@ -1,23 +1,24 @@
 // The test 10.
 use layout::byte_at;
+use layout::limits::STENCIL_BYTES;
 ghost use mathlib.Core.Path.{_≡_};
 ghost use lib.ListN.{length};
 ghost use Rattle.vocabulary.specs.Intervals.{every};
-ghost use Rattle.mesh.specs.Walks.{rightAt, bad10};
+ghost use Rattle.mesh.specs.Walks.{validAt, bad10};
 
 // Whether place k is right: the dimension of the cells at an even place, and a lower one at an odd place.
-fn right_at(d: usize, stencil: &[u8], k: usize) -> bool
-    ensures { λ b. ⌜ b ≡ rightAt d (now (stencil .entry)) k ⌝ }
+fn valid_at(d: usize, stencil: &[u8], k: usize) -> bool
+    ensures { λ b. ⌜ b ≡ validAt d (now (stencil .entry)) k ⌝ }
 {
     let a = byte_at(stencil, k) as usize;
     if k % 2 == 0 { a == d } else { a < d }
 }
 
-fn all_right(d: usize, stencil: &[u8]) -> bool
-    ensures { λ b. ⌜ b ≡ every 0 (length (now (stencil .entry))) (rightAt d (now (stencil .entry))) ⌝ }
+fn all_valid(d: usize, stencil: &[u8]) -> bool
+    ensures { λ b. ⌜ b ≡ every 0 (length (now (stencil .entry))) (validAt d (now (stencil .entry))) ⌝ }
 {
     for k in 0..stencil.len() {
-        if !right_at(d, stencil, k) {
+        if !valid_at(d, stencil, k) {
             return false;
         }
     }
@@ -31,8 +32,8 @@ pub fn bad_stencil(d: usize, stencil: &[u8]) -> bool
     if stencil.len() % 2 != 1 {
         return true;
     }
-    if 9 < stencil.len() {
+    if STENCIL_BYTES < stencil.len() {
         return true;
     }
-    !all_right(d, stencil)
+    !all_valid(d, stencil)
 }

@@ -12,6 +12,7 @@ use Rattle.vocabulary.specs.Intervals.{some, blocks}
 use Rattle.vocabulary.specs.IntervalLaws.{some-witness, some-in, blocks-length, blocks-inner, total-cong}
 use Rattle.vocabulary.specs.Lists.{isIn, All}
 use Rattle.vocabulary.specs.ListLaws.{and-true, and-intro, same-test, All-map}
+use Rattle.layout.specs.Limits.{mostElements, mostRecords, recordPlaces}
 use Rattle.mesh.specs.Mesh.{top, elements, firstCell, cellCount, dimension, elementIn, records, chain, allRecords}
 use Rattle.mesh.specs.Walks.{bad10, steps}
 use Rattle.mesh.specs.Accepted.{Accepted, Element}
@@ -39,7 +40,7 @@ cells-told m first n x y = cells-with m first n x y ∙ same-test _ _ left right
         some-in first (λ c. isIn x (chain m c) && eqb y c) n y (leb-true first y (u .0)) (ltb-true y (first + n) (u .1)) (and-intro _ _ (w .1) (eq-eqb y y refl))
 
 module _ (m : Bytes) (A : Accepted m) (first cells : ℕ) (fe : first ≡ firstCell m) (ce : cells ≡ cellCount m) where
-  room : length (blocks first cells (chain m)) ≤ 12000
+  room : length (blocks first cells (chain m)) ≤ mostRecords
   unfolding allRecords chain
   room =
       let q : 1 + (first - 1) ≡ first = omega (arith, fe) in
@@ -52,25 +53,25 @@ module _ (m : Bytes) (A : Accepted m) (first cells : ℕ) (fe : first ≡ firstC
   element : (j : ℕ) → j < cells → Element m (first + j)
   element j h = record { low = omega (arith, fe); high = omega (arith, fe, ce, A .cells-in) }
 
-  small : (j : ℕ) → j < cells → All (λ g. g ≤ 2000) (chain m (first + j))
+  small : (j : ℕ) → j < cells → All (λ g. g ≤ mostElements) (chain m (first + j))
   small j h =
       All-map (chain m (first + j)) (λ g w. omega (arith, w .1, below-grows m (dimension m (first + j)) 4 (omega (arith, dimension-le m (first + j), A .sizes .d-high)), A .sizes .n-high))
       (A .chain-lower (first + j) (element j h))
 
-  module _ (st : Bytes) (bad : bad10 (top m) st ≡ false) (cell₀ prev₀ : List ℕ) (cl : length cell₀ ≡ 12001) (pl : length prev₀ ≡ 12001) (s : ℕ) (cell prev last : List ℕ)
+  module _ (st : Bytes) (bad : bad10 (top m) st ≡ false) (cell₀ prev₀ : List ℕ) (cl : length cell₀ ≡ recordPlaces) (pl : length prev₀ ≡ recordPlaces) (s : ℕ) (cell prev last : List ℕ)
       (e : links s cell prev last ≡ linkCells m first cells (empty cell₀ prev₀)) where
     -- the entries of all cells' chains
     turned : LinkedAs (linkCells m first cells (empty cell₀ prev₀)) (cellsWith m first cells)
     turned = linked-cells cell₀ prev₀ cl pl m first cells room (λ j h. (small j h, A .chain-once (first + j) (element j h)))
 
-    few : entries (linkCells m first cells (empty cell₀ prev₀)) ≤ 12000
+    few : entries (linkCells m first cells (empty cell₀ prev₀)) ≤ mostRecords
     few = omega (arith, count-cells cell₀ prev₀ m first cells, room)
 
     K : Linked s cell prev last (cellsWith m first cells)
     K = subst (λ L. LinkedAs L (cellsWith m first cells)) (sym e) turned
 
-    short : s ≤ 12000
-    short = subst (λ L. entries L ≤ 12000) (sym e) few
+    short : s ≤ mostRecords
+    short = subst (λ L. entries L ≤ mostRecords) (sym e) few
 
     pub grounded : Ground m st cell prev last
     unfolding isCellNumber
@@ -78,7 +79,7 @@ module _ (m : Bytes) (A : Accepted m) (first cells : ℕ) (fe : first ≡ firstC
       mesh = A;
       stencil = bad;
       told = λ x y h.
-          ap (isIn y) (trail-same cell prev cell prev s (K .falls) (λ i a b. (refl, refl)) s 12001 (getD last x 0) (K .within x) (omega (arith, K .within x, short)) (K .within x) ∙ K .told x h)
+          ap (isIn y) (trail-same cell prev cell prev s (K .falls) (λ i a b. (refl, refl)) s recordPlaces (getD last x 0) (K .within x) (omega (arith, K .within x, short)) (K .within x) ∙ K .told x h)
           ∙ cells-told m first cells x y
           ∙ ap₂ (λ a b. (leb a y && ltb y (a + b)) && isIn x (chain m y)) fe ce;
     }

@@ -21,9 +21,10 @@ use Rattle.walk_steps.specs.Walking.{Ground, AllCells, Lowers, stepped, 
 use Rattle.walk_steps.proofs.StepLaws.{down-told, up-told, upward}
 use Rattle.mesh.specs.WalkLaws.{below-grows}
 use Rattle.vocabulary.specs.IntervalLaws.{at-last}
+use Rattle.layout.specs.Limits.{elementPlaces, mostElements}
 
 -- nothing gathered yet
-pub begin : (v : ℕ) (marks found : List ℕ) → Under v marks → length found ≡ 2001 → Frontier v marks found 0
+pub begin : (v : ℕ) (marks found : List ℕ) → Under v marks → length found ≡ elementPlaces → Frontier v marks found 0
 unfolding isIn repeats
 begin v marks found F r = record {
   size = F .size;
@@ -122,7 +123,7 @@ pub note-fits : (k y j n : ℕ) (from l₀ l₁ : List ℕ) (p : ℕ → Bool) �
     → Noted k l₀ l₁ p → y < length l₁
 note-fits k y j n from l₀ l₁ p c a h e N = omega (arith, N .size, All-getD (λ y. y < length l₀) (take n from) j 0 a (omega arith), getD-take n from j 0 h)
 
-pub low-enough : (m : Bytes) (a hi : ℕ) → Accepted m → a < top m → hi ≡ below m (a + 1) → hi ≤ 2000
+pub low-enough : (m : Bytes) (a hi : ℕ) → Accepted m → a < top m → hi ≡ below m (a + 1) → hi ≤ mostElements
 low-enough m a hi A h e = omega (arith, below-grows m (a + 1) 4 (omega (arith, A .sizes .d-high)), A .sizes .n-high)
 
 pub upwards : (m st : Bytes) (cell prev last from : List ℕ) (n : ℕ) → Ground m st cell prev last → Lowers m from n → Upward cell prev last from n

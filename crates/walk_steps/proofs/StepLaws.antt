@@ -13,6 +13,7 @@ use Rattle.vocabulary.specs.Intervals.{picked, some, blocks}
 use Rattle.vocabulary.specs.IntervalLaws.{some-none, some-has, some-witness, some-cong, picked-in, picked-passes, isIn-blocks}
 use Rattle.vocabulary.specs.Lists.{isIn, someOf}
 use Rattle.vocabulary.specs.ListLaws.{or-nothing, All-intro, isIn-at, at-isIn, not-isIn, and-true, and-intro, same-test, someOf-cong, someOf-has, someOf-witness, All-map, All-getD}
+use Rattle.layout.specs.Limits.{mostElements, recordPlaces}
 use Rattle.mesh.specs.Mesh.{top, counted, below, firstCell, cellCount, dimension, chain}
 use Rattle.mesh.specs.Walks.{incident, stepTo}
 use Rattle.mesh.specs.Accepted.{Accepted, Cell}
@@ -170,7 +171,7 @@ module _ (m : Bytes) (A : Accepted m) where
     lower-at : (j : ℕ) → j < n → (1 ≤ getD from j 0) × (getD from j 0 ≤ below m (top m))
     lower-at j h = rw (← getD-take n from j 0 h) (All-getD (λ x. (1 ≤ x) × (x ≤ below m (top m))) (take n from) j 0 (L .each) (omega (arith, L .count)))
 
-    lower-small : (j : ℕ) → j < n → getD from j 0 ≤ 2000
+    lower-small : (j : ℕ) → j < n → getD from j 0 ≤ mostElements
     lower-small j h = omega (arith, lower-at j h .1, below-grows m (top m) 4 (omega (arith, A .sizes .d-high)), A .sizes .n-high)
 
     pub up-told : (z : ℕ) → isIn z (blocks 0 n (up cell prev last from)) ≡ stepped m (top m) from n z
@@ -183,7 +184,7 @@ module _ (m : Bytes) (A : Accepted m) where
         ∙ go (isCellNumber m z) refl
         ∙ sym (isIn-picked (firstCell m) (cellCount m) z (λ y. someOf (take n from) (λ x. incident m x y)))
       where
-        told : (i : ℕ) → i < n → isIn z (trail cell prev 12001 (getD last (getD from (0 + i) 0) 0)) ≡ isCellNumber m z && isIn (getD from (0 + i) 0) (chain m z)
+        told : (i : ℕ) → i < n → isIn z (trail cell prev recordPlaces (getD last (getD from (0 + i) 0) 0)) ≡ isCellNumber m z && isIn (getD from (0 + i) 0) (chain m z)
         told i h = let q : 0 + i ≡ i = omega arith in rw q (G .told (getD from i 0) z (lower-small i h))
 
         go : (b : Bool) → isCellNumber m z ≡ b → isCellNumber m z && someOf (take n from) (λ x. isIn x (chain m z)) ≡ isCellNumber m z && someOf (take n from) (λ x. incident m x z)
@@ -196,13 +197,13 @@ module _ (m : Bytes) (A : Accepted m) where
     -- what a step up gathers are cells, and so elements
     pub upward : Upward cell prev last from n
     unfolding up isCellNumber
-    upward = record { each = λ j h. All-intro _ (trail cell prev 12001 (getD last (getD from j 0) 0)) 0 (λ l k. fits (getD from j 0) (lower-small j h) l k) }
+    upward = record { each = λ j h. All-intro _ (trail cell prev recordPlaces (getD last (getD from j 0) 0)) 0 (λ l k. fits (getD from j 0) (lower-small j h) l k) }
       where
-        fits : (x : ℕ) → x ≤ 2000 → (l : ℕ) → l < length (trail cell prev 12001 (getD last x 0))
-            → (1 ≤ getD (trail cell prev 12001 (getD last x 0)) l 0) × (getD (trail cell prev 12001 (getD last x 0)) l 0 ≤ 2000)
+        fits : (x : ℕ) → x ≤ mostElements → (l : ℕ) → l < length (trail cell prev recordPlaces (getD last x 0))
+            → (1 ≤ getD (trail cell prev recordPlaces (getD last x 0)) l 0) × (getD (trail cell prev recordPlaces (getD last x 0)) l 0 ≤ mostElements)
         fits x h l k =
-            let y = getD (trail cell prev 12001 (getD last x 0)) l 0 in
-            let t = sym (G .told x y h) ∙ at-isIn y (trail cell prev 12001 (getD last x 0)) (record { place = l; place-lt = k; place-is = refl }) in
+            let y = getD (trail cell prev recordPlaces (getD last x 0)) l 0 in
+            let t = sym (G .told x y h) ∙ at-isIn y (trail cell prev recordPlaces (getD last x 0)) (record { place = l; place-lt = k; place-is = refl }) in
             let w = and-true (leb (firstCell m) y && ltb y (firstCell m + cellCount m)) (isIn x (chain m y)) t in
             let u = and-true (leb (firstCell m) y) (ltb y (firstCell m + cellCount m)) (w .0) in
             (omega (arith, leb-true (firstCell m) y (u .0)), omega (arith, ltb-true y (firstCell m + cellCount m) (u .1), A .cells-in, A .sizes .n-high))

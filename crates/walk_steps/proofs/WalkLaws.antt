@@ -17,6 +17,7 @@ use Rattle.vocabulary.specs.IntervalLaws.{picked-cong, picked-some, some-in, so
 use Rattle.vocabulary.specs.Lists.{isIn, repeats, All, Zeros}
 use Rattle.vocabulary.specs.ListLaws.{or-nothing, and-true, and-intro, and-right, and-all, not-both, same-test, isIn-append}
 use Rattle.vocabulary.specs.ListLaws.{repeats-once, All-map, All-append, All-split, isIn-at, at-isIn, at-all, All-intro}
+use Rattle.layout.specs.Limits.{elementPlaces, mostElements, mostSteps}
 use Rattle.mesh.specs.Mesh.{top, elements, counted, below, firstCell, cellCount}
 use Rattle.mesh.specs.Walks.{bad10, incident, stepTo}
 use Rattle.mesh.specs.WalkLaws.{stencil-parts, stencil-odd, stencil-even}
@@ -57,7 +58,7 @@ clear-turn list j h K i l = go (eqb i j) refl
     go true q = ap (λ k. getD (set list j 0) k 0) (eqb-true i j q) ∙ getD-set-same list j 0 0 h
     go false q = let n : i ≡ j → ⊥ = eqb-false i j q in getD-set-other list j i 0 0 n ∙ K i (omega arith)
 
-pub clear-end : (list : List ℕ) (j : ℕ) → length list ≡ 2001 → 2001 ≤ j → ((i : ℕ) → i < j → getD list i 0 ≡ 0) → Zeros 2001 list
+pub clear-end : (list : List ℕ) (j : ℕ) → length list ≡ elementPlaces → elementPlaces ≤ j → ((i : ℕ) → i < j → getD list i 0 ≡ 0) → Zeros elementPlaces list
 clear-end list j r h K = record { size = r; each = λ i. go i (ltb i j) refl }
   where
     go : (i : ℕ) (b : Bool) → ltb i j ≡ b → getD list i 0 ≡ 0
@@ -268,7 +269,7 @@ met-layer m st cell prev last cs j z G C h c e = not-true _ (
 
 -- ---- no step, and one step more
 
-walk-none : (m st : Bytes) (single : Bool) (s k v met : ℕ) (marks from found layers layers′ : List ℕ) → k ≡ 0 → AllCells m from s → length from ≡ 2001 → Zeros 2001 layers
+walk-none : (m st : Bytes) (single : Bool) (s k v met : ℕ) (marks from found layers layers′ : List ℕ) → k ≡ 0 → AllCells m from s → length from ≡ elementPlaces → Zeros elementPlaces layers
     → Frontier v marks found met × Toward found met [] (startsAmong single from s) → Noted 0 layers layers′ (amongFirst from s)
     → WalkDone m st single (take s from) k v marks from found layers′ s met
 unfolding isIn startsAmong metBefore some walkedFrom newly
@@ -429,10 +430,10 @@ pub notes-room : (m st : Bytes) (cs : List ℕ) (single : Bool) (k w n met v s :
 notes-room m st cs single k w n met v s marks₀ from found₀ marks found layers W G = All-map (take s found) (λ y h. omega (arith, h .1, W .size)) (G .in-range)
 
 module _ (m st : Bytes) (cell prev last from : List ℕ) (s : ℕ) (G : Ground m st cell prev last) (C : AllCells m from s) where
-  pub cells-fit : (layers : List ℕ) → Zeros 2001 layers → All (λ y. y < length layers) (take s from)
+  pub cells-fit : (layers : List ℕ) → Zeros elementPlaces layers → All (λ y. y < length layers) (take s from)
   cells-fit layers K = All-map (take s from) (λ y h. omega (arith, h .high, G .mesh .cells-in, G .mesh .sizes .n-high, K .size)) (C .each)
 
-  pub cells-small : All (λ y. (1 ≤ y) × (y ≤ 2000)) (take s from)
+  pub cells-small : All (λ y. (1 ≤ y) × (y ≤ mostElements)) (take s from)
   cells-small = All-map (take s from) (λ y h. (omega (arith, h .low), omega (arith, h .high, G .mesh .cells-in, G .mesh .sizes .n-high))) (C .each)
 
 -- ---- the bounds of the cells met
@@ -495,7 +496,7 @@ within-cells m k n low high low′ high′ p from layers layers′ N of W C U = 
     same : (z : ℕ) → ((low′ ≤ z) × (z < high′) → ⊥) → getD layers′ z 0 ≡ getD layers z 0
     same z not-in = kept k z p layers layers′ N (λ q. outside (λ y. (low′ ≤ y) × (y < high′)) z (take n from) (U .each) not-in (of z q))
 
-within-none : (m st : Bytes) (cell prev last : List ℕ) (e s low high : ℕ) (from layers layers′ : List ℕ) → Ground m st cell prev last → e ≡ elements m → AllCells m from s → Zeros 2001 layers
+within-none : (m st : Bytes) (cell prev last : List ℕ) (e s low high : ℕ) (from layers layers′ : List ℕ) → Ground m st cell prev last → e ≡ elements m → AllCells m from s → Zeros elementPlaces layers
     → Noted 0 layers layers′ (amongFirst from s) → Widened (e + 1) 0 low high (take s from) → Within m layers′ low high
 within-none m st cell prev last e s low high from layers layers′ G ee C K N U =
     within-cells m 0 s (e + 1) 0 low high (amongFirst from s) from layers layers′ N (λ z q. unfold amongFirst in q)
@@ -512,7 +513,7 @@ within-even m st cell prev last cs single k v n met low high low′ high′ mark
 -- ---- what a walk answers
 
 pub ends-none : (m st : Bytes) (cell prev last : List ℕ) (single : Bool) (e s k v n met low high met′ : ℕ) (marks from found layers layers′ : List ℕ) → Ground m st cell prev last
-    → e ≡ elements m → AllCells m from s → length from ≡ 2001 → Zeros 2001 layers → k ≡ 0 → Frontier v marks found met × Toward found met [] (startsAmong single from s)
+    → e ≡ elements m → AllCells m from s → length from ≡ elementPlaces → Zeros elementPlaces layers → k ≡ 0 → Frontier v marks found met × Toward found met [] (startsAmong single from s)
     → Departed e from s met layers layers′ n low high met′
     → WalkDone m st single (take s from) k v marks from found layers′ n met′ × Within m layers′ low high
 ends-none m st cell prev last single e s k v n met low high met′ marks from found layers layers′ G ee C r K z T D = (
@@ -540,10 +541,10 @@ ends-more m st cell prev last cs single k v n base s n′ low high low′ high�
         within-even m st cell prev last cs single k v n′ met′ low high low′ high′ marks′ from′ found′ layers layers′ G C h here (A .notes) (W .1) o (A .even o)
 
 -- a walk from one cell, put in front of `from`
-pub front : (from after : List ℕ) (c : ℕ) → length from ≡ 2001 → after ≡ set from 0 c → take 1 after ≡ c ∷ []
+pub front : (from after : List ℕ) (c : ℕ) → length from ≡ elementPlaces → after ≡ set from 0 c → take 1 after ≡ c ∷ []
 front from after c r f = ap (take 1) f ∙ take-suc-set from 0 c (omega arith)
 
-pub one-cell : (m : Bytes) (from after : List ℕ) (c : ℕ) → Cell m c → length from ≡ 2001 → after ≡ set from 0 c → AllCells m after 1
+pub one-cell : (m : Bytes) (from after : List ℕ) (c : ℕ) → Cell m c → length from ≡ elementPlaces → after ≡ set from 0 c → AllCells m after 1
 one-cell m from after c C r f = record { each = rw (front from after c r f) (C, tt); count = ap length (front from after c r f) }
 
 -- what a walk leaves for the next
@@ -557,18 +558,18 @@ walk-fresh m st cs single k v n met marks from found layers W = record { size = 
 
 -- ---- what is found and moved to `from`
 
-module _ (found : List ℕ) (base n : ℕ) (low : base ≤ n) (len : length (take n found) ≡ n) (size : length found ≡ 2001) where
-  n-fits : n ≤ 2001
+module _ (found : List ℕ) (base n : ℕ) (low : base ≤ n) (len : length (take n found) ≡ n) (size : length found ≡ elementPlaces) where
+  n-fits : n ≤ elementPlaces
   n-fits = omega (arith, length-take n found)
 
-  pub list-room : (l : ℕ) → l ≡ 2001 → (base + (n - base) ≤ length found) × (0 + (n - base) ≤ l) × (length found < 65536) × (l < 65536)
+  pub list-room : (l : ℕ) → l ≡ elementPlaces → (base + (n - base) ≤ length found) × (0 + (n - base) ≤ l) × (length found < 65536) × (l < 65536)
   list-room l e = (omega (arith, n-fits), omega (arith, n-fits), omega arith, omega arith)
 
   module _ (from′ : List ℕ) (e : take (n - base) from′ ≡ take (n - base) (drop base found)) where
     pub moved-count : length (take (n - base) from′) ≡ n - base
     moved-count = ap length e ∙ (let q : length (take (n - base) (drop base found)) ≡ n - base = omega (arith, length-take (n - base) (drop base found), length-drop base found, n-fits) in q)
 
-    pub notes-moved : (k l : ℕ) → k ≤ 8 → All (λ y. y < l) (take n found) → (k < 65535) × (length (take (n - base) from′) ≡ n - base) × All (λ y. y < l) (take (n - base) from′)
+    pub notes-moved : (k l : ℕ) → k ≤ mostSteps → All (λ y. y < l) (take n found) → (k < 65535) × (length (take (n - base) from′) ≡ n - base) × All (λ y. y < l) (take (n - base) from′)
     notes-moved k l h a = (omega arith, moved-count, rw e (All-split (λ y. y < l) (take base found) (take (n - base) (drop base found)) (subst (All (λ y. y < l)) parts a) .1))
       where
         parts : take n found ≡ take base found ++ take (n - base) (drop base found)

@@ -8,6 +8,7 @@ use lib.ListN.{length, getD, take, drop}
 use Rattle.vocabulary.specs.Bytes.{Bytes, byteAt}
 use Rattle.vocabulary.specs.Intervals.{picked, some, every}
 use Rattle.vocabulary.specs.Lists.{isIn, All}
+use Rattle.layout.specs.Limits.{elementPlaces, mostElements, recordPlaces}
 use Rattle.mesh.specs.Mesh.{top, below, elements, recordCount, firstCell, cellCount, chain}
 use Rattle.mesh.specs.Walks.{bad10, stepTo}
 use Rattle.mesh.specs.Accepted.{Accepted, Cell}
@@ -23,7 +24,7 @@ isCellNumber m y = leb (firstCell m) y && ltb y (firstCell m + cellCount m)
 pub record Ground (m st : Bytes) (cell prev last : List ℕ) : Type 0 where
   pub mesh : Accepted m
   pub stencil : bad10 (top m) st ≡ false
-  pub told : (x y : ℕ) → x ≤ 2000 → isIn y (trail cell prev 12001 (getD last x 0)) ≡ isCellNumber m y && isIn x (chain m y)
+  pub told : (x y : ℕ) → x ≤ mostElements → isIn y (trail cell prev recordPlaces (getD last x 0)) ≡ isCellNumber m y && isIn x (chain m y)
 
 -- the sizes of a mesh, counted once
 pub record Sized (m : Bytes) (s : MeshSizes) : Type 0 where
@@ -34,10 +35,10 @@ pub record Sized (m : Bytes) (s : MeshSizes) : Type 0 where
 
 -- the arrays that walks are made in have room for a number of each element
 pub record Arrays (marks from found layers : List ℕ) : Type 0 where
-  pub marks-room : length marks ≡ 2001
-  pub from-room : length from ≡ 2001
-  pub found-room : length found ≡ 2001
-  pub layers-room : length layers ≡ 2001
+  pub marks-room : length marks ≡ elementPlaces
+  pub from-room : length from ≡ elementPlaces
+  pub found-room : length found ≡ elementPlaces
+  pub layers-room : length layers ≡ elementPlaces
 
 -- the first n numbers of `from` are all cells, or all lower elements
 pub record AllCells (m : Bytes) (from : List ℕ) (n : ℕ) : Type 0 where
@@ -118,10 +119,10 @@ cellsAmong k from n z = eqb (k % 2) 0 && isIn z (take n from)
 pub record WalkDone (m st : Bytes) (single : Bool) (cs : List ℕ) (k v : ℕ) (marks from found layers : List ℕ) (n met : ℕ) : Type 0 where
   pub gathered : Frontier (markAt single v k) marks found met
   pub told : (z : ℕ) → isIn z (take met found) ≡ single && metBefore m st cs (suc k) z
-  pub room : length from ≡ 2001
+  pub room : length from ≡ elementPlaces
   pub count : length (take n from) ≡ n
   pub ends : (z : ℕ) → isIn z (take n from) ≡ newly single m st cs k z
-  pub size : length layers ≡ 2001
+  pub size : length layers ≡ elementPlaces
   pub layered : (z : ℕ) → getD layers z 0 ≡ layerMark m st cs k z
 
 -- what has a layer stands from `low` on and before `high`, among the cells

@@ -20,10 +20,12 @@ ghost use lib.ListN.{length, take, drop};
 ghost use Rattle.mesh.specs.Meet.{Under};
 ghost use Rattle.vocabulary.specs.Bytes.{byteAt};
 ghost use Rattle.vocabulary.specs.Lists.{All, Zeros};
+ghost use Rattle.layout.specs.Limits.{elementPlaces, mostElements, mostSteps};
 ghost use Rattle.mesh.specs.Mesh.{top};
 ghost use Rattle.mesh.specs.Accepted.{Accepted};
 ghost use Rattle.walk_frontier.specs.Visits.{Frontier, Toward, Added};
-ghost use Rattle.walk_steps.specs.Walking.{Ground, Sized, AllCells, Lowers, Sided, stepped, alike, throughOne, markAt, startsAmong, orAmong, Noted, amongFirst, WalkDone, Within, Widened, Departed, Arrived};
+ghost use Rattle.walk_steps.specs.Walking.{Ground, Sized, AllCells, Lowers, Sided, stepped, alike, throughOne, markAt, startsAmong, orAmong, Noted, amongFirst};
+ghost use Rattle.walk_steps.specs.Walking.{WalkDone, Within, Widened, Departed, Arrived};
 
 // The sizes of a mesh: how many elements, records and cells it has, and its first cell.
 pub struct MeshSizes {
@@ -45,21 +47,21 @@ pub fn sizes_of(m: &[u8]) -> MeshSizes
     }
 }
 
-// Down from the first n cells of `from` to the elements of dimension a.
+// Down from the first `count` cells of `from` to the elements of dimension a.
 pub fn walk_down(
     m: &[u8],
     sizes: MeshSizes,
     a: usize,
     from: &[u16],
-    n: usize,
+    count: usize,
     mark: u16,
     marks: &mut [u16],
     found: &mut [u16],
     base: usize,
 ) -> usize
-    requires { ⌜ Accepted (now m) × Sized (now m) sizes × (a < top (now m)) × AllCells (now m) (now from) n × Frontier mark (now marks) (now found) base × (base ≤ 2000) ⌝ }
+    requires { ⌜ Accepted (now m) × Sized (now m) sizes × (a < top (now m)) × AllCells (now m) (now from) count × Frontier mark (now marks) (now found) base × (base ≤ mostElements) ⌝ }
     ensures { λ s. ⌜ Added mark (now (marks .exit)) (now (found .entry)) base (now (found .exit)) s
-        (orAmong (now (found .entry)) base (stepped (now (m .entry)) a (now (from .entry)) n)) ⌝ }
+        (orAmong (now (found .entry)) base (stepped (now (m .entry)) a (now (from .entry)) count)) ⌝ }
 {
     let lo = below_of(m, a);
     let hi = below_of(m, a + 1);
@@ -68,7 +70,7 @@ pub fn walk_down(
         sizes.elements,
         sizes.records,
         from,
-        n,
+        count,
         lo,
         hi,
         mark,
@@ -78,7 +80,7 @@ pub fn walk_down(
     )
 }
 
-// Up from the first n lower elements of `from` to their cells.
+// Up from the first `count` lower elements of `from` to their cells.
 pub fn walk_up(
     m: &[u8],
     stencil: &[u8],
@@ -86,17 +88,17 @@ pub fn walk_up(
     prev: &[u16],
     last: &[u16],
     from: &[u16],
-    n: usize,
+    count: usize,
     mark: u16,
     marks: &mut [u16],
     found: &mut [u16],
     base: usize,
 ) -> usize
-    requires { ⌜ Ground (now m) (now stencil) (now cell) (now prev) (now last) × Lowers (now m) (now from) n × Frontier mark (now marks) (now found) base × (base ≤ 2000) ⌝ }
+    requires { ⌜ Ground (now m) (now stencil) (now cell) (now prev) (now last) × Lowers (now m) (now from) count × Frontier mark (now marks) (now found) base × (base ≤ mostElements) ⌝ }
     ensures { λ s. ⌜ Added mark (now (marks .exit)) (now (found .entry)) base (now (found .exit)) s
-        (orAmong (now (found .entry)) base (stepped (now (m .entry)) (top (now (m .entry))) (now (from .entry)) n)) ⌝ }
+        (orAmong (now (found .entry)) base (stepped (now (m .entry)) (top (now (m .entry))) (now (from .entry)) count)) ⌝ }
 {
-    step_up(cell, prev, last, from, n, mark, marks, found, base)
+    step_up(cell, prev, last, from, count, mark, marks, found, base)
 }
 
 // Gives y the layer k, unless it has one.
@@ -109,12 +111,12 @@ fn note(k: u16, y: usize, layers: &mut [u16])
     }
 }
 
-// Gives the first n numbers of `from` the layer k, unless they have one.
-pub fn note_all(k: u16, from: &[u16], n: usize, layers: &mut [u16])
-    requires { ⌜ (k < 65535) × (length (take n (now from)) ≡ n) × All (λ y. y < length (now layers)) (take n (now from)) ⌝ }
-    ensures { λ _. ⌜ Noted k (now (layers .entry)) (now (layers .exit)) (amongFirst (now (from .entry)) n) ⌝ }
+// Gives the first `count` numbers of `from` the layer k, unless they have one.
+pub fn note_all(k: u16, from: &[u16], count: usize, layers: &mut [u16])
+    requires { ⌜ (k < 65535) × (length (take count (now from)) ≡ count) × All (λ y. y < length (now layers)) (take count (now from)) ⌝ }
+    ensures { λ _. ⌜ Noted k (now (layers .entry)) (now (layers .exit)) (amongFirst (now (from .entry)) count) ⌝ }
 {
-    for j in 0..n {
+    for j in 0..count {
         note(k, index_at(from, j), layers);
     }
 }
@@ -129,20 +131,20 @@ fn step(
     last: &[u16],
     k: usize,
     from: &[u16],
-    n: usize,
+    count: usize,
     mark: u16,
     marks: &mut [u16],
     found: &mut [u16],
     base: usize,
 ) -> usize
-    requires { ⌜ Ground (now m) (now stencil) (now cell) (now prev) (now last) × Sized (now m) sizes × (k < length (now stencil)) × Sided (now m) k (now from) n
-        × Frontier mark (now marks) (now found) base × (base ≤ 2000) ⌝ }
+    requires { ⌜ Ground (now m) (now stencil) (now cell) (now prev) (now last) × Sized (now m) sizes × (k < length (now stencil)) × Sided (now m) k (now from) count
+        × Frontier mark (now marks) (now found) base × (base ≤ mostElements) ⌝ }
     ensures { λ s. ⌜ Added mark (now (marks .exit)) (now (found .entry)) base (now (found .exit)) s
-        (orAmong (now (found .entry)) base (stepped (now (m .entry)) (byteAt (now (stencil .entry)) k) (now (from .entry)) n)) ⌝ }
+        (orAmong (now (found .entry)) base (stepped (now (m .entry)) (byteAt (now (stencil .entry)) k) (now (from .entry)) count)) ⌝ }
 {
     if k % 2 == 1 {
         let a = byte_at(stencil, k) as usize;
-        return walk_down(m, sizes, a, from, n, mark, marks, found, base);
+        return walk_down(m, sizes, a, from, count, mark, marks, found, base);
     }
     walk_up(
         m,
@@ -151,7 +153,7 @@ fn step(
         prev,
         last,
         from,
-        n,
+        count,
         mark,
         marks,
         found,
@@ -172,8 +174,8 @@ pub fn copy_part(src: &[u16], at: usize, n: usize, dst: &mut [u16], to: usize)
 
 // Sets all numbers of a list to 0.
 pub fn clear(list: &mut [u16])
-    requires { ⌜ length (now list) ≡ 2001 ⌝ }
-    ensures { λ _. ⌜ Zeros 2001 (now (list .exit)) ⌝ }
+    requires { ⌜ length (now list) ≡ elementPlaces ⌝ }
+    ensures { λ _. ⌜ Zeros elementPlaces (now (list .exit)) ⌝ }
 {
     for j in 0..list.len() {
         list[j] = 0;
@@ -191,7 +193,7 @@ pub struct Ends {
 
 // Whether the j-th odd place is like the first.
 fn is_alike(stencil: &[u8], j: usize) -> bool
-    requires { ⌜ j ≤ 8 ⌝ }
+    requires { ⌜ j ≤ mostSteps ⌝ }
     ensures { λ b. ⌜ b ≡ alike (now (stencil .entry)) j ⌝ }
 {
     byte_at(stencil, 2 * j + 1) == byte_at(stencil, 1)
@@ -212,17 +214,17 @@ pub fn through_one(stencil: &[u8]) -> bool
 
 // The mark of the step after k steps: one for the whole walk, or one a step.
 fn mark_at(single: bool, mark: usize, k: usize) -> usize
-    requires { ⌜ (mark ≤ 60000) × (k ≤ 8) ⌝ }
+    requires { ⌜ (mark ≤ 60000) × (k ≤ mostSteps) ⌝ }
     ensures { λ r. ⌜ (r ≡ markAt single mark k) × (r ≤ 60008) ⌝ }
 {
     if single { mark } else { mark + k }
 }
 
-// How many of the n elements found stay gathered: all, where one mark serves the whole walk.
-fn kept(single: bool, n: usize) -> usize
-    ensures { λ r. ⌜ r ≡ cond single n 0 ⌝ }
+// How many of the `count` elements found stay gathered: all, where one mark serves the whole walk.
+fn kept(single: bool, count: usize) -> usize
+    ensures { λ r. ⌜ r ≡ cond single count 0 ⌝ }
 {
-    if single { n } else { 0 }
+    if single { count } else { 0 }
 }
 
 // The lesser and the greater of two numbers.
@@ -251,13 +253,13 @@ fn widened(w: Ends, y: usize) -> Ends
     }
 }
 
-// The bounds that hold the first n numbers of a list as well.
-pub fn widen(list: &[u16], n: usize, w: Ends) -> Ends
-    requires { ⌜ length (take n (now list)) ≡ n ⌝ }
-    ensures { λ r. ⌜ (r .count ≡ w .count) × (r .met ≡ w .met) × Widened (w .low) (w .high) (r .low) (r .high) (take n (now (list .entry))) ⌝ }
+// The bounds that hold the first `count` numbers of a list as well.
+pub fn widen(list: &[u16], count: usize, w: Ends) -> Ends
+    requires { ⌜ length (take count (now list)) ≡ count ⌝ }
+    ensures { λ r. ⌜ (r .count ≡ w .count) × (r .met ≡ w .met) × Widened (w .low) (w .high) (r .low) (r .high) (take count (now (list .entry))) ⌝ }
 {
     let mut r = w;
-    for j in 0..n {
+    for j in 0..count {
         r = widened(r, index_at(list, j));
     }
     r
@@ -272,7 +274,7 @@ fn set_out(
     marks: &mut [u16],
     found: &mut [u16],
 ) -> usize
-    requires { ⌜ (length (take s (now from)) ≡ s) × All (λ y. (1 ≤ y) × (y ≤ 2000)) (take s (now from)) × Under mark (now marks) × (length (now found) ≡ 2001) ⌝ }
+    requires { ⌜ (length (take s (now from)) ≡ s) × All (λ y. (1 ≤ y) × (y ≤ mostElements)) (take s (now from)) × Under mark (now marks) × (length (now found) ≡ elementPlaces) ⌝ }
     ensures { λ r. ⌜ Frontier mark (now (marks .exit)) (now (found .exit)) r × Toward (now (found .exit)) r [] (startsAmong single (now (from .entry)) s) ⌝ }
 {
     if !single {
@@ -282,9 +284,9 @@ fn set_out(
 }
 
 // Before the first step the cells stand in `from`, bear the layer 0, and are all that was met.
-fn depart(e: usize, from: &[u16], s: usize, met: usize, layers: &mut [u16]) -> Ends
-    requires { ⌜ (e < 65536) × (length (take s (now from)) ≡ s) × All (λ y. y < length (now layers)) (take s (now from)) ⌝ }
-    ensures { λ w. ⌜ Departed e (now (from .entry)) s met (now (layers .entry)) (now (layers .exit)) (w .count) (w .low) (w .high) (w .met) ⌝ }
+fn depart(n: usize, from: &[u16], s: usize, met: usize, layers: &mut [u16]) -> Ends
+    requires { ⌜ (n < 65536) × (length (take s (now from)) ≡ s) × All (λ y. y < length (now layers)) (take s (now from)) ⌝ }
+    ensures { λ w. ⌜ Departed n (now (from .entry)) s met (now (layers .entry)) (now (layers .exit)) (w .count) (w .low) (w .high) (w .met) ⌝ }
 {
     note_all(0, from, s, layers);
     widen(
@@ -292,34 +294,35 @@ fn depart(e: usize, from: &[u16], s: usize, met: usize, layers: &mut [u16]) -> E
         s,
         Ends {
             count: s,
-            low: e + 1,
+            low: n + 1,
             high: 0,
             met,
         },
     )
 }
 
-// After step k, by which n elements are found in all, the new ones stand in `from`; cells bear the layer k unless they have one, and widen the bounds.
+// After step k, by which `all` elements are found in all, the new ones stand in `from`; cells bear the layer k unless they have one, and widen the bounds.
 fn arrive(
     k: usize,
     single: bool,
     found: &[u16],
-    n: usize,
+    all: usize,
     w: Ends,
     from: &mut [u16],
     layers: &mut [u16],
 ) -> Ends
-    requires { ⌜ (k ≤ 8) × (w .met ≤ n) × (length (take n (now found)) ≡ n) × (length (now found) ≡ 2001) × (length (now from) ≡ 2001) × All (λ y. y < length (now layers)) (take n (now found)) ⌝ }
-    ensures { λ r. ⌜ Arrived k single (now (found .entry)) (w .met) n (now (from .entry)) (now (from .exit)) (now (layers .entry)) (now (layers .exit)) (w .low) (w .high) (r .count)
+    requires { ⌜ (k ≤ mostSteps) × (w .met ≤ all) × (length (take all (now found)) ≡ all) × (length (now found) ≡ elementPlaces) × (length (now from) ≡ elementPlaces)
+        × All (λ y. y < length (now layers)) (take all (now found)) ⌝ }
+    ensures { λ r. ⌜ Arrived k single (now (found .entry)) (w .met) all (now (from .entry)) (now (from .exit)) (now (layers .entry)) (now (layers .exit)) (w .low) (w .high) (r .count)
         (r .low) (r .high) (r .met) ⌝ }
 {
-    let count = n - w.met;
+    let count = all - w.met;
     copy_part(found, w.met, count, from, 0);
     let met = Ends {
         count,
         low: w.low,
         high: w.high,
-        met: kept(single, n),
+        met: kept(single, all),
     };
     if k % 2 == 1 {
         return met;
@@ -347,7 +350,8 @@ pub fn walk(
     layers: &mut [u16],
 ) -> Ends
     requires { ⌜ Ground (now m) (now stencil) (now cell) (now prev) (now last) × Sized (now m) sizes × (single ≡ throughOne (now stencil))
-        × AllCells (now m) (now from) s × (k < length (now stencil)) × (k ≤ 8) × (mark ≤ 60000) × Under mark (now marks) × (length (now from) ≡ 2001) × (length (now found) ≡ 2001) × Zeros 2001 (now layers) ⌝ }
+        × AllCells (now m) (now from) s × (k < length (now stencil)) × (k ≤ mostSteps) × (mark ≤ 60000) × Under mark (now marks) × (length (now from) ≡ elementPlaces)
+        × (length (now found) ≡ elementPlaces) × Zeros elementPlaces (now layers) ⌝ }
     ensures { λ w. ⌜ WalkDone (now (m .entry)) (now (stencil .entry)) single (take s (now (from .entry))) k mark (now (marks .exit)) (now (from .exit)) (now (found .exit)) (now (layers .exit))
         (w .count) (w .met) × Within (now (m .entry)) (now (layers .exit)) (w .low) (w .high) ⌝ }
 {

@@ -119,7 +119,8 @@ list-count a b s t n list P h = omega (arith, P .count, length-take-le n list h)
 pub words-count : (a b : Bytes) (s t n : ℕ) (g : ℕ → ℕ) → Put a b s t (listed 0 n g) → t ≡ s + n
 words-count a b s t n g P = omega (arith, P .count, listed-length 0 g n)
 
-pub put-four : (a b c d e : Bytes) (s t u w x : ℕ) (ks ls ms ns : List ℕ) → 2 * x ≤ length a → Put a b s t ks → Put b c t u ls → Put c d u w ms → Put d e w x ns → Put a e s x (ks ++ (ls ++ (ms ++ ns)))
+pub put-four : (a b c d e : Bytes) (s t u w x : ℕ) (ks ls ms ns : List ℕ) → 2 * x ≤ length a → Put a b s t ks → Put b c t u ls → Put c d u w ms → Put d e w x ns
+    → Put a e s x (ks ++ (ls ++ (ms ++ ns)))
 put-four a b c d e s t u w x ks ls ms ns room P Q R T =
     let lb : length b ≡ length a = put-length a b s t ks P (omega (arith, Q .count, R .count, T .count)) in
     let lc : length c ≡ length b = put-length b c t u ls Q (omega (arith, R .count, T .count)) in

@@ -14,9 +14,9 @@ use Rattle.layout.specs.Answers.{answer}
 use Rattle.depths.specs.Depths.{four, numberFrom, signed, unsigned, depthFrom, numberBytes, depthBytes, inRange, rangedAt}
 use Rattle.layout.specs.Words.{word, wordAt, words, wordBytes, bytesOf}
 use Rattle.mesh.specs.Meet.{meet, stamp, unlike}
-use Rattle.mesh.specs.Mesh.{below, dimension, elementIn, nextOf, follow, records, chain, allRecords, bad1, wrongCount, bad2, meshLength, bad3}
-use Rattle.mesh.specs.Mesh.{headed, bad4, wrongIn, wrongAt, bad5, leaves, unclosed, bad6, bare, bad7, meshTests, meshNumber, checkAnswer}
-use Rattle.mesh.specs.Walks.{Near, incident, steps, rightAt, bad10, stepTo, walked, stepsTo, layer, reach, bad13, cellsAt}
+use Rattle.mesh.specs.Mesh.{below, dimension, elementIn, nextOf, follow, records, chain, allRecords, bad1, badCount, bad2, meshLength, bad3}
+use Rattle.mesh.specs.Mesh.{headed, bad4, badItem, badChain, bad5, leaves, unclosed, bad6, bare, bad7, meshTests, meshNumber, checkAnswer}
+use Rattle.mesh.specs.Walks.{Near, incident, steps, validAt, bad10, stepTo, walked, stepsTo, layer, reach, bad13, cellsAt}
 use Rattle.round.specs.Rounds.{bad14, schemeOf, depthIn, oldsIn, newIn, round, undivided, roundNumber, roundAnswer, roundOut}
 use Rattle.round_rule.specs.Rules.{weightCount, tooHeavy, bad11, weight, depthSum, weightSum, quotient, least, newDepth}
 use Rattle.round_rule.specs.Update.{tableEntries, oldsAt}
@@ -263,8 +263,8 @@ table =
 
 pub worked : AllHold table
 unfolding over isIn placeOf joined repeats someOf everyOf isUpTo picked every some listed blocks total answer four numberFrom signed unsigned depthFrom numberBytes depthBytes
-    inRange rangedAt word wordAt words wordBytes bytesOf meet stamp unlike below dimension elementIn nextOf follow records chain allRecords bad1 wrongCount bad2 meshLength bad3
-    headed bad4 wrongIn wrongAt bad5 leaves unclosed bad6 bare bad7 meshTests meshNumber checkAnswer incident steps rightAt bad10 stepTo walked stepsTo layer reach bad13 bad14
+    inRange rangedAt word wordAt words wordBytes bytesOf meet stamp unlike below dimension elementIn nextOf follow records chain allRecords bad1 badCount bad2 meshLength bad3
+    headed bad4 badItem badChain bad5 leaves unclosed bad6 bare bad7 meshTests meshNumber checkAnswer incident steps validAt bad10 stepTo walked stepsTo layer reach bad13 bad14
     schemeOf depthIn oldsIn newIn round undivided roundNumber roundAnswer roundOut weightCount tooHeavy bad11 weight depthSum weightSum quotient least newDepth tableEntries oldsAt
     encode bad15 reading bad8 bad9 bad12 splitTests sizeTests others listOf listWords listNumber listAnswer listOut splitOf owns owned reaches holds held imports exports inside
     interior halo locals localOf globalOf cellsAt holdsLower touches another isCopied isShared isExposed isPrivate range importsFrom exportsTo messageTo writeTestsIn writtenIn

@@ -1,6 +1,6 @@
 -- `mesh_valid::mesh_number` meets its contract. Assumes nothing.
 use Rattle.mesh.specs.MeshLaws.{sizes-refuse, sizes-pass}
-use Rattle.mesh_valid.proofs.HeadLaws.{head-sizes}
+use Rattle.mesh_valid.proofs.SizeLaws.{head-sizes}
 use borrow.Author.Needs.{needs}
 use Rattle.mesh_valid.proofs.mesh_number.Statement.{statement}
 use Rattle.mesh_valid.proofs.mesh_number.Tie as tie

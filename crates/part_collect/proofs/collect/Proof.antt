@@ -17,6 +17,7 @@ collect-spec =
     (λ c. search needs)
     (λ c. search needs)
     (λ c. opened-room _ _ _ (c .before .before .is-state .ensures) (c .before .if1 .left) (c .word-at .ensures .0) (c .word-at .ensures .1))
-    (λ c κs. opened _ _ _ (c .before .before .before .before .is-state .ensures) (c .before .before .before .if1 .left) (c .before .before .word-at .ensures .0) (c .before .before .word-at .ensures .1))
+    (λ c κs. opened _ _ _ (c .before .before .before .before .is-state .ensures) (c .before .before .before .if1 .left) (c .before .before .word-at .ensures .0)
+    (c .before .before .word-at .ensures .1))
     (λ c. search needs)
     (λ c. search needs))

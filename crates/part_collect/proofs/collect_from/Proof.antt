@@ -14,10 +14,14 @@ collect-from-spec =
     (λ c. told-28 _ _ _ _ _ (c .before .before .before .before .before .pre) _ (c .before .word-in .ensures .0) (c .if1 .taken))
     (λ c κs. search needs)
     (λ c. search needs)
-    (λ c. told-16 _ _ _ _ _ (c .before .before .before .before .before .before .before .pre) _ (c .before .before .before .word-in .ensures .0) (c .before .before .if1 .left) _ (c .before .word-at .ensures .0) (c .if2 .taken))
+    (λ c. told-16 _ _ _ _ _ (c .before .before .before .before .before .before .before .pre) _ (c .before .before .before .word-in .ensures .0) (c .before .before .if1 .left) _
+    (c .before .word-at .ensures .0) (c .if2 .taken))
     (λ c κs. search needs)
     (λ c κs. search needs)
     (λ c κs. search needs)
     (λ c. search needs)
     (λ c. search needs)
-    (λ c. told-done _ _ _ _ _ (c .before .before .before .before .before .before .before .before .before .before .before .before .before .pre) _ (c .before .before .before .before .before .before .before .before .before .word-in .ensures .0) (c .before .before .before .before .before .before .before .before .if1 .left) _ (c .before .before .before .before .before .before .before .word-at .ensures .0) (c .before .before .before .before .before .before .if2 .left) _ (c .before .before .before .before .before .word-at2 .ensures .0) _ (c .before .before .gather .ensures)))
+    (λ c. told-done _ _ _ _ _ (c .before .before .before .before .before .before .before .before .before .before .before .before .before .pre) _
+    (c .before .before .before .before .before .before .before .before .before .word-in .ensures .0) (c .before .before .before .before .before .before .before .before .if1 .left) _
+    (c .before .before .before .before .before .before .before .word-at .ensures .0) (c .before .before .before .before .before .before .if2 .left) _
+    (c .before .before .before .before .before .word-at2 .ensures .0) _ (c .before .before .gather .ensures)))

@@ -13,12 +13,28 @@ take-in-spec =
     (tie.spec
     (λ c κs. search needs)
     (λ c. search needs)
-    (λ c. refused _ _ _ (number-is _ _ _ (c .before .before .before .before .before .pre .0) (c .before .before .before .before .before .pre .1) _ _ _ _ (c .before .before .before .before .before .pre .2) (c .before .before .before .before .before .pre .3) (c .before .before .before .before .before .pre .4) (c .before .before .before .before .before .pre .5) ∙ sym (c .before .take-rest .ensures)) (c .if1 .taken))
+    (λ c. refused _ _ _ (number-is _ _ _ (c .before .before .before .before .before .pre .0) (c .before .before .before .before .before .pre .1) _ _ _ _
+    (c .before .before .before .before .before .pre .2) (c .before .before .before .before .before .pre .3) (c .before .before .before .before .before .pre .4)
+    (c .before .before .before .before .before .pre .5) ∙ sym (c .before .take-rest .ensures)) (c .if1 .taken))
     (λ c. search needs)
     (λ c. search needs)
     (λ c. omega (arith, long _ _ _ (c .before .before .before .before .before .before .pre .0)))
-    (λ c. omega (arith, from-few _ _ _ (c .before .before .before .before .before .before .before .pre .0) (c .before .before .before .before .before .before .before .pre .1) _ _ _ _ (c .before .before .before .before .before .before .before .pre .2) (c .before .before .before .before .before .before .before .pre .3) (c .before .before .before .before .before .before .before .pre .4) (c .before .before .before .before .before .before .before .pre .5) _ (c .before .before .before .take-rest .ensures) (c .before .before .if1 .left)))
+    (λ c. omega (arith, from-few _ _ _ (c .before .before .before .before .before .before .before .pre .0) (c .before .before .before .before .before .before .before .pre .1) _ _ _ _
+    (c .before .before .before .before .before .before .before .pre .2) (c .before .before .before .before .before .before .before .pre .3)
+    (c .before .before .before .before .before .before .before .pre .4) (c .before .before .before .before .before .before .before .pre .5) _ (c .before .before .before .take-rest .ensures)
+    (c .before .before .if1 .left)))
     (λ c κs. search needs)
-    (λ c κs. store-fits _ _ _ (c .before .before .before .before .before .before .before .before .before .pre .0) (c .before .before .before .before .before .before .before .before .before .pre .1) _ _ _ _ (c .before .before .before .before .before .before .before .before .before .pre .2) (c .before .before .before .before .before .before .before .before .before .pre .3) (c .before .before .before .before .before .before .before .before .before .pre .4) (c .before .before .before .before .before .before .before .before .before .pre .5) _ (c .before .before .before .before .before .take-rest .ensures) (c .before .before .before .before .if1 .left) _ (c .before .word-at .ensures .0))
+    (λ c κs. store-fits _ _ _ (c .before .before .before .before .before .before .before .before .before .pre .0)
+    (c .before .before .before .before .before .before .before .before .before .pre .1) _ _ _ _ (c .before .before .before .before .before .before .before .before .before .pre .2)
+    (c .before .before .before .before .before .before .before .before .before .pre .3) (c .before .before .before .before .before .before .before .before .before .pre .4)
+    (c .before .before .before .before .before .before .before .before .before .pre .5) _ (c .before .before .before .before .before .take-rest .ensures)
+    (c .before .before .before .before .if1 .left) _ (c .before .word-at .ensures .0))
     (λ c. search needs)
-    (λ c. told-done _ _ _ (c .before .before .before .before .before .before .before .before .before .before .before .before .pre .0) (c .before .before .before .before .before .before .before .before .before .before .before .before .pre .1) _ _ _ _ (c .before .before .before .before .before .before .before .before .before .before .before .before .pre .2) (c .before .before .before .before .before .before .before .before .before .before .before .before .pre .3) (c .before .before .before .before .before .before .before .before .before .before .before .before .pre .4) (c .before .before .before .before .before .before .before .before .before .before .before .before .pre .5) _ (c .before .before .before .before .before .before .before .before .take-rest .ensures) (c .before .before .before .before .before .before .before .if1 .left) _ (c .before .before .before .before .word-at .ensures .0) _ (c .before .before .store .ensures)))
+    (λ c. told-done _ _ _ (c .before .before .before .before .before .before .before .before .before .before .before .before .pre .0)
+    (c .before .before .before .before .before .before .before .before .before .before .before .before .pre .1) _ _ _ _
+    (c .before .before .before .before .before .before .before .before .before .before .before .before .pre .2)
+    (c .before .before .before .before .before .before .before .before .before .before .before .before .pre .3)
+    (c .before .before .before .before .before .before .before .before .before .before .before .before .pre .4)
+    (c .before .before .before .before .before .before .before .before .before .before .before .before .pre .5) _
+    (c .before .before .before .before .before .before .before .before .take-rest .ensures) (c .before .before .before .before .before .before .before .if1 .left) _
+    (c .before .before .before .before .word-at .ensures .0) _ (c .before .before .store .ensures)))

@@ -2,7 +2,7 @@
 use mathlib.Core.Path.{_≡_}
 use Prim.Native.Nat.{_-_, _≤_}
 use lib.ListN.{length}
-use Rattle.messages.specs.Messages.{headSize}
+use Rattle.messages.specs.Messages.{headerSize}
 use Rattle.vocabulary.specs.Bytes.{over}
 use Rattle.vocabulary.specs.Intervals.{blocks}
 use Rattle.vocabulary.specs.IntervalLaws.{stored-start, stored-end}
@@ -13,7 +13,7 @@ use Rattle.part_write.proofs.put_depths.Statement.{statement}
 use Rattle.part_write.proofs.put_depths.Tie as tie
 
 abbrev Inv-loop : tie.InvT-loop
-Inv-loop lists b changes from count out₀ base t₀ out t = (t ≤ count) × (length out ≡ length out₀) × (out ≡ over out₀ headSize (blocks from t (sentAt lists changes b)))
+Inv-loop lists b changes from count out₀ base t₀ out t = (t ≤ count) × (length out ≡ length out₀) × (out ≡ over out₀ headerSize (blocks from t (sentAt lists changes b)))
 
 abbrev μ-loop : tie.MeasureT-loop
 μ-loop lists b changes from count out₀ base t₀ out t = count - t

@@ -1,5 +1,5 @@
 -- `round_rule::bad_weights` meets its contract. Assumes nothing.
-use Rattle.round_rule.proofs.Refusals.{odd-weights, other-number, heavy-weights, light-weights}
+use Rattle.round_rule.proofs.Refusals.{hold-rule, mean-rule, shoalest-rule}
 use borrow.Author.Needs.{needs}
 use Rattle.round_rule.proofs.bad_weights.Statement.{statement}
 use Rattle.round_rule.proofs.bad_weights.Tie as tie
@@ -9,9 +9,9 @@ bad-weights-spec =
     tie.close
     (tie.spec
     (λ c. search needs)
-    (λ c. search odd-weights)
-    (λ c. search other-number)
+    (λ c. search needs)
     (λ c κs. search needs)
-    (λ c. search heavy-weights)
-    (λ c κs. search needs)
-    (λ c. search light-weights))
+    (λ c. search needs)
+    (λ c. search hold-rule)
+    (λ c. search mean-rule)
+    (λ c. search shoalest-rule))

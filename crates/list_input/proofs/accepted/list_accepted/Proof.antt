@@ -4,6 +4,7 @@ use native.Mathlib.Omega.{arith}
 use Prim.Native.Nat.{_-_, _≤_}
 use lib.ListN.{length, replicate}
 use Rattle.vocabulary.specs.Intervals.{blocks}
+use Rattle.layout.specs.Limits.{elementPlaces, mostElements, recordPlaces, tableBytes}
 use Rattle.mesh.specs.Mesh.{firstCell, cellCount}
 use Rattle.mesh.proofs.AcceptedLaws.{cells-few, cells-fit}
 use Rattle.split.proofs.PassedLaws.{passed-facts}
@@ -19,7 +20,7 @@ use Rattle.list_input.proofs.accepted.list_accepted.Tie as tie
 abbrev Inv-loop : tie.InvT-loop
 Inv-loop m parts owners stencil out₀ cell prev last table ends holders class₀ number first cells count t₀ i₀ out class t i =
     Tables m count owners stencil cell prev last table ends holders × (first ≡ firstCell m) × (cells ≡ cellCount m)
-    × (i ≤ count) × (length class ≡ 2000) × (length out ≡ length out₀) × Printed out₀ out t₀ t (blocks 1 i (partOf m count owners stencil))
+    × (i ≤ count) × (length class ≡ mostElements) × (length out ≡ length out₀) × Printed out₀ out t₀ t (blocks 1 i (partOf m count owners stencil))
 
 abbrev μ-loop : tie.MeasureT-loop
 μ-loop m parts owners stencil out₀ cell prev last table ends holders class₀ number first cells count t₀ i₀ out class t i = count - i
@@ -40,7 +41,7 @@ list-accepted-spec =
     (λ c κs.
     let at-start = c .before .before .before .before .before .before .before .before .before .before .before in
     let f = passed-facts _ _ _ _ _ _ (at-start .pre) in
-    (f .mesh, f .map, f .stencil, refl {a = 12001}, refl {a = 12001}, refl {a = replicate 2001 0}, refl {a = 32000}, refl {a = 2001}, refl {a = 2000}, refl {a = 2000}))
+    (f .mesh, f .map, f .stencil, refl {a = recordPlaces}, refl {a = recordPlaces}, refl {a = replicate elementPlaces 0}, refl {a = tableBytes}, refl {a = elementPlaces}, refl {a = mostElements}, refl {a = mostElements}))
     (λ c. search needs)
     (λ c. search needs)
     (λ c κs. search needs)

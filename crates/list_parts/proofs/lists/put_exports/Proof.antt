@@ -4,6 +4,7 @@ use mathlib.Core.Path.{_≡_, refl}
 use Prim.Native.Nat.{_+_, _-_, _≤_}
 use lib.ListN.{length}
 use Rattle.vocabulary.specs.Intervals.{blocks}
+use Rattle.layout.specs.Limits.{mostElements}
 use Rattle.mesh.proofs.AcceptedLaws.{cells-few, cells-fit}
 use Rattle.list_text.specs.Printing.{Printed}
 use Rattle.list_ranges.specs.Lines.{exportLine}
@@ -14,7 +15,7 @@ use Rattle.list_parts.proofs.lists.put_exports.Tie as tie
 
 abbrev Inv-loop : tie.InvT-loop
 Inv-loop m owners table ends i parts out₀ at first cells t₀ j₀ t14 out t j =
-    (first + cells ≤ 65536) × (cells ≤ 2000) × (j ≤ parts) × (length out ≡ length out₀) × Printed out₀ out at t (blocks 1 j (exportLine owners table ends first cells i))
+    (first + cells ≤ 65536) × (cells ≤ mostElements) × (j ≤ parts) × (length out ≡ length out₀) × Printed out₀ out at t (blocks 1 j (exportLine owners table ends first cells i))
 
 abbrev μ-loop : tie.MeasureT-loop
 μ-loop m owners table ends i parts out₀ at first cells t₀ j₀ t14 out t j = parts - j

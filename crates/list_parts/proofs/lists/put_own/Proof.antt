@@ -15,4 +15,5 @@ put-own-spec =
     (λ c. search needs)
     (λ c κs. search needs)
     (λ c. search needs)
-    (λ c. own-told _ _ _ _ _ _ _ _ _ _ _ _ (c .before .before .before .before .before .before .before .before .before .before .before .before .put-line .ensures) (c .before .before .before .before .before .before .before .put-cells .ensures) (c .before .before .put-cells2 .ensures)))
+    (λ c. own-told _ _ _ _ _ _ _ _ _ _ _ _ (c .before .before .before .before .before .before .before .before .before .before .before .before .put-line .ensures)
+    (c .before .before .before .before .before .before .before .put-cells .ensures) (c .before .before .put-cells2 .ensures)))

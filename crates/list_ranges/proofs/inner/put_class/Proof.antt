@@ -14,4 +14,5 @@ put-class-spec =
     (λ c. search needs)
     (λ c κs. list-room _ _ _ _ (c .before .before .before .before .before .before .before .pre .1) _ _ _ (c .before .before .before .add-class .ensures .0) refl)
     (λ c. search needs)
-    (λ c. list-told _ _ _ _ (c .before .before .before .before .before .before .before .before .before .before .pre .1) _ _ _ (c .before .before .before .before .before .before .add-class .ensures .0) refl _ _ _ _ (c .before .before .put-numbers .ensures)))
+    (λ c. list-told _ _ _ _ (c .before .before .before .before .before .before .before .before .before .before .pre .1) _ _ _
+    (c .before .before .before .before .before .before .add-class .ensures .0) refl _ _ _ _ (c .before .before .put-numbers .ensures)))

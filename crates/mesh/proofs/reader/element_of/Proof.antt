@@ -23,7 +23,8 @@ element-of-spec 𝓤 H 𝓜 𝓖 𝓡 =
     -- [room for _0; …; _1; …; _2; …; room for _3; …; room for _4; …; the token; what c and n own]
     sets ! 6 (part-of ! 2 0 refl refl refl) refl (tt, ct .0 .1 .0) $ sets ! 8 (part-of ! 2 1 refl refl refl) refl (tt, ct .0 .1 .1 .0) $
     move ! (11 ∷ []) $ lends W κs c n (ct .0 .1 .1 .0 .fits) $ move ! (0 ∷ 11 ∷ []) $
-    calls-met W 𝓡 code.env fm element-in.ended (bytes, (number, (number, tt))) number (element-in.clauses 𝓤 H) κs qs tt (c .mesh, (n, (c .index, tt))) tt code.calls-mesh·reader·element-in (element-in-thm.met 𝓤 H 𝓜 𝓖 𝓡) (factI 𝓤 _ _ ok)
+    calls-met W 𝓡 code.env fm element-in.ended (bytes, (number, (number, tt))) number (element-in.clauses 𝓤 H) κs qs tt (c .mesh, (n, (c .index, tt))) tt code.calls-mesh·reader·element-in
+    (element-in-thm.met 𝓤 H 𝓜 𝓖 𝓡) (factI 𝓤 _ _ ok)
     (and-then ! (cell ! 7 refl) (and-then ! (cell ! 5 refl) (and-then ! (cell ! 9 refl) (no-more !)))) (λ x ws xt. heard ! _ (λ said.
     -- [what the element owns; the token; room for _0; …; .. _4; …]
     takes ! 2 refl (xt .0) $ leaves ! 2 refl _ refl $ ends _ x (factI 𝓤 _ _ said))))))

@@ -25,7 +25,8 @@ moved-on-spec 𝓤 H 𝓜 𝓖 𝓡 =
     sets ! 6 (part-of ! 2 0 refl refl refl) refl (tt, ct .0 .1 .0) $ sets ! 10 (part-of ! 2 0 refl refl refl) refl (tt, ct .0 .1 .0) $
     sets ! 12 (part-of ! 2 1 refl refl refl) refl (tt, ct .0 .1 .1 .0) $
     move ! (15 ∷ []) $ fsplit ! $ twice W κs c $ move ! (0 ∷ 2 ∷ []) $ fjoin ! $ lends W κs c n (ct .0 .1 .1 .0 .fits) $ move ! (0 ∷ 16 ∷ []) $
-    calls-met W 𝓡 code.env fm next-of.ended (bytes, (number, (number, tt))) number (next-of.clauses 𝓤 H) κs qs tt (c .mesh, (n, (c .index, tt))) tt code.calls-mesh·reader·next-of (next-of-thm.met 𝓤 H 𝓜 𝓖 𝓡) (factI 𝓤 _ _ ok)
+    calls-met W 𝓡 code.env fm next-of.ended (bytes, (number, (number, tt))) number (next-of.clauses 𝓤 H) κs qs tt (c .mesh, (n, (c .index, tt))) tt code.calls-mesh·reader·next-of
+    (next-of-thm.met 𝓤 H 𝓜 𝓖 𝓡) (factI 𝓤 _ _ ok)
     (and-then ! (cell ! 12 refl) (and-then ! (cell ! 6 refl) (and-then ! (cell ! 14 refl) (no-more !)))) (λ x ws xt. heard ! _ (λ said. drop ! $
     -- [the token; what c owns; room for _0; …; .. _6; …]
     takes ! 10 refl (xt .0) $ sets ! 2 (agg ! (and-then ! (cell ! 8 refl) (and-then ! (cell ! 10 refl) (no-more !)))) refl (tt, (ct .0 .1 .0, (xt .0 .1, tt))) $

@@ -37,7 +37,8 @@ module _ (m : RefT (List ℕ)) (n i : ℕ) (c : ChainReader) (at : (c .mesh ≡ 
   asked ok = (ok .0 ∙ ap (λ (x : RefT (List ℕ)). elements (now x)) (sym (at .0)), ok .1, subst (λ (j : ℕ). j < 65536) (sym (at .1)) (ok .2))
 
   -- what the three that are asked say together, at the reader d that was moved on
-  told : (x h : ℕ) (d : ChainReader) → (x ≡ elementIn (now (c .mesh)) (c .index)) × (x < 65536) → (d .mesh ≡ c .mesh) × (d .index ≡ nextOf (now (c .mesh)) (c .index)) × (d .index < 65536) → h ≡ d .index
+  told : (x h : ℕ) (d : ChainReader) → (x ≡ elementIn (now (c .mesh)) (c .index)) × (x < 65536) → (d .mesh ≡ c .mesh) × (d .index ≡ nextOf (now (c .mesh)) (c .index)) × (d .index < 65536)
+      → h ≡ d .index
       → (x ≡ elementIn (now m) i) × (x < 65536) × (h ≡ nextOf (now m) i) × (h < 65536)
   told x h d said moved is = (
     said .0 ∙ (ap (λ (y : RefT (List ℕ)). elementIn (now y) (c .index)) (at .0) ∙ ap (elementIn (now m)) (at .1)),
@@ -58,12 +59,14 @@ read-record-spec 𝓤 H 𝓜 𝓖 𝓡 =
     -- [what c owns; the token; _0; …; .. _9; …]
     takes ! 10 refl (tt, ct .0 .1) $ sets ! 14 (of-opd ! (cell ! 10 refl)) refl (tt, ct .0 .1) $
     twice W κs c $ and-number ! n (nt .0 .1 .fits) $ move ! (0 ∷ 2 ∷ []) $
-    calls-met W 𝓡 code.env fm element-of.ended (reader, (number, tt)) number (element-of.clauses 𝓤 H) κs qs tt (c, (n, tt)) tt code.calls-mesh·reader·element-of (element-of-thm.met 𝓤 H 𝓜 𝓖 𝓡) (factI 𝓤 _ _ (asked m n i c at ok))
+    calls-met W 𝓡 code.env fm element-of.ended (reader, (number, tt)) number (element-of.clauses 𝓤 H) κs qs tt (c, (n, tt)) tt code.calls-mesh·reader·element-of (element-of-thm.met 𝓤 H 𝓜 𝓖 𝓡)
+    (factI 𝓤 _ _ (asked m n i c at ok))
     (and-then ! (cell ! 14 refl) (and-then ! (cell ! 6 refl) (no-more !))) (λ x ws₁ xt. heard ! _ (λ said. drop ! $
     -- [the token; what c owns; _0; …; .. _9; …]
     takes ! 12 refl (xt .0) $ sets ! 20 (of-opd ! (cell ! 10 refl)) refl (tt, ct .0 .1) $
     move ! (1 ∷ []) $ and-number ! n (nt .0 .1 .fits) $
-    calls-met W 𝓡 code.env fm moved-on.ended (reader, (number, tt)) reader (moved-on.clauses 𝓤 H) κs qs tt (c, (n, tt)) tt code.calls-mesh·reader·moved-on (moved-on-thm.met 𝓤 H 𝓜 𝓖 𝓡) (factI 𝓤 _ _ (asked m n i c at ok))
+    calls-met W 𝓡 code.env fm moved-on.ended (reader, (number, tt)) reader (moved-on.clauses 𝓤 H) κs qs tt (c, (n, tt)) tt code.calls-mesh·reader·moved-on (moved-on-thm.met 𝓤 H 𝓜 𝓖 𝓡)
+    (factI 𝓤 _ _ (asked m n i c at ok))
     (and-then ! (cell ! 19 refl) (and-then ! (cell ! 5 refl) (no-more !))) (λ d ws₂ dt. heard ! _ (λ moved.
     -- [what d owns; the token; _0; …; .. _9; …]
     takes ! 18 refl (tt, dt .0 .1) $ alone ! $
@@ -72,5 +75,6 @@ read-record-spec 𝓤 H 𝓜 𝓖 𝓡 =
     -- [the token; _0; …; .. _9; …]
     takes ! 15 refl (ht .0) $ sets ! 1 (agg ! (and-then ! (cell ! 11 refl) (and-then ! (cell ! 15 refl) (no-more !)))) refl (tt, (xt .0 .1, (ht .0 .1, tt))) $
     leaves ! 1 refl _ refl $
-    counted ! x (xt .0 .1 .fits) $ and-number ! h (ht .0 .1 .fits) $ use1 W (‵ (R.the-row .own (record { element = x; next = h }) (R′.lowered (record { element = x; next = h }) ∷ []))) (own-shut 𝓤 H (𝓖 .A) W R.the-type R′.the-laws (x, (h, tt))) $
+    counted ! x (xt .0 .1 .fits) $ and-number ! h (ht .0 .1 .fits) $ use1 W (‵ (R.the-row .own (record { element = x; next = h }) (R′.lowered (record { element = x; next = h }) ∷ [])))
+        (own-shut 𝓤 H (𝓖 .A) W R.the-type R′.the-laws (x, (h, tt))) $
     ends _ (record { element = x; next = h }) (factI 𝓤 _ _ (told m n i c at x h d said moved is)))))))))))))

@@ -5,7 +5,8 @@ use Prim.Native.Nat.{_+_, _-_, _≤_}
 use lib.ListN.{length}
 use Rattle.vocabulary.specs.Intervals.{some}
 use Rattle.vocabulary.specs.ListLaws.{not-both}
-use Rattle.mesh.specs.Mesh.{elements, below, wrongAt}
+use Rattle.layout.specs.Limits.{mostElements}
+use Rattle.mesh.specs.Mesh.{elements, below, badChain}
 use Rattle.mesh_chains.specs.Written.{MarksBelow}
 use Rattle.mesh_chains.proofs.ElementLaws.{points-below, points-few, points-marks, points-right, lower-found, lower-turn, lower-end, lower-marks, next-below, next-few, next-marks}
 use borrow.Author.Needs.{needs}
@@ -13,8 +14,8 @@ use Rattle.mesh_chains.proofs.inner.bad5.Statement.{statement}
 use Rattle.mesh_chains.proofs.inner.bad5.Tie as tie
 
 abbrev Inv-loop : tie.InvT-loop
-Inv-loop m d items ends marks₀ low₀ k₀ k-end marks low k = (1 ≤ k) × (k ≤ 1 + d) × (k-end ≡ 1 + d) × (low ≡ below m k) × (low ≤ 2000) × (length marks ≡ length marks₀)
-    × MarksBelow (elements m) (low + 1) marks × (some 1 low (wrongAt m) ≡ false)
+Inv-loop m d items ends marks₀ low₀ k₀ k-end marks low k = (1 ≤ k) × (k ≤ 1 + d) × (k-end ≡ 1 + d) × (low ≡ below m k) × (low ≤ mostElements) × (length marks ≡ length marks₀)
+    × MarksBelow (elements m) (low + 1) marks × (some 1 low (badChain m) ≡ false)
 
 abbrev μ-loop : tie.MeasureT-loop
 μ-loop m d items ends marks₀ low₀ k₀ k-end marks low k = k-end - k

@@ -1,4 +1,5 @@
 -- `mesh_chains::inner::write_all` meets its contract. Assumes nothing.
+use Rattle.layout.specs.Limits.{recordPlaces}
 use Rattle.mesh_chains.proofs.ElementLaws.{no-marks}
 use borrow.Author.Needs.{needs}
 use Rattle.mesh_chains.proofs.inner.write_all.Statement.{statement}
@@ -11,7 +12,7 @@ write-all-spec =
     (λ c. search needs)
     (λ c κs. (search needs, search needs, no-marks _ 512 (search needs)))
     (λ c. search needs)
-    (λ c κs. (search needs, search needs, no-marks _ 12001 (search needs)))
+    (λ c κs. (search needs, search needs, no-marks _ recordPlaces (search needs)))
     (λ c. search needs)
     (λ c. search needs)
     (λ c. search needs)

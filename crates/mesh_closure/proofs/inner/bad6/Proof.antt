@@ -5,6 +5,7 @@ use Prim.Native.Nat.{_+_, _-_, _≤_, _<_}
 use lib.ListN.{length}
 use Rattle.vocabulary.specs.Intervals.{some}
 use Rattle.vocabulary.specs.ListLaws.{not-both}
+use Rattle.layout.specs.Limits.{mostElements}
 use Rattle.mesh.specs.Mesh.{unclosed}
 use Rattle.mesh_chains.specs.Written.{MarksBelow}
 use Rattle.mesh_closure.proofs.ClosureLaws.{elements-few, last-there, closed-fresh, closed-in, closed-start, rows-here, unclosed-found, unclosed-turn, closed-end, closed-marks}
@@ -13,7 +14,7 @@ use Rattle.mesh_closure.proofs.inner.bad6.Statement.{statement}
 use Rattle.mesh_closure.proofs.inner.bad6.Tie as tie
 
 abbrev Inv-loop : tie.InvT-loop
-Inv-loop m n items ends marks₀ low e₀ e-end marks e = (1 ≤ e) × (e ≤ 1 + n) × (e-end ≡ 1 + n) × (n ≤ 2000) × (n < length ends)
+Inv-loop m n items ends marks₀ low e₀ e-end marks e = (1 ≤ e) × (e ≤ 1 + n) × (e-end ≡ 1 + n) × (n ≤ mostElements) × (n < length ends)
     × (length marks ≡ length marks₀) × MarksBelow n (n + e) marks × (some 1 (e - 1) (unclosed m) ≡ false)
 
 abbrev μ-loop : tie.MeasureT-loop

@@ -5,6 +5,7 @@ use Prim.Native.Nat.{_+_, _-_, _≤_, _<_}
 use lib.ListN.{length}
 use Rattle.vocabulary.specs.Intervals.{some}
 use Rattle.vocabulary.specs.ScanLaws.{some-start-from}
+use Rattle.layout.specs.Limits.{mostElements}
 use Rattle.mesh.specs.Mesh.{bare}
 use Rattle.mesh_closure.proofs.ClosureLaws.{last-there, last-named, low-few, low-there, low-marked, bare-found, bare-turn, bare-end}
 use borrow.Author.Needs.{needs}
@@ -12,7 +13,7 @@ use Rattle.mesh_closure.proofs.inner.bad7.Statement.{statement}
 use Rattle.mesh_closure.proofs.inner.bad7.Tie as tie
 
 abbrev Inv-loop : tie.InvT-loop
-Inv-loop m d n items ends marks low from to mark g₀ g-end g = (1 ≤ g) × (g ≤ 1 + low) × (g-end ≡ 1 + low) × (low ≤ 2000) × (low < length marks) × (some 1 (g - 1) (bare m) ≡ false)
+Inv-loop m d n items ends marks low from to mark g₀ g-end g = (1 ≤ g) × (g ≤ 1 + low) × (g-end ≡ 1 + low) × (low ≤ mostElements) × (low < length marks) × (some 1 (g - 1) (bare m) ≡ false)
 
 abbrev μ-loop : tie.MeasureT-loop
 μ-loop m d n items ends marks low from to mark g₀ g-end g = g-end - g

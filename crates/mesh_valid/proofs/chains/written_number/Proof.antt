@@ -1,4 +1,5 @@
 -- `mesh_valid::chains::written_number` meets its contract. Assumes nothing.
+use Rattle.layout.specs.Limits.{elementPlaces}
 use Rattle.mesh_valid.proofs.ChainLaws.{own-marks}
 use borrow.Author.Needs.{needs}
 use Rattle.mesh_valid.proofs.chains.written_number.Statement.{statement}
@@ -11,6 +12,6 @@ written-number-spec =
     (λ c. search needs)
     (λ c κs. (search needs, search needs, search needs, own-marks _ _ 256 (c .before .before .before .before .before .pre .2) (search needs)))
     (λ c. search needs)
-    (λ c κs. (search needs, search needs, search needs, own-marks _ _ 2001 (c .before .before .before .before .before .pre .2) (search needs)))
+    (λ c κs. (search needs, search needs, search needs, own-marks _ _ elementPlaces (c .before .before .before .before .before .pre .2) (search needs)))
     (λ c. search needs)
     (λ c. search needs))

@@ -1,6 +1,6 @@
 -- `mesh_valid::inner::mesh_number_in` meets its contract. Assumes nothing.
 use Rattle.mesh.specs.MeshLaws.{sizes-refuse, sizes-pass}
-use Rattle.mesh_valid.proofs.HeadLaws.{head-sizes}
+use Rattle.mesh_valid.proofs.SizeLaws.{head-sizes}
 use Rattle.mesh_valid.proofs.ChainLaws.{lent-places}
 use borrow.Author.Needs.{needs}
 use Rattle.mesh_valid.proofs.inner.mesh_number_in.Statement.{statement}
@@ -18,7 +18,7 @@ mesh-number-in-spec =
     (λ c κs. let counted = c .before .before in
     let headed = counted .before .before .before .before in
     let start = headed .before .before .before .before in
-    let sizes = head-sizes _ _ (headed .head-number .ensures) (counted .before .before .before .if1 .left) _ _ _ (counted .before .before .top-of .ensures .0)
+    let sizes = head-sizes _ _ (headed .size-number .ensures) (counted .before .before .before .if1 .left) _ _ _ (counted .before .before .top-of .ensures .0)
     (counted .before .elements-of .ensures .0) (counted .record-count .ensures .0) in
     (sizes, lent-places _ _ _ _ _ _ sizes (start .pre .0) (start .pre .1)))
     (λ c. search needs)

@@ -1,5 +1,5 @@
 -- `messages::inner::write_header` meets its contract. Assumes nothing.
-use Rattle.messages.proofs.Laws.{head-stores}
+use Rattle.messages.proofs.Laws.{header-stores}
 use borrow.Author.Needs.{needs}
 use Rattle.messages.proofs.inner.write_header.Statement.{statement}
 use Rattle.messages.proofs.inner.write_header.Tie as tie
@@ -13,4 +13,4 @@ write-header-spec =
     (λ c κs. search needs)
     (λ c κs. search needs)
     (λ c. search needs)
-    (λ c. search head-stores))
+    (λ c. search header-stores))

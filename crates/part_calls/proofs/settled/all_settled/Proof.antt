@@ -4,13 +4,14 @@ use mathlib.Core.Bool.{true}
 use Prim.Native.Nat.{_+_, _-_, _≤_}
 use Rattle.vocabulary.specs.Intervals.{every}
 use Rattle.vocabulary.specs.ScanLaws.{every-start-from, every-stop-from, every-turn-from, every-end-from}
+use Rattle.layout.specs.Limits.{mostParts}
 use Rattle.part_calls.specs.Opened.{settledAt}
 use borrow.Author.Needs.{needs}
 use Rattle.part_calls.proofs.settled.all_settled.Statement.{statement}
 use Rattle.part_calls.proofs.settled.all_settled.Tie as tie
 
 abbrev Inv-loop : tie.InvT-loop
-Inv-loop lists b ends flags j₀ j = (1 ≤ j) × (j ≤ 1 + 16) × (every 1 (j - 1) (settledAt lists b ends flags) ≡ true)
+Inv-loop lists b ends flags j₀ j = (1 ≤ j) × (j ≤ 1 + mostParts) × (every 1 (j - 1) (settledAt lists b ends flags) ≡ true)
 
 abbrev μ-loop : tie.MeasureT-loop
 μ-loop lists b ends flags j₀ j = 17 - j

@@ -4,6 +4,7 @@ use Prim.Native.Nat.{ℕ}
 use native.Mathlib.Omega.{arith}
 use lib.ListN.{length-replicate}
 use Rattle.vocabulary.specs.ListLaws.{zeros}
+use Rattle.layout.specs.Limits.{elementPlaces, mostParts, recordPlaces}
 use Rattle.split.proofs.PassedLaws.{passed-facts}
 use Rattle.round_rule.specs.RuleLaws.{rule-known}
 use Rattle.mesh.specs.WalkLaws.{stencil-parts}
@@ -313,8 +314,8 @@ put-front-requires c κs =
       omega (arith, rule-known _ _ _ eleven),
       fit .first-small,
       omega (arith, fit .cells-few),
-      omega (arith, got-is _ _ _ _ (p .first) _ _ (told .6) (p .owned) 16 (omega arith), fit .got),
-      omega (arith, sent-is _ _ _ _ (p .first) _ _ (at-find-sent .find-sent .ensures .1) 16 (omega arith), fit .long),
+      omega (arith, got-is _ _ _ _ (p .first) _ _ (told .6) (p .owned) mostParts (omega arith), fit .got),
+      omega (arith, sent-is _ _ _ _ (p .first) _ _ (at-find-sent .find-sent .ensures .1) mostParts (omega arith), fit .long),
     )
 
 slice-aggregate-put-entries : tie.Need-slice-aggregate-put-entries
@@ -484,7 +485,7 @@ start-spec =
     (tie.spec
     (λ c. search needs)
     (λ c. search needs)
-    (λ c κs. (omega (arith, length-replicate {A = ℕ} 12001 0), zeros 2001))
+    (λ c κs. (omega (arith, length-replicate {A = ℕ} recordPlaces 0), zeros elementPlaces))
     (λ c.
     let at-split-number = c .before .before .before in
     start-split _ _ _ _ _ _ _ _ _ _ (at-split-number .split-number .ensures) (c .if1 .taken))

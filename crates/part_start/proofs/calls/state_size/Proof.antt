@@ -4,6 +4,7 @@ use Prim.Native.Nat.{ℕ}
 use native.Mathlib.Omega.{arith}
 use lib.ListN.{length-replicate}
 use Rattle.vocabulary.specs.ListLaws.{zeros}
+use Rattle.layout.specs.Limits.{elementPlaces, recordPlaces}
 use Rattle.split.proofs.PassedLaws.{passed-facts}
 use Rattle.part_start.proofs.PlanLaws.{plan-fitting, plan-made, size-split, size-sizes, size-done}
 use borrow.Author.Needs.{needs}
@@ -16,7 +17,7 @@ state-size-spec =
     (tie.spec
     (λ c. search needs)
     (λ c. search needs)
-    (λ c κs. (omega (arith, length-replicate {A = ℕ} 12001 0), zeros 2001))
+    (λ c κs. (omega (arith, length-replicate {A = ℕ} recordPlaces 0), zeros elementPlaces))
     (λ c.
     let at-split-number = c .before .before .before in
     size-split _ _ _ _ _ _ (at-split-number .split-number .ensures) (c .if1 .taken))

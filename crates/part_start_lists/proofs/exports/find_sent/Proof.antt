@@ -3,6 +3,7 @@ use mathlib.Core.Path.{_≡_, refl, _∙_}
 use Prim.Native.Nat.{_-_, _*_, _≤_}
 use native.Mathlib.Omega.{arith}
 use lib.ListN.{length}
+use Rattle.layout.specs.Limits.{mostElements}
 use Rattle.split.specs.Classes.{Few, Appended}
 use Rattle.split.proofs.HolderLaws.{few-start, few-more}
 use Rattle.part_start_lists.specs.Starting.{sentList, Sent}
@@ -13,7 +14,7 @@ use Rattle.part_start_lists.proofs.exports.find_sent.Statement.{stateme
 use Rattle.part_start_lists.proofs.exports.find_sent.Tie as tie
 
 abbrev Inv-loop : tie.InvT-loop
-Inv-loop owners table ends plan stamps₀ next list₀ sent₀ start own n₀ j₀ j-end stamps list sent n j = (j ≤ plan .parts) × Few j stamps × (n ≤ 2000 * j) ×
+Inv-loop owners table ends plan stamps₀ next list₀ sent₀ start own n₀ j₀ j-end stamps list sent n j = (j ≤ plan .parts) × Few j stamps × (n ≤ mostElements * j) ×
     (length list ≡ length list₀) × (length sent ≡ length sent₀) ×
     Appended list₀ list 0 n (sentList owners table ends (plan .part) (plan .first) (plan .cells) j) × Sent owners table ends (plan .part) (plan .cells) j sent
 

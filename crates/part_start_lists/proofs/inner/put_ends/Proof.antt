@@ -3,6 +3,7 @@ use Prim.Native.Nat.{_+_, _-_, _≤_, _<_}
 use mathlib.Core.Path.{_≡_}
 use lib.ListN.{length}
 use Rattle.vocabulary.specs.Intervals.{listed}
+use Rattle.layout.specs.Limits.{mostParts}
 use Rattle.word_lists.specs.Putting.{Put}
 use Rattle.part_start_lists.specs.Starting.{endsBy}
 use Rattle.part_start_lists.proofs.CountLaws.{ends-start, ends-turn, ends-base, ends-small}
@@ -12,10 +13,10 @@ use Rattle.part_start_lists.proofs.inner.put_ends.Statement.{statement}
 use Rattle.part_start_lists.proofs.inner.put_ends.Tie as tie
 
 abbrev Inv-loop : tie.InvT-loop
-Inv-loop b₀ s counts base e₀ t₀ k₀ b e t k = (k ≤ 16) × (t ≡ s + k) × (length b ≡ length b₀) × (e < 65536) × (e ≡ endsBy counts base k) × Put b₀ b s t (listed 0 k (endsBy counts base))
+Inv-loop b₀ s counts base e₀ t₀ k₀ b e t k = (k ≤ mostParts) × (t ≡ s + k) × (length b ≡ length b₀) × (e < 65536) × (e ≡ endsBy counts base k) × Put b₀ b s t (listed 0 k (endsBy counts base))
 
 abbrev μ-loop : tie.MeasureT-loop
-μ-loop b₀ s counts base e₀ t₀ k₀ b e t k = 16 - k
+μ-loop b₀ s counts base e₀ t₀ k₀ b e t k = mostParts - k
 
 pub put-ends-spec : {M : Type 1} → statement M
 put-ends-spec =
@@ -40,4 +41,4 @@ put-ends-spec =
     let after-loop = after-loop-test .before in
     let start = after-loop .before .before .before in
     let inv = after-loop .loop .inv in
-    words-last _ _ _ _ _ _ _ 16 _ _ (start .pre .0) (inv .0) (after-loop-test .loop-test .left) (inv .4) (inv .5) (after-put-one2 .put-one2 .ensures)))
+    words-last _ _ _ _ _ _ _ mostParts _ _ (start .pre .0) (inv .0) (after-loop-test .loop-test .left) (inv .4) (inv .5) (after-put-one2 .put-one2 .ensures)))

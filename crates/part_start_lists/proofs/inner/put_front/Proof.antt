@@ -12,14 +12,14 @@ put-front-spec =
     (tie.spec
     (λ c κs. search needs)
     (λ c κs.
-    let at-put-head = c .before .before .before in
-    let start = at-put-head .before .before .before .before .before .before in
+    let at-put-header = c .before .before .before in
+    let start = at-put-header .before .before .before .before .before .before in
     let pre = start .pre in
-    let s = head-count _ _ _ _ _ _ _ _ _ _ (at-put-head .put-head .ensures) in
+    let s = head-count _ _ _ _ _ _ _ _ _ _ (at-put-header .put-header .ensures) in
     (omega (arith, pre .0, s, c .before .before .b .given), omega (arith, s), pre .7, pre .8))
     (λ c. search needs)
     (λ c.
-    let at-put-head = c .before .before .before .before .before .before in
-    let start = at-put-head .before .before .before .before .before .before in
-    let head = at-put-head .put-head .ensures in
+    let at-put-header = c .before .before .before .before .before .before in
+    let start = at-put-header .before .before .before .before .before .before in
+    let head = at-put-header .put-header .ensures in
     put-both _ _ _ _ _ _ _ _ head (c .before .before .put-borders .ensures) (omega (arith, start .pre .0, head-count _ _ _ _ _ _ _ _ _ _ head))))

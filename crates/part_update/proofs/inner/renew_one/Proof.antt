@@ -21,6 +21,7 @@ renew-one-spec =
     (λ c κs.
     let entry = c .before .before in
     let pre = entry .before .before .before .before .before .pre in
-    renew-ready _ _ _ (pre .0) _ (pre .3) _ _ _ _ _ (entry .before .reach-word .ensures) (entry .entry-word .ensures) (pre .4) (pre .5) (c .before .word-at .ensures .0) (c .count-between .ensures .0) _ _
+    renew-ready _ _ _ (pre .0) _ (pre .3) _ _ _ _ _ (entry .before .reach-word .ensures) (entry .entry-word .ensures) (pre .4) (pre .5) (c .before .word-at .ensures .0)
+    (c .count-between .ensures .0) _ _
     (pre .1) (pre .2))
     (λ c. search renew-told))

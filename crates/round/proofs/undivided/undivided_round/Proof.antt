@@ -4,6 +4,7 @@ use Prim.Native.Nat.{ℕ}
 use native.Mathlib.Omega.{arith}
 use lib.ListN.{length-replicate}
 use Rattle.vocabulary.specs.ListLaws.{zeros}
+use Rattle.layout.specs.Limits.{elementPlaces, recordPlaces}
 use Rattle.walk_stencil.proofs.StencilLaws.{accepted-stencil, stencil-some}
 use Rattle.round.proofs.UndividedLaws.{rule-good, told-mesh, told-10, told-unknown, told-11, told-kind}
 use borrow.Author.Needs.{needs}
@@ -16,7 +17,7 @@ undivided-round-spec =
     (tie.spec
     (λ c. search needs)
     (λ c. search needs)
-    (λ c κs. (omega (arith, length-replicate {A = ℕ} 12001 0), zeros 2001))
+    (λ c κs. (omega (arith, length-replicate {A = ℕ} recordPlaces 0), zeros elementPlaces))
     (λ c. let at-mesh-number-in = c .before .before .before in
     told-mesh _ _ _ _ _ _ _ (at-mesh-number-in .mesh-number-in .ensures) (c .if1 .taken))
     (λ c κs. search needs)
@@ -32,8 +33,8 @@ undivided-round-spec =
     let at-bad-stencil = at-if2 .before in
     stencil-some _ _ (at-bad-stencil .bad-stencil .ensures) (at-if2 .if2 .left))
     (λ c κs. search needs)
-    (λ c. let at-wrong-weights = c .before in
-    let at-k = at-wrong-weights .before .before in
+    (λ c. let at-bad-weights = c .before in
+    let at-k = at-bad-weights .before .before in
     let at-rule-of = at-k .before .before in
     let at-if2 = at-rule-of .before in
     let at-bad-stencil = at-if2 .before in
@@ -42,19 +43,19 @@ undivided-round-spec =
     let at-mesh-number-in = at-if1 .before .before .before in
     told-11 _ _ _ _ _ _ (sym (at-mesh-number-in .mesh-number-in .ensures) ∙ at-if1 .if1 .left)
     (accepted-stencil _ _ (at-top-of .top-of .ensures .0) (at-bad-stencil .bad-stencil .ensures) (at-if2 .if2 .left)) _ _ (at-rule-of .rule-of .ensures) (at-k .k .given .1) _
-    (at-wrong-weights .wrong-weights .ensures) (c .if3 .taken))
+    (at-bad-weights .bad-weights .ensures) (c .if3 .taken))
     (λ c. search needs)
     (λ c. search needs)
     (λ c κs. let at-if3 = c .before .before .before in
-    let at-wrong-weights = at-if3 .before in
-    let at-if2 = at-wrong-weights .before .before .before .before .before in
+    let at-bad-weights = at-if3 .before in
+    let at-if2 = at-bad-weights .before .before .before .before .before in
     let at-bad-stencil = at-if2 .before in
     let at-top-of = at-bad-stencil .before in
     let at-if1 = at-top-of .before in
     let at-mesh-number-in = at-if1 .before .before .before in (
       sym (at-mesh-number-in .mesh-number-in .ensures) ∙ at-if1 .if1 .left,
       accepted-stencil _ _ (at-top-of .top-of .ensures .0) (at-bad-stencil .bad-stencil .ensures) (at-if2 .if2 .left),
-      rule-good _ _ _ _ (at-wrong-weights .wrong-weights .ensures) (at-if3 .if3 .left),
+      rule-good _ _ _ _ (at-bad-weights .bad-weights .ensures) (at-if3 .if3 .left),
       search needs,
       search needs,
     ))

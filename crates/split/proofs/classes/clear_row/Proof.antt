@@ -1,5 +1,6 @@
 -- `split::classes::clear_row` meets its contract. The invariant: the places before q are cleared. Assumes nothing.
 use Prim.Native.Nat.{_-_, _≤_}
+use Rattle.layout.specs.Limits.{mostElements}
 use Rattle.split.specs.Classes.{RowCleared}
 use Rattle.split.proofs.ClassLaws.{clear-start, clear-turn, clear-end}
 use borrow.Author.Needs.{needs}
@@ -7,10 +8,10 @@ use Rattle.split.proofs.classes.clear_row.Statement.{statement}
 use Rattle.split.proofs.classes.clear_row.Tie as tie
 
 abbrev Inv-loop : tie.InvT-loop
-Inv-loop class₀ q₀ class q = (q ≤ 2000) × RowCleared q class
+Inv-loop class₀ q₀ class q = (q ≤ mostElements) × RowCleared q class
 
 abbrev μ-loop : tie.MeasureT-loop
-μ-loop class₀ q₀ class q = 2000 - q
+μ-loop class₀ q₀ class q = mostElements - q
 
 pub clear-row-spec : {M : Type 1} → statement M
 clear-row-spec =

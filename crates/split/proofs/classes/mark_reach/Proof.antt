@@ -31,4 +31,5 @@ mark-reach-spec =
     (λ c. search needs)
     (λ c. (search needs, inl (search needs), search needs, search pass-turn))
     (λ c. search needs)
-    (λ c. pass-end _ _ _ _ _ _ _ _ _ _ _ (c .before .before .before .number-at .ensures) (c .before .before .number-at2 .ensures) (c .loop-test .left) (c .before .loop .inv .1) (c .before .loop .inv .3)))
+    (λ c. pass-end _ _ _ _ _ _ _ _ _ _ _ (c .before .before .before .number-at .ensures) (c .before .before .number-at2 .ensures) (c .loop-test .left) (c .before .loop .inv .1)
+    (c .before .loop .inv .3)))

@@ -3,6 +3,7 @@ use mathlib.Core.Path.{refl}
 use native.Mathlib.Omega.{arith}
 use mathlib.Core.List.{[]}
 use Rattle.vocabulary.specs.ListLaws.{zeros}
+use Rattle.layout.specs.Limits.{elementPlaces}
 use Rattle.mesh.proofs.AcceptedLaws.{cells-few}
 use Rattle.mesh.proofs.MeetLaws.{under-none}
 use Rattle.split.specs.SplitLaws.{map-facts}
@@ -28,7 +29,7 @@ prepare-spec =
     let at-link = c .before .before .before .before .before .before .before .before .before .before .before .before .before .before .before in
     let at-sizes-of = at-link .before .before .before .before in
     let start = at-sizes-of .before .before .before .before .before .before .before .before .before .before .before in
-    (at-link .link .ensures, at-sizes-of .sizes-of .ensures, under-none, refl, refl, zeros 2001, start .pre .6, start .pre .7))
+    (at-link .link .ensures, at-sizes-of .sizes-of .ensures, under-none, refl, refl, zeros elementPlaces, start .pre .6, start .pre .7))
     (λ c. search needs)
     (λ c. search needs)
     (λ c. search needs)

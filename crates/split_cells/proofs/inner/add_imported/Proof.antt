@@ -3,6 +3,7 @@ use mathlib.Core.Path.{_≡_, refl}
 use Prim.Native.Nat.{_+_, _-_, _*_, _≤_}
 use lib.ListN.{length}
 use Rattle.vocabulary.specs.Intervals.{blocks}
+use Rattle.layout.specs.Limits.{mostElements}
 use Rattle.split.specs.Classes.{Appended}
 use Rattle.split.specs.Groups.{groupCells}
 use Rattle.split_cells.proofs.AddLaws.{imported-start, imported-turn, imported-end}
@@ -12,7 +13,7 @@ use Rattle.split_cells.proofs.inner.add_imported.Tie as tie
 
 abbrev Inv-loop : tie.InvT-loop
 Inv-loop start next first cells parts list₀ s t₀ j₀ list t j =
-    (j ≤ parts) × (t ≤ s + 2000 * j) × (length list ≡ length list₀) × Appended list₀ list s t (blocks 1 j (groupCells start next first cells))
+    (j ≤ parts) × (t ≤ s + mostElements * j) × (length list ≡ length list₀) × Appended list₀ list s t (blocks 1 j (groupCells start next first cells))
 
 abbrev μ-loop : tie.MeasureT-loop
 μ-loop start next first cells parts list₀ s t₀ j₀ list t j = parts - j

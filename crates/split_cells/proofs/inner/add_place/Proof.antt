@@ -1,6 +1,6 @@
 -- `split_cells::inner::add_place` meets its contract. Assumes nothing.
 use Rattle.split.specs.Classes.{ofClass}
-use Rattle.split_cells.proofs.AddLaws.{sort-skips, sort-adds}
+use Rattle.split_cells.proofs.AddLaws.{class-skips, class-adds}
 use borrow.Author.Needs.{needs}
 use Rattle.split_cells.proofs.inner.add_place.Statement.{statement}
 use Rattle.split_cells.proofs.inner.add_place.Tie as tie
@@ -11,10 +11,10 @@ add-place-spec =
     tie.close
     (tie.spec
     (λ c κs. search needs)
-    (λ c. (search sort-skips, search needs))
+    (λ c. (search class-skips, search needs))
     (λ c. search needs)
     (λ c. search needs)
     (λ c κs. search needs)
     (λ c. search needs)
     (λ c. search needs)
-    (λ c. (search sort-adds, search needs)))
+    (λ c. (search class-adds, search needs)))

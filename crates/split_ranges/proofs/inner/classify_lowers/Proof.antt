@@ -2,13 +2,14 @@
 use mathlib.Core.Path.{refl}
 use Prim.Native.Nat.{_+_, _-_, _≤_, _<_}
 use native.Mathlib.Omega.{arith}
+use Rattle.layout.specs.Limits.{mostElements}
 use Rattle.split_ranges.proofs.LowerLaws.{Trailed, lowered, lowered-none, range-fits, trailed-start, trailed-turn, trailed-end}
 use borrow.Author.Needs.{needs}
 use Rattle.split_ranges.proofs.inner.classify_lowers.Statement.{statement}
 use Rattle.split_ranges.proofs.inner.classify_lowers.Tie as tie
 
 abbrev Inv-loop : tie.InvT-loop
-Inv-loop m cell prev last class holders k lower₀ first below n q₀ lower q = (below + n < 65535) × (n ≤ 2000) × (q ≤ n) × Trailed cell prev last first class holders below q lower
+Inv-loop m cell prev last class holders k lower₀ first below n q₀ lower q = (below + n < 65535) × (n ≤ mostElements) × (q ≤ n) × Trailed cell prev last first class holders below q lower
 
 abbrev μ-loop : tie.MeasureT-loop
 μ-loop m cell prev last class holders k lower₀ first below n q₀ lower q = n - q

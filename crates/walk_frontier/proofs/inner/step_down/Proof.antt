@@ -4,6 +4,7 @@ use mathlib.Core.List.{[]}
 use Prim.Native.Nat.{_-_, _≤_}
 use lib.ListN.{length}
 use Rattle.vocabulary.specs.Intervals.{blocks}
+use Rattle.layout.specs.Limits.{mostElements}
 use Rattle.walk_frontier.specs.Visits.{Frontier, Toward, Grown, with, down}
 use Rattle.walk_frontier.proofs.VisitLaws.{grown-none, grown-both, step-start, step-turn, step-end, down-is}
 use borrow.Author.Needs.{needs}
@@ -11,7 +12,7 @@ use Rattle.walk_frontier.proofs.inner.step_down.Statement.{statement}
 use Rattle.walk_frontier.proofs.inner.step_down.Tie as tie
 
 abbrev Inv-loop : tie.InvT-loop
-Inv-loop m e r from n lo hi v marks₀ found₀ base s₀ j₀ marks found s j = (j ≤ n) × (s ≤ 2000) × (length marks ≡ length marks₀) × (length found ≡ length found₀) × Grown found₀ base found s
+Inv-loop m e r from n lo hi v marks₀ found₀ base s₀ j₀ marks found s j = (j ≤ n) × (s ≤ mostElements) × (length marks ≡ length marks₀) × (length found ≡ length found₀) × Grown found₀ base found s
     × Frontier v marks found s × Toward found s [] (with found₀ base (blocks 0 j (down m lo hi from)))
 
 abbrev μ-loop : tie.MeasureT-loop

@@ -3,6 +3,7 @@ use mathlib.Core.Path.{_≡_, refl}
 use mathlib.Core.List.{[]}
 use Prim.Native.Nat.{_-_, _≤_}
 use lib.ListN.{length, take}
+use Rattle.layout.specs.Limits.{mostElements}
 use Rattle.walk_frontier.specs.Visits.{Frontier, Toward, with}
 use Rattle.walk_frontier.proofs.VisitLaws.{toward-start, list-turn, list-low, list-high, list-end}
 use borrow.Author.Needs.{needs}
@@ -11,7 +12,7 @@ use Rattle.walk_frontier.proofs.inner.visit_all.Tie as tie
 
 abbrev Inv-loop : tie.InvT-loop
 Inv-loop from n v marks₀ found₀ s₀ j₀ marks found s j =
-    (j ≤ n) × (s ≤ 2000) × (length marks ≡ length marks₀) × (length found ≡ length found₀) × Frontier v marks found s × Toward found s [] (with found₀ 0 (take j from))
+    (j ≤ n) × (s ≤ mostElements) × (length marks ≡ length marks₀) × (length found ≡ length found₀) × Frontier v marks found s × Toward found s [] (with found₀ 0 (take j from))
 
 abbrev μ-loop : tie.MeasureT-loop
 μ-loop from n v marks₀ found₀ s₀ j₀ marks found s j = n - j

@@ -4,6 +4,7 @@ use mathlib.Core.List.{map}
 use Prim.Native.Nat.{_+_, _-_, _<_, _≤_}
 use native.Mathlib.Nat.{sub-zero}
 use lib.ListN.{length}
+use Rattle.layout.specs.Limits.{mostElements}
 use Rattle.mesh.specs.Mesh.{elementIn, follow}
 use Rattle.walk_frontier.specs.Visits.{Frontier, Toward, Grown, with, between}
 use Rattle.walk_frontier.proofs.VisitLaws.{grown-none, grown-both, toward-start, toward-done, toward-turn, between-ended, between-spent, between-more}
@@ -12,7 +13,7 @@ use Rattle.walk_frontier.proofs.inner.visit_chain.Statement.{statement}
 use Rattle.walk_frontier.proofs.inner.visit_chain.Tie as tie
 
 abbrev Inv-loop : tie.InvT-loop
-Inv-loop m e r h lo hi v marks₀ found₀ n i₀ s₀ -k₀ -k-end marks found i s -k = (-k-end ≡ r + 1) × (i < 65536) × (s ≤ 2000) × (length marks ≡ length marks₀) × (length found ≡ length found₀)
+Inv-loop m e r h lo hi v marks₀ found₀ n i₀ s₀ -k₀ -k-end marks found i s -k = (-k-end ≡ r + 1) × (i < 65536) × (s ≤ mostElements) × (length marks ≡ length marks₀) × (length found ≡ length found₀)
     × Grown found₀ n found s × Frontier v marks found s × Toward found s (between lo hi (map (elementIn m) (follow m (-k-end - -k) i)))
     (with found₀ n (between lo hi (map (elementIn m) (follow m (r + 1) h))))
 

@@ -4,6 +4,7 @@ use mathlib.Core.List.{map}
 use Prim.Native.Nat.{_+_, _-_, _<_, _≤_}
 use native.Mathlib.Nat.{sub-zero}
 use lib.ListN.{length}
+use Rattle.layout.specs.Limits.{mostRecords}
 use Rattle.mesh.specs.Mesh.{elementIn, follow}
 use Rattle.walk_incidence.specs.Links.{links, linkAll}
 use Rattle.mesh.proofs.FollowLaws.{chain-ended, chain-spent}
@@ -13,7 +14,9 @@ use Rattle.walk_incidence.proofs.inner.link_chain.Statement.{statement}
 use Rattle.walk_incidence.proofs.inner.link_chain.Tie as tie
 
 abbrev Inv-loop : tie.InvT-loop
-Inv-loop m n r h c t cell₀ prev₀ last₀ i₀ s₀ -k₀ -k-end cell prev last i s -k = (-k-end ≡ r + 1) × (i < 65536) × (length cell ≡ length cell₀) × (length prev ≡ length prev₀) × (length last ≡ length last₀) × (s + length (follow m (-k-end - -k) i) ≤ 12000) × (linkAll c (links s cell prev last) (map (elementIn m) (follow m (-k-end - -k) i)) ≡ linkAll c (links t cell₀ prev₀ last₀) (map (elementIn m) (follow m (r + 1) h)))
+Inv-loop m n r h c t cell₀ prev₀ last₀ i₀ s₀ -k₀ -k-end cell prev last i s -k =
+    (-k-end ≡ r + 1) × (i < 65536) × (length cell ≡ length cell₀) × (length prev ≡ length prev₀) × (length last ≡ length last₀) × (s + length (follow m (-k-end - -k) i) ≤ mostRecords) ×
+    (linkAll c (links s cell prev last) (map (elementIn m) (follow m (-k-end - -k) i)) ≡ linkAll c (links t cell₀ prev₀ last₀) (map (elementIn m) (follow m (r + 1) h)))
 
 abbrev μ-loop : tie.MeasureT-loop
 μ-loop m n r h c t cell₀ prev₀ last₀ i₀ s₀ -k₀ -k-end cell prev last i s -k = -k-end - -k

@@ -3,6 +3,7 @@ use mathlib.Core.Path.{_≡_, refl, sym, _∙_}
 use Prim.Native.Nat.{_+_, _-_, _*_, _≤_}
 use native.Mathlib.Omega.{arith}
 use lib.ListN.{length}
+use Rattle.layout.specs.Limits.{elementPlaces, mostReached, tableBytes}
 use Rattle.mesh.specs.WalkLaws.{stencil-parts}
 use Rattle.mesh.proofs.AcceptedLaws.{cells-few}
 use Rattle.walk_near_cells.specs.NearCells.{WalksReady}
@@ -14,8 +15,9 @@ use Rattle.walk_reach_table.proofs.table.reach_all.Tie as tie
 
 abbrev Inv-loop : tie.InvT-loop
 Inv-loop m sizes st cell prev last marks₀ from₀ found₀ near₀ table₀ ends₀ n single w t₀ v₀ x₀ x-end marks from found near table ends t v x =
-    (sizes .first ≤ x) × (x ≤ sizes .first + sizes .cells) × (x-end ≡ sizes .first + sizes .cells) × (t ≤ 8000) × (v ≤ 4001 + 9 * (x - sizes .first))
-    × WalksReady m st w v marks from found near × (length table ≡ 32000) × (length ends ≡ 2001) × Emitted table₀ table 0 t (tableWords m st (x - sizes .first)) × EndTable m st ends (x - sizes .first)
+    (sizes .first ≤ x) × (x ≤ sizes .first + sizes .cells) × (x-end ≡ sizes .first + sizes .cells) × (t ≤ mostReached) × (v ≤ 4001 + 9 * (x - sizes .first))
+    × WalksReady m st w v marks from found near × (length table ≡ tableBytes) × (length ends ≡ elementPlaces) × Emitted table₀ table 0 t (tableWords m st (x - sizes .first)) × EndTable m st ends
+    (x - sizes .first)
 
 abbrev μ-loop : tie.MeasureT-loop
 μ-loop m sizes st cell prev last marks₀ from₀ found₀ near₀ table₀ ends₀ n single w t₀ v₀ x₀ x-end marks from found near table ends t v x = x-end - x

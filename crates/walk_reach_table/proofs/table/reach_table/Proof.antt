@@ -3,6 +3,7 @@ use mathlib.Core.Path.{refl}
 use Prim.Native.Nat.{ℕ}
 use lib.ListN.{length-replicate}
 use Rattle.vocabulary.specs.ListLaws.{zeros}
+use Rattle.layout.specs.Limits.{elementPlaces, recordPlaces}
 use Rattle.mesh.proofs.MeetLaws.{under-none}
 use Rattle.walk_steps.proofs.GroundLaws.{grounded}
 use borrow.Author.Needs.{needs}
@@ -34,12 +35,12 @@ reach-table-spec =
     let at-sizes-of = at-invert .before .before .before .before in
     let start = at-sizes-of .before .before .before .before .before .before in (
       grounded _ (start .pre .0) _ _ (at-sizes-of .sizes-of .ensures .first-is) (at-sizes-of .sizes-of .ensures .cells-is) _ (start .pre .1) _ _ (start .pre .2)
-          (length-replicate {A = ℕ} 12001 0) _ _ _ _ (at-invert .invert .ensures),
+          (length-replicate {A = ℕ} recordPlaces 0) _ _ _ _ (at-invert .invert .ensures),
       at-sizes-of .sizes-of .ensures,
       under-none,
       refl,
       refl,
-      zeros 2001,
+      zeros elementPlaces,
       start .pre .3,
       start .pre .4,
     ))
