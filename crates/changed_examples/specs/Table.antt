@@ -43,6 +43,7 @@ table =
 
 pub changed : AllHold table
 unfolding isIn placeOf joined someOf everyOf isUpTo picked every some listed blocks total word wordAt words wordBytes bytesOf four numberFrom signed unsigned depthFrom numberBytes
-    depthBytes below dimension elementIn nextOf follow records chain incident steps stepTo walked stepsTo layer reach weight depthSum weightSum quotient least newDepth schemeOf depthIn oldsIn newIn round undivided
+    depthBytes below dimension elementIn nextOf follow records chain incident steps stepTo walked stepsTo layer reach weight depthSum
+    weightSum quotient least newDepth schemeOf depthIn oldsIn newIn round undivided
     five field fiveInputs
 changed = (refl, (refl, (refl, (refl, tt))))

@@ -75,8 +75,14 @@ picked-fewer : (a : ℕ) (p q : ℕ → Bool) → ((x : ℕ) → p x ≡ true �
 unfolding picked
 picked-fewer a p q f zero = omega arith
 picked-fewer a p q f (suc n) =
-    omega (arith, length-append (picked a n p) (cond (p (a + n)) ((a + n) ∷ []) []), length-append (picked a n q) (cond (q (a + n)) ((a + n) ∷ []) []), picked-fewer a p q f n, go (p (a + n))
-    (q (a + n)) (f (a + n)))
+    omega (
+      arith,
+      length-append (picked a n p) (cond (p (a + n)) ((a + n) ∷ []) []),
+      length-append (picked a n q) (cond (q (a + n)) ((a + n) ∷ []) []),
+      picked-fewer a p q f n,
+      go (p (a + n))
+          (q (a + n)) (f (a + n)),
+    )
   where
     go : (b c : Bool) → (b ≡ true → c ≡ true) → length (cond b ((a + n) ∷ []) []) ≤ length (cond c ((a + n) ∷ []) [])
     go true true g = omega arith
@@ -335,7 +341,8 @@ text-length : (b : Bytes) → length (listText b) ≤ 700000
 unfolding listText listingNumber
 text-length b = go (ltb 65536 (length b))
   where
-    go : (c : Bool) → length (cond c (line (ascii "too long") []) (cond (eqb (listingNumber b) 0) (splitText (meshPiece b) (splitOf (meshPiece b) (partsPiece b) (ownersPiece b) (stencilPiece b))) (line (ascii "refused") (listingNumber b ∷ [])))) ≤ 700000
+    go : (c : Bool) → length (cond c (line (ascii "too long") []) (cond (eqb (listingNumber b) 0)
+        (splitText (meshPiece b) (splitOf (meshPiece b) (partsPiece b) (ownersPiece b) (stencilPiece b))) (line (ascii "refused") (listingNumber b ∷ [])))) ≤ 700000
     go true = unfold ascii in omega (arith, line-length (ascii "too long") [] tt)
     go false = unfold piecesText piecesNumber listingNumber in pieces-length (meshPiece b) (partsPiece b) (ownersPiece b) (stencilPiece b)
 

@@ -121,8 +121,13 @@ lower-right m e g high = go (eqb g 0) refl (ltb (below m (dimension m e)) g) ref
         let q : g ≡ 0 → ⊥ = eqb-false g 0 z in
         let l : 1 ≤ g = omega arith in
         let k : g ≤ below m (dimension m e) = ltb-false _ _ t in
-        simp (le-leb 1 g l, le-leb g (below m (dimension m e)) k, le-ltb (elements m) g (omega (arith, within)), lt-leb (dimension m e) (dimension m g)
-        (down l k (ltb (dimension m g) (dimension m e)) refl))
+        simp (
+          le-leb 1 g l,
+          le-leb g (below m (dimension m e)) k,
+          le-ltb (elements m) g (omega (arith, within)),
+          lt-leb (dimension m e) (dimension m g)
+              (down l k (ltb (dimension m g) (dimension m e)) refl),
+        )
       where
         zero-below : below m 0 ≡ 0
         zero-below = unfold below in refl

@@ -1,4 +1,5 @@
--- What the walks of the functions over a `ChainReader` share, whatever the function: how a walk becomes the function's theorem, a call by its contract alone, the start and the end of a body, and the steps between them.
+-- What the walks of the functions over a `ChainReader` share, whatever the function: how a walk becomes the function's theorem, a call by its contract
+-- alone, the start and the end of a body, and the steps between them.
 -- Every parameter is Copy: nothing is said of its last value, so nothing is asked of it at exit.
 -- Assumes nothing.
 use mathlib.Core.Path.{_≡_, refl, sym, ap, subst, _∙_}

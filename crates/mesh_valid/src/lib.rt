@@ -1,15 +1,15 @@
 // Whether bytes are a mesh: the tests 1 to 7.
 mod chains;
-mod sizes;
 pub mod inner;
+mod sizes;
 
 use chains::own_number;
-use sizes::size_number;
 use layout::Answer;
 use mesh::inner::cell_count;
 use mesh::inner::elements_of;
 use mesh::inner::record_count;
 use mesh::inner::top_of;
+use sizes::size_number;
 ghost use mathlib.Core.Path.{_≡_};
 ghost use Rattle.mesh.specs.Mesh.{meshNumber, checkAnswer};
 

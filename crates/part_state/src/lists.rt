@@ -20,8 +20,8 @@ use layout::limits::MOST_STEPS;
 use layout::word_at;
 use round_rule::Kind;
 use round_rule::Rule;
-use round_rule::rule_of;
 use round_rule::bad_weights;
+use round_rule::rule_of;
 ghost use mathlib.Core.Path.{_≡_};
 ghost use mathlib.Core.Bool.{true, not, _&&_};
 ghost use Prim.Native.Nat.{_+_, _-_, _*_, _<_, _≤_};
@@ -165,8 +165,8 @@ fn valid_row(
     false
 }
 
-// The end at word i, which is no less than `from`. The compiler keeps the greater of two numbers in one place, where it adds up a word's two bytes at each
-// turn of a loop that runs to it.
+// The end at word i, which is no less than `from`. It is given as the greater of the two: so a loop that runs to it took fewer instructions than with the
+// word as it is read.
 fn end_there(lists: &[u8], i: usize, from: usize) -> usize
     requires { ⌜ (2 * i + 1 < length (now lists)) × (from ≤ wordAt (now lists) i) ⌝ }
     ensures { λ r. ⌜ (r ≡ wordAt (now (lists .entry)) i) × (r < 65536) ⌝ }

@@ -89,8 +89,14 @@ module _ (lists : Bytes) (j count : ℕ) (ce : count ≡ sentTo (listsIn lists) 
   sent-fits changes b o from fe =
       let p : exportWord + (j - 1) ≡ beforeExports + j = omega (arith, part-there .0) in
       let q : exportEnd lists (j - 1) ≡ from = ap (wordAt lists) p ∙ sym fe in
-      omega (arith, count-is, sent-length lists j, whole lists changes b o .export-ends (j - 1) j (omega arith) (part-there .1), whole lists changes b o .export-ends j mostParts (part-there .1)
-      (omega arith))
+      omega (
+        arith,
+        count-is,
+        sent-length lists j,
+        whole lists changes b o .export-ends (j - 1) j (omega arith) (part-there .1),
+        whole lists changes b o .export-ends j mostParts (part-there .1)
+            (omega arith),
+      )
 
   -- the words and the depths are the message
   pub message-is : (changes : ℕ) (b : Bytes) (from part round : ℕ) → from ≡ wordAt lists (beforeExports + j) → part ≡ partNumber lists → round ≡ word b changes
@@ -106,7 +112,8 @@ module _ (lists : Bytes) (j count : ℕ) (ce : count ≡ sentTo (listsIn lists) 
       depths : blocks from count (sentAt lists changes b) ≡ joined (map (depthAt changes b) (listsIn lists .exports j))
       depths = depths-are lists j changes b from count (fe ∙ first) count-is
 
-      encoded : bytesOf (partNumber lists ∷ j ∷ word b changes ∷ length (map (depthAt changes b) (listsIn lists .exports j)) ∷ []) ++ joined (map (depthAt changes b) (listsIn lists .exports j)) ≡ messageTo (listsIn lists) changes b j
+      encoded : bytesOf (partNumber lists ∷ j ∷ word b changes ∷ length (map (depthAt changes b) (listsIn lists .exports j)) ∷ [])
+          ++ joined (map (depthAt changes b) (listsIn lists .exports j)) ≡ messageTo (listsIn lists) changes b j
       encoded = encoded-is lists j changes b
 
 -- ---- the loop over the entries

@@ -143,7 +143,13 @@ pub fn step_down(
 }
 
 // Gathers the first `count` numbers of `from`.
-pub fn visit_all(from: &[u16], count: usize, mark: u16, marks: &mut [u16], found: &mut [u16]) -> usize
+pub fn visit_all(
+    from: &[u16],
+    count: usize,
+    mark: u16,
+    marks: &mut [u16],
+    found: &mut [u16],
+) -> usize
     requires { ⌜ (length (take count (now from)) ≡ count) × All (λ y. (1 ≤ y) × (y ≤ mostElements)) (take count (now from)) × Frontier mark (now marks) (now found) 0 ⌝ }
     ensures { λ s. ⌜ Frontier mark (now (marks .exit)) (now (found .exit)) s × Toward (now (found .exit)) s [] (with (now (found .entry)) 0 (take count (now (from .entry)))) × (s ≤ mostElements) ⌝ }
 {

@@ -19,12 +19,19 @@ take-spec =
     (λ c. told-20 _ _ _ _ (c .before .before .before .before .before .before .read .ensures) (c .before .before .before .before .before .match .keys1) (c .before .is-state .ensures) (c .if1 .taken))
     (λ c κs. search needs)
     (λ c. search needs)
-    (λ c κs. (opened-here _ _ _ (c .before .before .before .before .is-state .ensures) (c .before .before .before .if1 .left) (c .before .word-at .ensures .0)
-    (c .before .word-at .ensures .1), message-good _ _ (c .before .before .before .before .before .before .before .before .before .read .ensures)
-    (c .before .before .before .before .before .before .before .before .match .keys1), message-header _ _ _
-    (c .before .before .before .before .before .before .before .before .before .read .ensures) (c .before .before .before .before .before .before .before .r .given .1) .0, message-header _ _ _
-    (c .before .before .before .before .before .before .before .before .before .read .ensures) (c .before .before .before .before .before .before .before .r .given .1) .1, message-header _ _ _
-    (c .before .before .before .before .before .before .before .before .before .read .ensures) (c .before .before .before .before .before .before .before .r .given .1) .2, message-header _ _ _
-    (c .before .before .before .before .before .before .before .before .before .read .ensures) (c .before .before .before .before .before .before .before .r .given .1) .3))
+    (λ c κs. (
+      opened-here _ _ _ (c .before .before .before .before .is-state .ensures) (c .before .before .before .if1 .left) (c .before .word-at .ensures .0)
+          (c .before .word-at .ensures .1),
+      message-good _ _ (c .before .before .before .before .before .before .before .before .before .read .ensures)
+          (c .before .before .before .before .before .before .before .before .match .keys1),
+      message-header _ _ _
+          (c .before .before .before .before .before .before .before .before .before .read .ensures) (c .before .before .before .before .before .before .before .r .given .1) .0,
+      message-header _ _ _
+          (c .before .before .before .before .before .before .before .before .before .read .ensures) (c .before .before .before .before .before .before .before .r .given .1) .1,
+      message-header _ _ _
+          (c .before .before .before .before .before .before .before .before .before .read .ensures) (c .before .before .before .before .before .before .before .r .given .1) .2,
+      message-header _ _ _
+          (c .before .before .before .before .before .before .before .before .before .read .ensures) (c .before .before .before .before .before .before .before .r .given .1) .3,
+    ))
     (λ c. search needs)
     (λ c. search needs))

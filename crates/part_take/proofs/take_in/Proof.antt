@@ -19,10 +19,13 @@ take-in-spec =
     (λ c. search needs)
     (λ c. search needs)
     (λ c. omega (arith, long _ _ _ (c .before .before .before .before .before .before .pre .0)))
-    (λ c. omega (arith, from-few _ _ _ (c .before .before .before .before .before .before .before .pre .0) (c .before .before .before .before .before .before .before .pre .1) _ _ _ _
-    (c .before .before .before .before .before .before .before .pre .2) (c .before .before .before .before .before .before .before .pre .3)
-    (c .before .before .before .before .before .before .before .pre .4) (c .before .before .before .before .before .before .before .pre .5) _ (c .before .before .before .take-rest .ensures)
-    (c .before .before .if1 .left)))
+    (λ c. omega (
+      arith,
+      from-few _ _ _ (c .before .before .before .before .before .before .before .pre .0) (c .before .before .before .before .before .before .before .pre .1) _ _ _ _
+          (c .before .before .before .before .before .before .before .pre .2) (c .before .before .before .before .before .before .before .pre .3)
+          (c .before .before .before .before .before .before .before .pre .4) (c .before .before .before .before .before .before .before .pre .5) _ (c .before .before .before .take-rest .ensures)
+          (c .before .before .if1 .left),
+    ))
     (λ c κs. search needs)
     (λ c κs. store-fits _ _ _ (c .before .before .before .before .before .before .before .before .before .pre .0)
     (c .before .before .before .before .before .before .before .before .before .pre .1) _ _ _ _ (c .before .before .before .before .before .before .before .before .before .pre .2)

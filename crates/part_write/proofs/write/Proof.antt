@@ -13,8 +13,12 @@ write-spec =
     (tie.spec
     (λ c κs. search needs)
     (λ c. search needs)
-    (λ c. (told-20 _ _ _ [] [] _ (c .before .is-state .ensures) (c .if1 .taken) .0, told-20 _ _ 0 _ _ _ (c .before .is-state .ensures) (c .if1 .taken) .1, told-20 _ _ 0 _ _ _
-    (c .before .is-state .ensures) (c .if1 .taken) .1))
+    (λ c. (
+      told-20 _ _ _ [] [] _ (c .before .is-state .ensures) (c .if1 .taken) .0,
+      told-20 _ _ 0 _ _ _ (c .before .is-state .ensures) (c .if1 .taken) .1,
+      told-20 _ _ 0 _ _ _
+          (c .before .is-state .ensures) (c .if1 .taken) .1,
+    ))
     (λ c κs. search needs)
     (λ c. search needs)
     (λ c κs. opened-here _ _ _ (c .before .before .before .before .before .is-state .ensures) (c .before .before .before .before .if1 .left) (c .before .before .word-at .ensures .0)

@@ -20,11 +20,21 @@ write-in-spec =
     (λ c. search needs)
     (λ c. search needs)
     (λ c. told-16 _ _ _ _ (c .before .before .before .before .before .before .before .pre) _ (c .before .before .sent-to .ensures .0) (c .before .if1 .left) (c .if2 .taken))
-    (λ c κs. (c .before .before .before .before .before .before .before .before .before .pre, search sent-cut, c .before .before .before .if1 .left, c .before .before .before .before .sent-to .ensures .1, c .before .before .if2 .left))
+    (λ c κs. (
+      c .before .before .before .before .before .before .before .before .before .pre,
+      search sent-cut,
+      c .before .before .before .if1 .left,
+      c .before .before .before .before .sent-to .ensures .1,
+      c .before .before .if2 .left,
+    ))
     (λ c. search needs)
-    (λ c. omega (arith, c .before .before .before .before .before .before .before .before .before .before .before .before .before .pre .place-small, flag-room _ _ _ _
-    (c .before .before .before .before .before .before .before .before .before .before .before .before .before .pre)
-    (c .before .before .before .before .before .before .before .before .sent-to .ensures .0) (c .before .before .before .before .before .before .before .if1 .left) .0))
+    (λ c. omega (
+      arith,
+      c .before .before .before .before .before .before .before .before .before .before .before .before .before .pre .place-small,
+      flag-room _ _ _ _
+          (c .before .before .before .before .before .before .before .before .before .before .before .before .before .pre)
+          (c .before .before .before .before .before .before .before .before .sent-to .ensures .0) (c .before .before .before .before .before .before .before .if1 .left) .0,
+    ))
     (λ c κs. flag-room _ _ _ _ (c .before .before .before .before .before .before .before .before .before .before .before .before .before .pre)
     (c .before .before .before .before .before .before .before .before .sent-to .ensures .0) (c .before .before .before .before .before .before .before .if1 .left) .1)
     (λ c. search needs)

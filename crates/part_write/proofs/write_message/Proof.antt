@@ -13,6 +13,12 @@ write-message-spec =
     (λ c. search needs)
     (λ c. search needs)
     (λ c. omega (arith, long _ _ _ (c .before .before .pre .0)))
-    (λ c κs. (opened-cut _ _ (c .before .before .before .before .pre .0), search sent-whole, c .before .before .before .before .pre .2, c .before .before .before .before .pre .3, c .before .before .before .before .pre .4))
+    (λ c κs. (
+      opened-cut _ _ (c .before .before .before .before .pre .0),
+      search sent-whole,
+      c .before .before .before .before .pre .2,
+      c .before .before .before .before .pre .3,
+      c .before .before .before .before .pre .4,
+    ))
     (λ c. search needs)
     (λ c. search message-cut))

@@ -15,8 +15,11 @@ answer-spec =
     (λ c κs. search needs)
     (λ c κs. search needs)
     (λ c κs. search needs)
-    (λ c κs. (accepted-mesh _ (omega (arith, c .before .before .before .before .mesh-number .ensures, c .before .before .before .if1 .left)), accepted-stencil _ _
-    (c .before .before .top-of .ensures .0) (c .before .bad-stencil .ensures) (c .if2 .left)))
+    (λ c κs. (
+      accepted-mesh _ (omega (arith, c .before .before .before .before .mesh-number .ensures, c .before .before .before .if1 .left)),
+      accepted-stencil _ _
+          (c .before .before .top-of .ensures .0) (c .before .bad-stencil .ensures) (c .if2 .left),
+    ))
     (λ c. search needs)
     (λ c. search needs)
     (λ c. search needs))

@@ -40,8 +40,18 @@ list-accepted-spec =
     (λ c. search needs)
     (λ c κs.
     let at-start = c .before .before .before .before .before .before .before .before .before .before .before in
-    let f = passed-facts _ _ _ _ _ _ (at-start .pre) in
-    (f .mesh, f .map, f .stencil, refl {a = recordPlaces}, refl {a = recordPlaces}, refl {a = replicate elementPlaces 0}, refl {a = tableBytes}, refl {a = elementPlaces}, refl {a = mostElements}, refl {a = mostElements}))
+    let f = passed-facts _ _ _ _ _ _ (at-start .pre) in (
+      f .mesh,
+      f .map,
+      f .stencil,
+      refl {a = recordPlaces},
+      refl {a = recordPlaces},
+      refl {a = replicate elementPlaces 0},
+      refl {a = tableBytes},
+      refl {a = elementPlaces},
+      refl {a = mostElements},
+      refl {a = mostElements},
+    ))
     (λ c. search needs)
     (λ c. search needs)
     (λ c κs. search needs)

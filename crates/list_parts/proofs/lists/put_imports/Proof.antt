@@ -31,7 +31,11 @@ put-imports-spec =
     (λ c κs. search needs)
     (λ c. search needs)
     (λ c. search needs)
-    (λ c. (search needs, search needs, texts-turn _ _ _ _ _ _ _ _ _ _ (c .before .before .before .before .before .before .loop .inv .2)
-    (import-told _ _ _ _ _ _ _ _ _ refl (c .before .before .put-passing .ensures)) (omega arith)))
+    (λ c. (
+      search needs,
+      search needs,
+      texts-turn _ _ _ _ _ _ _ _ _ _ (c .before .before .before .before .before .before .loop .inv .2)
+          (import-told _ _ _ _ _ _ _ _ _ refl (c .before .before .put-passing .ensures)) (omega arith),
+    ))
     (λ c. search needs)
     (λ c. search texts-end))

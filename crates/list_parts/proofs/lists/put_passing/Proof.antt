@@ -13,8 +13,11 @@ put-passing-spec =
     (λ c κs. search needs)
     (λ c. passing-none _ _ _ _ (c .before .before .before .before .before .before .before .pre .1) _ _ _ (c .before .before .add-class .ensures .0) refl _ _ (c .if1 .taken) _ _)
     (λ c. search needs)
-    (λ c κs. (list-room _ _ _ _ (c .before .before .before .before .before .before .before .before .before .pre .1) _ _ _
-    (c .before .before .before .before .add-class .ensures .0) refl, c .before .before .if1 .left))
+    (λ c κs. (
+      list-room _ _ _ _ (c .before .before .before .before .before .before .before .before .before .pre .1) _ _ _
+          (c .before .before .before .before .add-class .ensures .0) refl,
+      c .before .before .if1 .left,
+    ))
     (λ c. search needs)
     (λ c. passing-some _ _ _ _ (c .before .before .before .before .before .before .before .before .before .before .before .before .pre .1) _ _ _
     (c .before .before .before .before .before .before .before .add-class .ensures .0) refl _ _ _ _ _ _ (c .before .before .put-full .ensures)))

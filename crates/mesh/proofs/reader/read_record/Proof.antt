@@ -76,5 +76,5 @@ read-record-spec 𝓤 H 𝓜 𝓖 𝓡 =
     takes ! 15 refl (ht .0) $ sets ! 1 (agg ! (and-then ! (cell ! 11 refl) (and-then ! (cell ! 15 refl) (no-more !)))) refl (tt, (xt .0 .1, (ht .0 .1, tt))) $
     leaves ! 1 refl _ refl $
     counted ! x (xt .0 .1 .fits) $ and-number ! h (ht .0 .1 .fits) $ use1 W (‵ (R.the-row .own (record { element = x; next = h }) (R′.lowered (record { element = x; next = h }) ∷ [])))
-        (own-shut 𝓤 H (𝓖 .A) W R.the-type R′.the-laws (x, (h, tt))) $
+    (own-shut 𝓤 H (𝓖 .A) W R.the-type R′.the-laws (x, (h, tt))) $
     ends _ (record { element = x; next = h }) (factI 𝓤 _ _ (told m n i c at x h d said moved is)))))))))))))

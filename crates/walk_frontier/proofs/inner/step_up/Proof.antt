@@ -27,8 +27,12 @@ step-up-spec =
     (λ c. (search needs, search needs, refl, refl, search grown-none, search needs, search step-start))
     (λ c κs. search needs)
     (λ c κs. search needs)
-    (λ c κs. (up-fits _ _ _ _ _ _ _ _ (c .before .before .before .before .before .before .before .before .before .before .before .before .pre .0)
-    (c .before .before .before .before .loop-test .taken) (c .before .before .before .index-at .ensures .0) (c .before .before .index-at2 .ensures .0), search needs, search needs))
+    (λ c κs. (
+      up-fits _ _ _ _ _ _ _ _ (c .before .before .before .before .before .before .before .before .before .before .before .before .pre .0)
+          (c .before .before .before .before .loop-test .taken) (c .before .before .before .index-at .ensures .0) (c .before .before .index-at2 .ensures .0),
+      search needs,
+      search needs,
+    ))
     (λ c. search needs)
     (λ c. search needs)
     (λ c. (

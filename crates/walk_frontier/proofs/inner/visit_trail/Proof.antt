@@ -31,9 +31,14 @@ visit-trail-spec =
     (λ c. search needs)
     (λ c. record { gathered = search needs; all = search (toward-done, trail-ended); few = search needs; grown = search needs })
     (λ c κs. search needs)
-    (λ c κs. (search needs, search needs, trail-low _ _ _ _ _ (c .before .before .before .before .before .loop .inv .3) (c .before .before .before .before .loop-test .taken)
-    (c .before .before .before .if1 .left) _ (c .before .before .index-at .ensures .0), trail-high _ _ _ _ _ (c .before .before .before .before .before .loop .inv .3)
-    (c .before .before .before .before .loop-test .taken) (c .before .before .before .if1 .left) _ (c .before .before .index-at .ensures .0)))
+    (λ c κs. (
+      search needs,
+      search needs,
+      trail-low _ _ _ _ _ (c .before .before .before .before .before .loop .inv .3) (c .before .before .before .before .loop-test .taken)
+          (c .before .before .before .if1 .left) _ (c .before .before .index-at .ensures .0),
+      trail-high _ _ _ _ _ (c .before .before .before .before .before .loop .inv .3)
+          (c .before .before .before .before .loop-test .taken) (c .before .before .before .if1 .left) _ (c .before .before .index-at .ensures .0),
+    ))
     (λ c κs. search needs)
     (λ c. search needs)
     (λ c. search needs)

@@ -31,16 +31,25 @@ invert-spec =
     (λ c κs. (search needs, search needs, search needs, search needs, search cells-room))
     (λ c. search needs)
     (λ c. search needs)
-    (λ c. (search needs, search needs, search needs, search needs, search needs, search needs, count-turn _ _
-    (c .before .before .before .before .before .before .before .before .before .before .before .before .before .before .before .before .before .pre .2) _ _ _
-    (c .before .before .before .before .before .before .before .before .before .before .head-of .ensures .0)
-    (c .before .before .before .before .before .before .before .before .before .before .before .before .loop .inv .0) _ _ _ _ _ _ _ _ _
-    (c .before .before .before .before .before .before .before .before .before .before .before .before .loop .inv .6)
-    (c .before .before .before .before .before .before .link-chain .ensures), cells-turn _ _
-    (c .before .before .before .before .before .before .before .before .before .before .before .before .before .before .before .before .before .pre .2) _ _ _
-    (c .before .before .before .before .before .before .before .before .before .before .head-of .ensures .0)
-    (c .before .before .before .before .before .before .before .before .before .before .before .before .loop .inv .0) _ _ _
-    (c .before .before .before .before .before .before .before .before .before .before .before .before .loop .inv .7) (c .before .before .before .before .before .before .link-chain .ensures)))
+    (λ c. (
+      search needs,
+      search needs,
+      search needs,
+      search needs,
+      search needs,
+      search needs,
+      count-turn _ _
+          (c .before .before .before .before .before .before .before .before .before .before .before .before .before .before .before .before .before .pre .2) _ _ _
+          (c .before .before .before .before .before .before .before .before .before .before .head-of .ensures .0)
+          (c .before .before .before .before .before .before .before .before .before .before .before .before .loop .inv .0) _ _ _ _ _ _ _ _ _
+          (c .before .before .before .before .before .before .before .before .before .before .before .before .loop .inv .6)
+          (c .before .before .before .before .before .before .link-chain .ensures),
+      cells-turn _ _
+          (c .before .before .before .before .before .before .before .before .before .before .before .before .before .before .before .before .before .pre .2) _ _ _
+          (c .before .before .before .before .before .before .before .before .before .before .head-of .ensures .0)
+          (c .before .before .before .before .before .before .before .before .before .before .before .before .loop .inv .0) _ _ _
+          (c .before .before .before .before .before .before .before .before .before .before .before .before .loop .inv .7) (c .before .before .before .before .before .before .link-chain .ensures),
+    ))
     (λ c. search needs)
     (λ c. search needs)
     (λ c. search needs)
