@@ -92,7 +92,7 @@ picked-fewer a p q f (suc n) =
 abbrev ones : Bool → ℕ
 ones b = cond b 1 0
 
--- four classes-told of which a number has one at most
+-- four classes of which a number has one at most
 four-few : (a : ℕ) (p q r s : ℕ → Bool) → ((x : ℕ) → ones (p x) + ones (q x) + ones (r x) + ones (s x) ≤ 1) → (n : ℕ)
     → length (picked a n p) + length (picked a n q) + length (picked a n r) + length (picked a n s) ≤ n
 unfolding picked

@@ -18,7 +18,7 @@ ghost use Rattle.split.specs.Lists.{splitNumber};
 ghost use Rattle.list_text.specs.Printing.{Printed};
 ghost use Rattle.list_input.specs.Pieces.{piecesText};
 
-// The tables are prepared, and the parts are put off them, rising: of each part the lines of its cells, its imports, its exports and its ranges.
+// The tables are prepared, and the lines of the parts are read off them, rising: of each part the lines of its cells, its imports, its exports and its ranges.
 pub fn list_accepted(m: &[u8], parts: u32, owners: &[u8], stencil: &[u8], out: &mut [u8]) -> usize
     requires { ⌜ splitNumber (now m) parts (now owners) (1 ∷ 1 ∷ []) (now stencil) ≡ 0 ⌝ }
     ensures { λ t. ⌜ Printed (now (out .entry)) (now (out .exit)) 0 t (piecesText (now (m .entry)) parts (now (owners .entry)) (now (stencil .entry))) ⌝ }

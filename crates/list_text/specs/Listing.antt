@@ -14,7 +14,7 @@ use Rattle.vocabulary.specs.Lists.{joined}
 use Rattle.vocabulary.specs.Tests.{firstOf}
 use Rattle.vocabulary.specs.Bytes.{Bytes, byteAt}
 use Rattle.mesh.specs.Mesh.{top, cellCount, meshLength}
-use Rattle.split.specs.Split.{Split, splitOf, interior, halo, imports, exports, range, isPrivate, isExposed, isShared, isCopied}
+use Rattle.split.specs.Split.{Split, interior, halo, imports, exports, range, isPrivate, isExposed, isShared, isCopied}
 use Rattle.split.specs.Lists.{SplitInput, splitTests, sizeTests, splitInput, splitIn}
 
 -- ---- text
@@ -96,6 +96,7 @@ module _ (b : Bytes) where
   unfoldable pub stencilPiece : Bytes
   stencilPiece = cond (eqb (length (drop 1 lastPiece)) (byteAt lastPiece 0)) (drop 1 lastPiece) []
 
+  -- all of them, as what a mesh is split by
   abbrev pub pieces : SplitInput
   pieces = splitInput meshPiece partsPiece ownersPiece stencilPiece
 

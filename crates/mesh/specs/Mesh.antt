@@ -16,9 +16,9 @@ use Rattle.layout.specs.Answers.{answer}
 use Rattle.layout.specs.declared.Answer.{Answer}
 use Rattle.layout.specs.Limits.{mostElements, mostRecords}
 
--- ---- the head
-
 module _ (m : Bytes) where
+  -- ---- the head
+
   -- d, the dimension of the cells
   abbrev pub top : ℕ
   top = wordAt m 0
@@ -28,7 +28,7 @@ module _ (m : Bytes) where
   counted k = wordAt m (k + 1)
 
   -- how many elements have a dimension below k. "They bear global numbers from 1: all of dimension 0 first, then 1, up to d": those of
-  -- dimension k have the numbers after `below m k`, up to `below m (suc k)`.
+  -- dimension k have the numbers after `below k`, up to `below (suc k)`.
   unfoldable pub below : ℕ → ℕ
   below zero = 0
   below (suc k) = below k + counted k
@@ -106,7 +106,7 @@ module _ (m : Bytes) where
   unfoldable pub headed : ℕ → Bool
   headed e = ltb 0 (headOf e)
 
-  -- "Head or next above R, a point with a head, or a record met twice." Points are the elements 1 to `counted m 0`.
+  -- "Head or next above R, a point with a head, or a record met twice." Points are the elements 1 to `counted 0`.
   unfoldable pub bad4 : Bool
   bad4 =
       some 1 (counted 0) headed

@@ -25,7 +25,7 @@ module _ (m : Bytes) where
 unfoldable pub steps : Bytes → ℕ
 steps stencil = length stencil - 1
 
--- place k is right: d at every even place and less than d at every odd place
+-- place k is valid: d at every even place and less than d at every odd place
 unfoldable pub validAt : ℕ → Bytes → ℕ → Bool
 validAt d stencil k = cond (eqb (k % 2) 0) (eqb (byteAt stencil k) d) (ltb (byteAt stencil k) d)
 

@@ -1,6 +1,5 @@
 -- How the code tells from the chains as they were written down whether they are closed. No public contract rests on this page; the laws in proofs/
 -- tie it to the definitions. Assumes nothing.
-use mathlib.Core.Path.{_≡_}
 use mathlib.Core.Bool.{Bool}
 use mathlib.Core.List.{List}
 use Prim.Native.Nat.{ℕ, _-_, _≤_, _<_}

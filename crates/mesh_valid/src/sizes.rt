@@ -1,4 +1,4 @@
-// The tests 1 to 3: the sizes of a mesh. Each function answers true where the mesh is to be refused.
+// The tests 1 to 3: the sizes of a mesh. Each test answers true where the mesh is to be refused.
 use layout::limits::MOST_ELEMENTS;
 use layout::limits::MOST_RECORDS;
 use mesh::inner::count_of;

@@ -9,7 +9,7 @@ use borrow.Author.Tests.{lt-ltb, le-ltb, eq-eqb, ne-eqb}
 use Rattle.vocabulary.specs.Bytes.{Bytes, over}
 use Rattle.vocabulary.specs.Intervals.{every}
 use Rattle.vocabulary.specs.ByteLaws.{over-more}
-use Rattle.layout.specs.Words.{wordAt, wordBytes, bytesOf}
+use Rattle.layout.specs.Words.{wordBytes, bytesOf}
 use Rattle.depths.specs.Depths.{rangedAt}
 use Rattle.messages.specs.Messages.{headerSize, messageSize, bad15, reading, countIn, fromIn, toIn, roundIn}
 use Rattle.messages.specs.Readings.{meantReading}
@@ -43,7 +43,7 @@ module _ (b : Bytes) (t : Bool) (r : t ≡ bad15 b) where
   unfolding meantReading reading
   is-read f g k n e p q s u = simp (sym r, e, sym p, sym q, sym s, sym u)
 
--- ---- the four words of a head
+-- ---- the four words of a header
 
 module _ (b x y z w : Bytes) (f g k n : ℕ) (h : headerSize ≤ length b) where
   pub header-stores : x ≡ over b 0 (wordBytes f) → y ≡ over x 2 (wordBytes g) → z ≡ over y 4 (wordBytes k) → w ≡ over z 6 (wordBytes n)

@@ -13,7 +13,7 @@ abbrev pub readingNumber : Reading → ℕ
 readingNumber (Message h) = 0
 readingNumber (Refused number) = number
 
--- what the answer says of the bytes b that were read: the depths are the bytes from 8 on
+-- what the answer says of the bytes b that were read: the depths stand behind the header
 unfoldable pub meantReading : Bytes → Reading → paper.Reading
 meantReading b (Message h) =
     read (record {

@@ -103,6 +103,7 @@ module _ (L : Lists) (changes : ℕ) (b : Bytes) where
 -- ---- the calls over the bytes b of a state
 
 module _ (b : Bytes) where
+  -- its lists, and the place of what calls change
   abbrev L : Lists
   L = listsOf b
 

@@ -88,7 +88,7 @@ module _ (L : Lists) (changes : ℕ) (b x : Bytes) (w : Room L changes b) (v : T
 
 -- ---- the message that a write gives
 
--- the words of a message's head
+-- the words of a message's header
 pub message-words : (L : Lists) (changes : ℕ) (b : Bytes) (j : ℕ)
     → (fromIn (messageTo L changes b j) ≡ L .part) × (toIn (messageTo L changes b j) ≡ j) × (roundIn (messageTo L changes b j) ≡ roundAt b changes) ×
     (countIn (messageTo L changes b j) ≡ length (L .exports j))

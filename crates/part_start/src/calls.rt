@@ -64,8 +64,8 @@ fn asked_of(m: &[u8], parts: u32, i: u32) -> Asked
     }
 }
 
-// How many bytes the state of part i needs. The mesh is tested in arrays that hold the links and the ends of the reaches afterwards. Once the tables are
-// prepared the links are not needed: the order stands in one of their arrays.
+// How many bytes the state of part i needs. The mesh is tested in arrays that hold the chains turned round and the ends of the reaches afterwards. Once the
+// tables are prepared the chains are not needed: the order stands in one of their arrays.
 pub fn state_size(m: &[u8], parts: u32, owners: &[u8], i: u32, stencil: &[u8]) -> Answer
     ensures { λ r. ⌜ r ≡ sizeAnswer (splitInput (now (m .entry)) parts (now (owners .entry)) (now (stencil .entry))) i ⌝ }
 {
@@ -113,8 +113,8 @@ pub fn state_size(m: &[u8], parts: u32, owners: &[u8], i: u32, stencil: &[u8]) -
 }
 
 // Makes the state of part i at round 0 at the front of b: mesh, number of parts and owners, the part, stencil, rule kind and weights, field. The mesh is
-// tested in arrays that hold the links and the ends of the reaches afterwards. Once the tables are prepared the links are not needed: the order, the local
-// numbers and the exports stand in their arrays.
+// tested in arrays that hold the chains turned round and the ends of the reaches afterwards. Once the tables are prepared the chains are not needed: the
+// order, the local numbers and the exports stand in their arrays. `last` has the cells linked by owner before it has the local numbers.
 pub fn start(
     m: &[u8],
     parts: u32,

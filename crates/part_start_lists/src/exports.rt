@@ -1,4 +1,4 @@
-// What a part exports to each part. One part after another stamps the cells that it holds; those of the exporting part among them are its exports. The cells
+// What a part exports to each part. One other part after another stamps the cells that it holds; those of the exporting part among them are its exports. The cells
 // of a part are linked, so that they are followed and not searched for.
 use crate::inner::Plan;
 use layout::number_at;

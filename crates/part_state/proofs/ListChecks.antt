@@ -235,7 +235,7 @@ module _ (b : Bytes) (z : Sizes) (C : Counts b z) (at : ℕ) (ae : at ≡ export
   pub export-told : (r : Bool) → r ≡ isUpTo (z .owned) l → r ≡ validExport b t
   export-told r e = e ∙ ap₂ isUpTo (C .owned-is) (sym export-local)
 
--- ---- the rule and the head
+-- ---- the rule and the header
 
 module _ (kind : Kind) (n : ℕ) where
   pub weights-hold : kind ≡ Hold → 0 ≡ weightCount (kindNumber kind) n

@@ -47,7 +47,7 @@ riseAt b a j = leb (wordAt b (a + j)) (wordAt b (a + (j + 1)))
 unfoldable pub ownEntry : Bytes → ℕ → ℕ → Bool
 ownEntry b l t = eqb ((entryAt b t) .local) l && eqb ((entryAt b t) .layer) 0
 
--- the row of the owned cell l: its entries are fine, and its own is among them
+-- the row of the owned cell l: its entries are valid, and its own is among them
 unfoldable pub validRow : Bytes → ℕ → Bool
 validRow b l = every (reachEnd b (l - 1)) (reachEnd b l - reachEnd b (l - 1)) (validEntry b) && ownFound b l
 

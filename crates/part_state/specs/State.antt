@@ -22,9 +22,8 @@ pub record LocalNear : Type 0 where
   pub local : ℕ
   pub layer : ℕ
 
--- ---- where the lists stand, by their counts: in words, from 0 on
+-- ---- where the lists stand, by their counts: the rule's weights in bytes, the rest in words, from 0 on
 
--- the byte at which the rule's weights begin
 abbrev pub weightsPlace : ℕ
 weightsPlace = 8
 
@@ -71,7 +70,8 @@ pub record Lists : Type 0 where
   -- the local numbers of what is exported to part j
   pub exports : ℕ → List ℕ
 
--- ---- what calls change, from `changes` on: the round, a flag for each part taken from, a flag for each part written to, the depth of each held cell
+-- ---- the places of what calls change: the round at `changes` itself, a flag for each part taken from, a flag for each part written to, the depth of each held
+-- cell
 
 module _ (changes : ℕ) where
   abbrev pub takenPlace : ℕ → ℕ
@@ -90,6 +90,8 @@ module _ (changes : ℕ) where
   -- the length in bytes of a state that holds n cells
   abbrev pub stateLength : ℕ → ℕ
   stateLength n = depthsPlace + 4 * n
+
+-- ---- two tests of lists
 
 -- a table of n + 1 ends never falls
 unfoldable pub rises : ℕ → (ℕ → ℕ) → Bool
@@ -195,6 +197,7 @@ module _ (b : Bytes) where
   abbrev pub validGlobal : ℕ → Bool
   validGlobal l = leb firstOfMesh (globalAt l) && ltb (globalAt l) (firstOfMesh + cellsOfMesh)
 
+  -- entry t of the reaches is such an entry
   abbrev pub validEntry : ℕ → Bool
   validEntry t = validNear heldCount stepCount (entryAt t)
 
@@ -222,7 +225,7 @@ module _ (b : Bytes) where
       ∷ every 0 exportCount validExport
       ∷ []
 
-  -- what calls change: the round
+  -- the round
   abbrev pub roundAt : ℕ → ℕ
   roundAt changes = word b changes
 

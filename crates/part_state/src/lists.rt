@@ -128,7 +128,7 @@ fn own_entry(lists: &[u8], at: usize, held: usize, steps: usize, l: usize, t: us
     word_there(lists, at + 2 * t + 1) == 0
 }
 
-// Whether the entries from `from` up to `to` are fine.
+// Whether the entries from `from` up to `to` are valid.
 fn valid_rest(lists: &[u8], at: usize, held: usize, steps: usize, from: usize, to: usize) -> bool
     requires { ⌜ Tested (now lists) at held steps × (from ≤ to) × (2 * (at + 2 * to) ≤ length (now lists)) ⌝ }
     ensures { λ r. ⌜ r ≡ every from (to - from) (validEntry (now (lists .entry))) ⌝ }

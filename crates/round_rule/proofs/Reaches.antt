@@ -17,6 +17,7 @@ use Rattle.round_rule.specs.Update.{tableEntries, oldsAt, TableThere, We
 use Rattle.round_rule.specs.UpdateLaws.{olds-start, depthSum-turn, weightSum-turn, least-turn}
 use Rattle.round_rule.proofs.Registers.{fits-long, depth-held}
 use Rattle.vocabulary.specs.IntervalLaws.{at-last}
+use Rattle.layout.specs.Limits.{mostWeight}
 
 -- ---- what stands in an entry
 
@@ -49,7 +50,7 @@ pub record Summed (v b : Bytes) (at : ℕ) (f : Bytes) (base t : ℕ) (sum : ℤ
   pub sum-is : sum ≡ depthSum v (oldsAt f base (tableEntries b at t))
   pub weights-is : weights ≡ weightSum v (oldsAt f base (tableEntries b at t))
   pub sum-size : natAbs sum ≤ weights * deepest
-  pub weights-size : weights ≤ 15 * t
+  pub weights-size : weights ≤ mostWeight * t
 
 module _ (v b : Bytes) (at : ℕ) (f : Bytes) (base : ℕ) where
   pub sum-start : Summed v b at f base 0 (pos 0) 0
@@ -57,7 +58,7 @@ module _ (v b : Bytes) (at : ℕ) (f : Bytes) (base : ℕ) where
   sum-start = record { sum-is = rw olds-start refl; weights-is = rw olds-start refl; sum-size = omega arith; weights-size = omega arith }
 
   module _ (n t : ℕ) (lt : t < n) where
-    pub is-light : (w : ℕ) → Weighed v b at n f base → w ≡ wordAt v (word b (at + 4 * t + 2) / 2) → w ≤ 15
+    pub is-light : (w : ℕ) → Weighed v b at n f base → w ≡ wordAt v (word b (at + 4 * t + 2) / 2) → w ≤ mostWeight
     is-light w W e = rw e (W .light t lt)
 
     pub is-small : (d : ℤ) → TableThere b at n f base → mag d < 2147483648 → d ≡ depthFrom f (base + 4 * word b (at + 4 * t)) → natAbs (toZ w32 (ofZ w32 d)) ≤ deepest
@@ -69,7 +70,7 @@ module _ (v b : Bytes) (at : ℕ) (f : Bytes) (base : ℕ) where
     sum-turn sum weights w d r R W S e h g q =
         let k : natAbs r ≤ (weights + w) * deepest =
         rw q (size-more w (toZ w32 (ofZ w32 d)) (toZ w64 sum) weights deepest (is-small d R h g) (S .sum-size)) in
-        let l : weights + w ≤ 15 * (t + 1) = omega (arith, S .weights-size, is-light w W e) in
+        let l : weights + w ≤ mostWeight * (t + 1) = omega (arith, S .weights-size, is-light w W e) in
         let p : toZ w64 (ofZ w64 r) ≡ r = toZ-ofZ w64 r (fits-long r (omega (arith, R .few))) in
         record {
           sum-is =

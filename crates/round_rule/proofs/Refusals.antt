@@ -10,6 +10,7 @@ use Rattle.vocabulary.specs.Bytes.{Bytes}
 use Rattle.vocabulary.specs.Intervals.{some}
 use Rattle.vocabulary.specs.IntervalLaws.{some-stop, some-turn}
 use Rattle.layout.specs.Words.{wordAt}
+use Rattle.layout.specs.Limits.{mostWeight}
 use Rattle.round_rule.specs.Rules.{weightCount, tooHeavy, bad11}
 use Rattle.round_rule.specs.Kinds.{kindNumber, ruleOf}
 use Rattle.round_rule.specs.declared.Kind.{Kind}
@@ -21,11 +22,11 @@ use Rattle.round_rule.proofs.KindLaws.{known-number, unknown-number}
 -- ---- weights, one after the other
 
 module _ (v : Bytes) (k w : ℕ) (q : w ≡ wordAt v k) where
-  pub heavy-found : (count : ℕ) → k < count → 15 < w → true ≡ some 0 count (tooHeavy v)
+  pub heavy-found : (count : ℕ) → k < count → mostWeight < w → true ≡ some 0 count (tooHeavy v)
   unfolding tooHeavy
   heavy-found count h z = some-stop (tooHeavy v) count k (tooHeavy v k) h refl (simp (sym q, lt-ltb _ _ z))
 
-  pub heavy-turn : some 0 k (tooHeavy v) ≡ false → w ≤ 15 → some 0 (k + 1) (tooHeavy v) ≡ false
+  pub heavy-turn : some 0 k (tooHeavy v) ≡ false → w ≤ mostWeight → some 0 (k + 1) (tooHeavy v) ≡ false
   unfolding tooHeavy
   heavy-turn i z = some-turn (tooHeavy v) k k (tooHeavy v k) i refl (simp (sym q, le-ltb _ _ z))
 

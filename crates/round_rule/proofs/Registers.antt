@@ -9,6 +9,7 @@ use lib.Signed.{mag, ltZ, quotZ}
 use mir.Syntax.{w32, w64}
 use mir.Val.{SFits, toZ, ofZ}
 use mir.ValLaws.{toZ-pos, toZ-ofZ}
+use Rattle.layout.specs.Limits.{mostWeight}
 use Rattle.depths.specs.Depths.{deepest}
 use Rattle.round_rule.specs.Rules.{quotient, lesser}
 use Rattle.round_rule.specs.RuleLaws.{size-add, size-times, size-quotient}
@@ -25,9 +26,9 @@ fits-short (negsuc n) h = record { sfits = omega arith }
 
 -- ---- sum + w * d
 
-module _ (sum : ℤ) (w : ℕ) (d : ℤ) (fs : SFits w64 sum) (fd : SFits w32 d) (pre : (natAbs sum ≤ 1179630000000) × (w ≤ 15) × (natAbs d ≤ deepest)) where
+module _ (sum : ℤ) (w : ℕ) (d : ℤ) (fs : SFits w64 sum) (fd : SFits w32 d) (pre : (natAbs sum ≤ 1179630000000) × (w ≤ mostWeight) × (natAbs d ≤ deepest)) where
   size-term : natAbs (pos w *ℤ d) ≤ 18000000
-  size-term = omega (arith, size-times w d, mul-le-mul {n₁ = w} {m₁ = natAbs d} {n₂ = 15} {m₂ = deepest} (pre .1) (pre .2))
+  size-term = omega (arith, size-times w d, mul-le-mul {n₁ = w} {m₁ = natAbs d} {n₂ = mostWeight} {m₂ = deepest} (pre .1) (pre .2))
 
   term-is : toZ w32 w *ℤ toZ w32 (ofZ w32 d) ≡ pos w *ℤ d
   term-is = rw (toZ-ofZ w32 d fd, toZ-pos w32 w (omega arith)) refl

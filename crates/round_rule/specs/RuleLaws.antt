@@ -18,6 +18,7 @@ use Rattle.vocabulary.specs.ListLaws.{cond-has, or-false}
 use Rattle.vocabulary.specs.Intervals.{some}
 use Rattle.vocabulary.specs.IntervalLaws.{some-at}
 use Rattle.layout.specs.Words.{wordAt}
+use Rattle.layout.specs.Limits.{mostWeight}
 use Rattle.depths.specs.Depths.{depthOf, depthBytes}
 use Rattle.depths.specs.DepthLaws.{length-depthBytes, depth-back, depth-small}
 use Rattle.round_rule.specs.Rules.{Old, weightCount, tooHeavy, bad11, weight, depthSum, weightSum, quotient, lesser, least, newDepth}
@@ -147,10 +148,10 @@ module _ (n : ℕ) (v : Bytes) (e : bad11 1 n v ≡ false) where
       let p = or-false (a || b) (eqb (wordAt v 0) 0) e in (or-false a b (p .0) .1, p .1)
 
   -- "each 0 to 15, v0 at least 1"
-  pub rule-light : (layer : ℕ) → layer ≤ n → wordAt v (layer / 2) ≤ 15
+  pub rule-light : (layer : ℕ) → layer ≤ n → wordAt v (layer / 2) ≤ mostWeight
   unfolding tooHeavy
   rule-light layer h =
-      ltb-false 15 (wordAt v (layer / 2))
+      ltb-false mostWeight (wordAt v (layer / 2))
       (ap (λ k. tooHeavy v k) (sym (zero-add (layer / 2))) ∙ some-at 0 (tooHeavy v) (n / 2 + 1) (layer / 2) (split .0) (omega arith))
 
   pub rule-first : 1 ≤ wordAt v 0

@@ -62,7 +62,7 @@ quotient sum weights = quotZ sum (pos weights)
 abbrev pub mean : Bytes → List Old → Bytes
 mean v os = depthBytes (quotient (depthSum v os) (weightSum v os))
 
--- "the plain mean", all weights 1, "rounded like the rule"
+-- the mean of depths alone: "the plain mean .., all weights 1, rounded like the rule" (F-1)
 abbrev pub plainMean : List Bytes → Bytes
 plainMean xs = mean (bytesOf (1 ∷ [])) (map (λ x. record { layer = 0; depth = x }) xs)
 

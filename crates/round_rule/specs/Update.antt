@@ -7,6 +7,7 @@ use lib.ListN.{length}
 use Rattle.vocabulary.specs.Bytes.{Bytes}
 use Rattle.vocabulary.specs.Intervals.{listed}
 use Rattle.layout.specs.Words.{word, wordAt}
+use Rattle.layout.specs.Limits.{mostWeight}
 use Rattle.depths.specs.Depths.{Valid, four}
 use Rattle.mesh.specs.Walks.{Near}
 use Rattle.round_rule.specs.Rules.{Old, weightSum}
@@ -35,7 +36,7 @@ pub record TableThere (b : Bytes) (at n : ℕ) (f : Bytes) (base : ℕ) : Type 0
 
 -- each weight is a weight, and their sum divides
 pub record Weighed (v b : Bytes) (at n : ℕ) (f : Bytes) (base : ℕ) : Type 0 where
-  pub light : (t : ℕ) → t < n → wordAt v (word b (at + 4 * t + 2) / 2) ≤ 15
+  pub light : (t : ℕ) → t < n → wordAt v (word b (at + 4 * t + 2) / 2) ≤ mostWeight
   pub heavy : 1 ≤ weightSum v (oldsAt f base (tableEntries b at n))
 
 -- what the update supposes: only a mean asks for weights

@@ -8,6 +8,7 @@ ghost use Prim.Native.Nat.{_+_, _*_, _/_, _<_, _≤_};
 ghost use lib.IntN.{pos, natAbs, _+ℤ_, _*ℤ_};
 ghost use lib.ListN.{length};
 ghost use Rattle.layout.specs.Words.{word, wordAt};
+ghost use Rattle.layout.specs.Limits.{mostWeight};
 ghost use Rattle.depths.specs.Depths.{deepest, four, depthFrom, depthBytes};
 ghost use Rattle.round_rule.specs.Rules.{depthSum, weightSum, quotient, lesser, least, newDepth};
 ghost use Rattle.round_rule.specs.Kinds.{kindNumber};
@@ -39,7 +40,7 @@ fn old_of(b: &[u8], at: usize, t: usize, f: &[u8], base: usize) -> i32
 
 // One more weighed depth. The product is taken in 32 bits, which hold it: so the depth is read at once and not byte by byte.
 fn add_weighed(sum: i64, w: usize, d: i32) -> i64
-    requires { ⌜ (natAbs sum ≤ 1179630000000) × (w ≤ 15) × (natAbs d ≤ deepest) ⌝ }
+    requires { ⌜ (natAbs sum ≤ 1179630000000) × (w ≤ mostWeight) × (natAbs d ≤ deepest) ⌝ }
     ensures { λ r. ⌜ r ≡ sum +ℤ pos w *ℤ d ⌝ }
 {
     sum + ((w as i32) * d) as i64

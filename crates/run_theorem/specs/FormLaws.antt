@@ -17,7 +17,7 @@ use Rattle.vocabulary.specs.Intervals.{some, listed, blocks, total}
 use Rattle.vocabulary.specs.IntervalLaws.{some-at, listed-length, listed-at, total-start}
 use Rattle.layout.specs.Words.{word, wordAt, bytesOf}
 use Rattle.layout.specs.WordLaws.{length-bytesOf, bytesOf-append, bytesOf-read}
-use Rattle.layout.specs.Limits.{mostParts, mostSteps}
+use Rattle.layout.specs.Limits.{mostParts, mostSteps, mostWeight}
 use Rattle.mesh.specs.Walks.{Near}
 use Rattle.round_rule.specs.Rules.{weightCount, tooHeavy, bad11}
 use Rattle.split.specs.Split.{Split, imports, exports, localOf, globalOf}
@@ -227,11 +227,11 @@ module _ (S : Split) (i : ℕ) (order : List ℕ) (n kind : ℕ) (v : Bytes) whe
         go true = omega arith
         go false = omega arith
 
-    light : (k : ℕ) → k < weightCount kind n → word v (2 * k) ≤ 15
+    light : (k : ℕ) → k < weightCount kind n → word v (2 * k) ≤ mostWeight
     unfolding tooHeavy wordAt
     light k h =
         let e : 0 + k ≡ k = omega arith in
-        ltb-false 15 (wordAt v k) (subst (λ x. ltb 15 (wordAt v x) ≡ false) e (some-at 0 (tooHeavy v) (weightCount kind n) k (rule-parts .1) h))
+        ltb-false mostWeight (wordAt v k) (subst (λ x. ltb mostWeight (wordAt v x) ≡ false) e (some-at 0 (tooHeavy v) (weightCount kind n) k (rule-parts .1) h))
 
     -- all regions but the first
     abbrev behind : List ℕ

@@ -55,12 +55,12 @@ pub fn bad_map(m: &[u8], parts: u32, owners: &[u8]) -> bool
     !valid_owners(parts, owners)
 }
 
-// Marks the owners of the first n cells, in a cleared array.
-fn mark_owners(owners: &[u8], n: usize, seen: &mut [u8])
+// Marks the owners of the cells, in a cleared array.
+fn mark_owners(owners: &[u8], cells: usize, seen: &mut [u8])
     requires { ⌜ now seen ≡ replicate 256 0 ⌝ }
-    ensures { λ _. ⌜ OwnersSeen (now (owners .entry)) n (now (seen .exit)) ⌝ }
+    ensures { λ _. ⌜ OwnersSeen (now (owners .entry)) cells (now (seen .exit)) ⌝ }
 {
-    for q in 0..n {
+    for q in 0..cells {
         put_class(seen, owner_of(owners, q) as usize, 1);
     }
 }

@@ -124,8 +124,8 @@ fn cell_words(
     }
 }
 
-// The call. A list that names no other part is tried as if it named its own part twice. The mesh is tested in arrays that hold the links and the
-// ends of the reaches afterwards. Once the row of classes is made those ends are not needed, and the list is made in their array.
+// The call. A list that names no other part is tried as if it named its own part twice. The mesh is tested in arrays that hold the chains turned round and
+// the ends of the reaches afterwards. Once the row of classes is made those ends are not needed, and the list is made in their array.
 pub fn list(
     wanted: Wanted,
     m: &[u8],

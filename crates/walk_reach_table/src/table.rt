@@ -48,8 +48,8 @@ fn put_entry(table: &mut [u8], t: usize, place: usize, layer: usize)
 
 // The entry at place q, if that cell has a layer; 8,001 where there is no room. The layer is cleared.
 fn emit_one(layers: &mut [u16], first: usize, q: usize, table: &mut [u8], t: usize) -> usize
-    requires { ⌜ (first < 65536) × (q < 65536) × (t ≤ (mostReached + 1)) × (length (now table) ≡ tableBytes) ⌝ }
-    ensures { λ s. ⌜ Emitted (now (table .entry)) (now (table .exit)) t s (row (now (layers .entry)) first q) × (s ≤ (mostReached + 1))
+    requires { ⌜ (first < 65536) × (q < 65536) × (t ≤ mostReached + 1) × (length (now table) ≡ tableBytes) ⌝ }
+    ensures { λ s. ⌜ Emitted (now (table .entry)) (now (table .exit)) t s (row (now (layers .entry)) first q) × (s ≤ mostReached + 1)
         × (now (layers .exit) ≡ set (now (layers .entry)) (first + q) 0) ⌝ }
 {
     let x = index_at(layers, first + q);
@@ -73,8 +73,8 @@ fn emit(
     table: &mut [u8],
     t: usize,
 ) -> usize
-    requires { ⌜ (first ≤ low) × (high ≤ elementPlaces) × (length (now layers) ≡ elementPlaces) × (t ≤ (mostReached + 1)) × (length (now table) ≡ tableBytes) ⌝ }
-    ensures { λ s. ⌜ Emitted (now (table .entry)) (now (table .exit)) t s (blocks (low - first) (high - low) (row (now (layers .entry)) first)) × (s ≤ (mostReached + 1))
+    requires { ⌜ (first ≤ low) × (high ≤ elementPlaces) × (length (now layers) ≡ elementPlaces) × (t ≤ mostReached + 1) × (length (now table) ≡ tableBytes) ⌝ }
+    ensures { λ s. ⌜ Emitted (now (table .entry)) (now (table .exit)) t s (blocks (low - first) (high - low) (row (now (layers .entry)) first)) × (s ≤ mostReached + 1)
         × Cleared low high (now (layers .entry)) (now (layers .exit)) ⌝ }
 {
     let mut s = t;
@@ -107,8 +107,8 @@ fn reach_of(
 ) -> usize
     requires { ⌜ Ground (now m) (now stencil) (now cell) (now prev) (now last) × Sized (now m) sizes × Cell (now m) c × (steps + 1 ≡ length (now stencil))
         × (single ≡ throughOne (now stencil)) × (steps ≤ mostSteps)
-        × WalksReady (now m) (now stencil) w mark (now marks) (now from) (now found) (now near) × (mark ≤ 60000) × (length (now table) ≡ tableBytes) × (t ≤ (mostReached + 1)) ⌝ }
-    ensures { λ s. ⌜ Emitted (now (table .entry)) (now (table .exit)) t s (reachEntries (now (m .entry)) (now (stencil .entry)) c) × (s ≤ (mostReached + 1))
+        × WalksReady (now m) (now stencil) w mark (now marks) (now from) (now found) (now near) × (mark ≤ 60000) × (length (now table) ≡ tableBytes) × (t ≤ mostReached + 1) ⌝ }
+    ensures { λ s. ⌜ Emitted (now (table .entry)) (now (table .exit)) t s (reachEntries (now (m .entry)) (now (stencil .entry)) c) × (s ≤ mostReached + 1)
         × WalksReady (now (m .entry)) (now (stencil .entry)) w (mark + (steps + 1)) (now (marks .exit)) (now (from .exit)) (now (found .exit)) (now (near .exit)) ⌝ }
 {
     if w != 0 {

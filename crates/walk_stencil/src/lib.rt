@@ -6,7 +6,7 @@ ghost use lib.ListN.{length};
 ghost use Rattle.vocabulary.specs.Intervals.{every};
 ghost use Rattle.mesh.specs.Walks.{validAt, bad10};
 
-// Whether place k is right: the dimension of the cells at an even place, and a lower one at an odd place.
+// Whether place k is valid: the dimension of the cells at an even place, and a lower one at an odd place.
 fn valid_at(d: usize, stencil: &[u8], k: usize) -> bool
     ensures { λ b. ⌜ b ≡ validAt d (now (stencil .entry)) k ⌝ }
 {

@@ -20,7 +20,7 @@ ghost use lib.ListN.{length, take, drop};
 ghost use Rattle.mesh.specs.Meet.{Under};
 ghost use Rattle.vocabulary.specs.Bytes.{byteAt};
 ghost use Rattle.vocabulary.specs.Lists.{All, Zeros};
-ghost use Rattle.layout.specs.Limits.{elementPlaces, mostElements, mostSteps};
+ghost use Rattle.layout.specs.Limits.{elementPlaces, mostElements, mostSteps, stencilBytes};
 ghost use Rattle.mesh.specs.Mesh.{top};
 ghost use Rattle.mesh.specs.Accepted.{Accepted};
 ghost use Rattle.walk_frontier.specs.Visits.{Frontier, Toward, Added};
@@ -201,7 +201,7 @@ fn is_alike(stencil: &[u8], j: usize) -> bool
 
 // Whether the stencil goes through one dimension: its odd places are alike.
 pub fn through_one(stencil: &[u8]) -> bool
-    requires { ⌜ length (now stencil) ≤ 9 ⌝ }
+    requires { ⌜ length (now stencil) ≤ stencilBytes ⌝ }
     ensures { λ b. ⌜ b ≡ throughOne (now (stencil .entry)) ⌝ }
 {
     for j in 0..stencil.len() / 2 {

@@ -1,4 +1,4 @@
--- `walk_stencil::all_valid` meets its contract. The invariant: the places so far are right. Assumes nothing.
+-- `walk_stencil::all_valid` meets its contract. The invariant: the places so far are valid. Assumes nothing.
 use mathlib.Core.Path.{_≡_, refl}
 use mathlib.Core.Bool.{true}
 use Prim.Native.Nat.{_-_, _≤_}

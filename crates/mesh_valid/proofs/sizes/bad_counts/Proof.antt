@@ -1,4 +1,4 @@
--- `mesh_valid::head::bad_counts` meets its contract. The invariant: no count so far is wrong. Assumes nothing.
+-- `mesh_valid::sizes::bad_counts` meets its contract. The invariant: no count so far is wrong. Assumes nothing.
 use mathlib.Core.Path.{_≡_}
 use mathlib.Core.Bool.{false}
 use Prim.Native.Nat.{_-_, _≤_}

@@ -1,4 +1,4 @@
--- `mesh_valid::head::size_number` meets its contract. Assumes nothing.
+-- `mesh_valid::sizes::size_number` meets its contract. Assumes nothing.
 use Rattle.vocabulary.specs.TestLaws.{told-here, told-later}
 use borrow.Author.Needs.{needs}
 use Rattle.mesh_valid.proofs.sizes.size_number.Statement.{statement}

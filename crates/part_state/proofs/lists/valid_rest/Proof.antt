@@ -1,4 +1,4 @@
--- `part_state::lists::valid_rest` meets its contract. The invariant: the entries so far are fine. Assumes nothing.
+-- `part_state::lists::valid_rest` meets its contract. The invariant: the entries so far are valid. Assumes nothing.
 use mathlib.Core.Path.{_≡_}
 use mathlib.Core.Bool.{true}
 use Prim.Native.Nat.{_-_, _≤_}

@@ -1,4 +1,4 @@
--- `part_state::lists::valid_row` meets its contract. The invariant: the entries so far are fine, and none is the cell's own. Assumes nothing.
+-- `part_state::lists::valid_row` meets its contract. The invariant: the entries so far are valid, and none is the cell's own. Assumes nothing.
 use mathlib.Core.Path.{_≡_}
 use mathlib.Core.Bool.{true, false}
 use Prim.Native.Nat.{_-_, _≤_}

@@ -1,4 +1,4 @@
--- `part_state::lists::valid_rows` meets its contract. The invariant: the rows so far are fine, and the next begins where they end. Assumes nothing.
+-- `part_state::lists::valid_rows` meets its contract. The invariant: the rows so far are valid, and the next begins where they end. Assumes nothing.
 use mathlib.Core.Path.{_≡_, refl}
 use mathlib.Core.Bool.{true}
 use Prim.Native.Nat.{_+_, _-_, _≤_}
