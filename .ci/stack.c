@@ -72,6 +72,7 @@ static uint64_t state_size(void) { return jem_state_size(SPLIT); }
 static uint64_t start(void) { return jem_start(SPLIT, RULE, states[0], ROOM); }
 static uint64_t write_message(void) { return jem_write(states[0], ROOM, 2, out, ROOM); }
 static uint64_t take(void) { return jem_take(states[0], ROOM, message, message_len); }
+static uint64_t points(void) { return jem_points(states[0], ROOM, out, ROOM); }
 static uint64_t advance(void) { return jem_advance(states[0], ROOM); }
 static uint64_t collect(void) { return jem_collect(states[0], ROOM, 1, field, sizeof field); }
 
@@ -97,6 +98,7 @@ static const struct {
     {"jem_start", start, JEM_STACK, 0},
     {"jem_write", write_message, JEM_STACK_STATE, 1},
     {"jem_take", take, JEM_STACK_STATE, 1},
+    {"jem_points", points, JEM_STACK_STATE, 1},
     {"jem_advance", advance, JEM_STACK_STATE, 1},
     {"jem_collect", collect, JEM_STACK_STATE, 1},
 };

@@ -1,6 +1,6 @@
 /*
  * The mesh-smoothing engine: reading a mesh, splitting it into parts, the undivided round, and the parts with their
- * messages. Link with libjemlayos.a. docs/LAYOUTS.md has every byte layout.
+ * messages and the depths at their points. Link with libjemlayos.a. docs/LAYOUTS.md has every byte layout.
  *
  * A slice is a pointer, which is not null even where there are no bytes, and its length in bytes. Words have two bytes
  * and depths four, high byte first. Numbers (P, a part, a rule's kind, a receiver, a round) may be anything: a wrong one
@@ -32,9 +32,9 @@ extern "C" {
 #define JEM_STACK 118784       /* any call: the lists, jem_state_size and jem_start come near it */
 #define JEM_STACK_ROUND 118784 /* jem_round, which goes deepest */
 #define JEM_STACK_CHECK 40960  /* jem_check_mesh */
-#define JEM_STACK_STATE 10240  /* jem_write, jem_take, jem_advance, jem_collect */
+#define JEM_STACK_STATE 10240  /* jem_write, jem_take, jem_advance, jem_collect, jem_points */
 
-/* Refusals. A call tries them in rising number, but for JEM_OUTPUT, which comes last of all. */
+/* Refusals. A call tries them in this order: 1-15, 20-24, 29, 25-28, and JEM_OUTPUT last of all. */
 enum jem_refusal_number {
     JEM_ACCEPTED = 0,
     /* From the input. */
@@ -59,11 +59,12 @@ enum jem_refusal_number {
     JEM_SENDER = 21,        /* to is not this part, from is none that it imports from, or count is not that import list's */
     JEM_MESSAGE_ROUND = 22, /* the message's round is not the state's */
     JEM_ALREADY_TAKEN = 23, /* already taken this round */
-    JEM_NOT_TAKEN = 24,     /* advance with an import not taken */
+    JEM_NOT_TAKEN = 24,     /* advance or points with an import not taken */
     JEM_NOT_WRITTEN = 25,   /* advance with an export not written */
     JEM_LAST_ROUND = 26,    /* advance at round 60,000 */
     JEM_RECEIVER = 27,      /* write to a number that isn't a part importing from here */
-    JEM_OTHER_ROUND = 28    /* collect for another round than the state's */
+    JEM_OTHER_ROUND = 28,   /* collect for another round than the state's */
+    JEM_POINT_REACH = 29    /* points where a cell incident to a point of an owned cell is outside that cell's reach */
 };
 
 /* The refusal's number in an answer, JEM_ACCEPTED where there is none. */
@@ -133,7 +134,7 @@ uint64_t jem_round(const uint8_t *mesh, size_t mesh_len, const uint8_t *stencil,
 
 /* ---- A part and its messages ---- */
 
-/* How long a state is that jem_start makes. Tries 1-10, 12, 13. Count: its bytes. */
+/* How long a state is that jem_start makes, with its points. Tries 1-10, 12, 13. Count: its bytes. */
 uint64_t jem_state_size(const uint8_t *mesh, size_t mesh_len, uint32_t parts, const uint8_t *owners, size_t owners_len,
                         uint32_t part, const uint8_t *stencil, size_t stencil_len);
 
@@ -155,6 +156,13 @@ uint64_t jem_advance(uint8_t *state, size_t state_len);
 /* Puts the owned depths into a field of the whole mesh and changes no other byte of it, if the state is at this round.
  * Tries 20, 28, 16. Count: the depths put in. */
 uint64_t jem_collect(const uint8_t *state, size_t state_len, uint32_t round, uint8_t *field, size_t field_len);
+
+/* Puts each point that touches the owned cells into out, in rising number, six bytes a point: the word of its number and
+ * then its depth, the plain mean of the depths of all cells incident to it at the state's round, rounded like the rule's.
+ * Parts that share a point give the same depth there at the same round. Every import has to be taken before (24), no export
+ * need be written. Whether 29 holds depends on the mesh, the part map and the stencil alone, never on the round. Tries 20,
+ * 24, 29, 16. Count: the points. Room for 6 * the mesh's count of points is always enough. The state is only read. */
+uint64_t jem_points(const uint8_t *state, size_t state_len, uint8_t *out, size_t out_len);
 
 #ifdef __cplusplus
 }

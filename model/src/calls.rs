@@ -63,6 +63,7 @@ pub trait Calls {
     fn take(&self, state: &mut [u8], message: &[u8]) -> Answer;
     fn advance(&self, state: &mut [u8]) -> Answer;
     fn collect(&self, state: &[u8], round: u32, field: &mut [u8]) -> Answer;
+    fn points(&self, state: &[u8], out: &mut [u8]) -> Answer;
 }
 
 /// This package's own calls.
@@ -107,6 +108,10 @@ impl Calls for Model {
 
     fn collect(&self, state: &[u8], round: u32, field: &mut [u8]) -> Answer {
         parts::collect(state, round, field)
+    }
+
+    fn points(&self, state: &[u8], out: &mut [u8]) -> Answer {
+        parts::points(state, out)
     }
 }
 

@@ -85,4 +85,8 @@ impl<F: Fn(&'static str, Answer, &[String])> Calls for Compared<'_, F> {
     fn collect(&self, state: &[u8], round: u32, field: &mut [u8]) -> Answer {
         self.compare("collect", [field], |calls, [field]| calls.collect(state, round, field))
     }
+
+    fn points(&self, state: &[u8], out: &mut [u8]) -> Answer {
+        self.compare("points", [out], |calls, [out]| calls.points(state, out))
+    }
 }

@@ -71,6 +71,10 @@ impl Calls for Engine {
     fn collect(&self, state: &[u8], round: u32, field: &mut [u8]) -> Answer {
         answer(ffi::collect(state, round, field))
     }
+
+    fn points(&self, state: &[u8], out: &mut [u8]) -> Answer {
+        answer(ffi::points(state, out))
+    }
 }
 
 /// The functions of include/jemlayos.h. Each slice goes as a pointer and a length.
@@ -130,6 +134,7 @@ mod ffi {
         fn jem_take(state: Changed, state_len: usize, message: Lent, message_len: usize) -> u64;
         fn jem_advance(state: Changed, state_len: usize) -> u64;
         fn jem_collect(state: Lent, state_len: usize, round: u32, field: Changed, field_len: usize) -> u64;
+        fn jem_points(state: Lent, state_len: usize, out: Changed, out_len: usize) -> u64;
     }
 
     // SAFETY, for all calls below: each pointer comes with the length of its own slice, the slices are lent for the
@@ -210,5 +215,9 @@ mod ffi {
 
     pub fn collect(state: &[u8], round: u32, field: &mut [u8]) -> u64 {
         unsafe { jem_collect(state.as_ptr(), state.len(), round, field.as_mut_ptr(), field.len()) }
+    }
+
+    pub fn points(state: &[u8], out: &mut [u8]) -> u64 {
+        unsafe { jem_points(state.as_ptr(), state.len(), out.as_mut_ptr(), out.len()) }
     }
 }

@@ -1,4 +1,4 @@
-//! The calls over a part: state size, start, write, take, advance and collect (numbers 21 to 28).
+//! The calls over a part: state size, start, write, take, advance, collect and points (numbers 21 to 29).
 
 use crate::bytes::{depths, needed, put_depth, put_word, words};
 use crate::calls::{PartInput, RuleInput};
@@ -12,19 +12,23 @@ use crate::walks::Stencil;
 
 /// The lists of one part, from which its state is made.
 struct PartLists {
+    part: usize,
     /// Held cells by local number.
     globals: Vec<usize>,
     imports: Vec<Vec<usize>>,
     exports: Vec<Vec<usize>>,
+    points: Vec<usize>,
 }
 
 impl PartLists {
     fn of(split: &Split, part: usize) -> PartLists {
         let others = 1..=MOST_PARTS;
         PartLists {
+            part,
             globals: split.locals(part),
             imports: others.clone().map(|j| split.imports(part, j)).collect(),
             exports: others.map(|j| split.exports(part, j)).collect(),
+            points: split.points(part),
         }
     }
 
@@ -40,6 +44,8 @@ impl PartLists {
             held: self.globals.len(),
             entries: owned.iter().map(|&c| split.reaches().of(c).len()).sum(),
             exports: self.exports.iter().map(Vec::len).sum(),
+            points: self.points.len(),
+            point_cells: self.points.iter().map(|&p| split.mesh.cells_at(p).len()).sum(),
         }
     }
 
@@ -62,6 +68,14 @@ impl PartLists {
         words.extend(ends(0, reaches.clone()));
         words.extend(reaches.flatten().flat_map(|entry| [locals[entry.cell].0, entry.layer]));
         words.extend(self.exports.iter().flatten().map(|&c| locals[c].0));
+        let around = self.points.iter().map(|&p| split.mesh.cells_at(p));
+        // Where 29 holds for the part, no cell is to be read.
+        let leave_reach = split.points_leave_reach(self.part);
+        let cell_word = |&c: &usize| if leave_reach { 0 } else { locals[c].0 };
+        words.push(self.points.len());
+        words.extend(&self.points);
+        words.extend(ends(0, around.clone()));
+        words.extend(around.flat_map(|cells| cells.iter().rev().map(cell_word)));
         words
     }
 }
@@ -153,13 +167,11 @@ pub fn take(state: &mut [u8], message: &[u8]) -> Answer {
 /// Makes a round of the owned cells, all from old depths. Nothing is taken or written in the new round.
 pub fn advance(state: &mut [u8]) -> Answer {
     let view = State::read(state)?;
-    let parts = 1..=MOST_PARTS;
-    let not_taken = |j: usize| view.imports(state, j).len() > 0 && state[view.sizes.taken(j)] == 0;
-    if parts.clone().any(not_taken) {
+    if !view.all_taken(state) {
         return Err(Refusal::NotTaken);
     }
     let not_written = |j: usize| !view.exports(state, j).is_empty() && state[view.sizes.written(j)] == 0;
-    if parts.clone().any(not_written) {
+    if (1..=MOST_PARTS).any(not_written) {
         return Err(Refusal::NotWritten);
     }
     if view.round == LAST_ROUND {
@@ -186,4 +198,21 @@ pub fn collect(state: &[u8], round: u32, field: &mut [u8]) -> Answer {
         put_depth(field, 4 * place, view.depth(state, local));
     }
     Ok(view.sizes.owned as u32)
+}
+
+/// Puts each point that touches the owned cells, its number and then its depth; their count.
+pub fn points(state: &[u8], out: &mut [u8]) -> Answer {
+    let view = State::read(state)?;
+    if !view.all_taken(state) {
+        return Err(Refusal::NotTaken);
+    }
+    if view.points_leave_reach(state) {
+        return Err(Refusal::PointReach);
+    }
+    let out = needed(out, 6 * view.sizes.points)?;
+    for (point, k) in out.chunks_exact_mut(6).zip(1..) {
+        put_word(point, 0, view.point(state, k));
+        put_depth(point, 2, view.point_depth(state, k));
+    }
+    Ok(view.sizes.points as u32)
 }

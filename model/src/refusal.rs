@@ -45,11 +45,12 @@ refusals! {
     21 Sender "To is not this part, or from is no part that this one imports from, or count is not the length of that import list."
     22 MessageRound "The message's round is not the state's."
     23 AlreadyTaken "Already taken this round."
-    24 NotTaken "Advance with an import not taken."
+    24 NotTaken "Advance or points with an import not taken."
     25 NotWritten "Advance with an export not written."
     26 LastRound "Advance at round 60,000."
     27 Receiver "Write to a number that isn't a part importing from here."
     28 OtherRound "Collect for another round than the state's."
+    29 PointReach "A cell incident to a point of an owned cell is outside that cell's reach."
 }
 
 impl Refusal {

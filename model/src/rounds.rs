@@ -1,4 +1,4 @@
-//! Rules, fields and the undivided round (numbers 11 and 14).
+//! Rules, fields, the undivided round and the depths at the points (numbers 11 and 14).
 
 use crate::bytes::{needed, put_depth, read_depths, word};
 use crate::calls::RuleInput;
@@ -36,19 +36,32 @@ impl Rule {
     pub fn new_depth(&self, own: i32, reach: impl Iterator<Item = (usize, i32)>) -> i32 {
         match self {
             Rule::Hold => own,
-            Rule::Mean(weights) => {
-                let (mut sum, mut weight) = (0, 0);
-                for (layer, old) in reach {
-                    let v = weights[layer / 2] as i64;
-                    sum += v * i64::from(old);
-                    weight += v;
-                }
-                // Rust's quotient drops the fraction toward zero; a mean of depths is a depth.
-                (sum / weight) as i32
-            }
+            Rule::Mean(weights) => mean(reach.map(|(layer, old)| (weights[layer / 2], old))),
             Rule::Shoalest => reach.fold(own, |least, (_, old)| least.min(old)),
         }
     }
+}
+
+/// The mean of depths with their weights, which are not all 0. The fraction is dropped toward zero, as Rust's quotient
+/// does; a mean of depths is a depth.
+fn mean(weighed: impl Iterator<Item = (usize, i32)>) -> i32 {
+    let (mut sum, mut weight) = (0, 0);
+    for (v, depth) in weighed {
+        sum += v as i64 * i64::from(depth);
+        weight += v as i64;
+    }
+    (sum / weight) as i32
+}
+
+/// The mean with all weights 1, rounded like the rule.
+pub fn plain_mean(depths: impl Iterator<Item = i32>) -> i32 {
+    mean(depths.map(|depth| (1, depth)))
+}
+
+/// The depth at each point of the mesh, from point 1 on: the plain mean of the depths of the cells incident to it.
+pub fn undivided_points(mesh: &Mesh, field: &[i32]) -> Vec<i32> {
+    let depths_at = |point: usize| mesh.cells_at(point).iter().map(|&cell| field[cell - mesh.first_cell()]);
+    mesh.elements(0).map(|point| plain_mean(depths_at(point))).collect()
 }
 
 /// The depths of a field, one for each cell in rising number.

@@ -1,4 +1,4 @@
-//! Part maps, held cells, imports and exports, local order and ranges (numbers 8, 9 and 12).
+//! Part maps, held cells, imports and exports, local order, ranges and points (numbers 8, 9, 12 and 29).
 
 use std::ops::BitOr;
 
@@ -213,6 +213,24 @@ impl Split {
         let touched = PartSet::union(cells.clone().map(|&c| PartSet::only(self.map.owners[c])));
         let holders = PartSet::union(cells.map(|&c| self.holders[c]));
         Range::of(part, touched, holders)
+    }
+
+    /// The points that touch the part's owned cells, rising.
+    pub fn points(&self, part: usize) -> Vec<usize> {
+        let touches = |&point: &usize| self.mesh.cells_at(point).iter().any(|&c| self.owns(part, c));
+        self.mesh.elements(0).filter(touches).collect()
+    }
+
+    /// Whether a cell incident to a point of an owned cell is outside that cell's reach (29).
+    pub fn points_leave_reach(&self, part: usize) -> bool {
+        let mut reached_from = vec![0; self.mesh.size()];
+        self.mesh.cells().filter(|&c| self.owns(part, c)).any(|owned| {
+            for entry in self.reaches.of(owned) {
+                reached_from[entry.cell] = owned;
+            }
+            let mut at_points = self.mesh.sides(owned, 0).flat_map(|point| self.mesh.cells_at(point));
+            at_points.any(|&c| reached_from[c] != owned)
+        })
     }
 
     fn cells(&self, wanted: impl Fn(usize) -> bool) -> Vec<usize> {

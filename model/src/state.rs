@@ -6,13 +6,14 @@ use crate::bytes::{depth, word, DEEPEST};
 use crate::calls::RuleInput;
 use crate::mesh::MOST_ELEMENTS;
 use crate::refusal::{Answer, Refusal};
-use crate::rounds::Rule;
+use crate::rounds::{plain_mean, Rule};
 use crate::split::MOST_PARTS;
 use crate::walks::MOST_STEPS;
 
 pub const LAST_ROUND: usize = 60_000;
 
-/// The number of a held cell within its part, from 1. Only the part's list converts it.
+/// The number of a held cell within its part, from 1. Only the part's list converts it. 0 among the cells at a point is no
+/// cell.
 #[derive(Clone, Copy, PartialEq, Eq)]
 pub struct Local(pub usize);
 
@@ -23,6 +24,10 @@ pub struct Sizes {
     /// Entries of the owned cells' reaches.
     pub entries: usize,
     pub exports: usize,
+    /// Points that touch the owned cells.
+    pub points: usize,
+    /// Cells at these points, point by point.
+    pub point_cells: usize,
 }
 
 // Places of the first lists, as words.
@@ -31,9 +36,25 @@ pub const EXPORT_ENDS: usize = 28;
 pub const GLOBALS: usize = 45;
 
 impl Sizes {
+    /// The sizes that words of a state give. Each tells where the next one stands.
+    pub fn read(bytes: &[u8]) -> Sizes {
+        let mut sizes = Sizes {
+            owned: word(bytes, IMPORT_ENDS),
+            held: word(bytes, IMPORT_ENDS + MOST_PARTS),
+            entries: 0,
+            exports: word(bytes, EXPORT_ENDS + MOST_PARTS),
+            points: 0,
+            point_cells: 0,
+        };
+        sizes.entries = word(bytes, sizes.reach_ends() + sizes.owned);
+        sizes.points = word(bytes, sizes.point(0));
+        sizes.point_cells = word(bytes, sizes.point_ends() + sizes.points);
+        sizes
+    }
+
     /// Word 0: the length of the lists in words.
     pub fn words(&self) -> usize {
-        46 + self.held + self.owned + 2 * self.entries + self.exports
+        48 + self.held + self.owned + 2 * self.entries + self.exports + 2 * self.points + self.point_cells
     }
 
     pub fn length(&self) -> usize {
@@ -56,6 +77,19 @@ impl Sizes {
 
     fn export(&self, t: usize) -> usize {
         self.entry(self.entries) + t
+    }
+
+    /// The count of points, and behind it the numbers of the first, the second and so on.
+    pub fn point(&self, k: usize) -> usize {
+        self.export(self.exports) + k
+    }
+
+    pub fn point_ends(&self) -> usize {
+        self.point(self.points) + 1
+    }
+
+    pub fn point_cell(&self, t: usize) -> usize {
+        self.point_ends() + self.points + 1 + t
     }
 
     pub fn round(&self) -> usize {
@@ -98,11 +132,9 @@ impl State {
     }
 
     fn accepted(bytes: &[u8]) -> Option<State> {
-        let (owned, held) = (word(bytes, IMPORT_ENDS), word(bytes, IMPORT_ENDS + MOST_PARTS));
-        let mut sizes = Sizes { owned, held, entries: 0, exports: word(bytes, EXPORT_ENDS + MOST_PARTS) };
-        sizes.entries = word(bytes, sizes.reach_ends() + owned);
+        let sizes = Sizes::read(bytes);
         let fits = word(bytes, 0) == sizes.words() && bytes.len() >= sizes.length();
-        if !fits || held > MOST_ELEMENTS {
+        if !fits || sizes.held > MOST_ELEMENTS {
             return None;
         }
         let steps = word(bytes, 2);
@@ -128,15 +160,19 @@ impl State {
         whole.then_some(state)
     }
 
-    /// The tables of ends begin right and never fall. That the import ends begin and end right is how the sizes were read.
+    /// The tables of ends begin right and never fall, and each point has a cell. That the import ends begin and end right is
+    /// how the sizes were read.
     fn has_tables(&self, bytes: &[u8]) -> bool {
         let rises = |at: usize, last: usize| (at..at + last).all(|i| word(bytes, i) <= word(bytes, i + 1));
-        let reach_ends = self.sizes.reach_ends();
+        let (reach_ends, point_ends) = (self.sizes.reach_ends(), self.sizes.point_ends());
+        let climbs = |at: usize, last: usize| (at..at + last).all(|i| word(bytes, i) < word(bytes, i + 1));
         rises(IMPORT_ENDS, MOST_PARTS)
             && rises(EXPORT_ENDS, MOST_PARTS)
             && rises(reach_ends, self.sizes.owned)
             && word(bytes, EXPORT_ENDS) == 0
             && word(bytes, reach_ends) == 0
+            && climbs(point_ends, self.sizes.points)
+            && word(bytes, point_ends) == 0
     }
 
     fn has_lists(&self, bytes: &[u8], steps: usize) -> bool {
@@ -154,6 +190,7 @@ impl State {
             && (0..sizes.entries).all(in_reach)
             && self.owned().all(reaches_itself)
             && (0..sizes.exports).all(|t| (1..=sizes.owned).contains(&self.export(bytes, t).0))
+            && (0..sizes.point_cells).all(|t| self.point_cell(bytes, t).0 <= sizes.held)
     }
 
     fn has_depth(&self, bytes: &[u8], local: Local) -> bool {
@@ -181,6 +218,11 @@ impl State {
         part_range(bytes, IMPORT_ENDS, from).map(|place| Local(place + 1))
     }
 
+    /// Whether the messages from all parts that this one imports from are taken.
+    pub fn all_taken(&self, bytes: &[u8]) -> bool {
+        (1..=MOST_PARTS).all(|j| self.imports(bytes, j).len() == 0 || bytes[self.sizes.taken(j)] == 1)
+    }
+
     /// The places of the export entries to a part; none to a number that is no part.
     pub fn exports(&self, bytes: &[u8], to: usize) -> Range<usize> {
         part_range(bytes, EXPORT_ENDS, to)
@@ -188,6 +230,26 @@ impl State {
 
     pub fn export(&self, bytes: &[u8], t: usize) -> Local {
         Local(word(bytes, self.sizes.export(t)))
+    }
+
+    /// The number of the k-th point, from k = 1 on.
+    pub fn point(&self, bytes: &[u8], k: usize) -> usize {
+        word(bytes, self.sizes.point(k))
+    }
+
+    /// The depth at the k-th point, from those of the cells at it.
+    pub fn point_depth(&self, bytes: &[u8], k: usize) -> i32 {
+        let cells = between_ends(bytes, self.sizes.point_ends(), k).map(|t| self.point_cell(bytes, t));
+        plain_mean(cells.map(|cell| self.depth(bytes, cell)))
+    }
+
+    /// Whether some cell at a point is none, since one is outside the reach of an owned cell at its point.
+    pub fn points_leave_reach(&self, bytes: &[u8]) -> bool {
+        (0..self.sizes.point_cells).any(|t| self.point_cell(bytes, t) == Local(0))
+    }
+
+    fn point_cell(&self, bytes: &[u8], t: usize) -> Local {
+        Local(word(bytes, self.sizes.point_cell(t)))
     }
 
     /// The places of the entries of an owned cell's reach.

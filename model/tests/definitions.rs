@@ -117,6 +117,27 @@ impl<'a> Paper<'a> {
             }
     }
 
+    /// The cells incident to an element.
+    fn around(&self, element: usize) -> Set {
+        let cells = self.of_dimension(self.scenario.top).into_iter();
+        cells.filter(|&c| self.incident(c, element)).collect()
+    }
+
+    fn points(&self, part: u32) -> Set {
+        let mut points = self.of_dimension(0);
+        points.retain(|&p| self.touches(p, part));
+        points
+    }
+
+    /// A cell incident to a point of an owned cell is outside that cell's reach.
+    fn leaves_reach(&self, part: u32) -> bool {
+        self.owned(part).into_iter().any(|c| {
+            let reach: Set = self.reach(c).into_iter().map(|(r, _)| r).collect();
+            let points = self.of_dimension(0).into_iter().filter(|&p| self.incident(p, c));
+            points.into_iter().any(|p| !self.around(p).is_subset(&reach))
+        })
+    }
+
     fn range(&self, part: u32, range: Range, dimension: usize) -> Set {
         let mut elements = self.of_dimension(dimension);
         elements.retain(|&e| self.is_in(part, range, e));
@@ -180,6 +201,35 @@ fn lists_are_the_defined_sets() {
             }
         }
     }
+}
+
+#[test]
+fn points_of_a_state_are_the_defined_sets() {
+    let (mut accepted, mut refused) = (0, 0);
+    for scenario in scenarios(11, 200, 12) {
+        let paper = Paper::of(&scenario);
+        for part in 1..=scenario.parts {
+            let length = under_test().state_size(scenario.part(part)).unwrap() as usize;
+            let mut state = vec![0; length];
+            under_test().start(scenario.part(part), scenario.rule(), &scenario.field, &mut state).unwrap();
+            let points = rising(paper.points(part));
+            let around: Vec<Set> = points.iter().map(|&p| paper.around(p)).collect();
+            let leaves_reach = paper.leaves_reach(part);
+            let locals = listed(&scenario, part, List::Locals);
+            let local = |c: usize| locals.iter().position(|&held| held == c).unwrap() + 1;
+            let cell_word = |&c: &usize| if leaves_reach { 0 } else { local(c) };
+
+            let mut words = vec![points.len()];
+            words.extend(points);
+            words.extend((0..=around.len()).map(|k| around[..k].iter().map(Set::len).sum::<usize>()));
+            words.extend(around.iter().flat_map(|cells| cells.iter().rev().map(cell_word)));
+            let end = word(&state, 0);
+            let found: Vec<usize> = (end - words.len()..end).map(|place| word(&state, place)).collect();
+            assert_eq!(found, words);
+            (accepted, refused) = (accepted + u32::from(!leaves_reach), refused + u32::from(leaves_reach));
+        }
+    }
+    assert!(accepted > 100 && refused > 100, "29 held for {refused} parts and not for {accepted}");
 }
 
 #[test]

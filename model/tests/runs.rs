@@ -1,10 +1,17 @@
-//! Whole runs: any order of calls on the parts, repeated and refused ones too, gives the undivided field.
+//! Whole runs: any order of calls on the parts, repeated and refused ones too, gives the undivided field, and the undivided
+//! depths at the points.
 
-use jemlayos_model::bytes::word;
-use jemlayos_model::calls::under_test;
+use std::collections::BTreeMap;
+
+use jemlayos_model::bytes::{read_depths, word};
+use jemlayos_model::calls::{under_test, List};
 use jemlayos_model::generate::random::Random;
 use jemlayos_model::generate::scenarios::Scenario;
 use jemlayos_model::generate::traffic;
+use jemlayos_model::mesh::Mesh;
+use jemlayos_model::refusal::Refusal;
+use jemlayos_model::rounds::undivided_points;
+use jemlayos_model::walks::{Reaches, Stencil};
 
 /// The undivided field after each number of rounds.
 fn undivided(scenario: &Scenario, rounds: usize) -> Vec<Vec<u8>> {
@@ -30,13 +37,51 @@ fn started(scenario: &Scenario) -> Vec<Vec<u8>> {
     (1..=scenario.parts).map(start).collect()
 }
 
+/// What a part's points are to be.
+struct Points {
+    /// Its points, rising.
+    numbers: Vec<usize>,
+    /// Whether a cell at a point of an owned cell is outside that cell's reach.
+    leave_reach: bool,
+    /// How many parts it imports from.
+    senders: usize,
+}
+
+impl Points {
+    fn of(scenario: &Scenario, part: u32) -> Points {
+        let mesh = Mesh::read(&scenario.mesh).unwrap();
+        let reaches = Reaches::find(&mesh, &Stencil::read(&scenario.stencil, scenario.top).unwrap()).unwrap();
+        let owns = |cell: usize| u32::from(scenario.owners[cell - mesh.first_cell()]) == part;
+        let touches = |&point: &usize| mesh.cells_at(point).iter().any(|&c| owns(c));
+        let numbers: Vec<usize> = mesh.elements(0).filter(touches).collect();
+        let reached = |from: usize, cell: usize| reaches.of(from).iter().any(|entry| entry.cell == cell);
+        let leave_reach = numbers.iter().map(|&point| mesh.cells_at(point)).any(|cells| {
+            let mut owned = cells.iter().filter(|&&c| owns(c));
+            owned.any(|&from| !cells.iter().all(|&cell| reached(from, cell)))
+        });
+        let imports = |other: u32| under_test().list(scenario.part(part), List::Imports(other), &mut [0; 4_000]);
+        let senders = (1..=scenario.parts).filter(|&other| imports(other).unwrap() > 0).count();
+        Points { numbers, leave_reach, senders }
+    }
+}
+
 /// A run under way: its states, the messages given so far, and the round of each part.
 struct Run<'a> {
     scenario: &'a Scenario,
     states: Vec<Vec<u8>>,
     written: Vec<Vec<u8>>,
     rounds: Vec<usize>,
+    /// How many messages each part took in its round.
+    taken: Vec<usize>,
     fields: Vec<Vec<u8>>,
+    /// Of each part.
+    points: Vec<Points>,
+    /// The depths at all points after each number of rounds.
+    undivided_points: Vec<Vec<i32>>,
+    /// Which part gave a point at a round first, and its depth there.
+    given: BTreeMap<(usize, usize), (usize, [u8; 4])>,
+    /// How often points were given, and how often a point that another part had given at that round.
+    counts: [usize; 2],
 }
 
 impl Run<'_> {
@@ -58,13 +103,47 @@ impl Run<'_> {
                 // The latest messages are the likely ones to be accepted.
                 let recent = self.written.len().saturating_sub(random.between(1, 30));
                 let message: &Vec<u8> = random.pick(&self.written[recent..]);
-                let _ = under_test().take(state, message);
+                let taken = under_test().take(state, message).is_ok();
                 let _ = under_test().take(&mut state.clone(), &traffic::message(random, &self.written));
+                if taken {
+                    self.taken[place] += 1;
+                    (0..self.states.len()).for_each(|place| self.points(place));
+                }
             }
             2 if self.rounds[place] + 1 < self.fields.len() => {
-                self.rounds[place] += usize::from(under_test().advance(state).is_ok());
+                if under_test().advance(state).is_ok() {
+                    self.rounds[place] += 1;
+                    self.taken[place] = 0;
+                }
             }
-            _ => self.collect(place),
+            _ => {
+                self.collect(place);
+                self.points(place);
+            }
+        }
+    }
+
+    /// What a part gives are its points with the undivided depths, once all imports are taken and if no cell at them is
+    /// outside a reach. So what two parts give for one point at one round is the same.
+    fn points(&mut self, place: usize) {
+        let (round, points) = (self.rounds[place], &self.points[place]);
+        let mut out = vec![0xee; 6 * points.numbers.len() + 2];
+        let answer = under_test().points(&self.states[place], &mut out);
+        if self.taken[place] < points.senders {
+            assert_eq!(answer, Err(Refusal::NotTaken));
+        } else if points.leave_reach {
+            assert_eq!(answer, Err(Refusal::PointReach));
+        } else {
+            assert_eq!(answer, Ok(points.numbers.len() as u32));
+            for (six, &point) in out.chunks_exact(6).zip(&points.numbers) {
+                let (number, depth) = (word(six, 0), [six[2], six[3], six[4], six[5]]);
+                assert_eq!((number, i32::from_be_bytes(depth)), (point, self.undivided_points[round][point - 1]));
+                let &mut (first, given) = self.given.entry((round, point)).or_insert((place, depth));
+                assert_eq!(depth, given);
+                self.counts[1] += usize::from(first != place);
+            }
+            assert_eq!(out[6 * points.numbers.len()..], [0xee; 2]);
+            self.counts[0] += 1;
         }
     }
 
@@ -86,7 +165,7 @@ impl Run<'_> {
 #[test]
 fn every_order_of_calls_gives_the_undivided_field() {
     let random = &mut Random::new(5);
-    let (mut runs, mut late) = (0, 0);
+    let (mut runs, mut late, mut counts) = (0, 0, [0; 2]);
     while runs < 150 {
         let scenario = Scenario::random(random);
         if under_test().state_size(scenario.part(1)).is_err() || scenario.parts > 6 {
@@ -94,15 +173,29 @@ fn every_order_of_calls_gives_the_undivided_field() {
         }
         runs += 1;
         let states = started(&scenario);
-        let rounds = vec![0; states.len()];
         let fields = undivided(&scenario, 4);
-        let mut run = Run { scenario: &scenario, states, written: Vec::new(), rounds, fields };
+        let mesh = Mesh::read(&scenario.mesh).unwrap();
+        let at_points = |field: &Vec<u8>| undivided_points(&mesh, &read_depths(field).unwrap());
+        let mut run = Run {
+            scenario: &scenario,
+            written: Vec::new(),
+            rounds: vec![0; states.len()],
+            taken: vec![0; states.len()],
+            states,
+            points: (1..=scenario.parts).map(|part| Points::of(&scenario, part)).collect(),
+            undivided_points: fields.iter().map(at_points).collect(),
+            fields,
+            given: BTreeMap::new(),
+            counts,
+        };
         for _ in 0..3_000 {
             run.call(random);
         }
         late += usize::from(run.rounds.iter().any(|&round| round >= 2));
+        counts = run.counts;
     }
     assert!(late > 100, "only {late} runs came to round 2");
+    assert!(counts.iter().all(|&count| count > 1_000), "points were given {counts:?} times");
 }
 
 #[test]
@@ -119,8 +212,12 @@ fn a_state_is_within_its_bound() {
             let sizes = |place: usize| word(&state, place);
             let (owned, held, exports) = (sizes(11), sizes(27), sizes(44));
             let reached = sizes(45 + held + owned);
-            assert!(state.len() <= 200 + 40 * (held + reached + exports));
-            assert_eq!(state.len(), 126 + 6 * held + 2 * owned + 4 * reached + 2 * exports);
+            let first = 46 + held + owned + 2 * reached + exports;
+            let points = sizes(first);
+            let point_cells = sizes(first + 1 + 2 * points);
+            assert!(state.len() <= 200 + 40 * (held + reached + exports + points + point_cells));
+            let (lists, at_points) = (6 * held + 2 * owned + 4 * reached + 2 * exports, 4 * points + 2 * point_cells);
+            assert_eq!(state.len(), 130 + lists + at_points);
         }
     }
 }

@@ -1,19 +1,62 @@
 -- Examples beside those of document 01, as entries of one table under one theorem, all by computation over the definitions. The examples of later
 -- requests go here, over the inputs of `worked_examples`, whose table stays document 01's. Assumes nothing.
 use mathlib.Core.Path.{_≡_, refl}
-use mathlib.Core.List.{List, [], _∷_, map}
-use Prim.Native.Nat.{ℕ}
+use mathlib.Core.List.{List, [], _∷_, _++_, map}
+use Prim.Native.Nat.{ℕ, _+_, _*_}
 use lib.IntN.{ℤ, pos, negsuc}
-use Rattle.vocabulary.specs.Bytes.{Bytes}
-use Rattle.vocabulary.specs.Lists.{isIn, placeOf, joined, someOf, everyOf}
+use lib.ListN.{length, replicate}
+use Rattle.vocabulary.specs.Bytes.{Bytes, over}
+use Rattle.vocabulary.specs.Lists.{isIn, placeOf, joined, repeats, someOf, everyOf}
 use Rattle.vocabulary.specs.Intervals.{isUpTo, picked, every, some, listed, blocks, total}
 use Rattle.layout.specs.Words.{word, wordAt, words, wordBytes, bytesOf}
-use Rattle.depths.specs.Depths.{four, numberFrom, signed, unsigned, depthFrom, numberBytes, depthBytes}
-use Rattle.mesh.specs.Mesh.{below, dimension, elementIn, nextOf, follow, records, chain}
-use Rattle.mesh.specs.Walks.{incident, steps, stepTo, walked, stepsTo, layer, reach}
-use Rattle.round_rule.specs.Rules.{weight, depthSum, weightSum, quotient, plainMean, least, newDepth}
-use Rattle.round.specs.Rounds.{schemeOf, depthIn, oldsIn, newIn, round, undivided}
-use Rattle.worked_examples.specs.Table.{five, field, fiveInputs}
+use Rattle.depths.specs.Depths.{four, numberFrom, signed, unsigned, depthFrom, numberBytes, depthBytes, inRange, rangedAt}
+use Rattle.mesh.specs.Meet.{meet, stamp, unlike}
+use Rattle.mesh.specs.Mesh.{below, dimension, elementIn, nextOf, follow, records, chain, allRecords, bad1, badCount, bad2, meshLength, bad3}
+use Rattle.mesh.specs.Mesh.{headed, bad4, badItem, badChain, bad5, leaves, unclosed, bad6, bare, bad7, meshTests, meshNumber}
+use Rattle.mesh.specs.Walks.{incident, steps, validAt, bad10, stepTo, walked, stepsTo, layer, reach, bad13, cellsAt}
+use Rattle.round_rule.specs.Rules.{weightCount, tooHeavy, bad11, weight, depthSum, weightSum, quotient, plainMean, least, newDepth}
+use Rattle.round.specs.Rounds.{bad14, schemeOf, depthIn, oldsIn, newIn, round, undivided}
+use Rattle.messages.specs.Messages.{bad15}
+use Rattle.split.specs.Lists.{bad8, bad9, bad12, splitTests, sizeTests}
+use Rattle.split.specs.Split.{splitOf, owns, owned, reaches, holds, held, imports, exports, inside, interior, halo}
+use Rattle.split.specs.Split.{locals, localOf, globalOf, touches, pointsOf, cellPoints, pointEnds, bad29}
+use Rattle.part_state.specs.State.{weights, localReach, localExports, localAround, listsIn, listsOf, rises, climbs, listsTests, dynamicTests, isState, bad20}
+use Rattle.part_calls.specs.Calls.{importsFrom, outside, takeTestsIn, takenIn, allTaken, pointsTestsIn, pointGiven, takeNumber, takeState, pointsNumber, pointsOut}
+use Rattle.part_start.specs.Start.{importEnds, exportEnds, reachEnds, reachWords, exportWords, aroundWords, listsLong, listsRegions, stateSize, sizeNumber}
+use Rattle.part_start.specs.Start.{inputs, Inputs, firstState, startNumber, startState}
+use Rattle.worked_examples.specs.Table.{five, triangles, field, fiveInputs}
+
+-- ---- depths at the points (F-1)
+
+-- a part as started, in a buffer longer than each state
+abbrev started : Inputs → ℕ → Bytes
+started I i = startState I i (replicate 300 7)
+
+-- part 1 of the five cells when its import is taken: 00 02 00 01 00 00 00 01 00 00 01 90
+abbrev tookIn : Bytes
+tookIn = takeState (started fiveInputs 1) (0x00 ∷ 0x02 ∷ 0x00 ∷ 0x01 ∷ 0x00 ∷ 0x00 ∷ 0x00 ∷ 0x01 ∷ 0x00 ∷ 0x00 ∷ 0x01 ∷ 0x90 ∷ [])
+
+-- the five cells in one part, under the rule hold
+abbrev fiveInOne : Bytes → Bytes → Inputs
+fiveInOne st f = inputs five 1 (1 ∷ 1 ∷ 1 ∷ 1 ∷ 1 ∷ []) st 0 [] f
+
+-- the three triangles
+abbrev threeIn : ℕ → Bytes → Bytes → Inputs
+threeIn parts owners st = inputs triangles parts owners st 0 [] (field (3 ∷ 6 ∷ 10 ∷ []))
+
+-- triangles 15 and 16 in part 1, triangle 17 in part 2; through edges 15 and 17 are not in each other's reach, and both have point 1
+abbrev throughEdges : Inputs
+throughEdges = threeIn 2 (1 ∷ 1 ∷ 2 ∷ []) (2 ∷ 1 ∷ 2 ∷ [])
+
+-- one cell between two points
+abbrev oneCell : Inputs
+oneCell = inputs (bytesOf (1 ∷ 2 ∷ 1 ∷ 0 ∷ 0 ∷ 2 ∷ 0 ∷ 0 ∷ 1 ∷ 1 ∷ 2 ∷ 2 ∷ 0 ∷ [])) 1 (1 ∷ []) (1 ∷ []) 0 [] (field (300 ∷ []))
+
+-- a point as it is given
+abbrev at : ℕ → ℕ → Bytes
+at p depth = wordBytes p ++ depthBytes (pos depth)
+
+-- ---- the table
 
 -- an entry, by the definition that it is about
 pub data Example : Type 0 where
@@ -21,11 +64,20 @@ pub data Example : Type 0 where
   rounds : ℕ → Bytes → ℕ → List ℕ → Example
   -- depths and their plain mean
   plain : List ℤ → ℤ → Example
+  -- a state, a word of it, and the words from there to the end of its lists: how many points, their numbers, the ends of the cells at them, these cells
+  point-words : Bytes → ℕ → List ℕ → Example
+  -- a state, how many bytes a points call on it is lent, and the number of that call
+  points-number : Bytes → ℕ → ℕ → Example
+  -- a state, and what a points call on it gives
+  points-given : Bytes → List Bytes → Example
 
 -- what an entry claims
 abbrev pub Holds : Example → Type 0
 Holds (rounds kind v k ds) = undivided (schemeOf five (fiveInputs .split .stencil) kind v) (fiveInputs .field) k ≡ field ds
 Holds (plain zs z) = plainMean (map depthBytes zs) ≡ depthBytes z
+Holds (point-words b a ws) = wordAt b 0 ∷ listed a (length ws) (wordAt b) ≡ (a + length ws) ∷ ws
+Holds (points-number b long n) = pointsNumber b (replicate long 0) ≡ n
+Holds (points-given b ps) = pointsOut b (replicate (6 * length ps) 0) ≡ joined ps
 
 abbrev pub AllHold : List Example → Type 0
 AllHold [] = Unit {0}
@@ -39,11 +91,40 @@ table =
     -- 701 over 3 and, above the water, −7 over 4: fraction dropped toward zero
     ∷ plain (pos 100 ∷ pos 200 ∷ pos 401 ∷ []) (pos 233)
     ∷ plain (negsuc 0 ∷ negsuc 1 ∷ negsuc 1 ∷ negsuc 1 ∷ []) (negsuc 0)
+    -- F-1: the points of the two parts of the five cells
+    ∷ point-words (started fiveInputs 1) 70 (4 ∷ 1 ∷ 2 ∷ 3 ∷ 4 ∷ 0 ∷ 1 ∷ 3 ∷ 5 ∷ 7 ∷ 1 ∷ 2 ∷ 1 ∷ 3 ∷ 2 ∷ 4 ∷ 3 ∷ [])
+    ∷ point-words (started fiveInputs 2) 62 (3 ∷ 4 ∷ 5 ∷ 6 ∷ 0 ∷ 2 ∷ 4 ∷ 5 ∷ 2 ∷ 3 ∷ 1 ∷ 2 ∷ 1 ∷ [])
+    -- "at a round whose imports are all taken; otherwise 24"; it comes before 16
+    ∷ points-number (started fiveInputs 1) 0 24
+    ∷ points-number tookIn 23 16
+    -- 29 is about the reach of each owned cell: a part that has all cells is refused where the stencil has no steps
+    ∷ points-number (started (fiveInOne (1 ∷ []) (fiveInputs .field)) 1) 36 29
+    -- a mean is rounded toward zero, −3 over 2 to −1
+    ∷ points-given (started (fiveInOne (1 ∷ 0 ∷ 1 ∷ []) (joined (map depthBytes (negsuc 0 ∷ negsuc 1 ∷ pos 0 ∷ pos 0 ∷ pos 0 ∷ [])))) 1) (
+    (0x00 ∷ 0x01 ∷ 0xFF ∷ 0xFF ∷ 0xFF ∷ 0xFF ∷ [])
+    ∷ (0x00 ∷ 0x02 ∷ 0xFF ∷ 0xFF ∷ 0xFF ∷ 0xFF ∷ [])
+    ∷ (0x00 ∷ 0x03 ∷ 0xFF ∷ 0xFF ∷ 0xFF ∷ 0xFF ∷ [])
+    ∷ at 4 0
+    ∷ at 5 0
+    ∷ at 6 0
+    ∷ []
+    )
+    -- the triangles through points, in one part
+    ∷ points-given (started (threeIn 1 (1 ∷ 1 ∷ 1 ∷ []) (2 ∷ 0 ∷ 2 ∷ [])) 1) (at 1 6 ∷ at 2 4 ∷ at 3 4 ∷ at 4 6 ∷ at 5 10 ∷ at 6 10 ∷ [])
+    -- the triangles through edges, in two parts: neither has imports, both are refused, and the cells at their points are written as 0
+    ∷ points-number (started throughEdges 1) 24 29
+    ∷ points-number (started throughEdges 2) 18 29
+    ∷ point-words (started throughEdges 2) 50 (3 ∷ 1 ∷ 5 ∷ 6 ∷ 0 ∷ 2 ∷ 3 ∷ 4 ∷ 0 ∷ 0 ∷ 0 ∷ 0 ∷ [])
+    -- a cell is in its own reach
+    ∷ points-given (started oneCell 1) (at 1 300 ∷ at 2 300 ∷ [])
     ∷ []
 
 pub changed : AllHold table
-unfolding isIn placeOf joined someOf everyOf isUpTo picked every some listed blocks total word wordAt words wordBytes bytesOf four numberFrom signed unsigned depthFrom numberBytes
-    depthBytes below dimension elementIn nextOf follow records chain incident steps stepTo walked stepsTo layer reach weight depthSum
-    weightSum quotient least newDepth schemeOf depthIn oldsIn newIn round undivided
-    five field fiveInputs
-changed = (refl, (refl, (refl, (refl, tt))))
+unfolding over isIn placeOf joined repeats someOf everyOf isUpTo picked every some listed blocks total word wordAt words wordBytes bytesOf four numberFrom signed unsigned depthFrom
+    numberBytes depthBytes inRange rangedAt meet stamp unlike below dimension elementIn nextOf follow records chain allRecords bad1 badCount bad2 meshLength bad3 headed bad4 badItem
+    badChain bad5 leaves unclosed bad6 bare bad7 meshTests meshNumber incident steps validAt bad10 stepTo walked stepsTo layer reach bad13 cellsAt weightCount tooHeavy bad11 weight
+    depthSum weightSum quotient least newDepth bad14 schemeOf depthIn oldsIn newIn round undivided bad15 bad8 bad9 bad12 splitTests sizeTests splitOf owns owned reaches holds held
+    imports exports inside interior halo locals localOf globalOf touches pointsOf cellPoints pointEnds bad29 weights localReach localExports localAround listsIn listsOf rises climbs
+    listsTests dynamicTests isState bad20 importsFrom outside takeTestsIn takenIn allTaken pointsTestsIn pointGiven takeNumber takeState pointsNumber pointsOut importEnds exportEnds
+    reachEnds reachWords exportWords aroundWords listsLong listsRegions stateSize sizeNumber firstState startNumber startState five triangles field fiveInputs
+changed = (refl, (refl, (refl, (refl, (refl, (refl, (refl, (refl, (refl, (refl, (refl, (refl, (refl, (refl, (refl, tt)))))))))))))))

@@ -7,7 +7,7 @@ ghost use Rattle.mesh.specs.Mesh.{checkAnswer};
 ghost use Rattle.round.specs.Rounds.{roundInput, roundAnswer, roundOut};
 ghost use Rattle.split.specs.Lists.{splitInput, listAnswer, listOut};
 ghost use Rattle.split.specs.declared.Wanted.the-variants.{Interior, Halo, Locals, Imports, Exports, Private, Exposed, Shared, Copied};
-ghost use Rattle.part_calls.specs.Calls.{writeAnswer, writeState, writeOut, takeAnswer, takeState, advanceAnswer, advanceState, collectAnswer, collectOut};
+ghost use Rattle.part_calls.specs.Calls.{writeAnswer, writeState, writeOut, takeAnswer, takeState, advanceAnswer, advanceState, collectAnswer, collectOut, pointsAnswer, pointsOut};
 ghost use Rattle.part_start.specs.Start.{inputs, sizeAnswer, startAnswer, startState};
 
 // How many cells the mesh has.
@@ -272,4 +272,12 @@ pub extern "C" fn jem_collect(state: &[u8], round: u32, field: &mut [u8]) -> u64
     ensures { λ r. ⌜ (r ≡ packed (collectAnswer (now (state .entry)) round (now (field .entry)))) × (now (field .exit) ≡ collectOut (now (state .entry)) round (now (field .entry))) ⌝ }
 {
     pack(part_collect::collect(state, round, field))
+}
+
+// Gives each point that touches an owned cell, with its depth.
+#[no_mangle]
+pub extern "C" fn jem_points(state: &[u8], out: &mut [u8]) -> u64
+    ensures { λ r. ⌜ (r ≡ packed (pointsAnswer (now (state .entry)) (now (out .entry)))) × (now (out .exit) ≡ pointsOut (now (state .entry)) (now (out .entry))) ⌝ }
+{
+    pack(part_points::points(state, out))
 }

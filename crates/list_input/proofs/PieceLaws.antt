@@ -17,7 +17,7 @@ use Rattle.layout.specs.Limits.{elementPlaces, mostElements, mostParts, recordP
 use Rattle.mesh.specs.Mesh.{elements, recordCount, cellCount, meshLength}
 use Rattle.walk_steps.specs.Walking.{Ground}
 use Rattle.split.specs.Split.{splitOf}
-use Rattle.split.specs.Classes.{Prepared}
+use Rattle.split_classes.specs.Classes.{Prepared}
 use Rattle.split.specs.Lists.{splitTests, sizeTests, splitNumber, sizesNumber, splitInput}
 use Rattle.split.proofs.PassedLaws.{tests-are}
 use Rattle.split.specs.SplitLaws.{split-numbered}

@@ -13,8 +13,8 @@ use Rattle.vocabulary.specs.Lists.{joined}
 use Rattle.layout.specs.Limits.{mostElements, mostParts}
 use Rattle.mesh.specs.Mesh.{top, counted, below, firstCell, cellCount}
 use Rattle.split.specs.Split.{Split, splitOf, interior, halo, imports, exports, holdsLower, touches, another, isCopied, isShared, isExposed, isPrivate}
-use Rattle.split.specs.Classes.{Appended}
-use Rattle.split.specs.Classes.{Classed, Prepared, classCells, partCells}
+use Rattle.split_classes.specs.Classes.{Appended}
+use Rattle.split_classes.specs.Classes.{Classed, Prepared, classCells, partCells}
 use Rattle.split_ranges.specs.Lowers.{Lowered, rangeOf, rowRange}
 use Rattle.split_cells.proofs.AddLaws.{added-fits, added-take, class-few}
 use Rattle.split_cells.proofs.ClassLists.{row-cells, interior-is, halo-is, imports-are, part-imports}

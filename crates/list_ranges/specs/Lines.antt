@@ -3,7 +3,7 @@ use mathlib.Core.List.{List, [], _∷_, _++_}
 use Prim.Native.Nat.{ℕ}
 use Rattle.vocabulary.specs.Bytes.{Bytes}
 use Rattle.split.specs.Split.{splitOf}
-use Rattle.split.specs.Classes.{classCells, partCells}
+use Rattle.split_classes.specs.Classes.{classCells, partCells}
 use Rattle.split_ranges.specs.Lowers.{rangeOf, rowRange}
 use Rattle.list_text.specs.Listing.{ascii, spaced, line, lineUnlessEmpty, partText}
 

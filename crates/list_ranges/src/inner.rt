@@ -19,7 +19,7 @@ ghost use Rattle.layout.specs.Limits.{mostElements};
 ghost use Rattle.mesh.specs.Mesh.{top};
 ghost use Rattle.mesh.specs.Accepted.{Accepted};
 ghost use Rattle.walk_steps.specs.Walking.{Ground};
-ghost use Rattle.split.specs.Classes.{classCells};
+ghost use Rattle.split_classes.specs.Classes.{classCells};
 ghost use Rattle.list_text.specs.Printing.{Printed, numbers};
 ghost use Rattle.list_ranges.specs.Lines.{rangeLine, rowLines, dimensionLines};
 

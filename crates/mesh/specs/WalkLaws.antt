@@ -1,9 +1,10 @@
--- Laws of reaches: they have each cell once and stay among the cells, a cell is in its own reach at layer 0, and layers are even. Assumes nothing.
+-- Laws of reaches: they have each cell once and stay among the cells, a cell is in its own reach at layer 0, and layers are even; and of the chains of cells.
+-- Assumes nothing.
 use mathlib.Core.Path.{_≡_, refl, sym, ap, _∙_, subst}
 use mathlib.Core.Logic.{⊎-elim}
 use mathlib.Core.Bool.{Bool, true, false, not, cond, _||_}
 use mathlib.Core.List.{List, map}
-use Prim.Native.Nat.{ℕ, zero, suc, _+_, _%_, _<_, _≤_}
+use Prim.Native.Nat.{ℕ, zero, suc, _+_, _-_, _%_, _<_, _≤_}
 use native.Mathlib.Nat.{add-zero}
 use native.Mathlib.Omega.{arith}
 use lib.Dec.{eqb, ltb}
@@ -11,12 +12,13 @@ use lib.ListN.{length, getD, length-map}
 use borrow.Author.Tests.{eqb-true, eq-eqb, ne-eqb, ltb-true, ltb-false, lt-ltb, not-false}
 use Rattle.vocabulary.specs.Bytes.{Bytes, byteAt}
 use Rattle.vocabulary.specs.Lists.{isIn, someOf, All}
-use Rattle.vocabulary.specs.ListLaws.{or-left, or-false, isIn-at, At, All-of-map, getD-map-any, map-map, map-id}
-use Rattle.vocabulary.specs.Intervals.{picked, every}
-use Rattle.vocabulary.specs.IntervalLaws.{Rises, last-or, every-in, picked-passes, picked-all, picked-at, picked-in, picked-rises}
-use Rattle.layout.specs.Limits.{mostSteps, stencilBytes}
-use Rattle.mesh.specs.Mesh.{top, counted, below, firstCell, cellCount}
+use Rattle.vocabulary.specs.ListLaws.{or-left, or-nothing, or-false, isIn-at, At, All-of-map, getD-map-any, map-map, map-id}
+use Rattle.vocabulary.specs.Intervals.{picked, every, blocks, total}
+use Rattle.vocabulary.specs.IntervalLaws.{Rises, last-or, every-in, picked-passes, picked-all, picked-at, picked-in, picked-rises, blocks-length, blocks-inner, total-cong}
+use Rattle.layout.specs.Limits.{mostRecords, mostSteps, stencilBytes}
+use Rattle.mesh.specs.Mesh.{top, counted, below, elements, firstCell, cellCount, elementIn, records, chain, allRecords}
 use Rattle.mesh.specs.Walks.{Near, incident, reach, layer, steps, validAt, bad10, stepTo, stepsTo, walked}
+use Rattle.mesh.specs.Accepted.{Accepted}
 
 module _ (m st : Bytes) (c : ℕ) where
   abbrev near : ℕ → Near
@@ -76,6 +78,30 @@ unfolding below
 below-grows m j zero h = let e : j ≡ 0 = omega arith in subst (λ x. below m j ≤ below m x) e (omega arith)
 below-grows m j (suc k) h =
     ⊎-elim (λ l. omega (arith, below-grows m j k (omega arith))) (λ e. subst (λ x. below m j ≤ below m x) e (omega arith)) (last-or j (suc k) (omega arith))
+
+-- ---- cells and points of an accepted mesh
+
+module _ (m : Bytes) (A : Accepted m) where
+  -- the chains of all cells have no more entries than there are records
+  pub chains-few : total (firstCell m) (cellCount m) (λ c. length (chain m c)) ≤ mostRecords
+  unfolding allRecords chain
+  chains-few =
+      let q : 1 + (firstCell m - 1) ≡ firstCell m = omega arith in
+      let a : length (blocks (1 + (firstCell m - 1)) (cellCount m) (records m)) ≤ length (allRecords m) =
+      blocks-inner 1 (records m) (firstCell m - 1) (cellCount m) (elements m) (omega (arith, A .cells-in)) in
+      let b : total (firstCell m) (cellCount m) (λ c. length (chain m c)) ≡ length (blocks (firstCell m) (cellCount m) (records m)) =
+      total-cong (firstCell m) (λ c. length (chain m c)) (λ c. length (records m c)) (cellCount m) (λ j k. length-map (records m (firstCell m + j)) (elementIn m))
+      ∙ sym (blocks-length (firstCell m) (records m) (cellCount m)) in
+      let f : length (blocks (1 + (firstCell m - 1)) (cellCount m) (records m)) ≡ length (blocks (firstCell m) (cellCount m) (records m)) =
+      ap (λ x. length (blocks x (cellCount m) (records m))) q in
+      omega (arith, A .records-few, A .sizes .r-high)
+
+  -- a point's chain is empty, so it is incident to the cells in whose chain it stands
+  pub point-incident : (p c : ℕ) → 1 ≤ p → p ≤ counted m 0 → incident m p c ≡ isIn p (chain m c)
+  unfolding incident isIn
+  point-incident p c h k = ap (λ xs. isIn p (chain m c) || isIn c xs) (A .point-bare p h k) ∙ or-nothing (isIn p (chain m c))
+
+-- ---- stencils
 
 -- an accepted stencil
 module _ (d : ℕ) (st : Bytes) (good : bad10 d st ≡ false) where

@@ -1,4 +1,4 @@
--- What write, take, advance and collect answer and leave. Each is defined over the lists L of a state, the place `changes` of what calls change and
+-- What write, take, advance, collect and points answer and leave. Each is defined over the lists L of a state, the place `changes` of what calls change and
 -- the state's bytes b, and then over the bytes alone. Assumes nothing.
 --
 -- "A call tries each number whose inputs it is given, in rising number, the first list first; only 16 comes last of all." "A refusal gives its
@@ -8,7 +8,8 @@ use mathlib.Core.List.{List, [], _∷_, _++_, map}
 use Prim.Native.Nat.{ℕ, zero, suc, _+_, _-_, _*_}
 use lib.Dec.{eqb, ltb, leb}
 use lib.ListN.{length, set, replicate}
-use Rattle.vocabulary.specs.Intervals.{isUpTo, every, blocks}
+use Rattle.vocabulary.specs.Intervals.{isUpTo, every, some, blocks}
+use Rattle.vocabulary.specs.Lists.{someOf}
 use Rattle.vocabulary.specs.Tests.{Test, refuse, firstOf}
 use Rattle.vocabulary.specs.Bytes.{Bytes, byteAt, over}
 use Rattle.layout.specs.Words.{wordBytes}
@@ -16,6 +17,7 @@ use Rattle.layout.specs.Answers.{answer, ifAccepted}
 use Rattle.layout.specs.declared.Answer.{Answer}
 use Rattle.layout.specs.Limits.{mostParts, lastRound}
 use Rattle.depths.specs.Depths.{four}
+use Rattle.round_rule.specs.Rules.{plainMean}
 use Rattle.messages.specs.Messages.{depthsOf, Message, encode, fromIn, toIn, roundIn, countIn, bad15}
 use Rattle.part_state.specs.State.{Lists, listsOf, dynamic, bad20, roundAt, takenPlace, writtenPlace, depthPlace}
 
@@ -25,6 +27,10 @@ importsFrom L j = isUpTo mostParts j && ltb 0 (L .imported j)
 
 unfoldable pub exportsTo : Lists → ℕ → Bool
 exportsTo L j = isUpTo mostParts j && ltb 0 (length (L .exports j))
+
+-- some cell at a point is written as 0; start does this to all of them where 29 holds of the part (F-1)
+unfoldable pub outside : Lists → Bool
+outside L = some 1 (L .points) (λ k. someOf (L .around k) (eqb 0))
 
 -- the depth of local cell l, as its four bytes
 abbrev pub depthAt : ℕ → Bytes → ℕ → Bytes
@@ -100,6 +106,20 @@ module _ (L : Lists) (changes : ℕ) (b : Bytes) where
   abbrev pub collectedIn : ℕ → Bytes → Bytes
   collectedIn n f = scatter 4 (λ l. L .global l - L .first) (depthAt changes b) n f
 
+  -- ---- points (F-1): "A part gives each point that touches its owned cells, in rising number, as the word of its number and then its depth, at
+  -- a round whose imports are all taken; otherwise 24."
+
+  -- 29: "if a cell incident to a point of an owned cell is outside that cell's reach, tried after 24 and by this call alone"
+  unfoldable pub pointsTestsIn : Bytes → List Test
+  pointsTestsIn out = refuse 20 (bad20 b) ∷ refuse 24 (not allTaken) ∷ refuse 29 (outside L) ∷ refuse 16 (ltb (length out) (6 * L .points)) ∷ []
+
+  -- what is given of the k-th point: "the plain mean of the depths of the cells incident to it" behind its number
+  unfoldable pub pointGiven : ℕ → Bytes
+  pointGiven k = wordBytes (L .point k) ++ plainMean (map (depthAt changes b) (L .around k))
+
+  abbrev pub pointsGiven : Bytes
+  pointsGiven = blocks 1 (L .points) pointGiven
+
 -- ---- the calls over the bytes b of a state
 
 module _ (b : Bytes) where
@@ -156,3 +176,13 @@ module _ (b : Bytes) where
 
   unfoldable pub collectOut : ℕ → Bytes → Bytes
   collectOut k f = ifAccepted (collectNumber k f) (collectedIn L changes b (L .owned) f) f
+
+  unfoldable pub pointsNumber : Bytes → ℕ
+  pointsNumber out = firstOf (pointsTestsIn L changes b out)
+
+  -- it gives how many points there are
+  unfoldable pub pointsAnswer : Bytes → Answer
+  pointsAnswer out = answer (pointsNumber out) (L .points)
+
+  unfoldable pub pointsOut : Bytes → Bytes
+  pointsOut out = ifAccepted (pointsNumber out) (over out 0 (pointsGiven L changes b)) out

@@ -1,6 +1,6 @@
--- What each call on a state leaves: the bytes, flags and depths after a take, a write's message, an advance and a collect, and that a refused one
--- leaves all as it was. Assumes nothing.
-use mathlib.Core.Path.{_≡_, refl, sym, ap, _∙_, subst}
+-- What each call on a state leaves: the bytes, flags and depths after a take, a write's message, an advance and a collect, how many bytes are given of points,
+-- and that a refused one leaves all as it was. Assumes nothing.
+use mathlib.Core.Path.{_≡_, refl, sym, ap, ap₂, _∙_, subst}
 use mathlib.Core.Logic.{_⊎_, inl, ⊎-elim, _≢_}
 use mathlib.Core.Bool.{Bool, true, not, _&&_, _||_}
 use mathlib.Core.List.{List, [], _∷_, _++_, map}
@@ -16,18 +16,20 @@ use Rattle.vocabulary.specs.ByteLaws.{Place, below, inside, above, place as pla
 use Rattle.vocabulary.specs.Lists.{joined}
 use Rattle.vocabulary.specs.ListLaws.{and-intro, getD-map-any}
 use Rattle.vocabulary.specs.Intervals.{isUpTo}
-use Rattle.vocabulary.specs.IntervalLaws.{every-in, upTo-intro}
+use Rattle.vocabulary.specs.IntervalLaws.{every-in, upTo-intro, rows-length}
 use Rattle.vocabulary.specs.Tests.{firstOf}
 use Rattle.vocabulary.specs.TestLaws.{passed-by}
 use Rattle.layout.specs.Words.{word, wordBytes, bytesOf}
 use Rattle.layout.specs.WordLaws.{word-same, word-in, word-left, word-back, length-wordBytes, length-bytesOf, wordAt-first}
 use Rattle.depths.specs.Depths.{four}
-use Rattle.depths.specs.DepthLaws.{length-four, four-same, four-whole, four-set, four-in, four-before, four-after, four-past, four-drop, fours-length, fours-at, joined-at}
+use Rattle.depths.specs.DepthLaws.{length-depthBytes, length-four, four-same, four-whole, four-set, four-in, four-before, four-after, four-past, four-drop, fours-length, fours-at, joined-at}
+use Rattle.round_rule.specs.Rules.{plainMean}
 use Rattle.messages.specs.Messages.{depthStart, depthsOf, encode, fromIn, toIn, roundIn, countIn, headerSize}
 use Rattle.part_state.specs.State.{Lists, roundAt, takenPlace, depthPlace, depthsPlace}
 use Rattle.part_state.specs.StateLaws.{Frame}
 use Rattle.part_calls.specs.Calls.{importsFrom, depthAt, scatter, messageTo, takenIn, allTaken, advanceTestsIn, newAt, newDepths, advancedIn}
 use Rattle.part_calls.specs.Calls.{collectedIn, writeNumber, writeState, writeOut, takeNumber, takeState, advanceNumber, advanceState, collectNumber, collectOut}
+use Rattle.part_calls.specs.Calls.{pointGiven, pointsGiven, pointsNumber, pointsOut}
 use Rattle.part_calls.specs.CallLaws.{Room, Taken, fours-long}
 use Rattle.layout.specs.Limits.{mostParts}
 
@@ -185,15 +187,19 @@ module _ (L : Lists) (changes : ℕ) (b : Bytes) (w : Room L changes b) (new4 : 
   unfolding advancedIn
   advance-others l h = four-after b changes fresh advance-room (depthPlace changes l) (omega (arith, fresh-length))
 
--- what an accepted advance says
-pub advance-taken : (L : Lists) (changes : ℕ) (b : Bytes) → firstOf (advanceTestsIn L changes b) ≡ 0 → (j : ℕ) → 1 ≤ j → j ≤ mostParts → 0 < L .imported j → byteAt b (takenPlace changes j) ≡ 1
-unfolding advanceTestsIn allTaken importsFrom
-advance-taken L changes b e j h k l =
+-- where all imports are taken, the flag of each is set
+pub all-taken : (L : Lists) (changes : ℕ) (b : Bytes) → allTaken L changes b ≡ true → (j : ℕ) → 1 ≤ j → j ≤ mostParts → 0 < L .imported j → byteAt b (takenPlace changes j) ≡ 1
+unfolding allTaken importsFrom
+all-taken L changes b e j h k l =
     let p : ℕ → Bool = λ j. not (isUpTo mostParts j && ltb 0 (L .imported j)) || eqb (byteAt b (takenPlace changes j)) 1 in
-    let t : not (isUpTo mostParts j && ltb 0 (L .imported j)) || eqb (byteAt b (takenPlace changes j)) 1 ≡ true =
-    every-in 1 p mostParts j (not-false _ (passed-by 24 (advanceTestsIn L changes b) tt e)) h (omega arith) in
+    let t : not (isUpTo mostParts j && ltb 0 (L .imported j)) || eqb (byteAt b (takenPlace changes j)) 1 ≡ true = every-in 1 p mostParts j e h (omega arith) in
     let on : isUpTo mostParts j && ltb 0 (L .imported j) ≡ true = and-intro (isUpTo mostParts j) (ltb 0 (L .imported j)) (upTo-intro mostParts j h k) (lt-ltb _ _ l) in
     eqb-true _ _ (rw on at t)
+
+-- so before an accepted advance
+pub advance-taken : (L : Lists) (changes : ℕ) (b : Bytes) → firstOf (advanceTestsIn L changes b) ≡ 0 → (j : ℕ) → 1 ≤ j → j ≤ mostParts → 0 < L .imported j → byteAt b (takenPlace changes j) ≡ 1
+unfolding advanceTestsIn
+advance-taken L changes b e = all-taken L changes b (not-false _ (passed-by 24 (advanceTestsIn L changes b) tt e))
 
 -- ---- pieces put at places
 
@@ -281,6 +287,16 @@ module _ (L : Lists) (changes : ℕ) (b out : Bytes) where
       (λ i c. scatter-pieces 4 cell (depthAt changes b) depth-size out Y n r v l h k i c ∙ ap (byteAt (Y (cell l))) (sym (zero-add i)))
       ∙ four-whole (Y (cell l)) (sym (ap length (v l h k)) ∙ depth-size l)
 
+-- ---- points: what is given has six bytes a point
+
+pub given-six : (L : Lists) (changes : ℕ) (b : Bytes) (k : ℕ) → length (pointGiven L changes b k) ≡ 6
+unfolding pointGiven
+given-six L changes b k =
+    length-append (wordBytes (L .point k)) (plainMean (map (depthAt changes b) (L .around k))) ∙ ap₂ _+_ (length-wordBytes (L .point k)) (length-depthBytes _)
+
+pub points-length : (L : Lists) (changes : ℕ) (b : Bytes) → length (pointsGiven L changes b) ≡ 6 * L .points
+points-length L changes b = rows-length 1 (pointGiven L changes b) 6 (L .points) (λ j h. given-six L changes b (1 + j))
+
 -- ---- refused calls
 
 -- "A refusal gives its number and zero for every count; all lent bytes stay."
@@ -289,12 +305,14 @@ pub record Untouched (b : Bytes) : Type 0 where
   pub by-take : (x : Bytes) → takeNumber b x ≢ 0 → takeState b x ≡ b
   pub by-advance : advanceNumber b ≢ 0 → advanceState b ≡ b
   pub by-collect : (k : ℕ) (f : Bytes) → collectNumber b k f ≢ 0 → collectOut b k f ≡ f
+  pub by-points : (out : Bytes) → pointsNumber b out ≢ 0 → pointsOut b out ≡ out
 
 pub refused-stays : (b : Bytes) → Untouched b
-unfolding writeState writeOut takeState advanceState collectOut
+unfolding writeState writeOut takeState advanceState collectOut pointsOut
 refused-stays b = record {
   by-write = λ j out h. (rw (ne-eqb _ 0 h) refl, rw (ne-eqb _ 0 h) refl);
   by-take = λ x h. rw (ne-eqb _ 0 h) refl;
   by-advance = λ h. rw (ne-eqb _ 0 h) refl;
   by-collect = λ k f h. rw (ne-eqb _ 0 h) refl;
+  by-points = λ out h. rw (ne-eqb _ 0 h) refl;
 }

@@ -3,7 +3,7 @@
 use mathlib.Core.Path.{_≡_}
 use mathlib.Core.Bool.{Bool, true, not, _||_, cond}
 use mathlib.Core.List.{[], _∷_}
-use Prim.Native.Nat.{ℕ, _+_, _-_, _<_}
+use Prim.Native.Nat.{ℕ, _+_, _-_, _*_, _<_}
 use lib.Dec.{eqb, ltb, leb}
 use lib.ListN.{length, take}
 use Rattle.vocabulary.specs.Bytes.{Bytes, byteAt}
@@ -12,8 +12,8 @@ use Rattle.vocabulary.specs.Tests.{refuse, firstOf}
 use Rattle.layout.specs.Words.{wordAt}
 use Rattle.layout.specs.Limits.{lastRound, mostParts}
 use Rattle.depths.specs.Depths.{four}
-use Rattle.part_state.specs.State.{Lists, roundAt, takenPlace, depthPlace, exportAt, dynamic, isState}
-use Rattle.part_calls.specs.Calls.{importsFrom, allTaken, allWritten}
+use Rattle.part_state.specs.State.{Lists, roundAt, takenPlace, depthPlace, exportAt, pointCellAt, dynamic, isState}
+use Rattle.part_calls.specs.Calls.{importsFrom, outside, allTaken, allWritten}
 
 -- b begins with a state, whose lists end at `changes`
 pub record Opened (lists : Bytes) (changes : ℕ) (b : Bytes) : Type 0 where
@@ -50,3 +50,11 @@ settledAt lists b ends flags j = not (ltb 0 (wordAt lists (ends + j + 1) - wordA
 -- advance's tests after 20, in the order in which they are tried
 unfoldable pub advanceRest : Lists → ℕ → Bytes → ℕ
 advanceRest L changes b = firstOf (refuse 24 (not (allTaken L changes b)) ∷ refuse 25 (not (allWritten L changes b)) ∷ refuse 26 (leb lastRound (roundAt b changes)) ∷ [])
+
+-- of the cells at the points, the t-th is not to be read
+unfoldable pub unreadAt : Bytes → ℕ → Bool
+unreadAt lists t = eqb 0 (pointCellAt lists t)
+
+-- points' tests after 20, in the order in which they are tried, where the output has `room` bytes
+unfoldable pub pointsRest : Lists → ℕ → Bytes → ℕ → ℕ
+pointsRest L changes b room = firstOf (refuse 24 (not (allTaken L changes b)) ∷ refuse 29 (outside L) ∷ refuse 16 (ltb room (6 * L .points)) ∷ [])

@@ -13,10 +13,10 @@ use Rattle.round.specs.Rounds.{bad14}
 use Rattle.round.specs.RoundLaws.{field-length}
 use Rattle.split.specs.Split.{splitOf, locals}
 use Rattle.split.specs.Lists.{bad12}
-use Rattle.split.specs.Classes.{Prepared}
+use Rattle.split_classes.specs.Classes.{Prepared}
 use Rattle.part_start.specs.Start.{ownedIn}
 use Rattle.part_start_lists.specs.Starting.{Fit, FieldCells}
-use Rattle.part_start.proofs.StartWords.{got-all, long-few, order-few, own-few, order-low, cell-at, entry-high}
+use Rattle.part_start.proofs.StartWords.{got-all, front-few, order-few, own-few, order-low, cell-at, entry-high}
 
 module _ (m : Bytes) (parts : ℕ) (owners st table : Bytes) (ends : List ℕ) (holders : Bytes) (R : Prepared m parts owners st table ends holders)
     (i : ℕ) (low : 1 ≤ i) (high : i ≤ mostParts) (first cells : ℕ) (fe : first ≡ firstCell m) (ce : cells ≡ cellCount m)
@@ -51,7 +51,7 @@ module _ (m : Bytes) (parts : ℕ) (owners st table : Bytes) (ends : List ℕ) (
         near = λ t p q. omega (arith, entry-high m parts owners st table ends holders R i low high first cells fe ce order n own oe ne we l h k t p q);
       };
     };
-    long = omega (arith, long-few m parts owners st table ends holders R i low high first cells fe ce order n own oe ne we twelve thirteen);
+    long = omega (arith, front-few m parts owners st table ends holders R i low high first cells fe ce order n own oe ne we twelve thirteen);
   }
 
   -- the held cells are cells of an accepted field

@@ -1,7 +1,7 @@
 -- The words that start finds from its tables are those of the definition, and the numbers that it counts with are small. Assumes nothing.
 use mathlib.Core.Path.{_≡_, refl, sym, ap, ap₂, _∙_, subst}
 use mathlib.Core.Bool.{Bool, true, false, not, _&&_, cond}
-use mathlib.Core.List.{List, [], _∷_, _++_, map}
+use mathlib.Core.List.{List, [], _∷_, _++_, map, reverse}
 use Prim.Native.Nat.{ℕ, zero, suc, _+_, _-_, _*_, _≤_, _<_}
 use native.Mathlib.Nat.{zero-add}
 use native.Mathlib.Omega.{arith}
@@ -11,7 +11,7 @@ use lib.Seq.{getD-take}
 use borrow.Author.Tests.{ltb-true, ltb-false}
 use Rattle.vocabulary.specs.Bytes.{Bytes}
 use Rattle.vocabulary.specs.Lists.{All, joined}
-use Rattle.vocabulary.specs.ListLaws.{At, All-getD, All-map, map-cong}
+use Rattle.vocabulary.specs.ListLaws.{At, All-getD, All-map, All-reversed, map-cong}
 use Rattle.vocabulary.specs.Intervals.{picked, listed, blocks, total}
 use Rattle.vocabulary.specs.IntervalLaws.{listed-cong, listed-back, blocks-moved, blocks-cong, blocks-length, joined-mapped, total-cong, total-agree, total-grows, total-has, total-mono}
 use Rattle.vocabulary.specs.CountLaws.{total-add}
@@ -22,16 +22,20 @@ use Rattle.mesh.specs.Walks.{Near, reach, layer, steps, bad13}
 use Rattle.mesh.specs.WalkLaws.{reach-in}
 use Rattle.walk_reach_table.specs.Tables.{entryCount}
 use Rattle.walk_reach_table.proofs.EntryLaws.{count-more}
-use Rattle.split.specs.Split.{Split, splitOf, owns, held, inside, imports, exports, interior, halo, locals, localOf, globalOf}
+use Rattle.split.specs.Split.{Split, splitOf, owns, held, inside, imports, exports, interior, halo, locals, localOf, globalOf, pointsOf, pointsIn, aroundOf, pointEnds, bad29}
 use Rattle.split.specs.SplitLaws.{map-facts, SplitCell, ownCells, split-reach, split-own, split-owner, own-is, own-local, local-back, import-own, reach-held}
+use Rattle.split.specs.PointLaws.{point-at, point-held, split-around}
 use Rattle.split.specs.SplitLaws.{order-cells, order-length, own-count, own-first, held-length, imports-none, import-total, export-total}
 use Rattle.split.specs.Numbering.{numbering}
 use Rattle.split.proofs.UnitLaws.{numbered}
 use Rattle.split.specs.Lists.{bad12}
-use Rattle.split.specs.Classes.{partCells, Prepared}
+use Rattle.split_classes.specs.Classes.{partCells, Prepared}
 use Rattle.split_cells.proofs.ClassLists.{part-imports, locals-few}
 use Rattle.part_state.specs.State.{exportsWord}
 use Rattle.part_start.specs.Start.{ownedIn, reachOf, importEnds, exportEnds, reachEnds, reachWords, exportWords, listsLong, listsRegions}
+use Rattle.part_start.specs.Start.{aroundWords}
+use Rattle.word_lists.proofs.RegionLaws.{joined-append, regions-three}
+use Rattle.part_start_points.specs.Points.{cellWords, partWords}
 use Rattle.part_start_lists.specs.Starting.{localIn, numbersOf, gotEnds, sentEnds, sentWords, placeAt, rowSize, rowEnds, entryWords, rowWords, numberedWords, startWords}
 
 -- ---- lists
@@ -296,22 +300,42 @@ module _ (m : Bytes) (parts : ℕ) (owners st table : Bytes) (ends : List ℕ) (
       unfolding splitOf entryCount
       ends-few e l h = omega (arith, row-ends l h, ends-part S i l (omega arith), entries-few e (cellCount m) (omega arith))
 
+      -- ---- the points
+
+      -- the cells at the k-th point by the array of local numbers
+      around-words : (k : ℕ) → 1 ≤ k → k ≤ pointsIn S i → cellWords S i (numbersOf order n) (bad29 S i) k ≡ aroundWords S i L k
+      unfolding aroundWords cellWords
+      around-words k h q = go (bad29 S i) refl
+        where
+          go : (b : Bool) → bad29 S i ≡ b
+              → cond b (replicate (length (aroundOf S i k)) 0) (map (localIn (numbersOf order n)) (reverse (aroundOf S i k)))
+              ≡ cond b (replicate (length (aroundOf S i k)) 0) (map (localOf L) (reverse (aroundOf S i k)))
+          go true e = refl
+          go false e =
+              map-cong (localIn (numbersOf order n)) (localOf L) (reverse (aroundOf S i k))
+              (All-reversed (λ c. localIn (numbersOf order n) c ≡ localOf L c) (aroundOf S i k)
+              (All-map (aroundOf S i k) (λ c a. let b = local-back S i c a in local-is c (b .1) (b .2))
+              (point-held S (split-around m parts owners st) (split-reach m parts owners st) owner-in i (getD (pointsOf S i) (k - 1) 0) e (point-at S i k h q))))
+
       -- ---- all words
 
-      head-is : exportsWord n own (rowEnds table ends first order own) + sentEnds owners table ends i first cells mostParts ≡ listsLong S i L
-      unfolding listsLong
-      head-is = omega (arith, row-ends own (omega arith), ap (reachEnds S i L) we, sent-ends mostParts (omega arith))
+      -- the words before the points, and their bound
+      pub front-is : exportsWord n own (rowEnds table ends first order own) + sentEnds owners table ends i first cells mostParts
+          ≡ exportsWord (length L) (ownedIn S i) (reachEnds S i L (ownedIn S i)) + exportEnds S i L mostParts
+      front-is = omega (arith, row-ends own (omega arith), ap (reachEnds S i L) we, sent-ends mostParts (omega arith))
 
-      -- the count of all words
-      pub long-few : bad12 S ≡ false → bad13 m st ≡ false
+      pub front-few : bad12 S ≡ false → bad13 m st ≡ false
           → exportsWord n own (rowEnds table ends first order own) + sentEnds owners table ends i first cells mostParts ≤ 24142
-      long-few e f = omega (arith, order-few, own-few, ends-few f own (omega arith), sent-few e mostParts (omega arith))
+      front-few e f = omega (arith, order-few, own-few, ends-few f own (omega arith), sent-few e mostParts (omega arith))
 
-      pub start-words : (kind : ℕ) (v : Bytes) → startWords owners table ends i first cells order n own (steps st) kind v ≡ joined (listsRegions S i L (steps st) kind v)
-      unfolding numberedWords listsRegions splitOf
-      start-words kind v =
-          ap joined
-          (ap₂ _∷_ (ap (λ x. x ∷ i ∷ steps st ∷ kind ∷ []) head-is)
+      pub start-words : (kind long : ℕ) (v : Bytes) → long ≡ listsLong S i L
+          → startWords owners table ends i first cells order n own long (steps st) kind v ++ partWords S i (numbersOf order n) (bad29 S i) ≡ joined (listsRegions S i L (steps st) kind v)
+      unfolding numberedWords listsRegions splitOf partWords
+      start-words kind long v le =
+          let A = listed 0 (pointsIn S i + 1) (pointEnds S i) in
+          ap₂ _++_
+          (ap joined
+          (ap₂ _∷_ (ap (λ x. x ∷ i ∷ steps st ∷ kind ∷ []) le)
           (ap (λ rs. listed 0 5 (wordAt v) ∷ rs)
           (ap₂ _∷_ (ap₂ (λ x y. x ∷ y ∷ []) fe ce)
           (ap₂ _∷_ (listed-cong 0 (gotEnds owners table ends i first cells own) (importEnds S i L) (mostParts + 1) (λ j h. got-ends (0 + j) (omega arith)))
@@ -323,4 +347,8 @@ module _ (m : Bytes) (parts : ℕ) (owners st table : Bytes) (ends : List ℕ) (
           (blocks-cong 1 (rowWords table ends first order (numbersOf order n)) (reachWords S i L) own (λ j h. row-words (1 + j) (omega arith) (omega arith))
           ∙ ap (λ x. blocks 1 x (reachWords S i L)) we)
           (ap (λ r. r ∷ [])
-          (blocks-cong 1 (sentWords owners table ends i first cells (numbersOf order n)) (exportWords S i L) mostParts (λ j h. sent-words (1 + j) (omega arith) (omega arith))))))))))))
+          (blocks-cong 1 (sentWords owners table ends i first cells (numbersOf order n)) (exportWords S i L) mostParts (λ j h. sent-words (1 + j) (omega arith) (omega arith)))))))))))))
+          (ap (λ x. (pointsIn S i ∷ pointsOf S i) ++ (A ++ x))
+          (blocks-cong 1 (cellWords S i (numbersOf order n) (bad29 S i)) (aroundWords S i L) (pointsIn S i) (λ j h. around-words (1 + j) (omega arith) (omega arith)))
+          ∙ regions-three (pointsIn S i ∷ pointsOf S i) A (blocks 1 (pointsIn S i) (aroundWords S i L)))
+          ∙ sym (joined-append _ ((pointsIn S i ∷ pointsOf S i) ∷ A ∷ blocks 1 (pointsIn S i) (aroundWords S i L) ∷ []))

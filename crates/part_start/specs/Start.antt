@@ -1,7 +1,8 @@
 -- Start and the size of a state. Assumes nothing.
 --
 -- "Start takes a mesh, a part map, a part's number, a stencil, a rule and a field, and makes a state at round 0."
-use mathlib.Core.List.{List, [], _∷_, _++_, map}
+use mathlib.Core.Bool.{cond}
+use mathlib.Core.List.{List, [], _∷_, _++_, map, reverse}
 use Prim.Native.Nat.{ℕ, _+_, _*_}
 use lib.Dec.{ltb}
 use lib.ListN.{length, replicate}
@@ -17,9 +18,9 @@ use Rattle.mesh.specs.Mesh.{cellCount}
 use Rattle.mesh.specs.Walks.{Near, steps}
 use Rattle.round_rule.specs.Rules.{RuleInput, bad11}
 use Rattle.round.specs.Rounds.{Scheme, schemeOf, depthIn, bad14}
-use Rattle.split.specs.Split.{Split, owned, imports, exports, locals, localOf, globalOf}
+use Rattle.split.specs.Split.{Split, owned, imports, exports, locals, localOf, globalOf, pointsOf, pointsIn, aroundOf, pointEnds, bad29}
 use Rattle.split.specs.Lists.{SplitInput, splitInput, splitIn, splitTests, sizeTests}
-use Rattle.part_state.specs.State.{stateLength, exportsWord}
+use Rattle.part_state.specs.State.{stateLength, pointCellsWord}
 
 -- ---- the lists of a part as the words of its state
 
@@ -51,9 +52,14 @@ module _ (S : Split) (i : ℕ) (order : List ℕ) where
   unfoldable pub exportWords : ℕ → List ℕ
   exportWords j = map (localOf order) (exports S i j)
 
+  -- the cells at the k-th point in local numbers, falling by global number; where 29 holds of the part, no cell is to be read
+  unfoldable pub aroundWords : ℕ → List ℕ
+  aroundWords k = cond (bad29 S i) (replicate (length (aroundOf S i k)) 0) (map (localOf order) (reverse (aroundOf S i k)))
+
   -- the length of the lists in words
   unfoldable pub listsLong : ℕ
-  listsLong = exportsWord (length order) (ownedIn S i) (reachEnds (ownedIn S i)) + exportEnds mostParts
+  listsLong =
+      pointCellsWord (length order) (ownedIn S i) (reachEnds (ownedIn S i)) (exportEnds mostParts) (pointsIn S i) + pointEnds S i (pointsIn S i)
 
   -- the words, region by region, for a stencil of n steps and a rule
   unfoldable pub listsRegions : ℕ → ℕ → Bytes → List (List ℕ)
@@ -67,6 +73,9 @@ module _ (S : Split) (i : ℕ) (order : List ℕ) where
       ∷ listed 0 (ownedIn S i + 1) reachEnds
       ∷ blocks 1 (ownedIn S i) reachWords
       ∷ blocks 1 mostParts exportWords
+      ∷ (pointsIn S i ∷ pointsOf S i)
+      ∷ listed 0 (pointsIn S i + 1) (pointEnds S i)
+      ∷ blocks 1 (pointsIn S i) aroundWords
       ∷ []
 
 -- ---- the calls for part i

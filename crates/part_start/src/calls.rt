@@ -6,6 +6,7 @@ use layout::limits::MOST_PARTS;
 use layout::limits::RECORD_PLACES;
 use layout::limits::TABLE_BYTES;
 use mesh::inner::cell_count;
+use mesh::inner::count_of;
 use mesh::inner::first_cell;
 use part_calls::inner::clear;
 use part_start_lists::inner::Asked;
@@ -17,24 +18,39 @@ use part_start_lists::inner::number_order;
 use part_start_lists::inner::put_cells;
 use part_start_lists::inner::put_entries;
 use part_start_lists::inner::put_front;
+use part_start_points::inner::Sought;
+use part_start_points::inner::count_points;
+use part_start_points::inner::put_points;
+use part_start_points::inner::some_outside;
 use part_state::inner::DEPTHS;
 use round::bad_field;
 use round_rule::bad_rule;
-use split::inner::CLASSES;
-use split::inner::prepare;
 use split::inner::split_number;
+use split_classes::inner::CLASSES;
+use split_tables::inner::link;
+use split_tables::inner::prepare;
+use walk_steps::inner::clear as clear_numbers;
+use walk_steps::inner::sizes_of;
 ghost use mathlib.Core.Path.{_≡_};
-ghost use mathlib.Core.List.{_++_};
+ghost use mathlib.Core.Bool.{false, cond};
+ghost use mathlib.Core.List.{[], _∷_, _++_};
 ghost use Prim.Native.Nat.{_*_, _<_, _≤_};
 ghost use lib.ListN.{length, replicate};
 ghost use Rattle.vocabulary.specs.Bytes.{over};
 ghost use Rattle.vocabulary.specs.Intervals.{blocks};
-ghost use Rattle.layout.specs.Limits.{mostElements};
-ghost use Rattle.mesh.specs.Mesh.{firstCell, cellCount};
+ghost use Rattle.layout.specs.Limits.{elementPlaces, mostElements, recordPlaces};
+ghost use Rattle.mesh.specs.Mesh.{top, counted, firstCell};
+ghost use Rattle.mesh.specs.Walks.{bad10};
+ghost use Rattle.mesh.specs.Accepted.{Accepted};
+ghost use Rattle.walk_steps.specs.Walking.{Ground};
+ghost use Rattle.split_classes.specs.Classes.{Prepared};
 ghost use Rattle.part_state.specs.State.{stateLength, depthsPlace};
 ghost use Rattle.part_start.specs.Start.{inputs, sizeAnswer, startAnswer, startState};
-ghost use Rattle.split.specs.Lists.{splitInput};
+ghost use Rattle.split.specs.Lists.{splitInput, splitNumber, sizesNumber};
 ghost use Rattle.part_start_lists.specs.Starting.{startDepth, FieldCells};
+ghost use Rattle.part_start_points.specs.Points.{pointsOn, pointWords};
+ghost use Rattle.word_lists.specs.Putting.{Put};
+ghost use Rattle.part_start.specs.Planning.{Planned, PointRoom};
 
 // Writes what stands behind the lists at round 0: the round, the flags, and the depths of the held cells.
 fn put_rest(b: &mut [u8], plan: Plan, f: &[u8], order: &[u16])
@@ -52,20 +68,96 @@ fn put_rest(b: &mut [u8], plan: Plan, f: &[u8], order: &[u16])
     put_cells(b, 2 * plan.long + DEPTHS, f, plan.first, order, plan.held);
 }
 
-// Whose lists a call asks for.
-fn asked_of(m: &[u8], parts: u32, i: u32) -> Asked
-    ensures { λ a. ⌜ (a .part ≡ i) × (a .parts ≡ parts) × (a .first ≡ firstCell (now (m .entry))) × (a .cells ≡ cellCount (now (m .entry))) ⌝ }
+// Whose points are sought.
+fn sought_of(m: &[u8], i: u32) -> Sought
+    ensures { λ s. ⌜ (s .part ≡ i) × (s .first ≡ firstCell (now (m .entry))) × (s .points ≡ counted (now (m .entry)) 0) ⌝ }
 {
-    Asked {
+    Sought {
+        part: i as usize,
+        first: first_cell(m),
+        points: count_of(m, 0),
+    }
+}
+
+// Makes out the plan of part i, by the tables and by the chains turned round. Its order takes the place of one of the arrays of these, so they are gone
+// afterwards; the counts of its imports come into a cleared array. The row is work space.
+fn draw_plan(
+    m: &[u8],
+    parts: u32,
+    owners: &[u8],
+    i: u32,
+    stencil: &[u8],
+    table: &[u8],
+    ends: &[u16],
+    holders: &[u8],
+    class: &mut [u8],
+    cell: &[u16],
+    prev: &mut [u16],
+    last: &[u16],
+    got: &mut [u16],
+) -> Plan
+    requires { ⌜
+        (splitNumber (now m) parts (now owners) (i ∷ i ∷ []) (now stencil) ≡ 0)
+        × (sizesNumber (now m) parts (now owners) (now stencil) ≡ 0)
+        × Prepared (now m) parts (now owners) (now stencil) (now table) (now ends) (now holders)
+        × Ground (now m) (now stencil) (now cell) (now prev) (now last)
+        × (length (now class) ≡ mostElements)
+        × (mostElements ≤ length (now prev))
+        × (now got ≡ replicate 19 0)
+        ⌝ }
+    ensures { λ p. ⌜ Planned (now (m .entry)) parts (now (owners .entry)) i (now (stencil .entry)) (now (table .entry)) (now (ends .entry)) (now (prev .exit)) (now (got .exit)) p ⌝ }
+{
+    let points = count_points(sought_of(m, i), owners, cell, prev, last);
+    let asked = Asked {
         part: i as usize,
         parts: parts as usize,
         first: first_cell(m),
         cells: cell_count(m),
-    }
+        points: points.points,
+        around: points.cells,
+    };
+    let sent = count_exports(owners, holders, asked.part, asked.cells);
+    make_plan(asked, sent, owners, table, ends, class, prev, got)
 }
 
-// How many bytes the state of part i needs. The mesh is tested in arrays that hold the chains turned round and the ends of the reaches afterwards. Once the
-// tables are prepared the chains are not needed: the order stands in one of their arrays.
+// Writes the words of the part's points from word s on, when all else is written: the chains are turned round once more, in arrays that are free by then.
+fn add_points(
+    b: &mut [u8],
+    s: usize,
+    m: &[u8],
+    stencil: &[u8],
+    sought: Sought,
+    outside: bool,
+    owners: &[u8],
+    local: &[u16],
+    cell: &mut [u16],
+    prev: &mut [u16],
+    last: &mut [u16],
+) -> usize
+    requires { ⌜
+        Accepted (now m)
+        × (bad10 (top (now m)) (now stencil) ≡ false)
+        × (length (now cell) ≡ recordPlaces)
+        × (length (now prev) ≡ recordPlaces)
+        × (length (now last) ≡ elementPlaces)
+        × (sought .points ≤ mostElements)
+        × PointRoom (now m) (now stencil) (now owners) (now b) s (sought .part) (sought .first) (sought .points)
+        ⌝ }
+    ensures { λ t.
+        let points = pointsOn (now (cell .exit)) (now (prev .exit)) (now (last .exit)) (now (owners .entry)) (sought .first) (sought .part) (sought .points) in
+        ⌜
+        Ground (now (m .entry)) (now (stencil .entry)) (now (cell .exit)) (now (prev .exit)) (now (last .exit))
+        × Put (now (b .entry)) (now (b .exit)) s t (pointWords (now (cell .exit)) (now (prev .exit)) (now (last .exit)) (cond outside [] (now (local .entry)))
+        points (length points))
+        ⌝ }
+{
+    let sizes = sizes_of(m);
+    clear_numbers(last);
+    link(m, sizes, stencil, cell, prev, last);
+    put_points(b, s, sought, outside, owners, local, cell, prev, last)
+}
+
+// How many bytes the state of part i needs. The mesh is tested in arrays that hold the chains turned round and the ends of the reaches afterwards.
 pub fn state_size(m: &[u8], parts: u32, owners: &[u8], i: u32, stencil: &[u8]) -> Answer
     ensures { λ r. ⌜ r ≡ sizeAnswer (splitInput (now (m .entry)) parts (now (owners .entry)) (now (stencil .entry))) i ⌝ }
 {
@@ -97,24 +189,27 @@ pub fn state_size(m: &[u8], parts: u32, owners: &[u8], i: u32, stencil: &[u8]) -
     if number != 0 {
         return Answer::Refused(number);
     }
-    let asked = asked_of(m, parts, i);
-    let sent = count_exports(owners, &holders, asked.part, asked.cells);
-    let p = make_plan(
-        asked,
-        sent,
+    let p = draw_plan(
+        m,
+        parts,
         owners,
+        i,
+        stencil,
         &table,
         &ends,
+        &holders,
         &mut class,
+        &cell,
         &mut prev,
+        &last,
         &mut got,
     );
     Answer::Done((2 * p.long + DEPTHS + 4 * p.held) as u32)
 }
 
 // Makes the state of part i at round 0 at the front of b: mesh, number of parts and owners, the part, stencil, rule kind and weights, field. The mesh is
-// tested in arrays that hold the chains turned round and the ends of the reaches afterwards. Once the tables are prepared the chains are not needed: the
-// order, the local numbers and the exports stand in their arrays. `last` has the cells linked by owner before it has the local numbers.
+// tested in arrays that hold the chains turned round and the ends of the reaches afterwards. Once the points are counted and tested the chains are not needed
+// for a while: the order, the local numbers and the exports stand in their arrays. `last` has the cells linked by owner before it has the local numbers.
 pub fn start(
     m: &[u8],
     parts: u32,
@@ -162,19 +257,35 @@ pub fn start(
     if number != 0 {
         return Answer::Refused(number);
     }
-    let asked = asked_of(m, parts, i);
-    if bad_field(asked.cells, f) {
+    if bad_field(cell_count(m), f) {
         return Answer::Refused(14);
     }
-    let count = count_exports(owners, &holders, asked.part, asked.cells);
-    let p = make_plan(
-        asked,
-        count,
+    let sought = sought_of(m, i);
+    let outside = some_outside(
+        m,
+        sizes_of(m),
+        sought,
         owners,
         &table,
         &ends,
         &mut class,
+        &cell,
+        &prev,
+        &last,
+    );
+    let p = draw_plan(
+        m,
+        parts,
+        owners,
+        i,
+        stencil,
+        &table,
+        &ends,
+        &holders,
+        &mut class,
+        &cell,
         &mut prev,
+        &last,
         &mut got,
     );
     let size = 2 * p.long + DEPTHS + 4 * p.held;
@@ -195,5 +306,18 @@ pub fn start(
     let s = put_front(b, p, stencil.len() - 1, kind as usize, weights, &got, &sent);
     put_entries(b, s, &table, &ends, p, &prev, &last, &cell);
     put_rest(b, p, f, &prev);
+    add_points(
+        b,
+        p.front,
+        m,
+        stencil,
+        sought,
+        outside,
+        owners,
+        &last,
+        &mut cell,
+        &mut prev,
+        &mut ends,
+    );
     Answer::Done(size as u32)
 }

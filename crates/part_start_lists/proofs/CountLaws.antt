@@ -16,8 +16,9 @@ use Rattle.vocabulary.specs.Intervals.{some, blocks, total}
 use Rattle.vocabulary.specs.IntervalLaws.{at-last, blocks-empty, blocks-length, blocks-start, blocks-turn, blocks-cong, some-none, total-cong, total-start, total-turn, total-grows}
 use Rattle.split.specs.Split.{ownerAt}
 use Rattle.split.specs.Numbering.{numbering}
-use Rattle.split.specs.Classes.{ownsAt, insideAt, reachHas, reachedAt, classAt, classCount, partCells, Classed, Few, Appended}
-use Rattle.split.specs.Groups.{group, Grouped}
+use Rattle.split.specs.Owners.{ownsAt}
+use Rattle.split_classes.specs.Classes.{insideAt, reachHas, reachedAt, classAt, classCount, partCells, Classed, Few, Appended}
+use Rattle.split_classes.specs.Groups.{group, Grouped}
 use Rattle.vocabulary.specs.Lists.{Zeros}
 use Rattle.layout.specs.Limits.{elementPlaces, mostElements, mostParts}
 use Rattle.split_cells.proofs.AddLaws.{add-none, add-both, count-start, count-turn, place-one, place-none, class-count, class-few}
@@ -409,7 +410,7 @@ module _ (owners table : Bytes) (ends : List ℕ) (i first cells : ℕ) where
 
 -- ---- a cleared array
 
-zero-list : (list : List ℕ) → Zeros elementPlaces list → list ≡ replicate elementPlaces 0
+pub zero-list : (list : List ℕ) → Zeros elementPlaces list → list ≡ replicate elementPlaces 0
 zero-list list Z =
     let r : length (replicate {A = ℕ} elementPlaces 0) ≡ elementPlaces = length-replicate {A = ℕ} elementPlaces 0 in
     ext-getD 0 list (replicate elementPlaces 0) (Z .size ∙ sym r) (λ x l. Z .each x ∙ sym (zeros-at elementPlaces x))

@@ -17,9 +17,10 @@ use Rattle.vocabulary.specs.Intervals.{picked, some, blocks}
 use Rattle.vocabulary.specs.IntervalLaws.{some-start, some-next}
 use Rattle.layout.specs.Words.{wordAt}
 use Rattle.layout.specs.Limits.{mostElements}
-use Rattle.split.specs.Classes.{ownsAt, hasEntry, reachHas, reachedAt, ofClass, Appended}
-use Rattle.split.specs.Groups.{group, bytePlaces, Grouped}
-use Rattle.split.proofs.GroupLaws.{group-none, group-stop, group-turn, places-below}
+use Rattle.split.specs.Owners.{ownsAt}
+use Rattle.split_classes.specs.Classes.{hasEntry, reachHas, reachedAt, ofClass, Appended}
+use Rattle.split_classes.specs.Groups.{group, bytePlaces, Grouped}
+use Rattle.split_classes.proofs.GroupLaws.{group-none, group-stop, group-turn, places-below}
 use Rattle.split_cells.proofs.AddLaws.{add-none, add-both}
 use Rattle.part_start_lists.specs.Starting.{Stamped, reachedFrom, Below, classAmong}
 

@@ -14,7 +14,7 @@ use Rattle.vocabulary.specs.CountLaws.{total-double}
 use Rattle.layout.specs.Words.{wordAt}
 use Rattle.layout.specs.Limits.{mostParts}
 use Rattle.split.specs.Split.{globalOf}
-use Rattle.split.specs.Classes.{partCells}
+use Rattle.split_classes.specs.Classes.{partCells}
 use Rattle.word_lists.proofs.PutLaws.{put-as, put-none, put-both}
 use Rattle.word_lists.specs.Putting.{Put}
 use Rattle.part_start_lists.specs.Starting.{localIn, placeAt, rowSize, entryWords, rowEnds, rowWords, ReachRow, ReachRows, sentEnds, sentList, sentWords}

@@ -11,13 +11,15 @@ use Rattle.vocabulary.specs.ByteLaws.{over-front}
 use Rattle.vocabulary.specs.Intervals.{listed, blocks, total}
 use Rattle.vocabulary.specs.IntervalLaws.{listed-cong, listed-length, blocks-cong, blocks-length, total-agree}
 use Rattle.layout.specs.Words.{wordAt}
-use Rattle.layout.specs.Limits.{mostElements, mostParts}
-use Rattle.split.specs.Classes.{Classed, classCells, partCells, classOrder, Appended}
+use Rattle.layout.specs.Limits.{mostElements, mostParts, mostRecords}
+use Rattle.split_classes.specs.Classes.{Classed, classCells, partCells, classOrder, Appended}
 use Rattle.split_cells.proofs.ClassLists.{row-cells}
 use Rattle.split_cells.proofs.AddLaws.{added-fits, added-take, class-count}
 use Rattle.depths.specs.Depths.{four}
 use Rattle.depths.specs.DepthLaws.{length-four, fours-store}
 use Rattle.part_state.specs.State.{importWord, reachWord, exportsWord}
+use Rattle.part_state.specs.Checks.{Small, pointStart, wordCount}
+use Rattle.part_state.specs.declared.places.Sizes.{Sizes}
 use Rattle.word_lists.specs.Putting.{Put}
 use Rattle.part_start_lists.specs.Starting.{localIn, numbersOf, startWords, gotEnds, sentEnds, sentList, sentWords, rowEnds, rowWords, numberedWords, startDepth, FieldCells}
 use Rattle.part_start_lists.specs.Starting.{gotFrom, sentFrom, countAt, endsBy, Tallied, Got, Sent, Fit, TablesFit, Drawn, partOrder, partOwned}
@@ -79,8 +81,7 @@ sent-length owners table ends i first cells = blocks-length 1 (λ j. partCells o
 -- ---- all pieces
 
 module _ (owners table : Bytes) (ends : List ℕ) (i first cells : ℕ) (order : List ℕ) where
-  module _ (n : ℕ) (local : List ℕ) (owned long steps kind : ℕ) (v : Bytes)
-      (le : long ≡ exportsWord n owned (rowEnds table ends first order owned) + sentEnds owners table ends i first cells mostParts) where
+  module _ (n : ℕ) (local : List ℕ) (owned long steps kind : ℕ) (v : Bytes) where
     -- what comes after the two tables
     abbrev later : List ℕ
     later =
@@ -91,7 +92,7 @@ module _ (owners table : Bytes) (ends : List ℕ) (i first cells : ℕ) (order :
 
     words-are : ((long ∷ i ∷ steps ∷ kind ∷ []) ++ (listed 0 5 (wordAt v) ++ (first ∷ cells ∷ [])))
         ++ ((listed 0 (mostParts + 1) (gotEnds owners table ends i first cells owned) ++ listed 0 (mostParts + 1) (sentEnds owners table ends i first cells)) ++ later)
-        ≡ numberedWords owners table ends i first cells order n local owned steps kind v
+        ≡ numberedWords owners table ends i first cells order n local owned long steps kind v
     unfolding numberedWords
     words-are =
         let G = listed 0 (mostParts + 1) (gotEnds owners table ends i first cells owned) in
@@ -99,17 +100,18 @@ module _ (owners table : Bytes) (ends : List ℕ) (i first cells : ℕ) (order :
         let R = listed 0 (owned + 1) (rowEnds table ends first order) in
         let N = blocks 1 owned (rowWords table ends first order local) in
         let X = blocks 1 mostParts (sentWords owners table ends i first cells local) in
-        ap₂ _++_ (ap (λ x. (x ∷ i ∷ steps ∷ kind ∷ []) ++ (listed 0 5 (wordAt v) ++ (first ∷ cells ∷ []))) le ∙ regions-three _ (listed 0 5 (wordAt v)) (first ∷ cells ∷ []))
+        ap₂ _++_ (regions-three _ (listed 0 5 (wordAt v)) (first ∷ cells ∷ []))
         (ap₂ _++_ (regions-two G E) (regions-four (take n order) R N X) ∙ sym (joined-append (G ∷ E ∷ []) (take n order ∷ R ∷ N ∷ X ∷ [])))
         ∙ sym (joined-append (_ ∷ listed 0 5 (wordAt v) ∷ (first ∷ cells ∷ []) ∷ []) (G ∷ E ∷ take n order ∷ R ∷ N ∷ X ∷ []))
 
-    pub words-long : n ≤ length order → length (numberedWords owners table ends i first cells order n local owned steps kind v) ≡ long
+    pub words-long : (at : ℕ) → at ≡ exportsWord n owned (rowEnds table ends first order owned) + sentEnds owners table ends i first cells mostParts → n ≤ length order
+        → length (numberedWords owners table ends i first cells order n local owned long steps kind v) ≡ at
     unfolding numberedWords
-    words-long h =
+    words-long at e h =
         joined-length _
         ∙ omega (
           arith,
-          le,
+          e,
           listed-length 0 (wordAt v) 5,
           listed-length 0 (gotEnds owners table ends i first cells owned) (mostParts + 1),
           listed-length 0 (sentEnds owners table ends i first cells) (mostParts + 1),
@@ -123,7 +125,7 @@ module _ (owners table : Bytes) (ends : List ℕ) (i first cells : ℕ) (order :
         → Appended before list 0 x (sentList owners table ends i first cells mostParts) → k ≡ sentEnds owners table ends i first cells mostParts → k ≤ length before → 2 * reachWord 0 ≤ length a
         → Put a b 0 t (((long ∷ i ∷ steps ∷ kind ∷ []) ++ (listed 0 5 (wordAt v) ++ (first ∷ cells ∷ []))) ++ (listed 0 (mostParts + 1) (endsBy got owned) ++ listed 0 (mostParts + 1) (endsBy sent 0)))
         → Put b c t u (take n order ++ (listed 0 (owned + 1) (rowEnds table ends first order) ++ (blocks 1 owned (rowWords table ends first order local) ++ map (localIn local) (take k list))))
-        → Put a c 0 u (numberedWords owners table ends i first cells order n local owned steps kind v)
+        → Put a c 0 u (numberedWords owners table ends i first cells order n local owned long steps kind v)
     lists-put got sent before list x k a b c t u G X Y ke there room P Q =
         let e = sent-taken before list (sentList owners table ends i first cells mostParts) x k Y (ke ∙ sym (sent-length owners table ends i first cells)) there in
         put-as a c 0 u _ _
@@ -135,11 +137,11 @@ module _ (owners table : Bytes) (ends : List ℕ) (i first cells : ℕ) (order :
         (put-both a b c 0 t u _ _ P Q (omega (arith, front-count long i steps kind first cells v owned got sent a b t P)))
 
 -- the lists by the local numbers of the order
-pub lists-numbered : (a b : Bytes) (s t : ℕ) (owners table : Bytes) (ends : List ℕ) (i first cells : ℕ) (order : List ℕ) (n owned steps kind : ℕ) (v : Bytes) (local : List ℕ)
-    → local ≡ numbersOf order n → Put a b s t (numberedWords owners table ends i first cells order n local owned steps kind v)
-    → Put a b s t (startWords owners table ends i first cells order n owned steps kind v)
-lists-numbered a b s t owners table ends i first cells order n owned steps kind v local e P =
-    put-as a b s t _ _ (ap (λ l. numberedWords owners table ends i first cells order n l owned steps kind v) e) P
+pub lists-numbered : (a b : Bytes) (s t : ℕ) (owners table : Bytes) (ends : List ℕ) (i first cells : ℕ) (order : List ℕ) (n owned long steps kind : ℕ) (v : Bytes) (local : List ℕ)
+    → local ≡ numbersOf order n → Put a b s t (numberedWords owners table ends i first cells order n local owned long steps kind v)
+    → Put a b s t (startWords owners table ends i first cells order n owned long steps kind v)
+lists-numbered a b s t owners table ends i first cells order n owned long steps kind v local e P =
+    put-as a b s t _ _ (ap (λ l. numberedWords owners table ends i first cells order n l owned long steps kind v) e) P
 
 -- ---- the plan by the tables
 
@@ -151,6 +153,17 @@ row-order owners table ends i first cells parts class few C =
     ap₂ _++_ (row-cells owners table ends i first cells 17 class few C)
     (ap₂ _++_ (row-cells owners table ends i first cells 18 class few C)
     (blocks-cong 1 (classCells class first cells) (partCells owners table ends i first cells) parts (λ j h. row-cells owners table ends i first cells (1 + j) class few C)))
+
+-- the counts of a part are small
+pub plan-small : (z : Sizes) → z .held ≤ mostElements → z .owned ≤ z .held → z .reached < 65536 → z .sent ≤ 512000 → z .points ≤ mostElements → z .around ≤ mostRecords → Small z
+plan-small z h o r s p a = record {
+  held-small = omega arith;
+  owned-small = omega arith;
+  reached-small = r;
+  sent-small = omega arith;
+  points-small = omega arith;
+  around-small = omega arith;
+}
 
 module _ (owners table : Bytes) (ends : List ℕ) (i first cells parts : ℕ) (F : TablesFit owners table ends i first cells parts) (class : Bytes) (C : Classed owners table ends i cells class)
     (a order : List ℕ) (n : ℕ) (X : Appended a order 0 n (classOrder class first cells parts)) (room : mostElements ≤ length a) where
@@ -176,9 +189,15 @@ module _ (owners table : Bytes) (ends : List ℕ) (i first cells parts : ℕ) (F
     pub plan-fit : Fit owners table ends i first cells order n (inner + outer)
     plan-fit = subst (Fit owners table ends i first cells order n) (sym owned-is) (F .fit order n there order-is)
 
-    pub plan-drawn : (sent long : ℕ) → long ≡ exportsWord n (inner + outer) (rowEnds table ends first order (inner + outer)) + sent
-        → Drawn owners table ends i first cells parts order n (inner + outer) sent long
-    plan-drawn sent long le = record { there = there; order-is = order-is; owned-is = owned-is; long-is = le }
+    module _ (z : Sizes) (he : z .held ≡ n) (we : z .owned ≡ inner + outer) (re : z .reached ≡ rowEnds table ends first order (inner + outer)) where
+      pub plan-drawn : (at long : ℕ) → at ≡ pointStart z → long ≡ wordCount z → Drawn owners table ends i first cells parts order n (inner + outer) (z .sent) (z .points) (z .around) at long
+      plan-drawn at long ae le = record {
+        there = there;
+        order-is = order-is;
+        owned-is = owned-is;
+        at-is = omega (arith, ae, he, we, re);
+        long-is = omega (arith, ae, le);
+      }
 
 -- ---- the depths
 

@@ -12,7 +12,8 @@ use Rattle.layout.specs.Words.{wordAt}
 use Rattle.layout.specs.Limits.{elementPlaces, mostElements, mostParts}
 use Rattle.depths.specs.Depths.{four}
 use Rattle.split.specs.Numbering.{numbering}
-use Rattle.split.specs.Classes.{ownsAt, reachHas, ofClass, partCells, classCount}
+use Rattle.split.specs.Owners.{ownsAt}
+use Rattle.split_classes.specs.Classes.{reachHas, ofClass, partCells, classCount}
 use Rattle.part_state.specs.State.{exportsWord}
 
 -- the local number of a cell, in the array that has them
@@ -65,12 +66,12 @@ module _ (table : Bytes) (ends : List ℕ) (first : ℕ) (order : List ℕ) wher
   unfoldable pub rowWords : List ℕ → ℕ → List ℕ
   rowWords local l = blocks (getD ends (placeAt l) 0) (rowSize l) (entryWords table first local)
 
--- all words of the lists, region by region, of part i, which holds n cells and owns `owned`, for a stencil of `steps` steps and a rule, by an array of
--- local numbers, and by that of the order
-unfoldable pub numberedWords : Bytes → Bytes → List ℕ → ℕ → ℕ → ℕ → List ℕ → ℕ → List ℕ → ℕ → ℕ → ℕ → Bytes → List ℕ
-numberedWords owners table ends i first cells order n local owned steps kind v =
+-- the words of the lists up to the exports, region by region, of part i, which holds n cells and owns `owned`, for lists of `long` words, a stencil of `steps`
+-- steps and a rule, by an array of local numbers, and by that of the order
+unfoldable pub numberedWords : Bytes → Bytes → List ℕ → ℕ → ℕ → ℕ → List ℕ → ℕ → List ℕ → ℕ → ℕ → ℕ → ℕ → Bytes → List ℕ
+numberedWords owners table ends i first cells order n local owned long steps kind v =
     joined (
-    ((exportsWord n owned (rowEnds table ends first order owned) + sentEnds owners table ends i first cells mostParts) ∷ i ∷ steps ∷ kind ∷ [])
+    (long ∷ i ∷ steps ∷ kind ∷ [])
     ∷ listed 0 5 (wordAt v)
     ∷ (first ∷ cells ∷ [])
     ∷ listed 0 (mostParts + 1) (gotEnds owners table ends i first cells owned)
@@ -82,9 +83,9 @@ numberedWords owners table ends i first cells order n local owned steps kind v =
     ∷ []
     )
 
-abbrev pub startWords : Bytes → Bytes → List ℕ → ℕ → ℕ → ℕ → List ℕ → ℕ → ℕ → ℕ → ℕ → Bytes → List ℕ
-startWords owners table ends i first cells order n owned steps kind v =
-    numberedWords owners table ends i first cells order n (numbersOf order n) owned steps kind v
+abbrev pub startWords : Bytes → Bytes → List ℕ → ℕ → ℕ → ℕ → List ℕ → ℕ → ℕ → ℕ → ℕ → ℕ → Bytes → List ℕ
+startWords owners table ends i first cells order n owned long steps kind v =
+    numberedWords owners table ends i first cells order n (numbersOf order n) owned long steps kind v
 
 -- ---- arrays of counts
 
@@ -181,12 +182,14 @@ pub record TablesFit (owners table : Bytes) (ends : List ℕ) (i first cells par
   pub fit : (order : List ℕ) (n : ℕ) → n ≤ length order → take n order ≡ partOrder owners table ends i first cells parts
       → Fit owners table ends i first cells order n (partOwned owners table ends i first cells)
 
--- the plan of a part by the tables: its local order, how many cells it holds and owns, and how long its lists are if it exports `sent` cells
-pub record Drawn (owners table : Bytes) (ends : List ℕ) (i first cells parts : ℕ) (order : List ℕ) (n owned sent long : ℕ) : Type 0 where
+-- the plan of a part by the tables: its local order, how many cells it holds and owns, at which word its points begin if it exports `sent` cells, and how long its
+-- lists are with so many points and cells at them
+pub record Drawn (owners table : Bytes) (ends : List ℕ) (i first cells parts : ℕ) (order : List ℕ) (n owned sent points around at long : ℕ) : Type 0 where
   pub there : n ≤ length order
   pub order-is : take n order ≡ partOrder owners table ends i first cells parts
   pub owned-is : owned ≡ partOwned owners table ends i first cells
-  pub long-is : long ≡ exportsWord n owned (rowEnds table ends first order owned) + sent
+  pub at-is : at ≡ exportsWord n owned (rowEnds table ends first order owned) + sent
+  pub long-is : long ≡ at + 2 + 2 * points + around
 
 -- the depth of local cell l in a field
 unfoldable pub startDepth : Bytes → ℕ → List ℕ → ℕ → Bytes

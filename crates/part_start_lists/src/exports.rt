@@ -4,21 +4,21 @@ use crate::inner::Plan;
 use layout::number_at;
 use layout::put_number_at;
 use layout::word_at;
-use split::inner::CLASSES;
-use split::inner::clear_row;
-use split::inner::group_cells;
 use split::inner::put_class;
 use split_cells::inner::add_place;
+use split_classes::inner::CLASSES;
+use split_classes::inner::clear_row;
+use split_classes::inner::group_cells;
 ghost use mathlib.Core.Path.{_≡_};
 ghost use Prim.Native.Nat.{_+_, _≤_, _<_};
 ghost use lib.ListN.{length, replicate};
 ghost use Rattle.layout.specs.Limits.{mostElements, mostParts};
-ghost use Rattle.split.specs.Classes.{reachHas, Appended};
-ghost use Rattle.split.specs.Groups.{group};
+ghost use Rattle.split_classes.specs.Classes.{reachHas, Appended};
+ghost use Rattle.split_classes.specs.Groups.{group};
 ghost use Rattle.part_start_lists.specs.Starting.{Stamped, reachedFrom, Below, classAmong, sentEnds, sentList, OwnersFew, Sent};
 
 // Stamps the cells in the reach of the cell at place q with k.
-fn stamp_reach(table: &[u8], ends: &[u16], q: usize, k: u8, stamps: &mut [u8])
+pub fn stamp_reach(table: &[u8], ends: &[u16], q: usize, k: u8, stamps: &mut [u8])
     requires { ⌜ (q < 65536) × (length (now stamps) ≡ mostElements) ⌝ }
     ensures { λ _. ⌜ Stamped k (now (stamps .entry)) (now (stamps .exit)) (reachHas (now (table .entry)) (now (ends .entry)) q) ⌝ }
 {

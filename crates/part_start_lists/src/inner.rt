@@ -2,6 +2,7 @@
 use crate::counts::count_classes;
 pub use crate::counts::count_exports;
 pub use crate::exports::find_sent;
+pub use crate::exports::stamp_reach;
 use cell_numbers::Global;
 use cell_numbers::Local;
 use cell_numbers::inner::cell_at;
@@ -18,13 +19,13 @@ use part_state::inner::PART;
 use part_state::inner::STEPS;
 use part_state::inner::Sizes;
 use part_state::inner::WEIGHT_WORDS;
-use split::inner::HALO;
-use split::inner::INTERIOR;
-use split::inner::classify;
 use split::inner::number_cells;
 use split::inner::to_global;
 use split::inner::to_local;
 use split_cells::inner::add_order;
+use split_classes::inner::HALO;
+use split_classes::inner::INTERIOR;
+use split_classes::inner::classify;
 use walk_steps::inner::clear;
 use word_lists::inner::put_list;
 use word_lists::inner::put_one;
@@ -36,21 +37,23 @@ ghost use lib.ListN.{length, getD, take, replicate};
 ghost use Rattle.vocabulary.specs.Bytes.{over};
 ghost use Rattle.vocabulary.specs.Intervals.{listed, blocks};
 ghost use Rattle.layout.specs.Words.{wordAt};
-ghost use Rattle.layout.specs.Limits.{elementPlaces, mostElements, mostParts};
-ghost use Rattle.part_state.specs.State.{importWord, reachWord, exportsWord};
+ghost use Rattle.layout.specs.Limits.{elementPlaces, mostElements, mostParts, mostRecords};
+ghost use Rattle.part_state.specs.State.{importWord, reachWord};
 ghost use Rattle.word_lists.specs.Putting.{Put};
 ghost use Rattle.part_start_lists.specs.Starting.{localIn, numbersOf, rowSize, endsBy, Got, entryWords, rowEnds, rowWords, ReachRow, ReachRows, startDepth, FieldCells};
 ghost use Rattle.part_start_lists.specs.Starting.{TablesFit, Drawn};
 
-// Whose lists are made: the part, how many parts there are, and the mesh's cells.
+// Whose lists are made: the part, how many parts there are, the mesh's cells, how many points touch the part, and how many cells stand at these together.
 pub struct Asked {
     pub part: usize,
     pub parts: usize,
     pub first: usize,
     pub cells: usize,
+    pub points: usize,
+    pub around: usize,
 }
 
-// What its lists are made by: that, how many cells it holds, owns and exports, and how many words the lists have.
+// What its lists are made by: that, how many cells it holds, owns and exports, at which word its points begin, and how many words the lists have.
 pub struct Plan {
     pub part: usize,
     pub parts: usize,
@@ -59,6 +62,7 @@ pub struct Plan {
     pub held: usize,
     pub owned: usize,
     pub sent: usize,
+    pub front: usize,
     pub long: usize,
 }
 
@@ -302,34 +306,6 @@ pub fn put_entries(
     put_locals(b, w, list, plan.sent, local)
 }
 
-// How many words the lists have.
-fn lists_length(
-    table: &[u8],
-    ends: &[u16],
-    first: usize,
-    order: &[u16],
-    held: usize,
-    owned: usize,
-    sent: usize,
-) -> usize
-    requires { ⌜
-        (held ≤ mostElements)
-        × (owned ≤ held)
-        × ReachRows (now table) (now ends) first (now order) owned
-        × (rowEnds (now table) (now ends) first (now order) owned < 65536)
-        × (sent ≤ 512000)
-        ⌝ }
-    ensures { λ r. ⌜ r ≡ exportsWord held owned (rowEnds (now (table .entry)) (now (ends .entry)) first (now (order .entry)) owned) + sent ⌝ }
-{
-    let sizes = Sizes {
-        held,
-        owned,
-        reached: row_total(table, ends, first, order, owned),
-        sent,
-    };
-    sizes.words()
-}
-
 // The local order of the part, and what comes of it and of how many cells it exports, with the counts of its imports in a cleared array. The row is work
 // space.
 pub fn make_plan(
@@ -345,6 +321,8 @@ pub fn make_plan(
     requires { ⌜
         TablesFit (now owners) (now table) (now ends) (asked .part) (asked .first) (asked .cells) (asked .parts)
         × (sent ≤ 512000)
+        × (asked .points ≤ mostElements)
+        × (asked .around ≤ mostRecords)
         × (length (now class) ≡ mostElements)
         × (mostElements ≤ length (now order))
         × (now got ≡ replicate 19 0)
@@ -356,7 +334,7 @@ pub fn make_plan(
         × (p .cells ≡ asked .cells)
         × (p .sent ≡ sent)
         × Drawn (now (owners .entry)) (now (table .entry)) (now (ends .entry)) (p .part) (p .first) (p .cells) (p .parts) (now (order .exit)) (p .held)
-        (p .owned) (p .sent) (p .long)
+        (p .owned) (p .sent) (asked .points) (asked .around) (p .front) (p .long)
         × Got (now (owners .entry)) (now (table .entry)) (now (ends .entry)) (p .part) (p .cells) (now (got .exit))
         ⌝ }
 {
@@ -365,7 +343,14 @@ pub fn make_plan(
     count_classes(class, asked.cells, got);
     let inner = number_at(got, INTERIOR as usize) as usize;
     let owned = inner + number_at(got, HALO as usize) as usize;
-    let long = lists_length(table, ends, asked.first, order, held, owned, sent);
+    let sizes = Sizes {
+        held,
+        owned,
+        reached: row_total(table, ends, asked.first, order, owned),
+        sent,
+        points: asked.points,
+        around: asked.around,
+    };
     Plan {
         part: asked.part,
         parts: asked.parts,
@@ -374,7 +359,8 @@ pub fn make_plan(
         held,
         owned,
         sent,
-        long,
+        front: sizes.points_word(),
+        long: sizes.words(),
     }
 }
 

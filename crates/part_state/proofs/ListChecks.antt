@@ -7,7 +7,7 @@ use native.Mathlib.Nat.{zero-add}
 use native.Mathlib.Omega.{arith}
 use lib.Dec.{eqb, ltb, leb}
 use lib.ListN.{length, take, drop}
-use borrow.Author.Tests.{eqb-true, le-leb, lt-leb, eq-eqb, ne-eqb, not-true, not-false}
+use borrow.Author.Tests.{eqb-true, le-leb, lt-leb, lt-ltb, le-ltb, eq-eqb, ne-eqb, not-true, not-false}
 use Rattle.vocabulary.specs.Bytes.{Bytes}
 use Rattle.vocabulary.specs.ListLaws.{and-all, and-true, and-left, and-right, and-assoc}
 use Rattle.vocabulary.specs.Intervals.{isUpTo, every, some}
@@ -26,11 +26,12 @@ use Rattle.round_rule.specs.declared.Rule.the-variants.{Known, Unknown}
 use Rattle.round_rule.proofs.KindLaws.{known-number}
 use Rattle.round_rule.proofs.Refusals.{unknown-rule}
 use Rattle.part_state.specs.State.{LocalNear, partNumber, stepCount, ruleKind, weights, ownedCount, heldCount, reachEnd, reachCount, rises, entryAt, firstOfMesh, cellsOfMesh}
-use Rattle.part_state.specs.State.{weightsPlace}
+use Rattle.part_state.specs.State.{weightsPlace, exportCount, climbs, pointCount, pointEnd, pointCells, pointCellAt, validPointCell, pointEndsWord, pointCellsWord}
 use Rattle.part_state.specs.State.{exportAt, localReach, globalAt, validGlobal, validEntry, ownFound, validExport, listsTests, exportsWord, entryWord, reachWord}
 use Rattle.part_state.specs.StateLaws.{rises-grow}
 use Rattle.part_state.specs.declared.places.Sizes.{Sizes}
-use Rattle.part_state.specs.Checks.{reachStart, entryStart, exportStart, Counts, Fitting, Tested, riseAt, ownEntry, validRow, headerTests, endTests, entryTests}
+use Rattle.part_state.specs.Checks.{reachStart, entryStart, exportStart, pointEndStart, pointCellStart, Counts, Fitting, Tested, riseAt, climbAt, ownEntry}
+use Rattle.part_state.specs.Checks.{validRow, headerTests, endTests, entryTests, pointTests}
 
 -- ---- a test of a range, asked with the count that stands in the lists
 
@@ -58,6 +59,15 @@ module _ (b : Bytes) (a n j end next : ℕ) (ee : end ≡ wordAt b (a + j)) (ne 
   pub ends-turn : every 0 j (riseAt b a) ≡ true → end ≤ next → every 0 (j + 1) (riseAt b a) ≡ true
   unfolding riseAt
   ends-turn i k = every-turn (riseAt b a) n j true i (simp (sym ee, sym ne, le-leb _ _ k)) refl
+
+module _ (b : Bytes) (a n j end next : ℕ) (ee : end ≡ wordAt b (a + j)) (ne : next ≡ wordAt b (a + (j + 1))) where
+  pub climb-stops : j < n → next ≤ end → false ≡ every 0 n (climbAt b a)
+  unfolding climbAt
+  climb-stops h k = every-stop (climbAt b a) n j false h (simp (sym ee, sym ne, le-ltb _ _ k)) refl
+
+  pub climb-turn : every 0 j (climbAt b a) ≡ true → end < next → every 0 (j + 1) (climbAt b a) ≡ true
+  unfolding climbAt
+  climb-turn i k = every-turn (climbAt b a) n j true i (simp (sym ee, sym ne, lt-ltb _ _ k)) refl
 
 pub ends-start : (b : Bytes) (a end : ℕ) → end ≡ wordAt b a → end ≡ wordAt b (a + 0)
 ends-start b a end e = e ∙ ap (wordAt b) (let p : a ≡ a + 0 = omega arith in p)
@@ -178,17 +188,10 @@ module _ (b : Bytes) (good : allOf (endTests b) ≡ true) where
       rows-are (reachEnd b) (validEntry b) (ownFound b) (eqb-true _ _ (reach-tests .0)) (ownedCount b)
       (λ j h. reach-grow j (j + 1) (omega arith) (omega arith))
 
-  module _ (owned : ℕ) (oe : owned ≡ ownedCount b) (r x : Bool) (e : r ≡ every 1 owned (validRow b)) where
-    rows-here : r && x ≡ every 0 (reachCount b) (validEntry b) && (every 1 (ownedCount b) (ownFound b) && x)
-    rows-here =
-        ap (λ t. t && x) (e ∙ ap (λ k. every 1 k (validRow b)) oe ∙ rows-tests)
-        ∙ and-assoc (every 0 (reachCount b) (validEntry b)) (every 1 (ownedCount b) (ownFound b)) x
-
-    pub rows-wrong : not r ≡ true → false ≡ every 0 (reachCount b) (validEntry b) && (every 1 (ownedCount b) (ownFound b) && x)
-    rows-wrong z = sym (ap (λ t. t && x) (not-true r z)) ∙ rows-here
-
-    pub rows-right : (y : Bool) → not r ≡ false → y ≡ x → y ≡ every 0 (reachCount b) (validEntry b) && (every 1 (ownedCount b) (ownFound b) && x)
-    rows-right y z q = q ∙ sym (ap (λ t. t && x) (not-false r z)) ∙ rows-here
+  pub rows-last : (owned : ℕ) → owned ≡ ownedCount b → (r : Bool) → r ≡ every 1 owned (validRow b)
+      → r ≡ every 0 (reachCount b) (validEntry b) && (every 1 (ownedCount b) (ownFound b) && true)
+  rows-last owned oe r e =
+      e ∙ ap (λ k. every 1 k (validRow b)) oe ∙ rows-tests ∙ ap (λ t. every 0 (reachCount b) (validEntry b) && t) (sym (and-all (every 1 (ownedCount b) (ownFound b))))
 
   module _ (z : Sizes) (F : Fitting b z) (ends : ℕ) (ee : ends ≡ reachStart z) (l from to : ℕ) (low : 1 ≤ l) (high : l < 1 + z .owned) (te : to ≡ wordAt b (ends + l)) where
     to-is : to ≡ reachEnd b l
@@ -234,6 +237,24 @@ module _ (b : Bytes) (z : Sizes) (C : Counts b z) (at : ℕ) (ae : at ≡ export
 
   pub export-told : (r : Bool) → r ≡ isUpTo (z .owned) l → r ≡ validExport b t
   export-told r e = e ∙ ap₂ isUpTo (C .owned-is) (sym export-local)
+
+-- ---- the cells at the points
+
+module _ (b : Bytes) (z : Sizes) (C : Counts b z) (at : ℕ) (ae : at ≡ pointCellStart z) (t l : ℕ) (le : l ≡ wordAt b (at + t)) where
+  point-local : pointCellAt b t ≡ l
+  point-local =
+      let p : pointCellsWord (heldCount b) (ownedCount b) (reachCount b) (exportCount b) (pointCount b) + t ≡ at + t =
+      omega (arith, ae, C .held-is, C .owned-is, C .reached-is, C .sent-is, C .points-is) in
+      ap (wordAt b) p ∙ sym le
+
+  point-held : validPointCell b t ≡ leb l (z .held)
+  point-held = ap₂ leb point-local (sym (C .held-is))
+
+  pub point-unheld : t < z .around → z .held < l → false ≡ every 0 (z .around) (validPointCell b)
+  point-unheld h k = every-stop (validPointCell b) (z .around) t false h (sym (point-held ∙ lt-leb _ _ k)) refl
+
+  pub point-turn : every 0 t (validPointCell b) ≡ true → l ≤ z .held → every 0 (t + 1) (validPointCell b) ≡ true
+  point-turn i k = every-turn (validPointCell b) (z .around) t true i (sym (point-held ∙ le-leb _ _ k)) refl
 
 -- ---- the rule and the header
 
@@ -307,15 +328,59 @@ module _ (b : Bytes) (z : Sizes) (C : Counts b z) (ends : ℕ) (ee : ends ≡ re
         first-right (reachEnd b 0) y reach-end (rises (ownedCount b) (reachEnd b)) true r w
         (e ∙ ap₂ (λ k n. every 0 n (riseAt b k)) (ee ∙ ap reachWord (C .held-is)) (C .owned-is) ∙ sym (and-all (rises (ownedCount b) (reachEnd b))))
 
--- ---- the three groups
+module _ (b : Bytes) (z : Sizes) (C : Counts b z) (ends : ℕ) (ee : ends ≡ pointEndStart z) (y : ℕ) (ye : y ≡ wordAt b ends) where
+  ends-at : ends ≡ pointEndsWord (heldCount b) (ownedCount b) (reachCount b) (exportCount b) (pointCount b)
+  ends-at = omega (arith, ee, C .held-is, C .owned-is, C .reached-is, C .sent-is, C .points-is)
+
+  point-first : pointEnd b 0 ≡ y
+  point-first = ap (wordAt b) (let p : pointEndsWord (heldCount b) (ownedCount b) (reachCount b) (exportCount b) (pointCount b) + 0 ≡ ends = omega (arith, ends-at) in p) ∙ sym ye
+
+  pub points-1 : (y ≡ 0 → ⊥) → false ≡ allOf (pointTests b)
+  points-1 n = simp (point-first, ne-eqb _ _ n)
+
+  module _ (yz : y ≡ 0) (r : Bool) (re : r ≡ every 0 (z .points) (climbAt b ends)) where
+    climbs-here : climbs (pointCount b) (pointEnd b) ≡ r
+    unfolding climbAt climbs
+    climbs-here = sym (re ∙ ap₂ (λ k n. every 0 n (climbAt b k)) ends-at (C .points-is))
+
+    pub points-2 : not r ≡ true → false ≡ allOf (pointTests b)
+    points-2 t = simp (point-first, eq-eqb _ _ yz, climbs-here, not-true r t)
+
+    pub points-3 : (s : Bool) → not r ≡ false → s ≡ every 0 (pointCells b) (validPointCell b) → s ≡ allOf (pointTests b)
+    points-3 s t e = simp (point-first, eq-eqb _ _ yz, climbs-here, not-false r t, sym e, and-all)
+
+-- ---- the four groups
 
 allOf-append : (xs ys : List Bool) → allOf (xs ++ ys) ≡ allOf xs && allOf ys
 allOf-append [] ys = refl
 allOf-append (x ∷ xs) ys = ap (λ t. x && t) (allOf-append xs ys) ∙ sym (and-assoc x (allOf xs) (allOf ys))
 
-in-groups : (b : Bytes) → allOf (listsTests b) ≡ allOf (headerTests b) && (allOf (endTests b) && allOf (entryTests b))
+-- the third of three tests first
+third-first : (x y z : Bool) → x && (y && (z && true)) ≡ z && (x && (y && true))
+third-first false y true = refl
+third-first false y false = refl
+third-first true false true = refl
+third-first true false false = refl
+third-first true true true = refl
+third-first true true false = refl
+
+and-swap : (x y : Bool) → x && y ≡ y && x
+and-swap true y = sym (and-all y)
+and-swap false true = refl
+and-swap false false = refl
+
+in-groups : (b : Bytes) → allOf (listsTests b) ≡ allOf (headerTests b) && (allOf (endTests b) && (allOf (pointTests b) && allOf (entryTests b)))
 unfolding listsTests
-in-groups b = allOf-append (headerTests b) (endTests b ++ entryTests b) ∙ ap (λ t. allOf (headerTests b) && t) (allOf-append (endTests b) (entryTests b))
+in-groups b =
+    let globals : Bool = every 1 (heldCount b) (validGlobal b) in
+    let entries : Bool = every 0 (reachCount b) (validEntry b) in
+    let own : Bool = every 1 (ownedCount b) (ownFound b) in
+    let sent : Bool = every 0 (exportCount b) (validExport b) in
+    let middle : List Bool = globals ∷ entries ∷ own ∷ sent ∷ [] in
+    allOf-append (headerTests b) (endTests b ++ middle ++ pointTests b)
+    ∙ ap (λ t. allOf (headerTests b) && t) (allOf-append (endTests b) (middle ++ pointTests b))
+    ∙ ap (λ t. allOf (headerTests b) && (allOf (endTests b) && t))
+    (allOf-append middle (pointTests b) ∙ and-swap (allOf middle) (allOf (pointTests b)) ∙ ap (λ t. allOf (pointTests b) && (globals && t)) (third-first entries own sent))
 
 module _ (b : Bytes) (r : Bool) (re : r ≡ allOf (headerTests b)) where
   pub lists-1 : not r ≡ true → false ≡ allOf (listsTests b)
@@ -325,5 +390,9 @@ module _ (b : Bytes) (r : Bool) (re : r ≡ allOf (headerTests b)) where
     pub lists-2 : not s ≡ true → false ≡ allOf (listsTests b)
     lists-2 z = simp (in-groups b, sym re, not-false r rt, sym se, not-true s z)
 
-    pub lists-3 : (t : Bool) → not s ≡ false → t ≡ allOf (entryTests b) → t ≡ allOf (listsTests b)
-    lists-3 t lists e = simp (in-groups b, sym re, not-false r rt, sym se, not-false s lists, sym e)
+    module _ (st : not s ≡ false) (t : Bool) (te : t ≡ allOf (pointTests b)) where
+      pub lists-3 : not t ≡ true → false ≡ allOf (listsTests b)
+      lists-3 z = simp (in-groups b, sym re, not-false r rt, sym se, not-false s st, sym te, not-true t z)
+
+      pub lists-4 : (u : Bool) → not t ≡ false → u ≡ allOf (entryTests b) → u ≡ allOf (listsTests b)
+      lists-4 u z e = simp (in-groups b, sym re, not-false r rt, sym se, not-false s st, sym te, not-false t z, sym e)

@@ -14,10 +14,10 @@ use Rattle.layout.specs.Words.{word, wordAt}
 use Rattle.layout.specs.Limits.{lastRound, mostParts}
 use Rattle.depths.specs.Depths.{rangedAt}
 use Rattle.part_state.specs.State.{ownedCount, heldCount, exportCount, listsLength, listsTests, dynamicTests, validFlags, isState, stateLength}
-use Rattle.part_state.specs.State.{writtenPlace, takenPlace, depthsPlace, reachWord}
+use Rattle.part_state.specs.State.{writtenPlace, takenPlace, depthsPlace, reachWord, reachCount, pointsFrom, pointCount, pointCells}
 use Rattle.part_state.specs.declared.places.Sizes.{Sizes}
 use Rattle.part_state.specs.StateLaws.{isStateAt, state-at}
-use Rattle.part_state.specs.Checks.{wordCount, Counts, Fitting}
+use Rattle.part_state.specs.Checks.{pointStart, wordCount, Counts, Fitting}
 
 -- ---- flags
 
@@ -51,22 +51,35 @@ module _ (b : Bytes) (changes n : ℕ) where
 
 -- ---- the whole
 
-pub counts : (b : Bytes) (z : Sizes) → z .held ≡ heldCount b → z .owned ≡ ownedCount b → z .reached ≡ wordAt b (reachWord (z .held) + z .owned) → z .sent ≡ exportCount b
-    → z .held < 65536 → z .owned < 65536 → z .reached < 65536 → z .sent < 65536 → Counts b z
-counts b z h o r s hs os rs ss = record {
-  held-is = h;
-  owned-is = o;
-  reached-is = r ∙ ap₂ (λ x y. wordAt b (reachWord x + y)) h o;
-  sent-is = s;
-  small = record { held-small = hs; owned-small = os; reached-small = rs; sent-small = omega arith };
-}
+module _ (b : Bytes) (z : Sizes) (h : z .held ≡ heldCount b) (o : z .owned ≡ ownedCount b) (r : z .reached ≡ wordAt b (reachWord (z .held) + z .owned)) (s : z .sent ≡ exportCount b) where
+  reached-here : z .reached ≡ reachCount b
+  reached-here = r ∙ ap₂ (λ x y. wordAt b (reachWord x + y)) h o
+
+  module _ (p : z .points ≡ wordAt b (pointStart z)) (a : z .around ≡ wordAt b (pointStart z + 1 + z .points + z .points)) where
+    points-here : z .points ≡ pointCount b
+    points-here = p ∙ ap (wordAt b) (let e : pointStart z ≡ pointsFrom b = omega (arith, h, o, reached-here, s) in e)
+
+    around-here : z .around ≡ pointCells b
+    around-here = a ∙ ap (wordAt b)
+        (let e : pointStart z + 1 + z .points + z .points ≡ pointsFrom b + 1 + pointCount b + pointCount b = omega (arith, h, o, reached-here, s, points-here) in e)
+
+    pub counts : z .held < 65536 → z .owned < 65536 → z .reached < 65536 → z .sent < 65536 → z .points < 65536 → z .around < 65536 → Counts b z
+    counts hs os rs ss ps cs = record {
+      held-is = h;
+      owned-is = o;
+      reached-is = reached-here;
+      sent-is = s;
+      points-is = points-here;
+      around-is = around-here;
+      small = record { held-small = hs; owned-small = os; reached-small = rs; sent-small = omega arith; points-small = ps; around-small = omega arith };
+    }
 
 module _ (lists : Bytes) (z : Sizes) (C : Counts lists z) (k : ℕ) (ke : k ≡ wordCount z) (changes : ℕ) where
   pub fitting : changes ≡ length lists → changes ≡ 2 * k → Fitting lists z
   fitting de fit = record { counts = C; room = omega (arith, ke) }
 
   long-is : listsLength lists ≡ 2 * k
-  long-is = omega (arith, ke, C .held-is, C .owned-is, C .reached-is, C .sent-is)
+  long-is = omega (arith, ke, C .held-is, C .owned-is, C .reached-is, C .sent-is, C .points-is, C .around-is)
 
   module _ (b : Bytes) where
     pub state-1 : (changes ≡ 2 * k → ⊥) → false ≡ isStateAt lists changes b

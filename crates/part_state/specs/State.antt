@@ -47,6 +47,16 @@ entryWord held owned = 46 + held + owned
 abbrev pub exportsWord : ℕ → ℕ → ℕ → ℕ
 exportsWord held owned reached = entryWord held owned + 2 * reached
 
+-- the points (F-1): how many, and behind that their numbers; then the table of ends of the cells at them, and these cells
+abbrev pub pointsWord : ℕ → ℕ → ℕ → ℕ → ℕ
+pointsWord held owned reached sent = exportsWord held owned reached + sent
+
+abbrev pub pointEndsWord : ℕ → ℕ → ℕ → ℕ → ℕ → ℕ
+pointEndsWord held owned reached sent points = pointsWord held owned reached sent + 1 + points
+
+abbrev pub pointCellsWord : ℕ → ℕ → ℕ → ℕ → ℕ → ℕ
+pointCellsWord held owned reached sent points = pointsWord held owned reached sent + 2 + 2 * points
+
 -- ---- the lists as a call follows them
 
 pub record Lists : Type 0 where
@@ -69,6 +79,10 @@ pub record Lists : Type 0 where
   pub imported : ℕ → ℕ
   -- the local numbers of what is exported to part j
   pub exports : ℕ → List ℕ
+  -- the points that touch owned cells: how many, the number of the k-th, k from 1, and the local numbers of the cells at it, 0 for one that is not to be read
+  pub points : ℕ
+  pub point : ℕ → ℕ
+  pub around : ℕ → List ℕ
 
 -- ---- the places of what calls change: the round at `changes` itself, a flag for each part taken from, a flag for each part written to, the depth of each held
 -- cell
@@ -91,11 +105,15 @@ module _ (changes : ℕ) where
   abbrev pub stateLength : ℕ → ℕ
   stateLength n = depthsPlace + 4 * n
 
--- ---- two tests of lists
+-- ---- three tests of lists
 
 -- a table of n + 1 ends never falls
 unfoldable pub rises : ℕ → (ℕ → ℕ) → Bool
 rises n end = every 0 n (λ j. leb (end j) (end (j + 1)))
+
+-- and each number has an entry
+unfoldable pub climbs : ℕ → (ℕ → ℕ) → Bool
+climbs n end = every 0 n (λ j. ltb (end j) (end (j + 1)))
 
 -- an entry of a reach names one of the held cells, at an even layer of at most n
 abbrev pub validNear : ℕ → ℕ → LocalNear → Bool
@@ -163,9 +181,30 @@ module _ (b : Bytes) where
   abbrev pub exportAt : ℕ → ℕ
   exportAt t = wordAt b (exportsWord heldCount ownedCount reachCount + t)
 
+  -- how many points there are, and the number of the k-th, from k = 1 on
+  abbrev pub pointsFrom : ℕ
+  pointsFrom = pointsWord heldCount ownedCount reachCount exportCount
+
+  abbrev pub pointCount : ℕ
+  pointCount = wordAt b pointsFrom
+
+  abbrev pub pointAt : ℕ → ℕ
+  pointAt k = wordAt b (pointsFrom + k)
+
+  -- for k from 0 to the count of points: how many cells stand at the points up to the k-th
+  abbrev pub pointEnd : ℕ → ℕ
+  pointEnd k = wordAt b (pointEndsWord heldCount ownedCount reachCount exportCount pointCount + k)
+
+  abbrev pub pointCells : ℕ
+  pointCells = pointEnd pointCount
+
+  -- the local number of each cell at a point, from t = 0 on, or 0
+  abbrev pub pointCellAt : ℕ → ℕ
+  pointCellAt t = wordAt b (pointCellsWord heldCount ownedCount reachCount exportCount pointCount + t)
+
   -- the length in bytes that the counts give the lists
   abbrev pub listsLength : ℕ
-  listsLength = 2 * (exportsWord heldCount ownedCount reachCount + exportCount)
+  listsLength = 2 * (pointCellsWord heldCount ownedCount reachCount exportCount pointCount + pointCells)
 
   -- the entries of the reach of an owned cell, by its local number
   unfoldable pub localReach : ℕ → List LocalNear
@@ -174,6 +213,10 @@ module _ (b : Bytes) where
   -- the local numbers of the cells exported to part j, in export order
   unfoldable pub localExports : ℕ → List ℕ
   localExports j = listed (exportEnd (j - 1)) (exportEnd j - exportEnd (j - 1)) exportAt
+
+  -- the cells at the k-th point
+  unfoldable pub localAround : ℕ → List ℕ
+  localAround k = listed (pointEnd (k - 1)) (pointEnd k - pointEnd (k - 1)) pointCellAt
 
   -- the lists that stand in the first `changes` bytes of a state
   unfoldable pub listsIn : Lists
@@ -189,6 +232,9 @@ module _ (b : Bytes) where
     before = λ j. importEnd (j - 1);
     imported = λ j. importEnd j - importEnd (j - 1);
     exports = localExports;
+    points = pointCount;
+    point = pointAt;
+    around = localAround;
   }
 
   -- ---- 20: "Not a part state by the form in docs/."
@@ -209,6 +255,10 @@ module _ (b : Bytes) where
   abbrev pub validExport : ℕ → Bool
   validExport t = isUpTo ownedCount (exportAt t)
 
+  -- a cell at a point is held, or not to be read
+  abbrev pub validPointCell : ℕ → Bool
+  validPointCell t = leb (pointCellAt t) heldCount
+
   -- tests of the lists b
   unfoldable pub listsTests : List Bool
   listsTests =
@@ -223,6 +273,8 @@ module _ (b : Bytes) where
       ∷ every 0 reachCount validEntry
       ∷ every 1 ownedCount ownFound
       ∷ every 0 exportCount validExport
+      ∷ (eqb (pointEnd 0) 0 && climbs pointCount pointEnd)
+      ∷ every 0 pointCells validPointCell
       ∷ []
 
   -- the round

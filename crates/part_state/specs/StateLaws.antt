@@ -9,7 +9,7 @@ use native.Mathlib.Omega.{arith}
 use lib.Dec.{eqb, ltb, leb}
 use lib.ListN.{length, take}
 use lib.Seq.{getD-take, ext-getD, length-take-le}
-use borrow.Author.Tests.{eqb-true, ltb-true, leb-true, le-leb, not-true}
+use borrow.Author.Tests.{eqb-true, ltb-true, leb-true, lt-ltb, le-leb, not-true}
 use Rattle.vocabulary.specs.Bytes.{Bytes, byteAt}
 use Rattle.vocabulary.specs.Lists.{All}
 use Rattle.vocabulary.specs.Intervals.{isUpTo, every}
@@ -23,7 +23,7 @@ use Rattle.layout.specs.Limits.{lastRound, mostElements, mostParts, mostSteps}
 use Rattle.depths.specs.Depths.{rangedAt}
 use Rattle.round_rule.specs.Rules.{bad11}
 use Rattle.part_state.specs.State.{stepCount, ruleKind, weights, firstOfMesh, cellsOfMesh, globalAt, exportEnd, exportCount, exportAt, validGlobal}
-use Rattle.part_state.specs.State.{validEntry, ownFound, validExport, reachEnd, reachCount}
+use Rattle.part_state.specs.State.{validEntry, ownFound, validExport, reachEnd, reachCount, climbs, pointCount, pointEnd, pointCells, pointCellAt, validPointCell}
 use Rattle.part_state.specs.State.{entryAt, localReach, dynamic, importEnd, ownedCount, heldCount, rises, listsLength, listsTests, validFlags, dynamicTests, isState}
 use Rattle.part_state.specs.State.{roundAt, takenPlace, writtenPlace, stateLength, depthsPlace}
 
@@ -44,6 +44,23 @@ pub rises-intro : (n : ℕ) (end : ℕ → ℕ) → ((j : ℕ) → j < n → end
 unfolding rises
 rises-intro n end f =
     every-intro 0 (λ j. leb (end j) (end (j + 1))) n (λ i h. subst (λ j. leb (end j) (end (j + 1)) ≡ true) (sym (zero-add i)) (le-leb (end i) (end (i + 1)) (f i h)))
+
+-- a table of ends that climbs
+pub climbs-grow : (n : ℕ) (end : ℕ → ℕ) → climbs n end ≡ true → (i j : ℕ) → i < j → j ≤ n → end i < end j
+unfolding climbs
+climbs-grow n end e i zero h k = let z : ⊥ = omega arith in absurd z
+climbs-grow n end e i (suc j) h k =
+    let s : ltb (end j) (end (j + 1)) ≡ true = every-in 0 (λ j. ltb (end j) (end (j + 1))) n j e (omega arith) (omega arith) in
+    let t : end j < end (suc j) = subst (λ x. end j < end x) (add-one j) (ltb-true (end j) (end (j + 1)) s) in
+    ⊎-elim
+    (λ l. omega (arith, climbs-grow n end e i j (omega arith) (omega arith)))
+    (λ q. subst (λ x. end x < end (suc j)) (sym q) t)
+    (last-or i j (omega arith))
+
+pub climbs-intro : (n : ℕ) (end : ℕ → ℕ) → ((j : ℕ) → j < n → end j < end (j + 1)) → climbs n end ≡ true
+unfolding climbs
+climbs-intro n end f =
+    every-intro 0 (λ j. ltb (end j) (end (j + 1))) n (λ i h. subst (λ j. ltb (end j) (end (j + 1)) ≡ true) (sym (zero-add i)) (lt-ltb (end i) (end (i + 1)) (f i h)))
 
 -- ---- the test, by the lists `lists` and the place `changes` where they end
 
@@ -72,6 +89,9 @@ pub record Whole (lists : Bytes) (changes : ℕ) (b : Bytes) : Type 0 where
   pub owns : (l : ℕ) → 1 ≤ l → l ≤ ownedCount lists → ownFound lists l ≡ true
   pub export-ends : (i j : ℕ) → i ≤ j → j ≤ mostParts → exportEnd lists i ≤ exportEnd lists j
   pub exported : (t : ℕ) → t < exportCount lists → (1 ≤ exportAt lists t) × (exportAt lists t ≤ ownedCount lists)
+  pub point-first : pointEnd lists 0 ≡ 0
+  pub point-ends : (i j : ℕ) → i < j → j ≤ pointCount lists → pointEnd lists i < pointEnd lists j
+  pub point-cells : (t : ℕ) → t < pointCells lists → pointCellAt lists t ≤ heldCount lists
 
 pub whole-is : (lists : Bytes) (changes : ℕ) (b : Bytes) → isStateAt lists changes b ≡ true → Whole lists changes b
 unfolding listsTests dynamicTests
@@ -91,6 +111,8 @@ whole-is lists changes b e =
     let entries-pass : every 0 (reachCount lists) (validEntry lists) ≡ true = search l in
     let own-pass : every 1 (ownedCount lists) (ownFound lists) ≡ true = search l in
     let exported-pass : every 0 (exportCount lists) (validExport lists) ≡ true = search l in
+    let points-pass : eqb (pointEnd lists 0) 0 && climbs (pointCount lists) (pointEnd lists) ≡ true = search l in
+    let cells-pass : every 0 (pointCells lists) (validPointCell lists) ≡ true = search l in
     let long-pass : leb (stateLength changes (heldCount lists)) (length b) ≡ true = search c in
     let round-pass : leb (roundAt b changes) lastRound ≡ true = search c in
     let flags-pass : every 1 mostParts (validFlags b changes) ≡ true = search c in
@@ -129,6 +151,9 @@ whole-is lists changes b e =
       export-ends = λ i j h k. rises-grow mostParts (exportEnd lists) (and-true (eqb (exportEnd lists 0) 0) (rises mostParts (exportEnd lists)) exports-pass .1) i j h k;
       exported = λ t h.
           upTo-true (ownedCount lists) (exportAt lists t) (every-in 0 (validExport lists) (exportCount lists) t exported-pass (omega arith) (omega arith));
+      point-first = eqb-true _ _ (and-true (eqb (pointEnd lists 0) 0) (climbs (pointCount lists) (pointEnd lists)) points-pass .0);
+      point-ends = λ i j h k. climbs-grow (pointCount lists) (pointEnd lists) (and-true (eqb (pointEnd lists 0) 0) (climbs (pointCount lists) (pointEnd lists)) points-pass .1) i j h k;
+      point-cells = λ t h. leb-true _ _ (every-in 0 (validPointCell lists) (pointCells lists) t cells-pass (omega arith) (omega arith));
     }
 
 -- every entry of an owned cell's reach is held

@@ -32,8 +32,9 @@ ghost use Rattle.layout.specs.Words.{wordAt};
 ghost use Rattle.layout.specs.Limits.{mostSteps};
 ghost use Rattle.round_rule.specs.Rules.{weightCount, bad11};
 ghost use Rattle.round_rule.specs.Kinds.{kindNumber};
-ghost use Rattle.part_state.specs.State.{weightsPlace, exportCount, globalAt, validGlobal, validEntry, validExport, listsTests, reachWord};
-ghost use Rattle.part_state.specs.Checks.{Fitting, Tested, riseAt, ownEntry, validRow, headerTests, endTests, entryTests};
+ghost use Rattle.part_state.specs.State.{weightsPlace, exportCount, pointCells, globalAt, validGlobal, validEntry, validExport, validPointCell, listsTests};
+ghost use Rattle.part_state.specs.State.{reachWord};
+ghost use Rattle.part_state.specs.Checks.{Fitting, Tested, riseAt, climbAt, ownEntry, validRow, headerTests, endTests, entryTests, pointTests};
 
 // Whether x is a number from 1 to n.
 pub fn up_to(n: usize, x: usize) -> bool
@@ -79,6 +80,22 @@ fn ends_rise(lists: &[u8], a: usize, n: usize) -> bool
     for j in 0..n {
         let next = word_there(lists, a + (j + 1));
         if next < end {
+            return false;
+        }
+        end = next;
+    }
+    true
+}
+
+// Whether each of the n + 1 ends from word a on is greater than the one before it.
+fn ends_climb(lists: &[u8], a: usize, n: usize) -> bool
+    requires { ⌜ 2 * (a + n) + 1 < length (now lists) ⌝ }
+    ensures { λ r. ⌜ r ≡ every 0 n (climbAt (now (lists .entry)) a) ⌝ }
+{
+    let mut end = word_there(lists, a);
+    for j in 0..n {
+        let next = word_there(lists, a + (j + 1));
+        if next <= end {
             return false;
         }
         end = next;
@@ -208,6 +225,20 @@ fn valid_exports(lists: &[u8], sizes: Sizes) -> bool
     true
 }
 
+// Whether the cells at the points are held, but for those that are not to be read.
+fn valid_point_cells(lists: &[u8], sizes: Sizes) -> bool
+    requires { ⌜ Fitting (now lists) sizes ⌝ }
+    ensures { λ r. ⌜ r ≡ every 0 (pointCells (now (lists .entry))) (validPointCell (now (lists .entry))) ⌝ }
+{
+    let at = sizes.point_cells_word();
+    for t in 0..sizes.around {
+        if sizes.held < word_there(lists, at + t) {
+            return false;
+        }
+    }
+    true
+}
+
 // How many weights a rule of this kind has under a stencil of `steps` steps.
 pub fn weight_count(kind: Kind, steps: usize) -> usize
     requires { ⌜ steps ≤ mostSteps ⌝ }
@@ -255,7 +286,7 @@ fn valid_header(lists: &[u8]) -> bool
     word_at(lists, HELD) <= MOST_ELEMENTS
 }
 
-// The three tables of ends.
+// The ends of the imports, the exports and the reaches.
 fn valid_ends(lists: &[u8], sizes: Sizes) -> bool
     requires { ⌜ Fitting (now lists) sizes ⌝ }
     ensures { λ r. ⌜ r ≡ allOf (endTests (now (lists .entry))) ⌝ }
@@ -276,7 +307,7 @@ fn valid_ends(lists: &[u8], sizes: Sizes) -> bool
     ends_rise(lists, ends, sizes.owned)
 }
 
-// The held cells, the reaches and the exports.
+// The held cells, the exports and the reaches.
 fn valid_entries(lists: &[u8], sizes: Sizes) -> bool
     requires { ⌜ Fitting (now lists) sizes × (allOf (endTests (now lists)) ≡ true) ⌝ }
     ensures { λ r. ⌜ r ≡ allOf (entryTests (now (lists .entry))) ⌝ }
@@ -284,13 +315,28 @@ fn valid_entries(lists: &[u8], sizes: Sizes) -> bool
     if !valid_globals(lists, sizes.held) {
         return false;
     }
-    if !valid_rows(lists, sizes) {
+    if !valid_exports(lists, sizes) {
         return false;
     }
-    valid_exports(lists, sizes)
+    valid_rows(lists, sizes)
 }
 
-// Whether the lists pass all their tests.
+// The points: the ends of the cells at them, and these cells.
+fn valid_points(lists: &[u8], sizes: Sizes) -> bool
+    requires { ⌜ Fitting (now lists) sizes ⌝ }
+    ensures { λ r. ⌜ r ≡ allOf (pointTests (now (lists .entry))) ⌝ }
+{
+    let ends = sizes.point_ends_word();
+    if word_there(lists, ends) != 0 {
+        return false;
+    }
+    if !ends_climb(lists, ends, sizes.points) {
+        return false;
+    }
+    valid_point_cells(lists, sizes)
+}
+
+// Whether the lists pass all their tests. The reaches have the most entries and come last: so few numbers have to be kept beside their loop.
 pub fn valid_lists(lists: &[u8], sizes: Sizes) -> bool
     requires { ⌜ Fitting (now lists) sizes ⌝ }
     ensures { λ r. ⌜ r ≡ allOf (listsTests (now (lists .entry))) ⌝ }
@@ -299,6 +345,9 @@ pub fn valid_lists(lists: &[u8], sizes: Sizes) -> bool
         return false;
     }
     if !valid_ends(lists, sizes) {
+        return false;
+    }
+    if !valid_points(lists, sizes) {
         return false;
     }
     valid_entries(lists, sizes)

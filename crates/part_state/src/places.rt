@@ -1,7 +1,7 @@
 // Where things stand in a state. docs/LAYOUTS.md has it as a table, specs/State as definitions.
 use layout::word_at;
 ghost use mathlib.Core.Path.{_≡_};
-ghost use Rattle.part_state.specs.Checks.{Small, Counts, reachStart, entryStart, exportStart, wordCount};
+ghost use Rattle.part_state.specs.Checks.{Small, Counts, reachStart, entryStart, exportStart, pointStart, pointEndStart, pointCellStart, wordCount};
 
 // In the lists, words: how many they are, the part's number, the steps of the stencil, the rule's kind and its weights, the mesh's first cell and its
 // count of cells.
@@ -53,12 +53,14 @@ pub const DEPTHS: usize = 34;
 
 pub const DEPTH: usize = 30;
 
-// How many cells a state holds and owns, and how many entries its reaches and its exports have.
+// How many cells a state holds and owns, how many entries its reaches and its exports have, and how many points it gives, with how many cells at them.
 pub struct Sizes {
     pub held: usize,
     pub owned: usize,
     pub reached: usize,
     pub sent: usize,
+    pub points: usize,
+    pub around: usize,
 }
 
 impl Sizes {
@@ -86,12 +88,36 @@ impl Sizes {
         self.entry_word() + 2 * self.reached
     }
 
+    // The word that has how many points there are; with k added, the number of the k-th.
+    pub fn points_word(self) -> usize
+        requires { ⌜ Small self ⌝ }
+        ensures { λ k. ⌜ k ≡ pointStart self ⌝ }
+    {
+        self.exports_word() + self.sent
+    }
+
+    // The word at which the ends of the cells at the points begin.
+    pub fn point_ends_word(self) -> usize
+        requires { ⌜ Small self ⌝ }
+        ensures { λ k. ⌜ k ≡ pointEndStart self ⌝ }
+    {
+        self.points_word() + 1 + self.points
+    }
+
+    // The word at which these cells begin.
+    pub fn point_cells_word(self) -> usize
+        requires { ⌜ Small self ⌝ }
+        ensures { λ k. ⌜ k ≡ pointCellStart self ⌝ }
+    {
+        self.points_word() + 2 + 2 * self.points
+    }
+
     // How many words the lists have.
     pub fn words(self) -> usize
         requires { ⌜ Small self ⌝ }
         ensures { λ k. ⌜ k ≡ wordCount self ⌝ }
     {
-        self.exports_word() + self.sent
+        self.point_cells_word() + self.around
     }
 }
 
@@ -103,10 +129,15 @@ pub fn sizes_of(lists: &[u8]) -> Sizes
     let held = word_at(lists, HELD);
     let reached = word_at(lists, REACH_ENDS + held + owned);
     let sent = word_at(lists, EXPORTED);
+    let at = ENTRIES + held + owned + 2 * reached + sent;
+    let points = word_at(lists, at);
+    let around = word_at(lists, at + 1 + points + points);
     Sizes {
         held,
         owned,
         reached,
         sent,
+        points,
+        around,
     }
 }

@@ -1,4 +1,4 @@
--- Fields, the undivided round and what it makes in k rounds, and the refusal 14. It knows nothing of parts. Assumes nothing.
+-- Fields, the undivided round and what it makes in k rounds, depths at points, and the refusal 14. It knows nothing of parts. Assumes nothing.
 use mathlib.Core.Bool.{Bool, _||_, not}
 use mathlib.Core.List.{List, [], _∷_, _++_, map}
 use Prim.Native.Nat.{ℕ, zero, suc, _-_, _*_}
@@ -11,8 +11,8 @@ use Rattle.depths.specs.Depths.{four, rangedAt}
 use Rattle.layout.specs.Answers.{answer, ifAccepted}
 use Rattle.layout.specs.declared.Answer.{Answer}
 use Rattle.mesh.specs.Mesh.{top, firstCell, cellCount, meshTests}
-use Rattle.mesh.specs.Walks.{Near, reach, steps, bad10, bad13}
-use Rattle.round_rule.specs.Rules.{RuleInput, Old, newDepth, bad11}
+use Rattle.mesh.specs.Walks.{Near, reach, cellsAt, steps, bad10, bad13}
+use Rattle.round_rule.specs.Rules.{RuleInput, Old, newDepth, plainMean, bad11}
 
 -- ---- fields: "A field is four bytes a cell", in rising number of the cells
 
@@ -22,16 +22,18 @@ bad14 n f = not (eqb (length f) (4 * n)) || not (every 0 n (rangedAt f 0))
 
 -- ---- the undivided round
 
--- what a mesh, a stencil and a rule come to, as far as a round goes by them: the cells are `first` and those after it, `cells` of them
+-- what a mesh, a stencil and a rule come to, as far as a round and the depths at points go by them: the cells are `first` and those after it, `cells` of them
 pub record Scheme : Type 0 where
   pub first : ℕ
   pub cells : ℕ
   pub reach : ℕ → List Near
+  -- the cells incident to an element
+  pub around : ℕ → List ℕ
   -- the new depth of a cell from its own old depth and those of its reach
   pub new : Bytes → List Old → Bytes
 
 unfoldable pub schemeOf : Bytes → Bytes → ℕ → Bytes → Scheme
-schemeOf m stencil kind v = record { first = firstCell m; cells = cellCount m; reach = reach m stencil; new = newDepth kind v }
+schemeOf m stencil kind v = record { first = firstCell m; cells = cellCount m; reach = reach m stencil; around = cellsAt m; new = newDepth kind v }
 
 module _ (S : Scheme) where
   -- the depth of cell c in a field, as its four bytes
@@ -55,6 +57,10 @@ module _ (S : Scheme) where
   unfoldable pub undivided : Bytes → ℕ → Bytes
   undivided f zero = f
   undivided f (suc k) = round (undivided f k)
+
+  -- the depth at point p of a field (F-1): "the plain mean of the depths of the cells incident to it, all weights 1, rounded like the rule"
+  unfoldable pub pointIn : Bytes → ℕ → Bytes
+  pointIn f p = plainMean (map (depthIn f) (S .around p))
 
 -- ---- the call
 

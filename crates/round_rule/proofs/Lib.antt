@@ -3,3 +3,4 @@ pub mod Refusals
 pub mod Registers
 pub mod Reaches
 pub mod Chosen
+pub mod Plain

@@ -6,6 +6,7 @@ use native.Mathlib.Nat.{mul-le-mul, div-le-of-le-mul}
 use native.Mathlib.Omega.{arith}
 use lib.IntN.{ℤ, pos, negsuc, natAbs, _+ℤ_, _*ℤ_}
 use lib.Signed.{mag, ltZ, quotZ}
+use borrow.Author.Tests.{ltb-false}
 use mir.Syntax.{w32, w64}
 use mir.Val.{SFits, toZ, ofZ}
 use mir.ValLaws.{toZ-pos, toZ-ofZ}
@@ -53,6 +54,11 @@ module _ (sum : ℤ) (w : ℕ) (d : ℤ) (fs : SFits w64 sum) (fd : SFits w32 d)
 
 -- ---- sum / w, which is no larger than a depth
 
+-- a number between the two that a sum is held against
+within : (z : ℤ) → ltZ z (negsuc 1999999999) ≡ false → ltZ (pos 2000000000) z ≡ false → natAbs z ≤ 2000000000
+within (pos a) low high = ltb-false 2000000000 a high
+within (negsuc a) low high = let h : a ≤ 1999999999 = ltb-false 1999999999 a low in omega arith
+
 module _ (sum : ℤ) (w : ℕ) (fs : SFits w64 sum) (pre : (1 ≤ w) × (w ≤ 983025) × (natAbs sum ≤ w * deepest)) where
   quotient-is : quotZ (toZ w64 (ofZ w64 sum)) (toZ w64 w) ≡ quotient sum w
   unfolding quotient
@@ -69,6 +75,27 @@ module _ (sum : ℤ) (w : ℕ) (fs : SFits w64 sum) (pre : (1 ≤ w) × (w ≤ 9
 
   pub quotient-gives : toZ w32 (ofZ w32 (toZ w64 (ofZ w64 (quotZ (toZ w64 (ofZ w64 sum)) (toZ w64 w))))) ≡ quotient sum w
   quotient-gives = toZ-ofZ w32 _ quotient-narrow ∙ toZ-ofZ w64 _ quotient-fits ∙ quotient-is
+
+  pub wide-gives : (r : ℤ) → mag r < 2147483648 → r ≡ quotient (toZ w64 (ofZ w64 sum)) w → toZ w32 (ofZ w32 r) ≡ quotient sum w
+  wide-gives r h e = toZ-ofZ w32 r (record { sfits = h }) ∙ e ∙ ap (λ z. quotient z w) (toZ-ofZ w64 sum fs)
+
+  -- of a sum that has 32 bits
+  module _ (low : ltZ (toZ w64 (ofZ w64 sum)) (negsuc 1999999999) ≡ false) (high : ltZ (pos 2000000000) (toZ w64 (ofZ w64 sum)) ≡ false) where
+    few : natAbs sum ≤ 2000000000
+    few = rw (← toZ-ofZ w64 sum fs) (within (toZ w64 (ofZ w64 sum)) low high)
+
+    pub short-sum : SFits w32 (toZ w64 (ofZ w64 sum))
+    short-sum = rw (toZ-ofZ w64 sum fs) (fits-short sum (omega (arith, few)))
+
+    short-is : quotZ (toZ w32 (ofZ w32 (toZ w64 (ofZ w64 sum)))) (toZ w32 w) ≡ quotient sum w
+    unfolding quotient
+    short-is = rw (toZ-ofZ w32 _ short-sum, toZ-ofZ w64 sum fs, toZ-pos w32 w (omega arith)) refl
+
+    pub short-fits : SFits w32 (quotZ (toZ w32 (ofZ w32 (toZ w64 (ofZ w64 sum)))) (toZ w32 w))
+    short-fits = rw short-is (fits-short (quotient sum w) (omega (arith, quotient-small)))
+
+    pub short-gives : toZ w32 (ofZ w32 (quotZ (toZ w32 (ofZ w32 (toZ w64 (ofZ w64 sum)))) (toZ w32 w))) ≡ quotient sum w
+    short-gives = toZ-ofZ w32 _ short-fits ∙ short-is
 
 -- ---- the lesser of two
 

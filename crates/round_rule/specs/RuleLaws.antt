@@ -1,14 +1,14 @@
--- Laws of the rules: one more old depth at the end, depths in range give a new depth in range, a new depth is four bytes, and what an
+-- Laws of the rules: one more old depth at the end, a plain mean in any order, depths in range give a new depth in range, a new depth is four bytes, and what an
 -- accepted rule says of its weights. Assumes nothing.
-use mathlib.Core.Path.{_≡_, refl, sym, ap, _∙_, subst}
+use mathlib.Core.Path.{_≡_, refl, sym, ap, ap₂, _∙_, subst}
 use mathlib.Core.Logic.{_≢_}
 use mathlib.Core.Bool.{Bool, true, false, not, cond, _&&_, _||_}
-use mathlib.Core.List.{List, [], _∷_, _++_}
+use mathlib.Core.List.{List, [], _∷_, _++_, map, reverse, reverseAux}
 use Prim.Native.Nat.{ℕ, zero, suc, _+_, _-_, _*_, _/_, _<_, _≤_, zero-le}
-use native.Mathlib.Nat.{mul-le-mul-left, div-le-of-le-mul, zero-add}
+use native.Mathlib.Nat.{mul-le-mul-left, div-le-of-le-mul, zero-add, add-zero}
 use native.Mathlib.Omega.{arith}
 use lib.Dec.{eqb, ltb}
-use lib.IntN.{ℤ, pos, negsuc, negℤ, natAbs, subℕ, _+ℤ_, _*ℤ_, +ℤ-idl, +ℤ-idr, +ℤ-assoc}
+use lib.IntN.{ℤ, pos, negsuc, negℤ, natAbs, subℕ, _+ℤ_, _*ℤ_, +ℤ-idl, +ℤ-idr, +ℤ-assoc, +ℤ-comm}
 use lib.ListN.{length}
 use lib.Signed.{ltZ}
 use borrow.Author.Tests.{ltb-true, ltb-false, eqb-false}
@@ -17,11 +17,11 @@ use Rattle.vocabulary.specs.Lists.{All}
 use Rattle.vocabulary.specs.ListLaws.{cond-has, or-false}
 use Rattle.vocabulary.specs.Intervals.{some}
 use Rattle.vocabulary.specs.IntervalLaws.{some-at}
-use Rattle.layout.specs.Words.{wordAt}
+use Rattle.layout.specs.Words.{wordAt, bytesOf}
 use Rattle.layout.specs.Limits.{mostWeight}
 use Rattle.depths.specs.Depths.{depthOf, depthBytes}
 use Rattle.depths.specs.DepthLaws.{length-depthBytes, depth-back, depth-small}
-use Rattle.round_rule.specs.Rules.{Old, weightCount, tooHeavy, bad11, weight, depthSum, weightSum, quotient, lesser, least, newDepth}
+use Rattle.round_rule.specs.Rules.{Old, weightCount, tooHeavy, bad11, weight, depthSum, weightSum, quotient, plainMean, lesser, least, newDepth}
 
 -- ---- one more at the end
 
@@ -41,6 +41,32 @@ pub least-snoc : (z : ℤ) (os : List Old) (o : Old) → least z (os ++ (o ∷ [
 unfolding least
 least-snoc z [] o = refl
 least-snoc z (p ∷ os) o = least-snoc (lesser (depthOf (p .depth)) z) os o
+
+-- ---- a plain mean is the same whichever way round its depths come
+
+module _ (v : Bytes) where
+  abbrev old : Bytes → Old
+  old x = record { layer = 0; depth = x }
+
+  sum-turned : (xs ys : List Bytes) → depthSum v (map old (reverseAux xs ys)) ≡ depthSum v (map old xs) +ℤ depthSum v (map old ys)
+  unfolding depthSum
+  sum-turned [] ys = sym (+ℤ-idl (depthSum v (map old ys)))
+  sum-turned (x ∷ xs) ys =
+      let t : ℤ = pos (weight v (old x)) *ℤ depthOf x in
+      let s : ℤ = depthSum v (map old xs) in
+      let r : ℤ = depthSum v (map old ys) in
+      sum-turned xs (x ∷ ys) ∙ sym (+ℤ-assoc s t r) ∙ ap (λ z. z +ℤ r) (+ℤ-comm s t)
+
+  weights-turned : (xs ys : List Bytes) → weightSum v (map old (reverseAux xs ys)) ≡ weightSum v (map old xs) + weightSum v (map old ys)
+  unfolding weightSum
+  weights-turned [] ys = omega arith
+  weights-turned (x ∷ xs) ys = omega (arith, weights-turned xs (x ∷ ys))
+
+pub mean-reversed : (xs : List Bytes) → plainMean (reverse xs) ≡ plainMean xs
+unfolding depthSum weightSum
+mean-reversed xs =
+    let v : Bytes = bytesOf (1 ∷ []) in
+    ap₂ (λ s n. depthBytes (quotient s n)) (sum-turned v xs [] ∙ +ℤ-idr (depthSum v (map (old v) xs))) (weights-turned v xs [] ∙ add-zero (weightSum v (map (old v) xs)))
 
 -- ---- sizes of integers
 

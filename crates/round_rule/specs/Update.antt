@@ -45,3 +45,17 @@ pub record UpdateReady (kind : ℕ) (v b : Bytes) (at n : ℕ) (f : Bytes) (base
   pub own-there : base + 4 * own + 3 < length f
   pub own-ranged : Valid f (base + 4 * own)
   pub weighed : kind ≡ 1 → Weighed v b at n f base
+
+-- ---- a plain mean: n words at the place `at` of b are the places of depths in the field that stands at the place `base` of f
+
+-- the t-th of these depths
+unfoldable pub placedAt : Bytes → ℕ → Bytes → ℕ → ℕ → Bytes
+placedAt b at f base t = four f (base + 4 * word b (at + 2 * t))
+
+-- the words are there, one at least, and the depths at their places are there and in range
+pub record PlacesThere (b : Bytes) (at n : ℕ) (f : Bytes) (base : ℕ) : Type 0 where
+  pub some : 1 ≤ n
+  pub few : n ≤ 65535
+  pub listed-there : at + 2 * n ≤ length b
+  pub there : (t : ℕ) → t < n → base + 4 * word b (at + 2 * t) + 3 < length f
+  pub ranged : (t : ℕ) → t < n → Valid f (base + 4 * word b (at + 2 * t))

@@ -7,12 +7,13 @@ ghost use mathlib.Core.Path.{_≡_};
 ghost use Prim.Native.Nat.{_+_, _*_, _/_, _<_, _≤_};
 ghost use lib.IntN.{pos, natAbs, _+ℤ_, _*ℤ_};
 ghost use lib.ListN.{length};
+ghost use Rattle.vocabulary.specs.Intervals.{listed};
 ghost use Rattle.layout.specs.Words.{word, wordAt};
 ghost use Rattle.layout.specs.Limits.{mostWeight};
 ghost use Rattle.depths.specs.Depths.{deepest, four, depthFrom, depthBytes};
-ghost use Rattle.round_rule.specs.Rules.{depthSum, weightSum, quotient, lesser, least, newDepth};
+ghost use Rattle.round_rule.specs.Rules.{depthSum, weightSum, quotient, plainMean, lesser, least, newDepth};
 ghost use Rattle.round_rule.specs.Kinds.{kindNumber};
-ghost use Rattle.round_rule.specs.Update.{tableEntries, oldsAt, TableThere, Weighed, UpdateReady};
+ghost use Rattle.round_rule.specs.Update.{tableEntries, oldsAt, TableThere, Weighed, UpdateReady, placedAt, PlacesThere};
 
 // The weight of entry t.
 fn weight_of(weights: &[u8], b: &[u8], at: usize, t: usize) -> usize
@@ -46,12 +47,26 @@ fn add_weighed(sum: i64, w: usize, d: i32) -> i64
     sum + ((w as i32) * d) as i64
 }
 
-// The mean, "fraction dropped toward zero".
-fn quotient(sum: i64, w: usize) -> i32
+// The mean of a sum that may have more than 32 bits.
+fn wide_quotient(sum: i64, w: usize) -> i32
     requires { ⌜ (1 ≤ w) × (w ≤ 983025) × (natAbs sum ≤ w * deepest) ⌝ }
     ensures { λ r. ⌜ r ≡ quotient sum w ⌝ }
 {
     (sum / (w as i64)) as i32
+}
+
+// The mean, "fraction dropped toward zero". Numbers of 32 bits are divided faster, and most sums fit.
+fn quotient(sum: i64, w: usize) -> i32
+    requires { ⌜ (1 ≤ w) × (w ≤ 983025) × (natAbs sum ≤ w * deepest) ⌝ }
+    ensures { λ r. ⌜ r ≡ quotient sum w ⌝ }
+{
+    if sum < -2000000000 {
+        return wide_quotient(sum, w);
+    }
+    if 2000000000 < sum {
+        return wide_quotient(sum, w);
+    }
+    (sum as i32) / (w as i32)
 }
 
 // The mean over the n entries at `at` in b.
@@ -70,6 +85,27 @@ fn mean_of(weights: &[u8], b: &[u8], at: usize, n: usize, f: &[u8], base: usize)
         weight_sum += w;
     }
     quotient(sum, weight_sum)
+}
+
+// The depth at the place that word t gives.
+fn placed_of(b: &[u8], at: usize, t: usize, f: &[u8], base: usize) -> i32
+    requires { ⌜ (at + 2 * t + 1 < length (now b)) × (base + 4 * word (now b) (at + 2 * t) + 3 < length (now f)) ⌝ }
+    ensures { λ r. ⌜ r ≡ depthFrom (now (f .entry)) (base + 4 * word (now (b .entry)) (at + 2 * t)) ⌝ }
+{
+    depth_of(f, base, word_in(b, at + 2 * t))
+}
+
+// The mean, all weights 1, of the n depths of the field at `base` in f whose places are the words at `at` in b.
+pub fn plain_mean(b: &[u8], at: usize, n: usize, f: &[u8], base: usize) -> i32
+    requires { ⌜ PlacesThere (now b) at n (now f) base ⌝ }
+    ensures { λ r. ⌜ (depthBytes r ≡ plainMean (listed 0 n (placedAt (now (b .entry)) at (now (f .entry)) base))) × (natAbs r ≤ deepest) ⌝ }
+{
+    let mut sum: i64 = 0;
+    for t in 0..n {
+        let d = placed_of(b, at, t, f, base);
+        sum = add_weighed(sum, 1, d);
+    }
+    quotient(sum, n)
 }
 
 // The lesser of two depths.

@@ -17,7 +17,7 @@ use Rattle.part_state.specs.State.{listsIn, listsOf, dynamic, isState, localExp
 use Rattle.part_state.specs.StateLaws.{state-at, Whole, whole-is}
 use Rattle.part_calls.specs.Calls.{depthAt, sentMessage, messageTo, message}
 use Rattle.run_theorem.specs.Run.{MessageTheorem}
-use Rattle.run_theorem.specs.WorldLaws.{on-states, write-part, written-is}
+use Rattle.run_theorem.specs.StepLaws.{on-states, write-part, written-is}
 use Rattle.run_theorem.specs.KeptLaws.{ranged-local}
 
 message-is : (b : Bytes) (j : ℕ) → message b j ≡ encode (sentMessage b j)

@@ -33,6 +33,8 @@ use Rattle.part_state.specs.StateLaws.{rises-intro, isStateAt, state-at}
 use Rattle.part_start.specs.Start.{ownedIn, reachOf, importEnds, exportEnds, reachEnds, exportWords, listsLong, Inputs, startNumber, startState}
 use Rattle.run_theorem.specs.FormLaws.{front-length, part-back, steps-back, kind-back, first-back, cells-back, weights-back, import-back, export-back, owned-back, global-back}
 use Rattle.run_theorem.specs.FormLaws.{held-back, ends-back, count-back, entry-back, reach-back, export-word, exports-length}
+use Rattle.run_theorem.specs.PointFormLaws.{points-back, point-cells-back}
+use Rattle.run_theorem.specs.PointStartLaws.{points-climb, point-cells-valid}
 use Rattle.run_theorem.specs.Run.{StatesKept}
 use Rattle.run_theorem.specs.RunLaws.{Part}
 use Rattle.run_theorem.specs.StartLaws.{Ready, started-facts, frontIn, reach-inside, owner-inside, order-full}
@@ -239,7 +241,7 @@ module _ (I : Inputs) (R : Ready I) (i : ℕ) (part : Part (I .split .parts) i) 
                   and-intro (eqb (exportEnd lists 0) 0) (rises mostParts (exportEnd lists)) (eq-eqb _ _ export-zero) export-rises,
                   (
                     and-intro (eqb (reachEnd lists 0) 0) (rises (ownedCount lists) (reachEnd lists)) (eq-eqb _ _ reach-zero) reach-rises,
-                    (globals-in, (entries-fine, (own-entries, (exports-own, tt)))),
+                    (globals-in, (entries-fine, (own-entries, (exports-own, (points-climb I R i, (point-cells-valid I R i, tt)))))),
                   ),
                 ),
               ),
@@ -254,7 +256,7 @@ module _ (I : Inputs) (R : Ready I) (i : ℕ) (part : Part (I .split .parts) i) 
       let a : length lists ≡ 2 * listsLong S i order = front-length S i order n k v in
       let c : reachCount lists ≡ reachEnds S i order (ownedIn S i) = count-back S i order n k v (order-full I R i) in
       let d : exportEnd lists mostParts ≡ exportEnds S i order mostParts = export-back S i order n k v mostParts (omega arith) in
-      omega (arith, held-is, owned-is)
+      omega (arith, held-is, owned-is, points-back S i order n k v (order-full I R i), point-cells-back S i order n k v (order-full I R i))
 
   -- all tests of what calls change
   module _ (tail : Bytes) where

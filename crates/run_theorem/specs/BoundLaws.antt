@@ -8,7 +8,7 @@ use Rattle.vocabulary.specs.Bytes.{Bytes}
 use Rattle.vocabulary.specs.Intervals.{total}
 use Rattle.layout.specs.Limits.{mostParts}
 use Rattle.mesh.specs.Mesh.{cellCount}
-use Rattle.split.specs.Split.{Split, splitOf, exports, ownerAt}
+use Rattle.split.specs.Split.{Split, splitOf, exports, ownerAt, pointEnds}
 use Rattle.split.specs.Lists.{splitIn, sizeTests}
 use Rattle.split.specs.SplitLaws.{split-parted, split-fine, map-facts, split-reach, split-own, split-owner, order-length, local-held, export-total}
 use Rattle.part_start.specs.Start.{reachEnds, exportEnds, listsLong, stateSize, sizeNumber}
@@ -21,7 +21,7 @@ unfolding splitOf
 exports-few m owners st parts i few f = export-total (splitOf m parts owners st) (split-reach m parts owners st) (split-owner m parts owners st f) i few
 
 pub state-bound : StateBound
-unfolding StateBound sizeNumber stateSize listsLong reachEnds exportEnds
+unfolding StateBound sizeNumber stateSize listsLong reachEnds exportEnds pointEnds
 state-bound D i e =
     let m : Bytes = D .mesh in
     let parts : ℕ = D .parts in

@@ -2,17 +2,17 @@
 -- Assumes nothing.
 use mathlib.Core.Path.{_≡_, refl, sym, ap, ap₂, _∙_, subst}
 use mathlib.Core.Bool.{Bool, true, false, not, _&&_, _||_, cond}
-use mathlib.Core.List.{List, [], _∷_, map}
+use mathlib.Core.List.{List, [], _∷_, map, reverse}
 use Prim.Native.Nat.{ℕ, _+_, _-_, _*_, _/_, _<_, _≤_}
 use native.Mathlib.Nat.{zero-add}
 use native.Mathlib.Omega.{arith}
 use lib.Dec.{eqb, ltb}
-use lib.ListN.{length, getD, take, drop, length-map}
+use lib.ListN.{length, getD, take, drop, replicate, length-map, length-reverse, length-replicate}
 use lib.Seq.{getD-take, ext-getD, length-take-le, drop-at}
 use borrow.Author.Tests.{eqb-true, ltb-false, not-false}
 use Rattle.vocabulary.specs.Bytes.{Bytes, byteAt}
 use Rattle.vocabulary.specs.Lists.{joined}
-use Rattle.vocabulary.specs.ListLaws.{or-false, getD-map-any, pairs-length, pairs-at}
+use Rattle.vocabulary.specs.ListLaws.{cond-has, or-false, getD-map-any, pairs-length, pairs-at}
 use Rattle.vocabulary.specs.Intervals.{some, listed, blocks, total}
 use Rattle.vocabulary.specs.IntervalLaws.{some-at, listed-length, listed-at, total-start}
 use Rattle.layout.specs.Words.{word, wordAt, bytesOf}
@@ -20,28 +20,31 @@ use Rattle.layout.specs.WordLaws.{length-bytesOf, bytesOf-append, bytesOf-read}
 use Rattle.layout.specs.Limits.{mostParts, mostSteps, mostWeight}
 use Rattle.mesh.specs.Walks.{Near}
 use Rattle.round_rule.specs.Rules.{weightCount, tooHeavy, bad11}
-use Rattle.split.specs.Split.{Split, imports, exports, localOf, globalOf}
+use Rattle.split.specs.Split.{Split, imports, exports, localOf, globalOf, pointsIn, aroundOf, pointEnds, bad29}
 use Rattle.part_state.specs.State.{LocalNear, importWord, exportWord, cellWord, reachWord, entryWord, exportsWord, weightsPlace}
 use Rattle.part_state.specs.State.{partNumber, stepCount, ruleKind, weights, firstOfMesh, cellsOfMesh, importEnd, ownedCount, heldCount, exportEnd, globalAt}
-use Rattle.part_state.specs.State.{reachEnd, reachCount, entryAt, exportAt, localReach, localExports}
-use Rattle.part_start.specs.Start.{ownedIn, reachOf, importEnds, exportEnds, reachEnds, reachWords, exportWords, listsLong, listsRegions}
-use Rattle.word_lists.proofs.RegionLaws.{joined-length, joined-at, region-at, table-at, rows-words, entry-word, row-back}
+use Rattle.part_state.specs.State.{reachEnd, reachCount, entryAt, exportAt, localReach, localExports, pointsFrom}
+use Rattle.part_start.specs.Start.{ownedIn, reachOf, importEnds, exportEnds, reachEnds, reachWords, exportWords, aroundWords, listsLong, listsRegions}
+use Rattle.word_lists.proofs.RegionLaws.{lengths, joined-length, joined-at, region-at, table-at, rows-words, entry-word, row-back}
 
 -- ---- the words by their places
 
 module _ (S : Split) (i : ℕ) (order : List ℕ) (n kind : ℕ) (v : Bytes) where
-  abbrev regions : List (List ℕ)
+  abbrev pub regions : List (List ℕ)
   regions = listsRegions S i order n kind v
 
   abbrev pub front : Bytes
   front = bytesOf (joined (listsRegions S i order n kind v))
 
-  -- how many entries the reach of a local cell, and the exports to a part, have
+  -- how many entries the reach of a local cell, the exports to a part, and the cells at a point have
   abbrev reached : ℕ → ℕ
   reached l = length (reachOf S i order l)
 
   abbrev sent : ℕ → ℕ
   sent j = length (exports S i j)
+
+  abbrev pub atPoint : ℕ → ℕ
+  atPoint k = length (aroundOf S i k)
 
   reach-length : (l : ℕ) → length (reachWords S i order l) ≡ 2 * reached l
   unfolding reachWords
@@ -59,6 +62,17 @@ module _ (S : Split) (i : ℕ) (order : List ℕ) (n kind : ℕ) (v : Bytes) whe
   unfolding exportEnds
   exports-length j = omega (arith, rows-words 1 (exportWords S i order) sent export-length j)
 
+  pub around-length : (k : ℕ) → length (aroundWords S i order k) ≡ 1 * atPoint k
+  unfolding aroundWords
+  around-length k =
+      cond-has (λ ws. length ws ≡ 1 * atPoint k) (bad29 S i) (replicate (atPoint k) 0) (map (localOf order) (reverse (aroundOf S i k)))
+      (λ e. omega (arith, length-replicate {A = ℕ} (atPoint k) 0))
+      (λ e. omega (arith, length-map (reverse (aroundOf S i k)) (localOf order), length-reverse (aroundOf S i k)))
+
+  pub arounds-length : (k : ℕ) → length (blocks 1 k (aroundWords S i order)) ≡ pointEnds S i k
+  unfolding pointEnds
+  arounds-length k = omega (arith, rows-words 1 (aroundWords S i order) atPoint around-length k)
+
   -- the lengths of the tables, by which the regions have their places
   weights-long : length (listed 0 5 (wordAt v)) ≡ 5
   weights-long = listed-length 0 (wordAt v) 5
@@ -72,10 +86,25 @@ module _ (S : Split) (i : ℕ) (order : List ℕ) (n kind : ℕ) (v : Bytes) whe
   ends-long : length (listed 0 (ownedIn S i + 1) (reachEnds S i order)) ≡ ownedIn S i + 1
   ends-long = listed-length 0 (reachEnds S i order) (ownedIn S i + 1)
 
+  points-long : length (listed 0 (pointsIn S i + 1) (pointEnds S i)) ≡ pointsIn S i + 1
+  points-long = listed-length 0 (pointEnds S i) (pointsIn S i + 1)
+
   -- the words are as many as they say
   pub words-length : length (joined (listsRegions S i order n kind v)) ≡ listsLong S i order
   unfolding listsRegions listsLong
-  words-length = joined-length regions ∙ omega (arith, weights-long, imports-long, exports-long, ends-long, reaches-length (ownedIn S i), exports-length mostParts)
+  words-length =
+      joined-length regions
+      ∙ omega (
+        arith,
+        weights-long,
+        imports-long,
+        exports-long,
+        ends-long,
+        points-long,
+        reaches-length (ownedIn S i),
+        exports-length mostParts,
+        arounds-length (pointsIn S i),
+      )
 
   pub front-length : length front ≡ 2 * listsLong S i order
   front-length = length-bytesOf (joined (listsRegions S i order n kind v)) ∙ ap (λ k. 2 * k) words-length
@@ -145,6 +174,24 @@ module _ (S : Split) (i : ℕ) (order : List ℕ) (n kind : ℕ) (v : Bytes) whe
     export-word k h =
         region-at regions 8 k (exportsWord (heldCount front) (ownedCount front) (reachCount front) + k) h
         (omega (arith, held-back, owned-back, count-back, weights-long, imports-long, exports-long, ends-long, reaches-length (ownedIn S i)))
+
+    -- the place of the points
+    pub points-place : pointsFrom front ≡ lengths (take 9 regions)
+    unfolding listsRegions
+    points-place =
+        omega (
+          arith,
+          held-back,
+          owned-back,
+          count-back,
+          export-back mostParts (omega arith),
+          weights-long,
+          imports-long,
+          exports-long,
+          ends-long,
+          reaches-length (ownedIn S i),
+          exports-length mostParts,
+        )
 
     -- an entry by its local number
     abbrev pub toLocal : Near → LocalNear

@@ -29,7 +29,7 @@ use Rattle.part_state.specs.StateLaws.{isStateAt, state-at, Whole, whole-is, st
 use Rattle.part_calls.specs.Calls.{depthAt, writtenIn, takenIn, advanceTestsIn, newAt, advancedIn, writeNumber, writeState, takeNumber, takeState, advanceNumber, advanceState}
 use Rattle.part_calls.specs.CallLaws.{Room, room-of, Taken, taken-facts}
 use Rattle.part_calls.specs.EffectLaws.{take-room, take-flag, take-frame, take-word, take-in, take-below, take-above, advance-frame, advance-word, advance-flag, advance-owned, advance-others}
-use Rattle.run_theorem.specs.WorldLaws.{write-part}
+use Rattle.run_theorem.specs.StepLaws.{write-part}
 
 -- a depth in range, by its four bytes
 abbrev pub InRange : Bytes → Type 0

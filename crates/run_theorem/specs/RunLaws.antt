@@ -183,11 +183,10 @@ undivided-at X F k c new4 h =
     fours-at (X .first) (X .cells) (newIn X g) (λ j q. new4 _ _ (length-four g _)) (c - X .first) (omega arith)
     ∙ ap (λ x. newIn X g x) p
 
-module _ (X : Scheme) (F : Bytes) (new4 : (own : Bytes) (os : List Old) → length own ≡ 4 → length (X .new own os) ≡ 4) (owner : ℕ → ℕ) (parts : ℕ) (Ls : ℕ → Lists) (S : Parted X owner parts Ls)
-    (i : ℕ) (part : Part parts i) (lists : Bytes) (changes rd : ℕ) (b : Bytes) (w : Room (Ls i) changes b) (g : Good X F (Ls i) lists changes rd b)
-    (taken : (j : ℕ) → 1 ≤ j → j ≤ mostParts → 0 < Ls i .imported j → byteAt b (takenPlace changes j) ≡ 1) where
-  -- before an accepted advance every held depth is the undivided one
-  all-right : (l : ℕ) → 1 ≤ l → l ≤ Ls i .held → Right X F (Ls i) lists changes rd b l
+module _ (X : Scheme) (F : Bytes) (owner : ℕ → ℕ) (parts : ℕ) (Ls : ℕ → Lists) (S : Parted X owner parts Ls) (i : ℕ) (part : Part parts i) (lists : Bytes) (changes rd : ℕ)
+    (b : Bytes) (g : Good X F (Ls i) lists changes rd b) (taken : (j : ℕ) → 1 ≤ j → j ≤ mostParts → 0 < Ls i .imported j → byteAt b (takenPlace changes j) ≡ 1) where
+  -- where all imports are taken every held depth is the undivided one
+  pub all-right : (l : ℕ) → 1 ≤ l → l ≤ Ls i .held → Right X F (Ls i) lists changes rd b l
   all-right l h k =
       ⊎-elim
       (λ o. g .owned l h o)
@@ -195,13 +194,18 @@ module _ (X : Scheme) (F : Bytes) (new4 : (own : Bytes) (os : List Old) → leng
       (g .took (c .from) (c .at) (c .from-least) (c .from-most) (taken (c .from) (c .from-least) (c .from-most) (omega (arith, c .at-lt))) (c .at-lt)))
       (S .covered i part l h k)
 
+module _ (X : Scheme) (F : Bytes) (new4 : (own : Bytes) (os : List Old) → length own ≡ 4 → length (X .new own os) ≡ 4) (owner : ℕ → ℕ) (parts : ℕ) (Ls : ℕ → Lists) (S : Parted X owner parts Ls)
+    (i : ℕ) (part : Part parts i) (lists : Bytes) (changes rd : ℕ) (b : Bytes) (w : Room (Ls i) changes b) (g : Good X F (Ls i) lists changes rd b)
+    (taken : (j : ℕ) → 1 ≤ j → j ≤ mostParts → 0 < Ls i .imported j → byteAt b (takenPlace changes j) ≡ 1) where
   olds-right : (l : ℕ) → 1 ≤ l → l ≤ Ls i .owned
       → map (λ e. record { layer = e .layer; depth = depthAt changes b (e .local) }) (Ls i .reach l) ≡ oldsIn X (undivided X F rd) (X .reach (Ls i .global l))
   unfolding oldsIn
   olds-right l h k =
       let old : Near → Old = λ e. record { layer = e .layer; depth = Undivided X F rd (e .cell) } in
       map-cong (λ e. record { layer = e .layer; depth = depthAt changes b (e .local) }) (λ e. old (globally (Ls i) e)) (Ls i .reach l)
-      (All-map (Ls i .reach l) (λ e q. ap (λ x. record { layer = e .layer; depth = x }) (all-right (e .local) (q .0) (q .1))) (S .near-held i part l h k))
+      (All-map (Ls i .reach l)
+      (λ e q. ap (λ x. record { layer = e .layer; depth = x }) (all-right X F owner parts Ls S i part lists changes rd b g taken (e .local) (q .0) (q .1)))
+      (S .near-held i part l h k))
       ∙ sym (map-map old (globally (Ls i)) (Ls i .reach l))
       ∙ ap (map old) (S .near-is i part l h k)
 

@@ -3,36 +3,37 @@
 use mathlib.Core.Path.{_≡_, refl, sym, ap, ap₂, _∙_, subst, subst₂}
 use mathlib.Core.Logic.{_⊎_, inl, inr}
 use mathlib.Core.Bool.{Bool, true, false, cond}
-use mathlib.Core.List.{List, [], _∷_}
+use mathlib.Core.List.{List, [], _∷_, map}
 use Prim.Native.Nat.{ℕ, suc, _+_, _-_, _*_, _/_, _<_, _≤_}
 use native.Mathlib.Omega.{arith}
-use lib.Dec.{eqb, ltb}
-use lib.ListN.{length, getD, take, drop}
-use lib.Seq.{take-append-seam}
+use lib.Dec.{eqb}
+use lib.ListN.{length, getD, take}
 use borrow.Author.Tests.{eqb-true, eq-eqb, ltb-false, not-false}
 use Rattle.vocabulary.specs.Bytes.{Bytes, over}
-use Rattle.vocabulary.specs.ByteLaws.{Place, below, inside, above, place, over-front}
-use Rattle.vocabulary.specs.Lists.{All}
-use Rattle.vocabulary.specs.ListLaws.{and-true, cond-has, mem-all}
-use Rattle.vocabulary.specs.Intervals.{isUpTo}
-use Rattle.vocabulary.specs.Tests.{firstOf}
+use Rattle.vocabulary.specs.ByteLaws.{Place, below, inside, above, place, over-length}
+use Rattle.vocabulary.specs.Lists.{All, joined}
+use Rattle.vocabulary.specs.ListLaws.{cond-has, mem-all}
+use Rattle.vocabulary.specs.Tests.{Test, firstOf}
 use Rattle.vocabulary.specs.TestLaws.{passed-by}
-use Rattle.vocabulary.specs.IntervalLaws.{upTo-true}
-use Rattle.layout.specs.Limits.{mostParts}
 use Rattle.depths.specs.Depths.{four}
 use Rattle.mesh.specs.Mesh.{cellCount}
 use Rattle.round_rule.specs.Rules.{Old}
 use Rattle.round_rule.specs.RuleLaws.{new-length}
-use Rattle.round.specs.Rounds.{schemeOf, depthIn, undivided}
+use Rattle.round.specs.Rounds.{Scheme, schemeOf, depthIn, undivided}
 use Rattle.messages.specs.Messages.{fromIn, roundIn}
-use Rattle.part_state.specs.State.{Lists, listsIn, listsOf, dynamic, isState, bad20}
+use Rattle.split.specs.Split.{pointsOf}
+use Rattle.split.specs.Lists.{splitIn}
+use Rattle.part_state.specs.State.{Lists, listsIn, listsOf, dynamic, isState, roundAt}
 use Rattle.part_state.specs.StateLaws.{isStateAt, state-at, whole-is}
-use Rattle.part_calls.specs.Calls.{exportsTo, messageTo, writeTestsIn, writtenIn, takeTestsIn, takenIn, advanceTestsIn, advancedIn, collectTestsIn, collectedIn}
+use Rattle.part_calls.specs.Calls.{messageTo, writtenIn, takeTestsIn, takenIn, advanceTestsIn, advancedIn, collectTestsIn, collectedIn}
 use Rattle.part_calls.specs.Calls.{writeNumber, message, writeState, writeOut, takeNumber, takeState, advanceNumber, advanceState, collectNumber, collectOut}
-use Rattle.run_theorem.specs.Run.{Call, write, take-in, advance, collect, World, put, more, step, run, Fair, Honest, ownerIn, Right}
+use Rattle.part_calls.specs.Calls.{pointsTestsIn, pointsGiven, pointsNumber, pointsOut}
+use Rattle.run_theorem.specs.Run.{Call, write, take-in, advance, collect, points, World, step, run, Fair, Honest, ownerIn, Right, RightPoints}
 use Rattle.part_calls.specs.CallLaws.{Room, room-of, taken-facts}
-use Rattle.part_calls.specs.EffectLaws.{advance-taken, collect-length, collect-owned, collect-others}
+use Rattle.part_calls.specs.EffectLaws.{all-taken, advance-taken, collect-length, collect-owned, collect-others, points-length}
+use Rattle.run_theorem.specs.StepLaws.{put-has, put-both, more-all, on-states, write-part, written-is}
 use Rattle.run_theorem.specs.RunLaws.{Part, Parted, Undivided, Good, RightMessage, write-good, write-right, take-good, advance-good}
+use Rattle.run_theorem.specs.PointLaws.{Pointed, pointDepth, points-right}
 use Rattle.part_start.specs.Start.{Inputs, schemeIn}
 
 -- the owner of a cell by its global number
@@ -42,54 +43,6 @@ ownerOf I c = ownerIn I (c - schemeIn I .first)
 pub new-is-four : (I : Inputs) (own : Bytes) (os : List Old) → length own ≡ 4 → length (schemeIn I .new own os) ≡ 4
 unfolding schemeOf
 new-is-four I own os h = new-length (I .rule .kind) (I .rule .weights) own os h
-
--- ---- one more state, one more in a list
-
-put-has : (P : ℕ → Bytes → Type 0) (w : ℕ → Bytes) (i : ℕ) (s : Bytes) → P i s → ((j : ℕ) → P j (w j)) → (j : ℕ) → P j (put w i s j)
-unfolding put
-put-has P w i s g h j = cond-has (P j) (eqb i j) s (w j) (λ e. subst (λ k. P k s) (eqb-true i j e) g) (λ e. h j)
-
-put-both : (P : ℕ → ℕ → Bytes → Type 0) (m : ℕ → ℕ) (w : ℕ → Bytes) (i n : ℕ) (s : Bytes) → P i n s → ((j : ℕ) → P j (m j) (w j)) → (j : ℕ) → P j (put m i n j) (put w i s j)
-unfolding put
-put-both P m w i n s g h j = go (eqb i j) refl
-  where
-    go : (t : Bool) → eqb i j ≡ t → P j (cond t n (m j)) (cond t s (w j))
-    go true e = subst (λ k. P k n s) (eqb-true i j e) g
-    go false e = h j
-
-more-all : {A : Type 0} (P : A → Type 0) (n : ℕ) (x : A) (xs : List A) → (n ≡ 0 → P x) → All P xs → All P (more n x xs)
-unfolding more
-more-all P n x xs p q = cond-has (All P) (eqb n 0) (x ∷ xs) xs (λ e. (p (eqb-true n 0 e), q)) (λ e. q)
-
--- ---- accepted calls are on states
-
-not-20 : (b : Bytes) → bad20 b ≡ false → isState b ≡ true
-unfolding bad20
-not-20 b e = not-false _ e
-
-pub on-states : (b : Bytes) → ((j : ℕ) (out : Bytes) → writeNumber b j out ≡ 0 → isState b ≡ true) × ((x : Bytes) → takeNumber b x ≡ 0 → isState b ≡ true)
-    × (advanceNumber b ≡ 0 → isState b ≡ true) × ((k : ℕ) (f : Bytes) → collectNumber b k f ≡ 0 → isState b ≡ true)
-unfolding writeNumber writeTestsIn takeNumber takeTestsIn advanceNumber advanceTestsIn collectNumber collectTestsIn
-on-states b = (
-  λ j out e. not-20 b (passed-by 20 (writeTestsIn (listsOf b) (dynamic b) b j out) tt e),
-  λ x e. not-20 b (passed-by 20 (takeTestsIn (listsOf b) (dynamic b) b x) tt e),
-  λ e. not-20 b (passed-by 20 (advanceTestsIn (listsOf b) (dynamic b) b) tt e),
-  λ k f e. not-20 b (passed-by 20 (collectTestsIn (listsOf b) (dynamic b) b k f) tt e),
-)
-
--- and a write's is to a number from 1 to 16
-pub write-part : (b : Bytes) (j : ℕ) (out : Bytes) → writeNumber b j out ≡ 0 → (1 ≤ j) × (j ≤ mostParts)
-unfolding writeNumber writeTestsIn exportsTo
-write-part b j out e =
-    upTo-true mostParts j (and-true (isUpTo mostParts j) (ltb 0 (length (listsOf b .exports j))) (not-false _ (passed-by 27 (writeTestsIn (listsOf b) (dynamic b) b j out) tt e)) .0)
-
--- the message that an accepted write gives
-pub written-is : (b : Bytes) (j : ℕ) (out : Bytes) → writeNumber b j out ≡ 0 → take (length (message b j)) (writeOut b j out) ≡ message b j
-unfolding writeOut
-written-is b j out e =
-    ap (λ t. take (length (message b j)) (cond t (over out 0 (message b j)) out)) (eq-eqb _ 0 e)
-    ∙ ap (λ r. take (length (message b j)) r) (over-front out (message b j))
-    ∙ take-append-seam (message b j) (drop (length (message b j)) out)
 
 -- ---- the invariant
 
@@ -113,6 +66,7 @@ module _ (I : Inputs) (front : ℕ → Bytes) where
     pub good : (i : ℕ) → StateHolds i (w .made i) (w .states i)
     pub right : All Sound (w .sent)
     pub gave : All (Right I) (w .given)
+    pub pointed : All (RightPoints I) (w .pointed)
 
   -- a state still has the lists that its part was started with
   module _ (P : Lists → ℕ → Type 0) (i rd : ℕ) (b : Bytes) (g : GoodAt i rd b) where
@@ -132,7 +86,7 @@ module _ (I : Inputs) (front : ℕ → Bytes) where
       subst₂ (λ n lists. isStateAt lists n b ≡ true) (g .place-is) (ap (λ n. take n b) (g .place-is) ∙ g .front-is) (sym (state-at b) ∙ s) in
       room-of (front i) (length (front i)) b (whole-is (front i) (length (front i)) b e)
 
-  module _ (S : Parted (schemeIn I) (ownerOf I) (I .split .parts) listsAt) where
+  module _ (S : Parted (schemeIn I) (ownerOf I) (I .split .parts) listsAt) (T : Pointed (schemeIn I) (I .split .parts) (pointsOf (splitIn (I .split))) listsAt) where
     -- ---- write
 
     write-holds : (i rd : ℕ) (b : Bytes) (j : ℕ) (out : Bytes) → StateHolds i rd b → StateHolds i rd (writeState b j out)
@@ -269,6 +223,32 @@ module _ (I : Inputs) (front : ℕ → Bytes) where
         (turn (λ L changes. Right I (record { part = i; round = k; made = rd; before = f; field = collectedIn L changes b (L .owned) f })) i rd b (g .1)
         (collect-right i rd b (g .0) (g .1) k f (back (λ L changes. firstOf (collectTestsIn L changes b k f) ≡ 0) i rd b (g .1) n)))
 
+    -- ---- points
+
+    points-give : (i rd : ℕ) (b out : Bytes) → StateHolds i rd b → pointsNumber b out ≡ 0
+        → RightPoints I (record { part = i; round = roundAt b (dynamic b); made = rd; before = out; out = pointsOut b out })
+    unfolding pointsNumber pointsOut pointsTestsIn
+    points-give i rd b out h n =
+        let g = h (on-states b .4 out n) in
+        let X : Scheme = schemeIn I in
+        let ps : List ℕ = pointsOf (splitIn (I .split)) i in
+        let changes : ℕ = length (front i) in
+        let ts : List Test = pointsTestsIn (listsAt i) changes b out in
+        let e : firstOf (pointsTestsIn (listsAt i) (length (front i)) b out) ≡ 0 = back (λ L changes. firstOf (pointsTestsIn L changes b out) ≡ 0) i rd b (g .1) n in
+        let same : roundAt b (dynamic b) ≡ rd = ap (roundAt b) (g .1 .place-is) ∙ g .1 .round-is in
+        let right : pointsGiven (listsAt i) (length (front i)) b ≡ joined (map (pointDepth (schemeIn I) (undivided (schemeIn I) (I .field) rd)) (pointsOf (splitIn (I .split)) i)) =
+        points-right X (I .field) (ownerOf I) (I .split .parts) listsAt S i (g .0) (front i) changes rd b (g .1)
+        (all-taken (listsAt i) changes b (not-false _ (passed-by 24 ts tt e))) (pointsOf (splitIn (I .split))) T (passed-by 29 ts tt e) in
+        let gave : pointsOut b out ≡ over out 0 (pointsGiven (listsAt i) (length (front i)) b) =
+        ap (λ t. cond t (over out 0 (pointsGiven (listsOf b) (dynamic b) b)) out) (eq-eqb _ 0 n)
+        ∙ ap (over out 0) (turn (λ L changes. pointsGiven L changes b ≡ pointsGiven (listsAt i) (length (front i)) b) i rd b (g .1) refl) in
+        let wide : 6 * listsAt i .points ≤ length out = ltb-false _ _ (passed-by 16 ts tt e) in
+        record {
+          rounds = same;
+          long = ap length gave ∙ over-length out 0 (pointsGiven (listsAt i) changes b) (omega (arith, points-length (listsAt i) (length (front i)) b));
+          given = gave ∙ ap (over out 0) (right ∙ ap (λ k. joined (map (pointDepth X (undivided X (I .field) k)) ps)) (sym same));
+        }
+
     -- ---- a step, and a run
 
     step-inv : (w : World) (c : Call) → Fair w c → Inv w → Inv (step w c)
@@ -277,22 +257,32 @@ module _ (I : Inputs) (front : ℕ → Bytes) where
       good = put-has (λ i s. StateHolds i (w .made i) s) (w .states) i _ (write-holds i (w .made i) (w .states i) j out (v .good i)) (v .good);
       right = more-all Sound _ _ (w .sent) (write-sends i (w .made i) (w .states i) j out (v .good i)) (v .right);
       gave = v .gave;
+      pointed = v .pointed;
     }
     step-inv w (take-in i x) h v = record {
       good = put-has (λ i s. StateHolds i (w .made i) s) (w .states) i _
           (take-holds i (w .made i) (w .states i) x (v .good i) (λ n. mem-all Sound (w .sent) (h n) (v .right))) (v .good);
       right = v .right;
       gave = v .gave;
+      pointed = v .pointed;
     }
     step-inv w (advance i) h v = record {
       good = put-both StateHolds (w .made) (w .states) i _ _ (advance-holds i (w .made i) (w .states i) (v .good i)) (v .good);
       right = v .right;
       gave = v .gave;
+      pointed = v .pointed;
     }
     step-inv w (collect i k f) h v = record {
       good = v .good;
       right = v .right;
       gave = more-all (Right I) _ _ (w .given) (collect-gives i (w .made i) (w .states i) k f (v .good i)) (v .gave);
+      pointed = v .pointed;
+    }
+    step-inv w (points i out) h v = record {
+      good = v .good;
+      right = v .right;
+      gave = v .gave;
+      pointed = more-all (RightPoints I) _ _ (w .pointed) (points-give i (w .made i) (w .states i) out (v .good i)) (v .pointed);
     }
 
     pub run-inv : (w : World) (cs : List Call) → Honest w cs → Inv w → Inv (run w cs)

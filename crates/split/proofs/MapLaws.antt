@@ -21,7 +21,7 @@ use Rattle.mesh.specs.MeshLaws.{mesh-then, mesh-refuses}
 use Rattle.mesh.specs.Walks.{bad10}
 use Rattle.split.specs.Split.{splitOf, ownerAt, owns, owned}
 use Rattle.split.specs.Lists.{bad8, bad9, mapTests, splitTests, splitNumber, splitInput}
-use Rattle.split.specs.Classes.{validOwner, ownsAt, OwnersSeen}
+use Rattle.split.specs.Owners.{validOwner, ownsAt, OwnersSeen}
 
 pub part-told : (parts i : ℕ) → 1 ≤ i → leb i parts ≡ isUpTo parts i
 unfolding isUpTo

@@ -1,6 +1,6 @@
 pub mod Split
+pub mod Owners
 pub mod Numbering
 pub mod Lists
 pub mod SplitLaws
-pub mod Classes
-pub mod Groups
+pub mod PointLaws

@@ -1,18 +1,19 @@
--- Part maps, and what each part owns, holds, imports and exports, its local numbers and its ranges. Assumes nothing.
+-- Part maps, and what each part owns, holds, imports and exports, its local numbers, its ranges and its points, and the refusal 29. Assumes nothing.
 use mathlib.Core.Bool.{Bool, not, _&&_, cond}
 use mathlib.Core.List.{List, [], _++_}
 use Prim.Native.Nat.{ℕ, _+_, _-_}
 use lib.Dec.{eqb, ltb}
-use lib.ListN.{getD}
-use Rattle.vocabulary.specs.Intervals.{picked, some, blocks}
-use Rattle.vocabulary.specs.Lists.{placeOf, someOf, everyOf}
+use lib.ListN.{length, getD}
+use Rattle.vocabulary.specs.Intervals.{picked, some, blocks, total}
+use Rattle.vocabulary.specs.Lists.{isIn, placeOf, someOf, everyOf}
 use Rattle.vocabulary.specs.Bytes.{Bytes, byteAt}
 use Rattle.mesh.specs.Mesh.{top, counted, below, firstCell, cellCount}
 use Rattle.mesh.specs.Walks.{Near, reach, cellsAt}
 
--- what a mesh, a part map and a stencil come to, as far as the lists of the parts go by them: cells from `first` on, the reach and the owner
--- of each, the cells incident to an element, and P
+-- what a mesh, a part map and a stencil come to, as far as the lists of the parts go by them: points from 1 on; cells from `first` on, the reach and the owner
+-- of each cell; the cells incident to an element; and P
 pub record Split : Type 0 where
+  pub points : ℕ
   pub first : ℕ
   pub cells : ℕ
   pub reach : ℕ → List Near
@@ -27,7 +28,15 @@ ownerAt owners k = byteAt owners k
 -- "A part map gives P from 1 to 16, and one byte a cell in rising number: its owner, from 1 to P."
 unfoldable pub splitOf : Bytes → ℕ → Bytes → Bytes → Split
 splitOf m parts owners stencil =
-    record { first = firstCell m; cells = cellCount m; reach = reach m stencil; around = cellsAt m; owner = λ c. ownerAt owners (c - firstCell m); parts = parts }
+    record {
+      points = counted m 0;
+      first = firstCell m;
+      cells = cellCount m;
+      reach = reach m stencil;
+      around = cellsAt m;
+      owner = λ c. ownerAt owners (c - firstCell m);
+      parts = parts;
+    }
 
 module _ (S : Split) where
   unfoldable pub owns : ℕ → ℕ → Bool
@@ -110,3 +119,29 @@ module _ (S : Split) where
 -- the lower elements of dimension k that pass; there are none from dimension d on. "Each range rises by global number."
 unfoldable pub range : Bytes → ℕ → (ℕ → Bool) → List ℕ
 range m k p = cond (ltb k (top m)) (picked (below m k + 1) (counted m k) p) []
+
+-- ---- points: the depths that a part gives at them (F-1)
+
+module _ (S : Split) where
+  -- "each point that touches its owned cells, in rising number"
+  unfoldable pub pointsOf : ℕ → List ℕ
+  pointsOf i = picked 1 (S .points) (λ p. touches S p i)
+
+  -- the points of cell c
+  unfoldable pub cellPoints : ℕ → List ℕ
+  cellPoints c = picked 1 (S .points) (λ p. isIn c (S .around p))
+
+  -- 29: "if a cell incident to a point of an owned cell is outside that cell's reach"
+  unfoldable pub bad29 : ℕ → Bool
+  bad29 i = someOf (owned S i) (λ c. someOf (cellPoints c) (λ p. someOf (S .around p) (λ x. not (reaches S c x))))
+
+-- how many points touch part i, and the cells at the k-th of them, from k = 1 on
+abbrev pub pointsIn : Split → ℕ → ℕ
+pointsIn S i = length (pointsOf S i)
+
+abbrev pub aroundOf : Split → ℕ → ℕ → List ℕ
+aroundOf S i k = S .around (getD (pointsOf S i) (k - 1) 0)
+
+-- how many cells stand at the points up to the k-th
+unfoldable pub pointEnds : Split → ℕ → ℕ → ℕ
+pointEnds S i k = total 1 k (λ j. length (aroundOf S i j))

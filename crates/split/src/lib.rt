@@ -1,11 +1,8 @@
-// Part maps and what the parts hold. Here stand the tests that take any bytes and numbers; what supposes an accepted mesh is in `inner`.
-mod classes;
-mod groups;
-mod holders;
+// Part maps. Here stand the tests that take any bytes and numbers; what works in lent space, or on the list of a part, is in `inner`.
 pub mod inner;
 mod maps;
 mod owners;
-mod preparing;
+mod rows;
 mod units;
 
 pub use maps::bad_map;

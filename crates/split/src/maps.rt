@@ -1,6 +1,6 @@
 // The tests 8 and 9, and the number of a call by the tests up to 10.
-use crate::classes::put_class;
 use crate::owners::owner_of;
+use crate::rows::put_class;
 use layout::byte_at;
 use layout::limits::MOST_PARTS;
 use mesh::inner::cell_count;
@@ -16,7 +16,7 @@ ghost use Rattle.vocabulary.specs.Intervals.{isUpTo, every};
 ghost use Rattle.layout.specs.Limits.{elementPlaces, mostRecords};
 ghost use Rattle.split.specs.Split.{splitOf};
 ghost use Rattle.split.specs.Lists.{bad8, bad9, splitNumber};
-ghost use Rattle.split.specs.Classes.{validOwner, OwnersSeen};
+ghost use Rattle.split.specs.Owners.{validOwner, OwnersSeen};
 
 // The most parts, as the number that calls are given.
 const PARTS: u32 = MOST_PARTS as u32;

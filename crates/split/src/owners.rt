@@ -1,4 +1,4 @@
-// The part map, read in one place; `walk_part_reach` and `group_cells` alone are lent its bytes, as rows.
+// The part map, read in one place; `walk_part_reach`, `group_cells` and `part_start_points` alone are lent its bytes, as rows.
 use layout::byte_at;
 ghost use mathlib.Core.Path.{_≡_};
 ghost use Rattle.split.specs.Split.{ownerAt};

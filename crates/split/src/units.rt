@@ -1,11 +1,11 @@
 // A cell's global number from its local one and back, through the part's list, which has the global numbers in local order. For the way back
-// the list is turned round once, so that no cell is searched for.
+// the list is turned round once, so that no cell is searched for. The place of a cell among the mesh's cells.
 use cell_numbers::Global;
 use cell_numbers::Local;
 use layout::number_at;
 use layout::put_number_at;
 ghost use mathlib.Core.Path.{_≡_};
-ghost use Prim.Native.Nat.{_≤_, _<_};
+ghost use Prim.Native.Nat.{_-_, _≤_, _<_};
 ghost use lib.ListN.{length, take, getD};
 ghost use Rattle.split.specs.Split.{globalOf};
 ghost use Rattle.split.specs.Numbering.{numbering};
@@ -36,4 +36,11 @@ pub fn to_local(local: &[u16], c: Global) -> Local
     ensures { λ l. ⌜ l .0 ≡ getD (now (local .entry)) (c .0) 0 ⌝ }
 {
     Local(number_at(local, c.0 as usize))
+}
+
+// The place of a cell, and 0 for a number before the first cell.
+pub fn place_from(first: usize, y: usize) -> usize
+    ensures { λ q. ⌜ (q ≡ y - first) × (q ≤ y) ⌝ }
+{
+    if y < first { 0 } else { y - first }
 }

@@ -14,9 +14,9 @@ use Rattle.vocabulary.specs.Intervals.{blocks}
 use Rattle.vocabulary.specs.ListLaws.{map-append}
 use Rattle.vocabulary.specs.IntervalLaws.{blocks-turn, blocks-start, at-last, blocks-length, total-bound, total-start, total-turn, total-cong}
 use Rattle.layout.specs.Limits.{mostElements, mostParts}
-use Rattle.split.specs.Classes.{ofClass, classCells, placeCount, classCount, classOrder, Appended}
-use Rattle.split.specs.Groups.{group, Grouped, groupCells, groupOrder, Linked}
-use Rattle.split.proofs.GroupLaws.{left-start, left-turn, left-all, left-stop, left-end, grouped-order}
+use Rattle.split_classes.specs.Classes.{ofClass, classCells, placeCount, classCount, classOrder, Appended}
+use Rattle.split_classes.specs.Groups.{group, Grouped, groupCells, groupOrder, Linked}
+use Rattle.split_classes.proofs.GroupLaws.{left-start, left-turn, left-all, left-stop, left-end, grouped-order}
 use lib.Seq.{take-append-seam}
 
 -- ---- adding to a list

@@ -14,7 +14,7 @@ use Rattle.layout.specs.Limits.{mostElements, mostParts}
 use Rattle.mesh.specs.Mesh.{firstCell, cellCount}
 use Rattle.split.specs.Split.{Split, splitOf, ownerAt, owns, holds, held, inside, imports, interior, halo, locals}
 use Rattle.split.specs.SplitLaws.{map-facts, local-held, split-reach, split-own, split-owner}
-use Rattle.split.specs.Classes.{classIn, classAt, Classed, Prepared, ofClass, classCells, partCells, classOrder}
+use Rattle.split_classes.specs.Classes.{classIn, classAt, Classed, Prepared, ofClass, classCells, partCells, classOrder}
 use Rattle.mesh.proofs.AcceptedLaws.{cells-few}
 
 -- ---- an owner's number is never 17 or 18

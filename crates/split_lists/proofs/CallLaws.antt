@@ -20,7 +20,7 @@ use Rattle.split.specs.Lists.{SplitInput, splitTests, sizeTests, splitNumber, s
 use Rattle.split.proofs.PassedLaws.{Passed, twice, passed-facts}
 use Rattle.split.specs.SplitLaws.{split-numbered, sizes-numbered}
 use Rattle.mesh.specs.Mesh.{cellCount}
-use Rattle.split.specs.Classes.{Classed, Prepared, Appended}
+use Rattle.split_classes.specs.Classes.{Classed, Prepared, Appended}
 use Rattle.word_lists.specs.Putting.{givenNumber, givenAnswer, givenOut}
 use Rattle.split_lists.specs.Giving.{otherOf, rowOf, chosen}
 use Rattle.split.specs.declared.Wanted.{Wanted}

@@ -9,7 +9,7 @@ use Rattle.layout.specs.Limits.{mostElements, mostParts}
 use Rattle.mesh.specs.Mesh.{firstCell, cellCount}
 use Rattle.split.specs.Split.{Split, splitOf, imports, exports, interior, halo, holdsLower, touches, another, isCopied, isShared, isExposed, isPrivate}
 use Rattle.split.specs.Lists.{listOf}
-use Rattle.split.specs.Classes.{Classed, Prepared}
+use Rattle.split_classes.specs.Classes.{Classed, Prepared}
 use Rattle.split_lists.specs.Giving.{otherOf, rowOf, cellWords, chosen}
 use Rattle.split.specs.declared.Wanted.{Wanted}
 use Rattle.split.specs.declared.Wanted.the-variants.{Interior, Halo, Locals, Imports, Exports, Private, Exposed, Shared, Copied}

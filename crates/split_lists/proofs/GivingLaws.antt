@@ -6,7 +6,7 @@ use lib.ListN.{length, take}
 use Rattle.vocabulary.specs.Bytes.{Bytes}
 use Rattle.layout.specs.declared.Answer.{Answer}
 use Rattle.layout.specs.Limits.{mostElements}
-use Rattle.split.specs.Classes.{Appended}
+use Rattle.split_classes.specs.Classes.{Appended}
 use Rattle.split_cells.proofs.AddLaws.{added-take}
 use Rattle.word_lists.specs.Putting.{givenAnswer, givenOut}
 

@@ -7,7 +7,7 @@ use borrow.Author.Tests.{eq-eqb, ne-eqb}
 use Rattle.vocabulary.specs.Bytes.{Bytes}
 use Rattle.layout.specs.Limits.{mostParts}
 use Rattle.mesh.specs.Mesh.{firstCell, cellCount}
-use Rattle.split.specs.Classes.{classCells, classOrder, Appended}
+use Rattle.split_classes.specs.Classes.{classCells, classOrder, Appended}
 use Rattle.split_cells.proofs.AddLaws.{add-none}
 use Rattle.split_ranges.specs.Lowers.{rangeOf, rowRange, Lowered}
 use Rattle.split_ranges.proofs.LowerLaws.{range-told}

@@ -6,7 +6,7 @@ use Prim.Native.Nat.{ℕ}
 use lib.Dec.{eqb}
 use Rattle.vocabulary.specs.Bytes.{Bytes}
 use Rattle.mesh.specs.Mesh.{firstCell, cellCount}
-use Rattle.split.specs.Classes.{classCells, classOrder}
+use Rattle.split_classes.specs.Classes.{classCells, classOrder}
 use Rattle.split_ranges.specs.Lowers.{rangeOf}
 use Rattle.split.specs.declared.Wanted.{Wanted}
 use Rattle.split.specs.declared.Wanted.the-variants.{Interior, Halo, Locals, Imports, Exports, Private, Exposed, Shared, Copied}

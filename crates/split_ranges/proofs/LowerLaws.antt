@@ -2,13 +2,13 @@
 use mathlib.Core.Path.{_≡_, refl, sym, ap, ap₂, _∙_, subst}
 use mathlib.Core.Bool.{Bool, false, not, cond, true, _&&_}
 use mathlib.Core.List.{List, [], _∷_}
-use Prim.Native.Nat.{ℕ, zero, suc, _+_, _-_, _≤_, _<_}
+use Prim.Native.Nat.{ℕ, _+_, _-_, _≤_, _<_}
 use native.Mathlib.Omega.{arith}
 use lib.Dec.{eqb, leb, ltb}
-use lib.ListN.{getD, length, set, length-set, length-append}
+use lib.ListN.{getD, length, set, length-set}
 use lib.Seq.{getD-set-same, getD-set-other}
 use mathlib.Core.Logic.{⊎-elim}
-use Rattle.vocabulary.specs.CountLaws.{total-add, total-single}
+use Rattle.vocabulary.specs.CountLaws.{total-add, total-single, picked-count}
 use borrow.Author.Tests.{eq-eqb, lt-leb, lt-ltb, le-ltb, eqb-true, eqb-false, ne-eqb, not-true, ltb-true}
 use Rattle.vocabulary.specs.Bytes.{Bytes, byteAt}
 use Rattle.vocabulary.specs.Intervals.{picked, every, blocks, some, total}
@@ -27,9 +27,9 @@ use Rattle.walk_steps.proofs.StepLaws.{someOf-like, up-told}
 use Rattle.mesh.proofs.DimensionLaws.{below-next}
 use Rattle.split.specs.Split.{range, Split, splitOf, ownerAt, owns, holds, held, inside, holdsLower, touches, another}
 use Rattle.split.specs.SplitLaws.{map-facts}
-use Rattle.split.specs.Classes.{classIn, holderCount, heldOne, Classed, Prepared, ofClass, classCells}
-use Rattle.split.specs.Classes.{Appended}
-use Rattle.split.proofs.HoldLaws.{class-zero}
+use Rattle.split_classes.specs.Classes.{classIn, holderCount, heldOne, Classed, Prepared, ofClass, classCells}
+use Rattle.split_classes.specs.Classes.{Appended}
+use Rattle.split_classes.proofs.HoldLaws.{class-zero}
 use Rattle.split_cells.proofs.AddLaws.{add-none}
 use Rattle.split_cells.proofs.ClassLists.{class-at}
 use Rattle.split_ranges.specs.declared.inner.Side.{Side}
@@ -42,7 +42,7 @@ unfolding bad10 validAt every
 alone-right d = ap (λ b. not b) (eq-eqb d d refl)
 
 pub alone : (m st : Bytes) (cell prev last : List ℕ) → Ground m st cell prev last → Ground m (top m ∷ []) cell prev last
-alone m st cell prev last G = record { mesh = G .mesh; stencil = alone-right (top m); told = G .told }
+alone m st cell prev last G = record { mesh = G .mesh; stencil = alone-right (top m); told = G .told; trail-is = G .trail-is }
 
 -- ---- a row of classes
 
@@ -150,17 +150,8 @@ range-told m class holders k wanted lower a b t L X = subst (Appended a b 0 t) (
 
 -- ---- how many parts pass, and whether another than part i does
 
-count-picked : (a n : ℕ) (p : ℕ → Bool) → total a n (λ j. cond (p j) 1 0) ≡ length (picked a n p)
-unfolding total picked
-count-picked a zero p = refl
-count-picked a (suc n) p = ap₂ _+_ (count-picked a n p) (one (p (a + n))) ∙ sym (length-append (picked a n p) (cond (p (a + n)) ((a + n) ∷ []) []))
-  where
-    one : (b : Bool) → cond b 1 0 ≡ length (cond b ((a + n) ∷ []) [])
-    one true = refl
-    one false = refl
-
 another-counts : (p : ℕ → Bool) (i n : ℕ) → 1 ≤ i → i ≤ n → ltb (cond (p i) 1 0) (total 1 n (λ j. cond (p j) 1 0)) ≡ some 1 n (λ j. not (eqb i j) && p j)
-another-counts p i n low high = ap (ltb (cond (p i) 1 0)) whole ∙ above ∙ ap (ltb 0) (count-picked 1 n (λ j. not (eqb i j) && p j)) ∙ picked-some 1 (λ j. not (eqb i j) && p j) n
+another-counts p i n low high = ap (ltb (cond (p i) 1 0)) whole ∙ above ∙ ap (ltb 0) (sym (picked-count 1 n (λ j. not (eqb i j) && p j))) ∙ picked-some 1 (λ j. not (eqb i j) && p j) n
   where
     f : ℕ → ℕ
     f j = cond (eqb i j && p j) 1 0

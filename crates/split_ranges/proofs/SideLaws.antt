@@ -12,7 +12,7 @@ use Rattle.vocabulary.specs.Lists.{someOf}
 use Rattle.layout.specs.Limits.{recordPlaces}
 use Rattle.walk_incidence.specs.Links.{trail}
 use Rattle.walk_incidence.proofs.TrailLaws.{trail-end, trail-more}
-use Rattle.split.specs.Classes.{heldOne}
+use Rattle.split_classes.specs.Classes.{heldOne}
 use Rattle.split_ranges.specs.declared.inner.Side.{Side}
 use Rattle.split_ranges.specs.declared.inner.Side.the-variants.{Mine, Anothers, Held, HeldByAnother}
 use Rattle.split_ranges.specs.Lowers.{sideAt, someSide, lowerClass, trailClass}
@@ -44,9 +44,6 @@ module _ (class holders : Bytes) (q : ℕ) (side : Side) (x : ℕ) where
   pub side-elsewhere : (y : ℕ) → side ≡ HeldByAnother → x ≡ heldOne class q → y ≡ byteAt holders q → ltb x y ≡ sideAt side class holders q
   unfolding sideAt
   side-elsewhere y s e f = rw s (ap₂ ltb e f)
-
-pub place-low : (first y : ℕ) → y < first → 0 ≡ y - first
-place-low first y h = omega arith
 
 -- ---- a trail
 

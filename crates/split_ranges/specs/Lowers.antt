@@ -13,7 +13,7 @@ use Rattle.mesh.specs.Mesh.{top, counted, below, firstCell}
 use Rattle.mesh.specs.Walks.{cellsAt}
 use Rattle.walk_incidence.specs.Links.{trail}
 use Rattle.split.specs.Split.{range}
-use Rattle.split.specs.Classes.{heldOne, classCells}
+use Rattle.split_classes.specs.Classes.{heldOne, classCells}
 use Rattle.split_ranges.specs.declared.inner.Side.{Side}
 use Rattle.split_ranges.specs.declared.inner.Side.the-variants.{Mine, Anothers, Held, HeldByAnother}
 

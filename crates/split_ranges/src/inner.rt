@@ -6,19 +6,19 @@ use mesh::inner::below_of;
 use mesh::inner::count_of;
 use mesh::inner::first_cell;
 use mesh::inner::top_of;
-use split::inner::INTERIOR;
+use split::inner::place_from;
 use split_cells::inner::add_class;
+use split_classes::inner::INTERIOR;
 ghost use mathlib.Core.Path.{_≡_};
 ghost use mathlib.Core.List.{[], _∷_};
-ghost use Prim.Native.Nat.{_-_, _≤_};
 ghost use lib.ListN.{length};
 ghost use Rattle.layout.specs.Limits.{mostElements, recordPlaces};
 ghost use Rattle.mesh.specs.Mesh.{top};
 ghost use Rattle.mesh.specs.Accepted.{Accepted};
 ghost use Rattle.walk_incidence.specs.Links.{trail};
 ghost use Rattle.walk_steps.specs.Walking.{Ground};
-ghost use Rattle.split.specs.Classes.{heldOne};
-ghost use Rattle.split.specs.Classes.{Appended};
+ghost use Rattle.split_classes.specs.Classes.{heldOne};
+ghost use Rattle.split_classes.specs.Classes.{Appended};
 ghost use Rattle.split_ranges.specs.Lowers.{sideAt, someSide, trailClass, Lowered, rowRange};
 
 // The classes of a lower element.
@@ -58,13 +58,6 @@ fn has_side(side: Side, class: &[u8], holders: &[u8], q: usize) -> bool
         Side::Held => byte_at(class, q) != 0,
         Side::HeldByAnother => held_one(class, q) < byte_at(holders, q),
     }
-}
-
-// The place of a cell, and 0 for a number before the first cell.
-fn place_from(first: usize, y: usize) -> usize
-    ensures { λ q. ⌜ (q ≡ y - first) × (q ≤ y) ⌝ }
-{
-    if y < first { 0 } else { y - first }
 }
 
 // Whether one of the cells from entry t on passes.

@@ -12,18 +12,7 @@ use vectors_print::put_words;
 use vectors_print::say;
 use vectors_print::say_all;
 use vectors_print::set_word;
-
-// ---- inputs
-
-// "Triangles 15 (points 1 2 3), 16 (2 3 4), 17 (1 5 6), edges 7 to 14"
-fn triangles() -> [u8; 182] {
-    let mut m = [0u8; 182];
-    put_words(
-        &mut m,
-        b"2 6 8 3 0 34 0 0 0 0 0 0 1 3 5 7 9 11 13 15 17 23 29 1 2 2 0 2 4 3 0 1 6 3 0 2 8 4 0 3 10 4 0 1 12 5 0 5 14 6 0 1 16 6 0 1 18 2 19 3 20 7 21 8 22 9 0 2 24 3 25 4 26 8 27 10 28 11 0 1 30 5 31 6 32 12 33 13 34 14 0",
-    );
-    m
-}
+use vectors_print::triangles;
 
 // ---- meshes: 1 to 7
 

@@ -1,4 +1,4 @@
-// What the programs that run the examples share: how an answer is printed, and the inputs of the five cells. No part of the engine: nothing is
+// What the programs that run the examples share: how an answer is printed, and the inputs. No part of the engine: nothing is
 // promised of these functions but that they end without a fault.
 use layout::Answer;
 use layout::byte_at;
@@ -13,11 +13,12 @@ pub const WEIGHTS: [u8; 4] = [0, 2, 0, 1];
 
 // ---- printing
 
-// How what a call gave is printed: a message byte by byte in hexadecimal, all else in decimal.
+// How what a call gave is printed: a message byte by byte in hexadecimal, all else in decimal, a point as its number and its depth.
 pub enum Form {
     Words,
     Depths,
     Bytes,
+    Points,
 }
 
 fn print_depth(high: usize, low: usize)
@@ -44,6 +45,11 @@ fn print_value(form: Form, out: &[u8], i: u32) {
         }
         Form::Bytes => {
             io::print_hex(1, byte_at(out, k) as u64, 2);
+        }
+        Form::Points => {
+            io::print_decimal(1, word_at(out, 3 * k) as u64);
+            io::write_all(1, b":");
+            print_depth(word_at(out, 3 * k + 1), word_at(out, 3 * k + 2));
         }
     }
 }
@@ -127,5 +133,15 @@ pub fn put_five(m: &mut [u8]) {
 pub fn five_cells() -> [u8; 74] {
     let mut m = [0u8; 74];
     put_five(&mut m);
+    m
+}
+
+// "Triangles 15 (points 1 2 3), 16 (2 3 4), 17 (1 5 6), edges 7 to 14"
+pub fn triangles() -> [u8; 182] {
+    let mut m = [0u8; 182];
+    put_words(
+        &mut m,
+        b"2 6 8 3 0 34 0 0 0 0 0 0 1 3 5 7 9 11 13 15 17 23 29 1 2 2 0 2 4 3 0 1 6 3 0 2 8 4 0 3 10 4 0 1 12 5 0 5 14 6 0 1 16 6 0 1 18 2 19 3 20 7 21 8 22 9 0 2 24 3 25 4 26 8 27 10 28 11 0 1 30 5 31 6 32 12 33 13 34 14 0",
+    );
     m
 }

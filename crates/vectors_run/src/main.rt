@@ -12,9 +12,10 @@ use vectors_print::put_words;
 use vectors_print::say;
 use vectors_print::say_all;
 use vectors_print::set_word;
+use vectors_print::triangles;
 
 // What part 1 of the five cells needs, and enough for part 2; and what a message of one depth needs.
-type State = [u8; 190];
+type State = [u8; 224];
 
 type Message = [u8; 12];
 
@@ -52,11 +53,19 @@ fn collect(name: &[u8], b: &State, round: u32) {
     io::write_all(1, b"\n");
 }
 
+// The points of a state, into as much room as part 1 needs.
+fn points(name: &[u8], b: &State) {
+    let mut out = [0u8; 24];
+    let a = part_points::points(b, &mut out);
+    say_all(Form::Points, name, a, &out);
+}
+
 fn started(one: &mut State, two: &mut State) {
     start(b"start of part 1", 1, one);
     start(b"start of part 2", 2, two);
     collect(b"part 1 at round 0", one, 0);
     collect(b"part 2 for round 1 at round 0", two, 1);
+    points(b"points of part 1, nothing taken", one);
 }
 
 fn before(two: &mut State, old: &mut Message) {
@@ -70,6 +79,7 @@ fn ahead(one: &mut State, two: &mut State, next: &mut Message) {
     write(b"part 1 to part 2", one, 2, next);
     take(b"part 2 takes it", two, next);
     take(b"part 2 takes it again", two, next);
+    points(b"points of part 2", two);
 }
 
 fn first(two: &mut State, next: &mut Message) {
@@ -80,11 +90,13 @@ fn first(two: &mut State, next: &mut Message) {
 fn behind(one: &mut State, old: &Message, next: &Message) {
     take(b"part 1 takes the message for round 1", one, next);
     take(b"part 1 takes the one for round 0", one, old);
+    points(b"points of part 1", one);
     advance(b"part 1 advances", one);
 }
 
 fn again(one: &mut State, next: &Message) {
     take(b"part 1 takes the message for round 1", one, next);
+    points(b"points of part 1, round 1", one);
     advance(b"part 1 advances, nothing written", one);
 }
 
@@ -92,6 +104,7 @@ fn second(one: &mut State, two: &mut State) {
     let mut message = [0u8; 12];
     write(b"part 1 to part 2, round 1", one, 2, &mut message);
     take(b"part 2 takes it", two, &message);
+    points(b"points of part 2, round 1", two);
     advance(b"part 1 advances", one);
     advance(b"part 2 advances", two);
 }
@@ -102,8 +115,8 @@ fn collected(one: &State, two: &State) {
 }
 
 fn runs() {
-    let mut one = [0u8; 190];
-    let mut two = [0u8; 190];
+    let mut one = [0u8; 224];
+    let mut two = [0u8; 224];
     let mut old = [0u8; 12];
     let mut next = [0u8; 12];
     started(&mut one, &mut two);
@@ -130,7 +143,7 @@ fn take_words(name: &[u8], b: &mut State, text: &[u8]) {
 }
 
 fn last_rounds() {
-    let mut b = [0u8; 190];
+    let mut b = [0u8; 224];
     let mut message = [0u8; 12];
     start(b"start of part 1", 1, &mut b);
     write(b"part 1 to part 2", &mut b, 2, &mut message);
@@ -161,14 +174,136 @@ fn wrong_senders(b: &mut State) {
 }
 
 fn wrong_calls() {
-    let mut b = [0u8; 190];
+    let mut b = [0u8; 224];
     wrong_parts(&mut b);
     wrong_messages(&mut b);
     wrong_senders(&mut b);
+}
+
+// ---- points (F-1)
+
+// Into no bytes, and into one byte too few.
+fn points_nowhere(name: &[u8], b: &State) {
+    let mut out = [0u8; 1];
+    say(name, part_points::points(b, &mut out[0..0]));
+}
+
+fn points_cut(name: &[u8], b: &State) {
+    let mut out = [0u8; 23];
+    say(name, part_points::points(b, &mut out));
+}
+
+// 24 comes before 16.
+fn short_points() {
+    let mut b = [0u8; 224];
+    start(b"start of part 1", 1, &mut b);
+    points_nowhere(b"points of part 1, nothing taken, into 0 bytes", &b);
+    take_words(b"part 1 takes", &mut b, b"2 1 0 1 0 400");
+    points_cut(b"points of part 1, into 23 bytes", &b);
+}
+
+// The points of a part as it is started, under hold.
+fn first_points(
+    name: &[u8],
+    m: &[u8],
+    parts: u32,
+    owners: &[u8],
+    i: u32,
+    stencil: &[u8],
+    field: &[u8],
+) {
+    let mut b = [0u8; 266];
+    let mut out = [0u8; 36];
+    say(
+        name,
+        part_start::start(m, parts, owners, i, stencil, 0, b"", field, &mut b),
+    );
+    let a = part_points::points(&b, &mut out);
+    say_all(Form::Points, b"its points", a, &out);
+}
+
+// The five cells as one part, from -1 -2 0 0 0. The stencil 1 goes nowhere, so a point between two cells is refused.
+fn one_part(name: &[u8], stencil: &[u8]) {
+    let m = five_cells();
+    let mut field = [0u8; 20];
+    put_words(&mut field, b"65535 65535 65535 65534 0 0 0 0 0 0");
+    first_points(name, &m, 1, b"\x01\x01\x01\x01\x01", 1, stencil, &field);
+}
+
+// The triangles, from 3 6 10: 15 and 17 share a point and no edge.
+fn triangle_points(name: &[u8], parts: u32, owners: &[u8], i: u32, stencil: &[u8]) {
+    let m = triangles();
+    let mut field = [0u8; 12];
+    put_words(&mut field, b"0 3 0 6 0 10");
+    first_points(name, &m, parts, owners, i, stencil, &field);
+}
+
+fn reached_points() {
+    one_part(b"five cells as one part, stencil 1 0 1", &STENCIL);
+    one_part(b"five cells as one part, stencil 1", b"\x01");
+    triangle_points(
+        b"triangles as one part, stencil 2 0 2",
+        1,
+        b"\x01\x01\x01",
+        1,
+        b"\x02\x00\x02",
+    );
+}
+
+fn unreached_points() {
+    triangle_points(
+        b"triangles, part 1 of 2, stencil 2 1 2",
+        2,
+        b"\x01\x01\x02",
+        1,
+        b"\x02\x01\x02",
+    );
+    triangle_points(
+        b"triangles, part 2 of 2, stencil 2 1 2",
+        2,
+        b"\x01\x01\x02",
+        2,
+        b"\x02\x01\x02",
+    );
+}
+
+// One cell between two points.
+fn one_cell() {
+    let mut m = [0u8; 26];
+    put_words(&mut m, b"1 2 1 0 0 2 0 0 1 1 2 2 0");
+    first_points(
+        b"one cell, stencil 1",
+        &m,
+        1,
+        b"\x01",
+        1,
+        b"\x01",
+        b"\x00\x00\x01\x2c",
+    );
+}
+
+// The second of two cells has no point.
+fn no_point() {
+    let mut m = [0u8; 22];
+    put_words(&mut m, b"1 1 2 0 0 1 0 1 0 1 0");
+    first_points(
+        b"a cell without a point, part 2 of 2",
+        &m,
+        2,
+        b"\x01\x02",
+        2,
+        b"\x01",
+        b"\x00\x00\x01\x2c\x00\x00\x01\x90",
+    );
 }
 
 fn main() {
     runs();
     last_rounds();
     wrong_calls();
+    short_points();
+    reached_points();
+    unreached_points();
+    one_cell();
+    no_point();
 }

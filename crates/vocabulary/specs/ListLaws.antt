@@ -3,7 +3,7 @@
 use mathlib.Core.Path.{_≡_, refl, sym, ap, ap₂, _∙_, subst}
 use mathlib.Core.Logic.{_⊎_, inl, inr, ⊎-elim}
 use mathlib.Core.Bool.{Bool, true, false, _&&_, _||_, not, cond, true≢false, false≢true}
-use mathlib.Core.List.{List, [], _∷_, _++_, map, append-nil, append-assoc, List·Memᴰ, List·Memᴰ·not-nil, List·Memᴰ·cases-cons}
+use mathlib.Core.List.{List, [], _∷_, _++_, map, reverse, reverseAux, append-nil, append-assoc, List·Memᴰ, List·Memᴰ·not-nil, List·Memᴰ·cases-cons}
 use Prim.Native.Nat.{ℕ, zero, suc, _+_, _*_, _<_, _≤_, suc-le-suc}
 use native.Mathlib.Nat.{not-suc-le-zero, le-of-suc-le-suc, zero-lt-suc}
 use native.Mathlib.Omega.{arith}
@@ -167,6 +167,22 @@ joined-last (y ∷ ys) x = ap (λ r. y ++ r) (joined-last ys x) ∙ sym (append-
 pub map-id : {A : Type 0} (xs : List A) → map (λ x. x) xs ≡ xs
 map-id [] = refl
 map-id (x ∷ xs) = ap (λ r. x ∷ r) (map-id xs)
+
+-- ---- a list turned round: its images, and what every element has
+
+map-turned : {A B : Type 0} (f : A → B) (xs ys : List A) → map f (reverseAux xs ys) ≡ reverseAux (map f xs) (map f ys)
+map-turned f [] ys = refl
+map-turned f (x ∷ xs) ys = map-turned f xs (x ∷ ys)
+
+pub map-reversed : {A B : Type 0} (f : A → B) (xs : List A) → map f (reverse xs) ≡ reverse (map f xs)
+map-reversed f xs = map-turned f xs []
+
+All-turned : {A : Type 0} (P : A → Type 0) (xs ys : List A) → All P xs → All P ys → All P (reverseAux xs ys)
+All-turned P [] ys a c = c
+All-turned P (x ∷ xs) ys a c = All-turned P xs (x ∷ ys) (a .1) (a .0, c)
+
+pub All-reversed : {A : Type 0} (P : A → Type 0) (xs : List A) → All P xs → All P (reverse xs)
+All-reversed P xs a = All-turned P xs [] a tt
 
 -- pairs, one after another
 module _ {A : Type 0} (f g : A → ℕ) where

@@ -1,7 +1,7 @@
 -- From an element the trail of its entries leads to exactly the cells whose chains have it, falling. Assumes nothing.
 use mathlib.Core.Path.{_≡_, refl, sym, ap, ap₂, _∙_}
 use mathlib.Core.Bool.{Bool, true, false, _||_, _&&_, cond}
-use mathlib.Core.List.{List, [], _∷_}
+use mathlib.Core.List.{List, [], _∷_, _++_, reverse, reverse-append}
 use Prim.Native.Nat.{ℕ, zero, suc, _+_, _≤_, _<_}
 use native.Mathlib.Omega.{arith}
 use lib.Dec.{eqb}
@@ -9,7 +9,7 @@ use lib.ListN.{length, getD, set, length-set, length-append, replicate, length-r
 use lib.Seq.{getD-set-same, getD-set-other}
 use borrow.Author.Tests.{eqb-true, eqb-false, ne-eqb}
 use Rattle.vocabulary.specs.Bytes.{Bytes}
-use Rattle.vocabulary.specs.Intervals.{some, blocks}
+use Rattle.vocabulary.specs.Intervals.{picked, some, blocks}
 use Rattle.vocabulary.specs.Lists.{isIn, repeats, All}
 use Rattle.vocabulary.specs.ListLaws.{or-swap, or-nothing, or-false, not-both, zeros-at}
 use Rattle.layout.specs.Limits.{elementPlaces, mostElements, mostRecords, recordPlaces}
@@ -209,3 +209,13 @@ cells-with m first (suc n) x y = go (isIn x (chain m (first + n))) (cells-with m
         → isIn y (cond b ((first + n) ∷ cellsWith m first n x) (cellsWith m first n x)) ≡ some first n (λ c. isIn x (chain m c) && eqb y c) || (b && eqb y (first + n))
     go true ih = ap (λ r. eqb y (first + n) || r) ih ∙ or-swap (eqb y (first + n)) (some first n (λ c. isIn x (chain m c) && eqb y c))
     go false ih = ih ∙ sym (or-nothing (some first n (λ c. isIn x (chain m c) && eqb y c)))
+
+-- those that pass, falling, are those that pass, the last one first
+pub picked-down : (a n : ℕ) (p : ℕ → Bool) → pickedDown a n p ≡ reverse (picked a n p)
+unfolding pickedDown picked
+picked-down a zero p = refl
+picked-down a (suc n) p = go (p (a + n)) (picked-down a n p)
+  where
+    go : (b : Bool) → pickedDown a n p ≡ reverse (picked a n p) → cond b ((a + n) ∷ pickedDown a n p) (pickedDown a n p) ≡ reverse (picked a n p ++ cond b ((a + n) ∷ []) [])
+    go true e = ap (λ xs. (a + n) ∷ xs) e ∙ sym (reverse-append (picked a n p) ((a + n) ∷ []))
+    go false e = e ∙ sym (reverse-append (picked a n p) [])

@@ -1,26 +1,26 @@
 -- An accepted mesh with the chains of its cells turned round, and an accepted stencil. Assumes nothing.
 use mathlib.Core.Path.{_≡_, refl, sym, ap, ap₂, _∙_, subst}
 use mathlib.Core.Bool.{true, false, _&&_}
-use mathlib.Core.List.{List}
+use mathlib.Core.List.{List, reverse}
 use Prim.Native.Nat.{ℕ, _+_, _-_, _≤_, _<_}
 use native.Mathlib.Omega.{arith}
 use lib.Dec.{eqb, leb, ltb}
-use lib.ListN.{length, getD, length-map}
+use lib.ListN.{length, getD}
 use borrow.Author.Tests.{eqb-true, eq-eqb, le-leb, lt-ltb, leb-true, ltb-true}
 use Rattle.vocabulary.specs.Bytes.{Bytes}
-use Rattle.vocabulary.specs.Intervals.{some, blocks}
-use Rattle.vocabulary.specs.IntervalLaws.{some-witness, some-in, blocks-length, blocks-inner, total-cong}
+use Rattle.vocabulary.specs.Intervals.{some, blocks, total}
+use Rattle.vocabulary.specs.IntervalLaws.{some-witness, some-in, picked-cong, blocks-length}
 use Rattle.vocabulary.specs.Lists.{isIn, All}
 use Rattle.vocabulary.specs.ListLaws.{and-true, and-intro, same-test, All-map}
 use Rattle.layout.specs.Limits.{mostElements, mostRecords, recordPlaces}
-use Rattle.mesh.specs.Mesh.{top, elements, firstCell, cellCount, dimension, elementIn, records, chain, allRecords}
-use Rattle.mesh.specs.Walks.{bad10, steps}
+use Rattle.mesh.specs.Mesh.{top, counted, below, firstCell, cellCount, dimension, chain}
+use Rattle.mesh.specs.Walks.{incident, cellsAt, bad10, steps}
 use Rattle.mesh.specs.Accepted.{Accepted, Element}
 use Rattle.mesh.proofs.DimensionLaws.{dimension-le}
-use Rattle.mesh.specs.WalkLaws.{below-grows}
-use Rattle.walk_incidence.specs.Links.{links, linkCells, cellsWith}
+use Rattle.mesh.specs.WalkLaws.{below-grows, chains-few, point-incident}
+use Rattle.walk_incidence.specs.Links.{links, linkCells, trail, cellsWith}
 use Rattle.walk_steps.specs.Walking.{isCellNumber, Ground}
-use Rattle.walk_incidence.proofs.TrailLaws.{Linked, LinkedAs, empty, linked-cells, cells-with, trail-same, count-cells}
+use Rattle.walk_incidence.proofs.TrailLaws.{Linked, LinkedAs, empty, linked-cells, cells-with, trail-same, count-cells, picked-down}
 use Rattle.walk_incidence.proofs.LinkLaws.{entries}
 
 cells-told : (m : Bytes) (first n x y : ℕ) → isIn y (cellsWith m first n x) ≡ (leb first y && ltb y (first + n)) && isIn x (chain m y)
@@ -41,14 +41,10 @@ cells-told m first n x y = cells-with m first n x y ∙ same-test _ _ left right
 
 module _ (m : Bytes) (A : Accepted m) (first cells : ℕ) (fe : first ≡ firstCell m) (ce : cells ≡ cellCount m) where
   room : length (blocks first cells (chain m)) ≤ mostRecords
-  unfolding allRecords chain
   room =
-      let q : 1 + (first - 1) ≡ first = omega (arith, fe) in
-      let a : length (blocks (1 + (first - 1)) cells (records m)) ≤ length (allRecords m) = blocks-inner 1 (records m) (first - 1) cells (elements m) (omega (arith, fe, ce, A .cells-in)) in
-      let b : length (blocks first cells (chain m)) ≡ length (blocks first cells (records m)) =
-      blocks-length first (chain m) cells ∙ total-cong first _ _ cells (λ j k. length-map (records m (first + j)) (elementIn m)) ∙ sym (blocks-length first (records m) cells) in
-      let f : length (blocks (1 + (first - 1)) cells (records m)) ≡ length (blocks first cells (records m)) = ap (λ x. length (blocks x cells (records m))) q in
-      omega (arith, A .records-few, A .sizes .r-high)
+      let e : length (blocks first cells (chain m)) ≡ total (firstCell m) (cellCount m) (λ c. length (chain m c)) =
+      blocks-length first (chain m) cells ∙ ap₂ (λ a n. total a n (λ c. length (chain m c))) fe ce in
+      omega (arith, chains-few m A)
 
   element : (j : ℕ) → j < cells → Element m (first + j)
   element j h = record { low = omega (arith, fe); high = omega (arith, fe, ce, A .cells-in) }
@@ -73,16 +69,38 @@ module _ (m : Bytes) (A : Accepted m) (first cells : ℕ) (fe : first ≡ firstC
     short : s ≤ mostRecords
     short = subst (λ L. entries L ≤ mostRecords) (sym e) few
 
+    -- the trail of an element, whatever the bound on its length
+    whole : (x : ℕ) → x ≤ mostElements → trail cell prev recordPlaces (getD last x 0) ≡ cellsWith m first cells x
+    whole x h =
+        trail-same cell prev cell prev s (K .falls) (λ i a b. (refl, refl)) s recordPlaces (getD last x 0) (K .within x) (omega (arith, K .within x, short)) (K .within x) ∙ K .told x h
+
     pub grounded : Ground m st cell prev last
     unfolding isCellNumber
     grounded = record {
       mesh = A;
       stencil = bad;
-      told = λ x y h.
-          ap (isIn y) (trail-same cell prev cell prev s (K .falls) (λ i a b. (refl, refl)) s recordPlaces (getD last x 0) (K .within x) (omega (arith, K .within x, short)) (K .within x) ∙ K .told x h)
-          ∙ cells-told m first cells x y
-          ∙ ap₂ (λ a b. (leb a y && ltb y (a + b)) && isIn x (chain m y)) fe ce;
+      told = λ x y h. ap (isIn y) (whole x h) ∙ cells-told m first cells x y ∙ ap₂ (λ a b. (leb a y && ltb y (a + b)) && isIn x (chain m y)) fe ce;
+      trail-is = λ x h. whole x h ∙ ap₂ (λ a b. cellsWith m a b x) fe ce;
     }
+
+-- ---- points
+
+-- a point's chain is empty: the cells at it are those whose chains have it
+pub point-cells : (m : Bytes) → Accepted m → (p : ℕ) → 1 ≤ p → p ≤ counted m 0 → cellsWith m (firstCell m) (cellCount m) p ≡ reverse (cellsAt m p)
+unfolding cellsWith cellsAt
+point-cells m A p low high =
+    picked-down (firstCell m) (cellCount m) (λ c. isIn p (chain m c))
+    ∙ ap (λ xs. reverse xs)
+    (picked-cong (firstCell m) (λ c. isIn p (chain m c)) (incident m p) (cellCount m) (λ k h. sym (point-incident m A p (firstCell m + k) low high)))
+
+pub point-small : (m : Bytes) → Accepted m → (p : ℕ) → p ≤ counted m 0 → p ≤ mostElements
+unfolding below
+point-small m A p high = omega (arith, below-grows m 1 4 (omega arith), A .sizes .n-high)
+
+-- so the trail of a point has the cells at it, falling
+pub point-trail : (m st : Bytes) (cell prev last : List ℕ) → Ground m st cell prev last → (p : ℕ) → 1 ≤ p → p ≤ counted m 0
+    → trail cell prev recordPlaces (getD last p 0) ≡ reverse (cellsAt m p)
+point-trail m st cell prev last G p low high = G .trail-is p (point-small m (G .mesh) p high) ∙ point-cells m (G .mesh) p low high
 
 pub steps-is : (st : Bytes) (n : ℕ) → n + 1 ≡ length st → n ≡ steps st
 unfolding steps

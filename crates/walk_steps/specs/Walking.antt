@@ -12,7 +12,7 @@ use Rattle.layout.specs.Limits.{elementPlaces, mostElements, recordPlaces}
 use Rattle.mesh.specs.Mesh.{top, below, elements, recordCount, firstCell, cellCount, chain}
 use Rattle.mesh.specs.Walks.{bad10, stepTo}
 use Rattle.mesh.specs.Accepted.{Accepted, Cell}
-use Rattle.walk_incidence.specs.Links.{trail}
+use Rattle.walk_incidence.specs.Links.{trail, cellsWith}
 use Rattle.walk_frontier.specs.Visits.{Frontier}
 use Rattle.walk_steps.specs.declared.steps.MeshSizes.{MeshSizes}
 
@@ -25,6 +25,7 @@ pub record Ground (m st : Bytes) (cell prev last : List ℕ) : Type 0 where
   pub mesh : Accepted m
   pub stencil : bad10 (top m) st ≡ false
   pub told : (x y : ℕ) → x ≤ mostElements → isIn y (trail cell prev recordPlaces (getD last x 0)) ≡ isCellNumber m y && isIn x (chain m y)
+  pub trail-is : (x : ℕ) → x ≤ mostElements → trail cell prev recordPlaces (getD last x 0) ≡ cellsWith m (firstCell m) (cellCount m) x
 
 -- the sizes of a mesh, counted once
 pub record Sized (m : Bytes) (s : MeshSizes) : Type 0 where

@@ -1,5 +1,5 @@
--- The worked examples of document 01 that it marks (P), as entries of one table under one theorem, all by computation over the definitions.
--- Assumes nothing.
+-- The worked examples of document 01 that it marks (P), as entries of one table under one theorem, all by computation over the definitions. Their run gives
+-- depths at the points too (F-1). Assumes nothing.
 use mathlib.Core.Path.{_≡_, refl, sym, subst}
 use mathlib.Core.List.{List, [], _∷_, _++_, map, List·Memᴰ, List·Memᴰ·head, List·Memᴰ·tail}
 use Prim.Native.Nat.{ℕ, zero, suc, _*_, _<_, _≤_}
@@ -26,13 +26,16 @@ use Rattle.split.specs.declared.Wanted.{Wanted}
 use Rattle.split.specs.declared.Wanted.the-variants.{Interior, Imports}
 use Rattle.split.specs.Split.{splitOf, owns, owned, reaches, holds, held, imports, exports, inside, interior, halo}
 use Rattle.split.specs.Split.{locals, localOf, globalOf, holdsLower, touches, another, isCopied, isShared, isExposed, isPrivate, range}
+use Rattle.split.specs.Split.{pointsOf, cellPoints, pointEnds, bad29}
 use Rattle.part_calls.specs.Calls.{importsFrom, exportsTo, messageTo, writeTestsIn, writtenIn, takeTestsIn, takenIn, allTaken, allWritten, advanceTestsIn, newAt, advancedIn, collectTestsIn, scatter}
 use Rattle.part_calls.specs.Calls.{writeNumber, message, writeAnswer, writeState, writeOut, takeNumber, takeAnswer}
 use Rattle.part_calls.specs.Calls.{takeState, advanceNumber, advanceAnswer, advanceState, collectNumber, collectAnswer, collectOut}
-use Rattle.part_state.specs.State.{weights, localReach, localExports, listsIn, listsOf, rises, listsTests, dynamicTests, isState, bad20}
-use Rattle.part_start.specs.Start.{importEnds, exportEnds, reachEnds, reachWords, exportWords, listsLong, listsRegions, stateSize, sizeNumber, sizeAnswer, inputs, Inputs, schemeIn}
-use Rattle.part_start.specs.Start.{firstState, startNumber, startAnswer, startState}
-use Rattle.run_theorem.specs.Run.{ownerIn, Gathered, collectsOf, Run, World, Collected, collect, advance, take-in, write, Call, put, more, step, run, Fair, Honest, begin, StateBound}
+use Rattle.part_calls.specs.Calls.{outside, pointsTestsIn, pointGiven, pointsNumber, pointsOut}
+use Rattle.part_state.specs.State.{weights, localReach, localExports, localAround, listsIn, listsOf, rises, climbs, listsTests, dynamicTests, isState, bad20}
+use Rattle.part_start.specs.Start.{importEnds, exportEnds, reachEnds, reachWords, exportWords, aroundWords, listsLong, listsRegions, stateSize, sizeNumber, sizeAnswer}
+use Rattle.part_start.specs.Start.{inputs, Inputs, schemeIn, firstState, startNumber, startAnswer, startState}
+use Rattle.run_theorem.specs.Run.{ownerIn, Gathered, collectsOf, Run, World, Collected, PointDepths, collect, points, advance, take-in, write, Call}
+use Rattle.run_theorem.specs.Run.{put, more, step, run, Fair, Honest, begin, StateBound}
 use Rattle.list_text.specs.Listing.{ascii, digits, decimal, spaced, line, lineUnlessEmpty, dimensionText, partText}
 use Rattle.list_text.specs.Listing.{splitText, meshPiece, mapPiece, partsPiece, ownersPiece, lastPiece, stencilPiece, listingNumber, listText}
 
@@ -104,7 +107,7 @@ empty = replicate 20 0
 
 -- a buffer a little longer than each state
 unfoldable pub buffers : ℕ → Bytes
-buffers i = replicate 230 7
+buffers i = replicate 240 7
 
 -- part 1 runs ahead: refused are an advance with nothing taken, a second take, part 1's message of round 1 taken at round 0, a write into too
 -- short a buffer, an advance with nothing written and a collect of another round
@@ -115,11 +118,13 @@ calls =
     ∷ advance 1
     ∷ take-in 1 (fromTwo 0 144)
     ∷ take-in 1 (fromTwo 0 144)
+    ∷ points 1 (replicate 24 0)
     ∷ advance 1
     ∷ write 1 2 (take 11 space)
     ∷ write 1 2 space
     ∷ take-in 2 (fromOne 1)
     ∷ take-in 2 (fromOne 0)
+    ∷ points 2 (replicate 18 0)
     ∷ collect 1 1 empty
     ∷ advance 2
     ∷ take-in 2 (fromOne 1)
@@ -139,6 +144,7 @@ numberAt w (write i j out) = writeNumber (w .states i) j out
 numberAt w (take-in i x) = takeNumber (w .states i) x
 numberAt w (advance i) = advanceNumber (w .states i)
 numberAt w (collect i k f) = collectNumber (w .states i) k f
+numberAt w (points i out) = pointsNumber (w .states i) out
 
 unfoldable pub runNumbers : World → List Call → List ℕ
 runNumbers w [] = []
@@ -161,6 +167,10 @@ collected i k ds = record { part = i; round = k; made = k; before = empty; field
 -- the accepted collects of the run
 abbrev allCollected : List Collected
 allCollected = collected 2 2 (0 ∷ 0 ∷ 0 ∷ 391 ∷ 444 ∷ []) ∷ collected 1 2 (155 ∷ 208 ∷ 300 ∷ 0 ∷ 0 ∷ []) ∷ collected 1 1 (133 ∷ 200 ∷ 300 ∷ 0 ∷ 0 ∷ []) ∷ []
+
+-- an accepted points call of the run, at round 0
+abbrev pointsAtStart : ℕ → ℕ → Bytes → PointDepths
+pointsAtStart i long out = record { part = i; round = 0; made = 0; before = replicate long 0; out = out }
 
 -- where the message of an accepted take stands among those written
 last : {x : Bytes} {xs : List Bytes} → List·Memᴰ x (x ∷ xs)
@@ -199,6 +209,8 @@ pub data Example : Type 0 where
   begins : ℕ → Example
   -- what its accepted takes are handed was written before
   fair : Example
+  -- its accepted points calls, the last one first
+  point-depths : List PointDepths → Example
 
 -- what an entry claims
 abbrev pub Holds : Example → Type 0
@@ -216,6 +228,7 @@ Holds (answers ns) = runNumbers (begin fiveInputs buffers) calls ≡ ns
 Holds (collects gs) = run (begin fiveInputs buffers) calls .given ≡ gs
 Holds (begins i) = startNumber fiveInputs i (buffers i) ≡ 0
 Holds fair = Honest (begin fiveInputs buffers) calls
+Holds (point-depths gs) = run (begin fiveInputs buffers) calls .pointed ≡ gs
 
 abbrev pub AllHold : List Example → Type 0
 AllHold [] = Unit {0}
@@ -252,28 +265,46 @@ table =
     -- "Depth 1,200,000 accepted, 1,200,001: 14."
     ∷ start-number (100 ∷ 200 ∷ 1200000 ∷ 400 ∷ 500 ∷ []) 0
     ∷ start-number (100 ∷ 200 ∷ 1200001 ∷ 400 ∷ 500 ∷ []) 14
-    -- "Message for round 1 at round 0: 22; after advance, taken": the ninth call, and the thirteenth
-    ∷ answers (0 ∷ 0 ∷ 24 ∷ 0 ∷ 23 ∷ 0 ∷ 16 ∷ 0 ∷ 22 ∷ 0 ∷ 0 ∷ 0 ∷ 0 ∷ 25 ∷ 0 ∷ 0 ∷ 28 ∷ 0 ∷ 0 ∷ 0 ∷ 0 ∷ [])
+    -- "Message for round 1 at round 0: 22; after advance, taken": the tenth call, and the fifteenth
+    ∷ answers (0 ∷ 0 ∷ 24 ∷ 0 ∷ 23 ∷ 0 ∷ 0 ∷ 16 ∷ 0 ∷ 22 ∷ 0 ∷ 0 ∷ 0 ∷ 0 ∷ 0 ∷ 25 ∷ 0 ∷ 0 ∷ 28 ∷ 0 ∷ 0 ∷ 0 ∷ 0 ∷ [])
     -- a run of two rounds, out of order
     ∷ begins 1
     ∷ begins 2
     ∷ fair
     ∷ collects allCollected
+    -- its depths at the points of each part, in hexadecimal; both have point 4 (F-1)
+    ∷ point-depths (
+    pointsAtStart 2 18 (
+    0x00 ∷ 0x04 ∷ 0x00 ∷ 0x00 ∷ 0x01 ∷ 0x5E
+    ∷ 0x00 ∷ 0x05 ∷ 0x00 ∷ 0x00 ∷ 0x01 ∷ 0xC2
+    ∷ 0x00 ∷ 0x06 ∷ 0x00 ∷ 0x00 ∷ 0x01 ∷ 0xF4
+    ∷ []
+    )
+    ∷ pointsAtStart 1 24 (
+    0x00 ∷ 0x01 ∷ 0x00 ∷ 0x00 ∷ 0x00 ∷ 0x64
+    ∷ 0x00 ∷ 0x02 ∷ 0x00 ∷ 0x00 ∷ 0x00 ∷ 0x96
+    ∷ 0x00 ∷ 0x03 ∷ 0x00 ∷ 0x00 ∷ 0x00 ∷ 0xFA
+    ∷ 0x00 ∷ 0x04 ∷ 0x00 ∷ 0x00 ∷ 0x01 ∷ 0x5E
+    ∷ []
+    )
+    ∷ []
+    )
     ∷ []
 
 pub worked : AllHold table
 unfolding over isIn placeOf joined repeats someOf everyOf isUpTo picked every some listed blocks total answer four numberFrom signed unsigned depthFrom numberBytes depthBytes
     inRange rangedAt word wordAt words wordBytes bytesOf meet stamp unlike below dimension elementIn nextOf follow records chain allRecords bad1 badCount bad2 meshLength bad3
     headed bad4 badItem badChain bad5 leaves unclosed bad6 bare bad7 meshTests meshNumber checkAnswer incident steps validAt bad10 stepTo walked stepsTo layer reach bad13 bad14
-    schemeOf depthIn oldsIn newIn round undivided roundNumber roundAnswer roundOut weightCount tooHeavy bad11 weight depthSum weightSum quotient least newDepth tableEntries oldsAt
-    encode bad15 reading bad8 bad9 bad12 splitTests sizeTests others listOf listWords listNumber listAnswer listOut splitOf owns owned reaches holds held imports exports inside
-    interior halo locals localOf globalOf cellsAt holdsLower touches another isCopied isShared isExposed isPrivate range importsFrom exportsTo messageTo writeTestsIn writtenIn
-    takeTestsIn takenIn allTaken allWritten advanceTestsIn newAt advancedIn collectTestsIn scatter writeNumber message writeAnswer writeState writeOut takeNumber takeAnswer
-    takeState advanceNumber advanceAnswer advanceState collectNumber collectAnswer collectOut put more step run Fair Honest startNumber startState begin StateBound importEnds
-    exportEnds reachEnds reachWords exportWords listsLong listsRegions stateSize sizeNumber sizeAnswer firstState startAnswer weights localReach localExports listsIn listsOf rises
-    listsTests dynamicTests isState bad20 ascii digits decimal spaced line lineUnlessEmpty dimensionText partText splitText meshPiece mapPiece partsPiece ownersPiece lastPiece
-    stencilPiece listingNumber listText buffers calls field five fiveInputs listInput numberAt runNumbers triangles
-worked = (refl, (refl, (refl, (refl, (refl, (refl, (refl, (refl, (refl, (refl, (refl, (refl, (refl, (refl, (refl, (refl, (refl, (refl, (refl, (refl, (refl, (refl, (refl, (refl, (refl, (honest, (refl, tt)))))))))))))))))))))))))))
+    schemeOf depthIn oldsIn newIn round undivided roundNumber roundAnswer roundOut weightCount tooHeavy bad11 weight depthSum weightSum quotient least newDepth tableEntries
+    oldsAt encode bad15 reading bad8 bad9 bad12 splitTests sizeTests others listOf listWords listNumber listAnswer listOut splitOf owns owned reaches holds held imports exports
+    inside interior halo locals localOf globalOf cellsAt holdsLower touches another isCopied isShared isExposed isPrivate range pointsOf cellPoints pointEnds bad29 importsFrom
+    exportsTo messageTo writeTestsIn writtenIn takeTestsIn takenIn allTaken allWritten advanceTestsIn newAt advancedIn collectTestsIn scatter outside pointsTestsIn pointGiven
+    writeNumber message writeAnswer writeState writeOut takeNumber takeAnswer takeState advanceNumber advanceAnswer advanceState collectNumber collectAnswer collectOut
+    pointsNumber pointsOut put more step run Fair Honest startNumber startState begin StateBound importEnds exportEnds reachEnds reachWords exportWords aroundWords listsLong
+    listsRegions stateSize sizeNumber sizeAnswer firstState startAnswer weights localReach localExports localAround listsIn listsOf rises climbs listsTests dynamicTests isState
+    bad20 ascii digits decimal spaced line lineUnlessEmpty dimensionText partText splitText meshPiece mapPiece partsPiece ownersPiece lastPiece stencilPiece listingNumber
+    listText buffers calls field five fiveInputs listInput numberAt runNumbers triangles
+worked = (refl, (refl, (refl, (refl, (refl, (refl, (refl, (refl, (refl, (refl, (refl, (refl, (refl, (refl, (refl, (refl, (refl, (refl, (refl, (refl, (refl, (refl, (refl, (refl, (refl, (honest, (refl, (refl, tt))))))))))))))))))))))))))))
   where
     honest : Honest (begin fiveInputs buffers) calls
     honest = (
@@ -293,12 +324,18 @@ worked = (refl, (refl, (refl, (refl, (refl, (refl, (refl, (refl, (refl, (refl, (
                   (
                     tt,
                     (
-                      λ e. last,
+                      tt,
                       (
-                        λ e. last-but-one,
+                        λ e. last,
                         (
-                          tt,
-                          (tt, (λ e. last, (tt, (tt, (tt, (tt, (λ e. last, (tt, (tt, (tt, tt)))))))))),
+                          λ e. last-but-one,
+                          (
+                            tt,
+                            (
+                              tt,
+                              (tt, (λ e. last, (tt, (tt, (tt, (tt, (λ e. last, (tt, (tt, (tt, tt)))))))))),
+                            ),
+                          ),
                         ),
                       ),
                     ),

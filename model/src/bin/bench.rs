@@ -15,6 +15,7 @@ use jemlayos_model::generate::shapes::Shape;
 use jemlayos_model::mesh::Mesh;
 use jemlayos_model::refusal::Answer;
 use jemlayos_model::split::Range;
+use jemlayos_model::state::Sizes;
 use jemlayos_model::walks::{Reaches, Stencil};
 
 const PARTS: [u32; 3] = [1, 4, 16];
@@ -120,14 +121,18 @@ fn tables(families: &[Family], mut find: impl FnMut(&Call, &Case) -> Cost) -> Ve
     let mut tables = Vec::new();
     for family in families {
         for cases in &family.cases {
-            // One part alone writes and takes nothing.
-            let accepted = |call: &&Call| (call.make)(&cases[0], tuned(), &mut (call.lend)(&cases[0])).is_ok();
+            // One part alone writes and takes nothing, and not every stencil leads to all cells at a point.
+            let is_accepted = |call: &Call, case: &Case| (call.make)(case, tuned(), &mut (call.lend)(case)).is_ok();
+            let measured = |call: &&Call| {
+                let named = family.only.is_empty() || family.only.contains(&call.name);
+                named && cases.iter().all(|case| is_accepted(call, case))
+            };
             let mut line = |call: &'static Call| {
                 let costs: Vec<Cost> = cases.iter().map(|case| find(call, case)).collect();
                 let growth = family.grows.then(|| growth(call, cases, &costs));
                 Line { call, costs, growth }
             };
-            tables.push(Table { family, cases, lines: CALLS.iter().filter(accepted).map(&mut line).collect() });
+            tables.push(Table { family, cases, lines: CALLS.iter().filter(measured).map(&mut line).collect() });
         }
     }
     tables
@@ -274,23 +279,31 @@ struct Family {
     name: &'static str,
     /// Whether the inputs are the same at growing sizes.
     grows: bool,
+    /// The calls that are measured on it, or none for all of them.
+    only: &'static [&'static str],
     /// For each number of parts.
     cases: [Vec<Case>; 3],
 }
 
-fn families() -> [Family; 4] {
+fn families() -> [Family; 5] {
     let family = |name, grows, stencil: &[u8], shapes: &[Shape]| {
         let cases = PARTS.map(|parts| shapes.iter().map(|shape| Case::over(shape, stencil, parts)).collect());
-        Family { name, grows, cases }
+        Family { name, grows, only: &[], cases }
     };
     let rows = [100, 450, 900].map(|cells| Shape::row(cells, 0));
     let triangles = [[5, 5], [10, 10], [15, 18]].map(|sides| Shape::grid(&sides));
     let tetrahedra = [2, 3, 4].map(|side| Shape::grid(&[side; 3]));
+    // Through points a cell reaches many others, so that fewer cells are within the limit.
+    let through_points = [[2, 2, 2], [3, 3, 2], [3, 3, 3]].map(|sides| Shape::grid(&sides));
     let worst = [Shape::star(89), Shape::dense(150, 80)];
     [
         family("Cells in a row, stencil 1 0 1 0 1 0 1", true, &stencil_through(1, &[0; 3]), &rows),
         family("Triangles in a grid, stencil 2 1 2 1 2", true, &stencil_through(2, &[1; 2]), &triangles),
         family("Tetrahedra in a grid, stencil 3 2 3 2 3", true, &stencil_through(3, &[2; 2]), &tetrahedra),
+        Family {
+            only: &["state size", "start", "points"],
+            ..family("Tetrahedra in a grid, stencil 3 0 3", true, &stencil_through(3, &[0]), &through_points)
+        },
         family(
             "A star, and cells on the same points, stencil 1 0 1 0 1 0 1 0 1",
             false,
@@ -375,7 +388,7 @@ struct Call {
     make: fn(&Case, &dyn Calls, &mut [u8]) -> Answer,
 }
 
-const CALLS: [Call; 10] = [
+const CALLS: [Call; 11] = [
     Call {
         name: "check mesh",
         c_name: "jem_check_mesh",
@@ -454,5 +467,15 @@ const CALLS: [Call; 10] = [
         work: |case| case.entries,
         lend: |case| case.scenario.field.clone(),
         make: |case, calls, field| calls.collect(&case.state, 0, field),
+    },
+    Call {
+        name: "points",
+        c_name: "jem_points",
+        work: |case| {
+            let sizes = Sizes::read(&case.state);
+            sizes.entries + sizes.point_cells
+        },
+        lend: |case| vec![0; 6 * Sizes::read(&case.state).points],
+        make: |case, calls, out| calls.points(&case.ready, out),
     },
 ];

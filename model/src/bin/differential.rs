@@ -1,8 +1,8 @@
 //! Compares the engine and the tuned calls with the model, call by call: answers and every lent byte.
 //!
 //! `differential [seed [cases]]`; without a seed it takes one from the clock. Where JEMLAYOS_LIST names a list program,
-//! what that prints is compared too. Exits with 1 on a difference, or where a call was never refused with one of the
-//! numbers that it tries.
+//! what that prints is compared too. Exits with 1 on a difference, or where a call was never accepted, or never refused with
+//! one of the numbers that it tries.
 
 use std::cell::RefCell;
 use std::collections::BTreeMap;
@@ -18,9 +18,10 @@ use jemlayos_model::generate::random::Random;
 use jemlayos_model::generate::scenarios::Scenario;
 use jemlayos_model::generate::traffic;
 use jemlayos_model::listing;
+use jemlayos_model::mesh::MOST_ELEMENTS;
 use jemlayos_model::refusal::{Answer, Refusal};
 use jemlayos_model::split::Range;
-use jemlayos_model::state::LAST_ROUND;
+use jemlayos_model::state::{Sizes, LAST_ROUND};
 
 fn main() -> ExitCode {
     let mut arguments = std::env::args().skip(1).map(|a| a.parse().expect("a number"));
@@ -80,6 +81,7 @@ fn tries(call: &str) -> &'static [u32] {
         "take" => &[15, 20, 21, 22, 23],
         "advance" => &[20, 24, 25, 26],
         "collect" => &[16, 20, 28],
+        "points" => &[16, 20, 24, 29],
         // The lists of a part, and the list program, which has no buffer.
         "list program" => &[1, 2, 3, 4, 5, 6, 7, 8, 9, 10, 12, 13],
         _ => &[1, 2, 3, 4, 5, 6, 7, 8, 9, 10, 12, 13, 16],
@@ -115,7 +117,7 @@ impl Tally {
             let refused: Vec<String> = tries(call).iter().map(|n| format!("{n}: {}", count(n))).collect();
             println!("{call}: accepted {}; refused {}", count(&0), refused.join(", "));
             calls += numbers.values().sum::<u64>();
-            missing += tries(call).iter().filter(|n| count(n) == 0).count();
+            missing += [0].iter().chain(tries(call)).filter(|n| count(n) == 0).count();
         }
         for &refusal in Refusal::ALL {
             let count: u64 = self.answers.values().filter_map(|numbers| numbers.get(&refusal.number())).sum();
@@ -123,7 +125,7 @@ impl Tally {
             println!("{count:>9} × {refusal}");
         }
         println!(
-            "{calls} calls in {seconds:.1} s, {} differences, {missing} numbers that a call did not reach",
+            "{calls} calls in {seconds:.1} s, {} differences, {missing} answers that a call did not reach",
             self.differences
         );
         if self.differences == 0 && missing == 0 {
@@ -222,7 +224,7 @@ fn try_run(calls: &dyn Calls, random: &mut Random, scenario: &Scenario, turns: u
     };
     for _ in 0..turns {
         let part = random.below(run.states.len());
-        match random.below(12) {
+        match random.below(14) {
             0 => run.exchange(random),
             1 => run.at_the_last_rounds(random, part),
             2 => try_state(calls, random, &run.states[part]),
@@ -240,6 +242,7 @@ fn try_run(calls: &dyn Calls, random: &mut Random, scenario: &Scenario, turns: u
             9 => {
                 let _ = calls.advance(&mut run.states[part]);
             }
+            10 => try_points(calls, random, &run.states[part]),
             _ => run.collect(random, part),
         }
     }
@@ -272,7 +275,7 @@ impl<'a> Run<'a> {
         Some(message)
     }
 
-    /// Every part writes to every other, which takes the message, and then all that can advance do.
+    /// Every part writes to every other, which takes the message; each gives its points, and then all that can advance do.
     fn exchange(&mut self, random: &mut Random) {
         let parts = self.states.len();
         let mut pairs: Vec<usize> = (0..parts * parts).collect();
@@ -284,6 +287,7 @@ impl<'a> Run<'a> {
             }
         }
         for state in &mut self.states {
+            try_points(self.calls, random, state);
             let _ = self.calls.advance(state);
         }
         // Old messages stay among the written ones for a while, to be tried when they are stale.
@@ -294,6 +298,7 @@ impl<'a> Run<'a> {
     fn at_the_last_rounds(&self, random: &mut Random, part: usize) {
         let round = *random.pick(&[LAST_ROUND - 1, LAST_ROUND, LAST_ROUND + 1]);
         let mut state = traffic::at_round(&self.states[part], round);
+        try_points(self.calls, random, &state);
         let _ = self.calls.advance(&mut state);
         let _ = self.calls.advance(&mut state);
         let _ = self.calls.collect(&state, LAST_ROUND as u32, &mut vec![0xee; 4 * self.scenario.cells]);
@@ -337,4 +342,12 @@ fn try_state_calls(calls: &dyn Calls, random: &mut Random, state: &[u8]) {
     let _ = calls.take(&mut state.to_vec(), &message);
     let _ = calls.advance(&mut state.to_vec());
     let _ = calls.collect(state, round_of(state), &mut random.bytes(300));
+    try_points(calls, random, state);
+}
+
+/// The points of bytes that are perhaps a state, with an output of about the length that their count asks for.
+fn try_points(calls: &dyn Calls, random: &mut Random, state: &[u8]) {
+    let points = Sizes::read(state).points.min(MOST_ELEMENTS);
+    let mut out = buffer(random, 6 * points);
+    let _ = calls.points(state, &mut out);
 }

@@ -120,6 +120,10 @@ impl Scenario {
         add("tetrahedra through points", &tetrahedra, 2, Blocks, through_points(3, 8));
         add("tetrahedra in one part", &tetrahedra, 1, Blocks, through_faces(4));
         add("triangles", &Shape::grid(&[16, 20]), 16, Anyhow, stencil_through(2, &[1]));
+        // Under the stencil (d) a cell reaches itself alone, and so gives its points only if it shares none (29).
+        add("one cell alone", &Shape::row(1, 0), 1, Blocks, vec![1]);
+        add("cells alone that share points", &Shape::row(5, 0), 2, Blocks, vec![1]);
+        add("cells alone that share none", &Shape::row(1, 4), 2, Turns, vec![1]);
         extremes
     }
 

@@ -91,7 +91,8 @@ pub fn broken_state(random: &mut Random, state: &[u8]) -> Vec<u8> {
     broken
 }
 
-/// Bytes of a state's form that no start made: lists in any order, cells held twice, imports from the part itself.
+/// Bytes of a state's form that no start made: lists in any order, cells held twice, imports from the part itself, points
+/// of any number and in any order. Some have a point without a cell, or with one that is not held.
 pub fn forged_state(random: &mut Random) -> Vec<u8> {
     let steps = 2 * random.below(5);
     let (first, cells) = (*random.pick(&[0, 1, 40, 65_500]), random.between(1, 12));
@@ -124,6 +125,7 @@ pub fn forged_state(random: &mut Random) -> Vec<u8> {
     lists.extend(reach_ends);
     lists.extend(entries);
     lists.extend((0..exports).map(|_| random.between(1, owned)));
+    lists.extend(forged_points(random, held));
     lists[0] = lists.len();
     let mut state = words(&lists);
     let round = *random.pick(&[0, 1, 59_999, LAST_ROUND]);
@@ -132,6 +134,35 @@ pub fn forged_state(random: &mut Random) -> Vec<u8> {
     state.extend((0..2 * MOST_PARTS).map(|_| u8::from(!unset || random.one_in(2))));
     state.extend(depths(&(0..held).map(|_| random_depth(random)).collect::<Vec<_>>()));
     state
+}
+
+/// The words of points over that many held cells, from their count on: none, a few, or one with so many cells that the
+/// sum of their depths has more than 32 bits. Few have a cell that is 0, and still fewer are refused by 20.
+fn forged_points(random: &mut Random, held: usize) -> Vec<usize> {
+    let many = random.one_in(12);
+    let points = if many { 1 } else { random.below(5) };
+    let (zeros, too_high) = (held == 0 || random.one_in(4), random.one_in(16));
+    let empty = random.one_in(16).then(|| random.below(points + 1));
+    let mut ends = vec![0];
+    for k in 0..points {
+        let cells = if many { random.between(2_000, 20_000) } else { random.between(1, 4) };
+        ends.push(ends[k] + if empty == Some(k) { 0 } else { cells });
+    }
+    let mut cells: Vec<usize> = (0..ends[points]).map(|_| random.between(1, held.max(1))).collect();
+    for (number, wanted) in [(0, zeros), (held + 1, too_high)] {
+        if wanted && !cells.is_empty() {
+            let place = random.below(cells.len());
+            cells[place] = number;
+        }
+    }
+    if held == 0 {
+        cells.fill(0);
+    }
+    let mut words = vec![points];
+    words.extend((0..points).map(|_| random.below(1 << 16)));
+    words.extend(ends);
+    words.extend(cells);
+    words
 }
 
 fn random_ends(random: &mut Random, before: usize, count: usize, most: usize) -> Vec<usize> {

@@ -143,6 +143,17 @@ impl Mesh {
         self.below[dimension + 1] - self.below[dimension]
     }
 
+    /// How many cells have an element of lower dimension in their chains.
+    pub fn uses(&self, element: u16) -> u16 {
+        self.uses[usize::from(element)]
+    }
+
+    /// The points of a cell, which goes by its place.
+    pub fn points(&self, cell: u16) -> impl Iterator<Item = u16> + '_ {
+        let last = self.below[1];
+        self.chains.row(self.first_cell() + cell).iter().copied().filter(move |&e| e <= last)
+    }
+
     pub fn links(&self, dimension: usize) -> &Links {
         &self.links[dimension]
     }

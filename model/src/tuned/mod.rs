@@ -72,4 +72,8 @@ impl Calls for Tuned {
     fn collect(&self, state: &[u8], round: u32, field: &mut [u8]) -> Answer {
         state::collect(state, round, field)
     }
+
+    fn points(&self, state: &[u8], out: &mut [u8]) -> Answer {
+        state::points(state, out)
+    }
 }

@@ -43,12 +43,24 @@ impl Rule {
                     sum += i64::from(v) * i64::from(old);
                     weight += v;
                 }
-                // Numbers of 32 bits are divided faster, and most sums fit.
-                i32::try_from(sum).map_or_else(|_| (sum / i64::from(weight)) as i32, |sum| sum / weight)
+                quotient(sum, weight)
             }
             Rule::Shoalest => reach.fold(own, |least, (_, old)| least.min(old)),
         }
     }
+}
+
+/// The fraction is dropped toward zero. Numbers of 32 bits are divided faster, and most sums fit.
+#[inline(always)]
+fn quotient(sum: i64, weight: i32) -> i32 {
+    i32::try_from(sum).map_or_else(|_| (sum / i64::from(weight)) as i32, |sum| sum / weight)
+}
+
+/// The mean with all weights 1.
+#[inline(always)]
+pub fn plain_mean(depths: impl ExactSizeIterator<Item = i32>) -> i32 {
+    let count = depths.len() as i32;
+    quotient(depths.map(i64::from).sum(), count)
 }
 
 pub fn depths_fit(depths: &[[u8; 4]]) -> bool {

@@ -1,11 +1,11 @@
-//! Part maps, held cells, the lists of a part and its start (numbers 8, 9 and 12), and the undivided round. Cells go by
+//! Part maps, held cells, the lists of a part and its start (numbers 8, 9, 12 and 29), and the undivided round. Cells go by
 //! their places, from 0.
 
 use std::mem::take;
 
 use super::mesh::Mesh;
 use super::rule::{read_field, Rule};
-use super::tables::{table, Rows, Table};
+use super::tables::{table, Marks, Rows, Table};
 use super::walks::{check_stencil, through, Walks};
 use crate::bytes::needed;
 use crate::calls::{List, PartInput, RuleInput};
@@ -28,7 +28,12 @@ pub struct Split {
     locals: Box<Table<u16>>,
     /// By receiving part, the local numbers of the exported cells.
     exports: Rows<u16>,
+    /// The sides that are listed: those of a range, or the points of a part.
     sides: Box<Table<u16>>,
+    /// The points of the sorted part's own cells.
+    touched: Marks,
+    /// The cells in the reach of one cell.
+    reached: Marks,
 }
 
 /// The classes follow each other in local order: interior, halo, and the imports from each part. What the part does not
@@ -54,6 +59,8 @@ impl Split {
             locals: table(),
             exports: Rows::new(),
             sides: table(),
+            touched: Marks::new(),
+            reached: Marks::new(),
         }
     }
 
@@ -144,6 +151,9 @@ impl Split {
         let sizes = self.sizes();
         let state = needed(state, sizes.length())?;
         self.number(input.owners, input.part as usize);
+        self.mesh.link(0);
+        let leave_reach = self.points_leave_reach();
+        self.list_points();
 
         let (held, owned) = (self.order(LAST_HELD), self.order(HALO));
         let reach = |&cell: &u16| self.walks.reaches.row(cell).iter();
@@ -167,6 +177,7 @@ impl Split {
             rest.put(reach(cell).map(|entry| (local(entry.cell) << 16 | u32::from(entry.layer)).to_be_bytes()));
         }
         rest.put_words(self.exports.items[..sizes.exports].iter().copied());
+        self.put_points(&mut rest, &sizes, leave_reach);
         rest.put([[0; 2 + 2 * MOST_PARTS]]);
         rest.put(held.iter().map(|&cell| field[usize::from(cell)]));
         Ok(sizes.length() as u32)
@@ -264,13 +275,72 @@ impl Split {
         &self.classes.items[..usize::from(self.classes.bounds[usize::from(last)].1)]
     }
 
-    fn sizes(&self) -> Sizes {
+    fn sizes(&mut self) -> Sizes {
+        let (points, point_cells) = self.touch_points();
         let owned = self.order(HALO);
         Sizes {
             owned: owned.len(),
             held: self.order(LAST_HELD).len(),
             entries: owned.iter().map(|&cell| self.walks.reaches.row(cell).len()).sum(),
             exports: owned.iter().map(|&cell| self.holders[usize::from(cell)].len() - 1).sum(),
+            points,
+            point_cells,
+        }
+    }
+
+    /// Marks the points of the sorted part's own cells; how many there are, and how many cells stand at them.
+    fn touch_points(&mut self) -> (usize, usize) {
+        let owned = usize::from(self.classes.bounds[usize::from(HALO)].1);
+        let (mut points, mut cells) = (0, 0);
+        self.touched.empty();
+        for point in self.classes.items[..owned].iter().flat_map(|&cell| self.mesh.points(cell)) {
+            if self.touched.add(point) {
+                points += 1;
+                cells += usize::from(self.mesh.uses(point));
+            }
+        }
+        (points, cells)
+    }
+
+    /// Whether a cell at a point of one of the sorted part's own cells is outside that cell's reach (29).
+    fn points_leave_reach(&mut self) -> bool {
+        let links = self.mesh.links(0);
+        let owned = usize::from(self.classes.bounds[usize::from(HALO)].1);
+        self.classes.items[..owned].iter().any(|&cell| {
+            self.reached.empty();
+            for entry in self.walks.reaches.row(cell) {
+                self.reached.add(entry.cell);
+            }
+            let reached = &self.reached;
+            let all_reached = |cells: &[u16]| cells.iter().fold(true, |all, &cell| all & reached.has(cell));
+            !links.sides.row(cell).iter().all(|&point| all_reached(links.cells.row(point)))
+        })
+    }
+
+    /// Lists the points that are marked, rising, by their places.
+    fn list_points(&mut self) {
+        let mut count = 0;
+        for point in 0..self.mesh.count(0) {
+            self.sides[count] = point;
+            count += usize::from(self.touched.has(point + 1));
+        }
+    }
+
+    /// Puts the points that are listed, and the cells at them, falling, as local numbers or all as 0.
+    fn put_points(&self, rest: &mut Rest, sizes: &Sizes, leave_reach: bool) {
+        let points = &self.sides[..sizes.points];
+        let around = |&point: &u16| self.mesh.links(0).cells.row(point).iter();
+        rest.put_words([sizes.points as u16]);
+        rest.put_words(points.iter().map(|point| point + 1));
+        let mut end = 0;
+        rest.put_words([0]);
+        rest.put_words(points.iter().map(|point| {
+            end += around(point).len() as u16;
+            end
+        }));
+        for point in points {
+            let local = |&cell: &u16| if leave_reach { 0 } else { self.locals[usize::from(cell)] };
+            rest.put_words(around(point).rev().map(local));
         }
     }
 

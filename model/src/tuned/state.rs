@@ -1,6 +1,6 @@
 //! The calls over a state. The test for its form (number 20) goes over each list once.
 
-use super::rule::{depths_fit, Rule};
+use super::rule::{depths_fit, plain_mean, Rule};
 use crate::bytes::{needed, put_word, word};
 use crate::calls::RuleInput;
 use crate::mesh::MOST_ELEMENTS;
@@ -28,6 +28,11 @@ struct Lists<'a> {
     /// A local number and a layer each.
     entries: &'a [[u8; 4]],
     exports: &'a [[u8; 2]],
+    /// The numbers of the points.
+    points: &'a [[u8; 2]],
+    point_ends: &'a [[u8; 2]],
+    /// A local number each, or 0.
+    point_cells: &'a [[u8; 2]],
     flags: &'a [u8],
     depths: &'a [[u8; 4]],
 }
@@ -40,15 +45,22 @@ impl<'a> Lists<'a> {
     fn of(bytes: &'a [u8], sizes: &Sizes) -> Self {
         let (lists, rest) = bytes[..sizes.length()].split_at(2 * sizes.words());
         let (front, lists) = lists.split_at(2 * sizes.entry(0));
-        let (entries, exports) = lists.split_at(4 * sizes.entries);
-        let front = front.as_chunks().0;
+        let (entries, lists) = lists.split_at(4 * sizes.entries);
+        let (front, lists) = (front.as_chunks().0, lists.as_chunks().0);
+        let (exports, points) = lists.split_at(sizes.exports);
+        // The first word of the points is their count.
+        let (points, point_lists) = points[1..].split_at(sizes.points);
+        let (point_ends, point_cells) = point_lists.split_at(sizes.points + 1);
         Lists {
             import_ends: &front[IMPORT_ENDS..EXPORT_ENDS],
             export_ends: &front[EXPORT_ENDS..GLOBALS],
             globals: &front[GLOBALS..sizes.reach_ends()],
             reach_ends: &front[sizes.reach_ends()..],
             entries: entries.as_chunks().0,
-            exports: exports.as_chunks().0,
+            exports,
+            points,
+            point_ends,
+            point_cells,
             flags: &rest[2..2 + 2 * MOST_PARTS],
             depths: rest[2 + 2 * MOST_PARTS..].as_chunks().0,
         }
@@ -57,6 +69,16 @@ impl<'a> Lists<'a> {
     /// The entries of each owned cell's reach; none for one whose ends do not fit.
     fn reaches(&self) -> impl Iterator<Item = Option<&'a [[u8; 4]]>> + '_ {
         self.reach_ends.windows(2).map(|ends| self.entries.get(number(ends[0])..number(ends[1])))
+    }
+
+    /// The cells at each point. Test 20 has seen that they fit.
+    fn around(&self) -> impl Iterator<Item = &'a [[u8; 2]]> + '_ {
+        self.point_ends.windows(2).map(|ends| &self.point_cells[number(ends[0])..number(ends[1])])
+    }
+
+    /// Whether the messages from all parts that this one imports from are taken.
+    fn all_taken(&self) -> bool {
+        all_done(self.import_ends, &self.flags[..MOST_PARTS])
     }
 
     fn depth(&self, local: usize) -> [u8; 4] {
@@ -70,10 +92,8 @@ impl State {
     }
 
     fn accepted(bytes: &[u8]) -> Option<(State, Lists<'_>)> {
-        let (owned, held) = (word(bytes, IMPORT_ENDS), word(bytes, IMPORT_ENDS + MOST_PARTS));
-        let mut sizes = Sizes { owned, held, entries: 0, exports: word(bytes, EXPORT_ENDS + MOST_PARTS) };
-        sizes.entries = word(bytes, sizes.reach_ends() + owned);
-        let fits = word(bytes, 0) == sizes.words() && bytes.len() >= sizes.length() && held <= MOST_ELEMENTS;
+        let sizes = Sizes::read(bytes);
+        let fits = word(bytes, 0) == sizes.words() && bytes.len() >= sizes.length() && sizes.held <= MOST_ELEMENTS;
         let steps = word(bytes, 2);
         if !fits || !steps.is_multiple_of(2) || steps > MOST_STEPS {
             return None;
@@ -96,6 +116,9 @@ impl State {
             && all_below(lists.globals, state.first_cell, state.cells)
             && state.has_reaches(&lists, steps)
             && all_below(lists.exports, 1, state.sizes.owned)
+            && climbs(lists.point_ends)
+            && number(lists.point_ends[0]) == 0
+            && all_below(lists.point_cells, 0, state.sizes.held + 1)
             && state.round <= LAST_ROUND
             && lists.flags.iter().fold(true, |all, &flag| all & (flag <= 1))
             && depths_fit(lists.depths);
@@ -121,6 +144,15 @@ impl State {
 
 fn rises(ends: &[[u8; 2]]) -> bool {
     ends.iter().zip(&ends[1..]).fold(true, |all, (&a, &b)| all & (number(a) <= number(b)))
+}
+
+fn climbs(ends: &[[u8; 2]]) -> bool {
+    ends.iter().zip(&ends[1..]).fold(true, |all, (&a, &b)| all & (number(a) < number(b)))
+}
+
+/// Whether each part that a table of ends gives something to has its flag.
+fn all_done(ends: &[[u8; 2]], flags: &[u8]) -> bool {
+    ends.windows(2).zip(flags).all(|(ends, &flag)| ends[0] == ends[1] || flag == 1)
 }
 
 /// Whether all words are among the `count` numbers from `first` on.
@@ -176,14 +208,10 @@ pub fn take(bytes: &mut [u8], message: &[u8]) -> Answer {
 /// Makes a round of the owned cells; `new` is room for their depths.
 pub fn advance(bytes: &mut [u8], new: &mut Vec<[u8; 4]>) -> Answer {
     let (state, lists) = State::read(bytes)?;
-    let all_done = |ends: &[[u8; 2]], flags: &[u8]| {
-        ends.windows(2).zip(flags).all(|(ends, &flag)| ends[0] == ends[1] || flag == 1)
-    };
-    let (taken, written) = lists.flags.split_at(MOST_PARTS);
-    if !all_done(lists.import_ends, taken) {
+    if !lists.all_taken() {
         return Err(Refusal::NotTaken);
     }
-    if !all_done(lists.export_ends, written) {
+    if !all_done(lists.export_ends, &lists.flags[MOST_PARTS..]) {
         return Err(Refusal::NotWritten);
     }
     if state.round == LAST_ROUND {
@@ -215,4 +243,22 @@ pub fn collect(bytes: &[u8], round: u32, field: &mut [u8]) -> Answer {
         field[number(global) - first] = depth;
     }
     Ok(state.sizes.owned as u32)
+}
+
+/// Puts each point that touches the owned cells, its number and then its depth; their count.
+pub fn points(bytes: &[u8], out: &mut [u8]) -> Answer {
+    let (state, lists) = State::read(bytes)?;
+    if !lists.all_taken() {
+        return Err(Refusal::NotTaken);
+    }
+    if lists.point_cells.contains(&[0; 2]) {
+        return Err(Refusal::PointReach);
+    }
+    let out = needed(out, 6 * state.sizes.points)?.as_chunks_mut::<6>().0;
+    for ((out, &point), cells) in out.iter_mut().zip(lists.points).zip(lists.around()) {
+        let depths = cells.iter().map(|&cell| i32::from_be_bytes(lists.depth(number(cell))));
+        out[..2].copy_from_slice(&point);
+        out[2..].copy_from_slice(&plain_mean(depths).to_be_bytes());
+    }
+    Ok(state.sizes.points as u32)
 }

@@ -1,4 +1,4 @@
--- `part_start::state_size` meets its contract. Assumes nothing.
+-- `part_start::calls::state_size` meets its contract. Assumes nothing.
 use mathlib.Core.Path.{refl, sym, _∙_}
 use Prim.Native.Nat.{ℕ}
 use native.Mathlib.Omega.{arith}
@@ -6,50 +6,37 @@ use lib.ListN.{length-replicate}
 use Rattle.vocabulary.specs.ListLaws.{zeros}
 use Rattle.layout.specs.Limits.{elementPlaces, recordPlaces}
 use Rattle.split.proofs.PassedLaws.{passed-facts}
-use Rattle.part_start.proofs.PlanLaws.{plan-fitting, plan-made, size-split, size-sizes, size-done}
+use Rattle.part_start.proofs.PlanLaws.{size-split, size-sizes, size-done}
 use borrow.Author.Needs.{needs}
 use Rattle.part_start.proofs.calls.state_size.Statement.{statement}
 use Rattle.part_start.proofs.calls.state_size.Tie as tie
 
-pub state-size-spec : {M : Type 1} → statement M
-state-size-spec =
-    tie.close
-    (tie.spec
-    (λ c. search needs)
-    (λ c. search needs)
-    (λ c κs. (omega (arith, length-replicate {A = ℕ} recordPlaces 0), zeros elementPlaces))
-    (λ c.
+split-number-requires : tie.Need-split-number-requires
+split-number-requires c κs =
+    (omega (arith, length-replicate {A = ℕ} recordPlaces 0), zeros elementPlaces)
+
+returns : tie.Need-returns
+returns c =
     let at-split-number = c .before .before .before in
-    size-split _ _ _ _ _ _ (at-split-number .split-number .ensures) (c .if1 .taken))
-    (λ c. search needs)
-    (λ c. search needs)
-    (λ c. search needs)
-    (λ c. search needs)
-    (λ c. search needs)
-    (λ c. search needs)
-    (λ c. search needs)
-    (λ c κs.
+    size-split _ _ _ _ _ _ (at-split-number .split-number .ensures) (c .if1 .taken)
+
+prepare-requires : tie.Need-prepare-requires
+prepare-requires c κs =
     let at-if1 = c .before .before .before .before .before .before .before in
     let at-split-number = at-if1 .before .before .before in
     let f = passed-facts _ _ _ _ _ _ (sym (at-split-number .split-number .ensures) ∙ at-if1 .if1 .left) in
-    (f .mesh, f .map, f .stencil, search needs, refl, refl, refl, search needs, refl, refl))
-    (λ c.
+    (f .mesh, f .map, f .stencil, search needs, refl, refl, refl, search needs, refl, refl)
+
+returns-2 : tie.Need-returns-2
+returns-2 c =
     let at-prepare = c .before .before .before .before .before .before .before .before in
     let at-if1 = at-prepare .before .before .before .before .before .before .before .before in
     let at-split-number = at-if1 .before .before .before in
-    size-sizes _ _ _ _ _ (sym (at-split-number .split-number .ensures) ∙ at-if1 .if1 .left) _ (at-prepare .prepare .ensures .0) (c .if2 .taken))
-    (λ c κs. search needs)
-    (λ c. search needs)
-    (λ c κs. search needs)
-    (λ c. search needs)
-    (λ c. search needs)
-    (λ c. search needs)
-    (λ c. search needs)
-    (λ c. search needs)
-    (λ c κs.
-    let at-count-exports = c .before .before .before .before .before in
-    let at-asked-of = at-count-exports .before .before in
-    let at-if2 = at-asked-of .before in
+    size-sizes _ _ _ _ _ (sym (at-split-number .split-number .ensures) ∙ at-if1 .if1 .left) _ (at-prepare .prepare .ensures .0) (c .if2 .taken)
+
+draw-plan-requires : tie.Need-draw-plan-requires
+draw-plan-requires c κs =
+    let at-if2 = c .before .before .before .before .before .before .before .before in
     let at-class2 = at-if2 .before in
     let at-prev2 = at-class2 .before .before .before .before .before in
     let at-prepare = at-prev2 .before .before in
@@ -58,117 +45,49 @@ state-size-spec =
     let sn = sym (at-split-number .split-number .ensures) ∙ at-if1 .if1 .left in
     let prepared = at-prepare .prepare .ensures in
     let zero = at-if2 .if2 .left in
-    let zn = sym (prepared .0) ∙ zero in
-    let asked = at-asked-of .asked-of .ensures in (
-      plan-fitting _ _ _ _ _ _ _ _ sn zn (prepared .1 zero) _ _ _ _ (asked .0) (asked .1) (asked .2) (asked .3),
-      at-count-exports .count-exports .ensures .1,
-      omega (arith, at-class2 .class2 .given),
-      omega (arith, at-prev2 .prev2 .given),
-      refl,
-    ))
-    (λ c.
-    let at-make-plan = c .before .before .before .before in
-    let at-count-exports = at-make-plan .before .before .before .before .before .before in
-    let at-asked-of = at-count-exports .before .before in
-    let at-if2 = at-asked-of .before in
+    (sn, sym (prepared .0) ∙ zero, prepared .1 zero, prepared .2, omega (arith, at-class2 .class2 .given), omega (arith, at-prev2 .prev2 .given), refl)
+
+returns-3 : tie.Need-returns-3
+returns-3 c =
+    let at-draw-plan = c .before .before .before .before .before in
+    let at-if2 = at-draw-plan .before .before .before .before .before .before .before .before .before in
     let at-prepare = at-if2 .before .before .before .before .before .before .before .before in
     let at-if1 = at-prepare .before .before .before .before .before .before .before .before in
     let at-split-number = at-if1 .before .before .before in
     let sn = sym (at-split-number .split-number .ensures) ∙ at-if1 .if1 .left in
     let prepared = at-prepare .prepare .ensures in
     let zero = at-if2 .if2 .left in
-    let zn = sym (prepared .0) ∙ zero in
-    let asked = at-asked-of .asked-of .ensures in
-    let told = at-make-plan .make-plan .ensures in
-    let part = told .0 ∙ asked .0 in
-    let parts = told .1 ∙ asked .1 in
-    let first = told .2 ∙ asked .2 in
-    let cells = told .3 ∙ asked .3 in
-    let count = told .4 ∙ at-count-exports .count-exports .ensures .0 in
-    let plan = plan-made _ _ _ _ _ _ _ _ sn zn (prepared .1 zero) _ _ _ _ part parts first cells _ _ _ _ _ (told .5) _ _ (asked .0) (asked .3) count in
-    omega (arith, plan .long-is, plan .fit .long, plan .fit .order-few))
-    (λ c.
-    let at-make-plan = c .before .before .before .before in
-    let at-count-exports = at-make-plan .before .before .before .before .before .before in
-    let at-asked-of = at-count-exports .before .before in
-    let at-if2 = at-asked-of .before in
-    let at-prepare = at-if2 .before .before .before .before .before .before .before .before in
-    let at-if1 = at-prepare .before .before .before .before .before .before .before .before in
-    let at-split-number = at-if1 .before .before .before in
-    let sn = sym (at-split-number .split-number .ensures) ∙ at-if1 .if1 .left in
-    let prepared = at-prepare .prepare .ensures in
-    let zero = at-if2 .if2 .left in
-    let zn = sym (prepared .0) ∙ zero in
-    let asked = at-asked-of .asked-of .ensures in
-    let told = at-make-plan .make-plan .ensures in
-    let part = told .0 ∙ asked .0 in
-    let parts = told .1 ∙ asked .1 in
-    let first = told .2 ∙ asked .2 in
-    let cells = told .3 ∙ asked .3 in
-    let count = told .4 ∙ at-count-exports .count-exports .ensures .0 in
-    let plan = plan-made _ _ _ _ _ _ _ _ sn zn (prepared .1 zero) _ _ _ _ part parts first cells _ _ _ _ _ (told .5) _ _ (asked .0) (asked .3) count in
-    omega (arith, plan .long-is, plan .fit .long, plan .fit .order-few))
+    size-done _ _ _ _ _ sn (sym (prepared .0) ∙ zero) _ _ _ (prepared .1 zero) _ _ _ (at-draw-plan .draw-plan .ensures)
+
+pub state-size-spec : {M : Type 1} → statement M
+state-size-spec =
+    tie.close
+    (tie.spec
     (λ c. search needs)
-    (λ c.
-    let at-make-plan = c .before .before .before .before .before in
-    let at-count-exports = at-make-plan .before .before .before .before .before .before in
-    let at-asked-of = at-count-exports .before .before in
-    let at-if2 = at-asked-of .before in
-    let at-prepare = at-if2 .before .before .before .before .before .before .before .before in
-    let at-if1 = at-prepare .before .before .before .before .before .before .before .before in
-    let at-split-number = at-if1 .before .before .before in
-    let sn = sym (at-split-number .split-number .ensures) ∙ at-if1 .if1 .left in
-    let prepared = at-prepare .prepare .ensures in
-    let zero = at-if2 .if2 .left in
-    let zn = sym (prepared .0) ∙ zero in
-    let asked = at-asked-of .asked-of .ensures in
-    let told = at-make-plan .make-plan .ensures in
-    let part = told .0 ∙ asked .0 in
-    let parts = told .1 ∙ asked .1 in
-    let first = told .2 ∙ asked .2 in
-    let cells = told .3 ∙ asked .3 in
-    let count = told .4 ∙ at-count-exports .count-exports .ensures .0 in
-    let plan = plan-made _ _ _ _ _ _ _ _ sn zn (prepared .1 zero) _ _ _ _ part parts first cells _ _ _ _ _ (told .5) _ _ (asked .0) (asked .3) count in
-    omega (arith, plan .long-is, plan .fit .long, plan .fit .order-few))
-    (λ c.
-    let at-make-plan = c .before .before .before .before .before in
-    let at-count-exports = at-make-plan .before .before .before .before .before .before in
-    let at-asked-of = at-count-exports .before .before in
-    let at-if2 = at-asked-of .before in
-    let at-prepare = at-if2 .before .before .before .before .before .before .before .before in
-    let at-if1 = at-prepare .before .before .before .before .before .before .before .before in
-    let at-split-number = at-if1 .before .before .before in
-    let sn = sym (at-split-number .split-number .ensures) ∙ at-if1 .if1 .left in
-    let prepared = at-prepare .prepare .ensures in
-    let zero = at-if2 .if2 .left in
-    let zn = sym (prepared .0) ∙ zero in
-    let asked = at-asked-of .asked-of .ensures in
-    let told = at-make-plan .make-plan .ensures in
-    let part = told .0 ∙ asked .0 in
-    let parts = told .1 ∙ asked .1 in
-    let first = told .2 ∙ asked .2 in
-    let cells = told .3 ∙ asked .3 in
-    let count = told .4 ∙ at-count-exports .count-exports .ensures .0 in
-    let plan = plan-made _ _ _ _ _ _ _ _ sn zn (prepared .1 zero) _ _ _ _ part parts first cells _ _ _ _ _ (told .5) _ _ (asked .0) (asked .3) count in
-    omega (arith, plan .long-is, plan .fit .long, plan .fit .order-few))
-    (λ c.
-    let at-make-plan = c .before .before .before .before .before in
-    let at-count-exports = at-make-plan .before .before .before .before .before .before in
-    let at-asked-of = at-count-exports .before .before in
-    let at-if2 = at-asked-of .before in
-    let at-prepare = at-if2 .before .before .before .before .before .before .before .before in
-    let at-if1 = at-prepare .before .before .before .before .before .before .before .before in
-    let at-split-number = at-if1 .before .before .before in
-    let sn = sym (at-split-number .split-number .ensures) ∙ at-if1 .if1 .left in
-    let prepared = at-prepare .prepare .ensures in
-    let zero = at-if2 .if2 .left in
-    let zn = sym (prepared .0) ∙ zero in
-    let asked = at-asked-of .asked-of .ensures in
-    let told = at-make-plan .make-plan .ensures in
-    let part = told .0 ∙ asked .0 in
-    let parts = told .1 ∙ asked .1 in
-    let first = told .2 ∙ asked .2 in
-    let cells = told .3 ∙ asked .3 in
-    let count = told .4 ∙ at-count-exports .count-exports .ensures .0 in
-    let plan = plan-made _ _ _ _ _ _ _ _ sn zn (prepared .1 zero) _ _ _ _ part parts first cells _ _ _ _ _ (told .5) _ _ (asked .0) (asked .3) count in
-    size-done _ _ _ _ _ sn zn _ _ _ (prepared .1 zero) _ _ _ _ plan))
+    (λ c. search needs)
+    split-number-requires
+    returns
+    (λ c. search needs)
+    (λ c. search needs)
+    (λ c. search needs)
+    (λ c. search needs)
+    (λ c. search needs)
+    (λ c. search needs)
+    (λ c. search needs)
+    prepare-requires
+    returns-2
+    (λ c. search needs)
+    (λ c. search needs)
+    (λ c. search needs)
+    (λ c. search needs)
+    (λ c. search needs)
+    (λ c. search needs)
+    (λ c. search needs)
+    (λ c. search needs)
+    draw-plan-requires
+    (λ c. search needs)
+    (λ c. search needs)
+    (λ c. search needs)
+    (λ c. search needs)
+    (λ c. search needs)
+    returns-3)

@@ -3,7 +3,7 @@ use mathlib.Core.Path.{_≡_, refl}
 use Prim.Native.Nat.{_+_, _-_, _≤_, _<_}
 use native.Mathlib.Omega.{arith}
 use lib.ListN.{length}
-use Rattle.split.specs.Groups.{group}
+use Rattle.split_classes.specs.Groups.{group}
 use Rattle.part_start_lists.specs.Starting.{Below, classAmong}
 use Rattle.part_start_lists.proofs.FollowLaws.{Appending, appending-start, appending-stop, appending-turn, appending-end, below-start, below-here, below-turn}
 use borrow.Author.Needs.{needs}

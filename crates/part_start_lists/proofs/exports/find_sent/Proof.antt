@@ -4,8 +4,8 @@ use Prim.Native.Nat.{_-_, _*_, _≤_}
 use native.Mathlib.Omega.{arith}
 use lib.ListN.{length}
 use Rattle.layout.specs.Limits.{mostElements}
-use Rattle.split.specs.Classes.{Few, Appended}
-use Rattle.split.proofs.HolderLaws.{few-start, few-more}
+use Rattle.split_classes.specs.Classes.{Few, Appended}
+use Rattle.split_classes.proofs.HolderLaws.{few-start, few-more}
 use Rattle.part_start_lists.specs.Starting.{sentList, Sent}
 use Rattle.part_start_lists.proofs.FollowLaws.{group-below}
 use Rattle.part_start_lists.proofs.CountLaws.{sent-begin, sent-start, sent-pass, sent-passed, stamps-few, sent-more, sent-counted, sent-full, sent-filled, sent-all, sent-end}

@@ -2,7 +2,7 @@
 use mathlib.Core.Path.{_≡_, refl}
 use mathlib.Core.Logic.{_⊎_, inl, inr}
 use Prim.Native.Nat.{_-_, _≤_}
-use Rattle.split.specs.Classes.{hasEntry}
+use Rattle.split_classes.specs.Classes.{hasEntry}
 use Rattle.part_start_lists.specs.Starting.{Stamped}
 use Rattle.part_start_lists.proofs.FollowLaws.{entries-start, entries-turn, entries-end}
 use borrow.Author.Needs.{needs}

@@ -2,7 +2,7 @@
 use mathlib.Core.Path.{_≡_, refl}
 use Prim.Native.Nat.{_-_, _≤_}
 use lib.ListN.{length}
-use Rattle.split.specs.Classes.{OwnersSeen}
+use Rattle.split.specs.Owners.{OwnersSeen}
 use Rattle.split.proofs.MapLaws.{seen-start, seen-turn, seen-end}
 use borrow.Author.Needs.{needs}
 use Rattle.split.proofs.maps.mark_owners.Statement.{statement}

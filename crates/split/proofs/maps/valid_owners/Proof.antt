@@ -5,7 +5,7 @@ use Prim.Native.Nat.{_-_, _≤_}
 use lib.ListN.{length}
 use Rattle.vocabulary.specs.Intervals.{every}
 use Rattle.vocabulary.specs.IntervalLaws.{every-none, every-end}
-use Rattle.split.specs.Classes.{validOwner}
+use Rattle.split.specs.Owners.{validOwner}
 use Rattle.split.proofs.MapLaws.{owner-wrong, owner-turn}
 use borrow.Author.Needs.{needs}
 use Rattle.split.proofs.maps.valid_owners.Statement.{statement}

@@ -3,8 +3,8 @@ use mathlib.Core.Path.{_≡_, refl}
 use Prim.Native.Nat.{_+_, _-_, _≤_}
 use lib.ListN.{length}
 use Rattle.vocabulary.specs.Intervals.{blocks}
-use Rattle.split.specs.Classes.{ofClass}
-use Rattle.split.specs.Classes.{Appended}
+use Rattle.split_classes.specs.Classes.{ofClass}
+use Rattle.split_classes.specs.Classes.{Appended}
 use Rattle.split_cells.proofs.AddLaws.{add-start, add-turn, class-end}
 use borrow.Author.Needs.{needs}
 use Rattle.split_cells.proofs.inner.add_class.Statement.{statement}

@@ -4,8 +4,8 @@ use Prim.Native.Nat.{_+_, _-_, _*_, _≤_}
 use lib.ListN.{length}
 use Rattle.vocabulary.specs.Intervals.{blocks}
 use Rattle.layout.specs.Limits.{mostElements}
-use Rattle.split.specs.Classes.{Appended}
-use Rattle.split.specs.Groups.{groupCells}
+use Rattle.split_classes.specs.Classes.{Appended}
+use Rattle.split_classes.specs.Groups.{groupCells}
 use Rattle.split_cells.proofs.AddLaws.{imported-start, imported-turn, imported-end}
 use borrow.Author.Needs.{needs}
 use Rattle.split_cells.proofs.inner.add_imported.Statement.{statement}

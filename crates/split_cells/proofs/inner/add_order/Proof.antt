@@ -1,5 +1,5 @@
 -- `split_cells::inner::add_order` meets its contract. Assumes nothing.
-use Rattle.split.proofs.GroupLaws.{grouped-linked}
+use Rattle.split_classes.proofs.GroupLaws.{grouped-linked}
 use Rattle.split_cells.proofs.AddLaws.{order-added}
 use borrow.Author.Needs.{needs}
 use Rattle.split_cells.proofs.inner.add_order.Statement.{statement}

@@ -1,0 +1,5 @@
+pub mod TrailSteps
+pub mod FoundLaws
+pub mod SplitPoints
+pub mod StampLaws
+pub mod SplitOutside

@@ -1,0 +1,4 @@
+pub mod ClassLaws
+pub mod GroupLaws
+pub mod HolderLaws
+pub mod HoldLaws
