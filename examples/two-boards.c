@@ -1,6 +1,7 @@
 /*
- * Two boards over five cells in a row: part 1 owns the first three, part 2 the other two. They make two rounds of the mean with weights 2 1 and
- * print the field that they collect after each. examples/README.md has the command that builds it.
+ * Two boards over five cells in a row: part 1 owns the first three, part 2 the other two. They make two rounds of the mean with weights 2 1, first
+ * from depths alone and then from a field with gaps, and print the field that they collect after each. examples/README.md has the command that builds
+ * it.
  */
 #include "../include/jemlayos.h"
 
@@ -18,7 +19,8 @@ static const uint8_t mesh[] = {
 static const uint8_t owners[CELLS] = {1, 1, 1, 2, 2};
 static const uint8_t stencil[] = {1, 0, 1};
 static const uint8_t weights[] = {0, 2, 0, 1};
-static const uint8_t start_field[4 * CELLS] = {0, 0, 0, 100, 0, 0, 0, 200, 0, 0, 1, 44, 0, 0, 1, 144, 0, 0, 1, 244};
+static const uint8_t depths[4 * CELLS] = {0, 0, 0, 100, 0, 0, 0, 200, 0, 0, 1, 44, 0, 0, 1, 144, 0, 0, 1, 244};
+static const uint8_t holes[4 * CELLS] = {0, 0, 0, 100, 0x80, 0, 0, 0, 0, 0, 1, 44, 0x80, 0, 0, 0, 0x80, 0, 0, 0};
 
 /* The count of an accepted answer; a refusal ends the program. */
 static uint32_t accepted(const char *call, uint64_t answer)
@@ -30,30 +32,36 @@ static uint32_t accepted(const char *call, uint64_t answer)
     return jem_count(answer);
 }
 
-static int32_t depth_at(const uint8_t *field, size_t cell)
+/* The depth of a cell, or JEM_GAP. */
+static int32_t value_at(const uint8_t *field, size_t cell)
 {
     const uint8_t *b = field + 4 * cell;
     return (int32_t)((uint32_t)b[0] << 24 | (uint32_t)b[1] << 16 | (uint32_t)b[2] << 8 | b[3]);
 }
 
-/* The field after a round: each board puts in the depths that it owns. */
+/* The field after a round: each board puts in the values that it owns. */
 static void print_round(uint8_t states[PARTS][STATE_ROOM], uint32_t round)
 {
     uint8_t field[4 * CELLS] = {0};
     for (size_t i = 0; i < PARTS; i++)
         accepted("collect", jem_collect(states[i], STATE_ROOM, round, field, sizeof field));
     printf("round %u:", (unsigned)round);
-    for (size_t cell = 0; cell < CELLS; cell++)
-        printf(" %ld", (long)depth_at(field, cell));
+    for (size_t cell = 0; cell < CELLS; cell++) {
+        int32_t value = value_at(field, cell);
+        if (value == JEM_GAP)
+            printf(" gap");
+        else
+            printf(" %ld", (long)value);
+    }
     printf("\n");
 }
 
-int main(void)
+static void run(const uint8_t start_field[4 * CELLS])
 {
     uint8_t states[PARTS][STATE_ROOM];
     for (uint32_t i = 0; i < PARTS; i++)
         accepted("start", jem_start(mesh, sizeof mesh, PARTS, owners, sizeof owners, i + 1, stencil, sizeof stencil, 1, weights,
-                                    sizeof weights, start_field, sizeof start_field, states[i], STATE_ROOM));
+                                    sizeof weights, start_field, 4 * CELLS, states[i], STATE_ROOM));
     print_round(states, 0);
     for (uint32_t round = 1; round <= 2; round++) {
         for (uint32_t i = 0; i < PARTS; i++) {
@@ -66,5 +74,11 @@ int main(void)
             accepted("advance", jem_advance(states[i], STATE_ROOM));
         print_round(states, round);
     }
+}
+
+int main(void)
+{
+    run(depths);
+    run(holes);
     return 0;
 }

@@ -1,10 +1,11 @@
 /*
  * The mesh-smoothing engine: reading a mesh, splitting it into parts, the undivided round, and the parts with their
- * messages and the depths at their points. Link with libjemlayos.a. docs/LAYOUTS.md has every byte layout.
+ * messages and the values at their points. Link with libjemlayos.a. docs/LAYOUTS.md has every byte layout.
  *
  * A slice is a pointer, which is not null even where there are no bytes, and its length in bytes. Words have two bytes
- * and depths four, high byte first. Numbers (P, a part, a rule's kind, a receiver, a round) may be anything: a wrong one
- * is refused.
+ * and values four, high byte first. A value is a depth in centimetres, positive down, from -1,200,000 to 1,200,000, or a
+ * gap (JEM_GAP). Whoever reads one has to ask which: a gap is no depth to reckon with. Numbers (P, a part, a rule's kind, a
+ * receiver, a round) may be anything: a wrong one is refused.
  *
  * Every function answers in 64 bits: the refusal's number in the high half, 0 where the call was accepted, and a count
  * in the low half, 0 where it was refused. Take it apart with jem_refusal and jem_count.
@@ -24,6 +25,12 @@
 #ifdef __cplusplus
 extern "C" {
 #endif
+
+/*
+ * A cell, or a point, without a depth: in bytes it is 80 00 00 00 (hexadecimal), which is this number in two's complement,
+ * high byte first. Nothing else stands for a gap; 80 00 00 01 and every other number out of range is refused.
+ */
+#define JEM_GAP INT32_MIN
 
 /*
  * Stack in bytes that calls need at most, as measured (.ci/stack.c does it anew at every test) and rounded up. Calls use
@@ -51,11 +58,11 @@ enum jem_refusal_number {
     JEM_RULE = 11,          /* unknown rule, or weights wrong in number or range */
     JEM_HELD = 12,          /* held cells over all parts above 4,096 */
     JEM_REACH = 13,         /* sizes of all cells' reaches together above 8,000 */
-    JEM_FIELD = 14,         /* field length or a depth wrong */
-    JEM_MESSAGE = 15,       /* message under 8 bytes, length not 8 + 4 * count, or a depth out of range */
+    JEM_FIELD = 14,         /* field length wrong, or a value neither a depth in range nor a gap */
+    JEM_MESSAGE = 15,       /* message under 8 bytes, length not 8 + 4 * count, or a value neither a depth in range nor a gap */
     JEM_OUTPUT = 16,        /* an output buffer too short */
     /* From the state. */
-    JEM_STATE = 20,         /* not a part state */
+    JEM_STATE = 20,         /* not a part state, or one of its values is neither a depth in range nor a gap */
     JEM_SENDER = 21,        /* to is not this part, from is none that it imports from, or count is not that import list's */
     JEM_MESSAGE_ROUND = 22, /* the message's round is not the state's */
     JEM_ALREADY_TAKEN = 23, /* already taken this round */
@@ -127,7 +134,9 @@ uint64_t jem_copied(const uint8_t *mesh, size_t mesh_len, uint32_t parts, const 
 /* ---- The undivided round ---- */
 
 /* The field that the rule makes of the given one, at every cell of the mesh, into out. The kind is 0 hold, 1 mean,
- * 2 shoalest; weights are words, for mean only. Tries 1-7, 10, 11, 13, 14, 16. Count: the depths. */
+ * 2 shoalest; weights are words, for mean only. Hold keeps a gap. Mean and shoalest pass over gaps, a mean's divisor too,
+ * and so fill one where they read a depth; with only gaps in the reach, or only depths of weight 0 left, the new value is a
+ * gap. Tries 1-7, 10, 11, 13, 14, 16. Count: the values. */
 uint64_t jem_round(const uint8_t *mesh, size_t mesh_len, const uint8_t *stencil, size_t stencil_len, uint32_t kind,
                    const uint8_t *weights, size_t weights_len, const uint8_t *field, size_t field_len, uint8_t *out,
                    size_t out_len);
@@ -138,30 +147,32 @@ uint64_t jem_round(const uint8_t *mesh, size_t mesh_len, const uint8_t *stencil,
 uint64_t jem_state_size(const uint8_t *mesh, size_t mesh_len, uint32_t parts, const uint8_t *owners, size_t owners_len,
                         uint32_t part, const uint8_t *stencil, size_t stencil_len);
 
-/* The part's state at round 0, from the starting field, into state. Tries 1-14, 16. Count: its bytes. */
+/* The part's state at round 0, from the starting field, gaps too, into state. Tries 1-14, 16. Count: its bytes. */
 uint64_t jem_start(const uint8_t *mesh, size_t mesh_len, uint32_t parts, const uint8_t *owners, size_t owners_len,
                    uint32_t part, const uint8_t *stencil, size_t stencil_len, uint32_t kind, const uint8_t *weights,
                    size_t weights_len, const uint8_t *field, size_t field_len, uint8_t *state, size_t state_len);
 
-/* The message of this round to a part that imports from here, into out; may be repeated. Tries 20, 27, 16.
- * Count: its bytes. */
+/* The message of this round to a part that imports from here, into out; may be repeated. It hands on gaps as they are.
+ * Tries 20, 27, 16. Count: its bytes. */
 uint64_t jem_write(uint8_t *state, size_t state_len, uint32_t to, uint8_t *out, size_t out_len);
 
-/* Accepts one message of this round. Tries 15, 20-23. Count: 0. */
+/* Accepts one message of this round; its values may be gaps. Tries 15, 20-23. Count: 0. */
 uint64_t jem_take(uint8_t *state, size_t state_len, const uint8_t *message, size_t message_len);
 
-/* Makes a round of the owned cells, once every import is taken and every export written. Tries 20, 24-26. Count: 0. */
+/* Makes a round of the owned cells, once every import is taken and every export written. What it makes of gaps is as in
+ * jem_round. Tries 20, 24-26. Count: 0. */
 uint64_t jem_advance(uint8_t *state, size_t state_len);
 
-/* Puts the owned depths into a field of the whole mesh and changes no other byte of it, if the state is at this round.
- * Tries 20, 28, 16. Count: the depths put in. */
+/* Puts the owned values, depths and gaps, into a field of the whole mesh and changes no other byte of it, if the state is
+ * at this round. Tries 20, 28, 16. Count: the values put in. */
 uint64_t jem_collect(const uint8_t *state, size_t state_len, uint32_t round, uint8_t *field, size_t field_len);
 
 /* Puts each point that touches the owned cells into out, in rising number, six bytes a point: the word of its number and
- * then its depth, the plain mean of the depths of all cells incident to it at the state's round, rounded like the rule's.
- * Parts that share a point give the same depth there at the same round. Every import has to be taken before (24), no export
- * need be written. Whether 29 holds depends on the mesh, the part map and the stencil alone, never on the round. Tries 20,
- * 24, 29, 16. Count: the points. Room for 6 * the mesh's count of points is always enough. The state is only read. */
+ * then its value, the plain mean of the depths of all cells incident to it at the state's round, rounded like the rule's.
+ * Gaps are passed over, in the divisor too; a point with only gaps is a gap. Parts that share a point give the same value
+ * there at the same round. Every import has to be taken before (24), no export need be written. Whether 29 holds depends on
+ * the mesh, the part map and the stencil alone, never on the round. Tries 20, 24, 29, 16. Count: the points. Room for
+ * 6 * the mesh's count of points is always enough. The state is only read. */
 uint64_t jem_points(const uint8_t *state, size_t state_len, uint8_t *out, size_t out_len);
 
 #ifdef __cplusplus

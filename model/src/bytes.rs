@@ -1,4 +1,4 @@
-//! Words and depths in byte slices, high byte first.
+//! Words, depths and gaps in byte slices, high byte first.
 
 use crate::refusal::{Answer, Refusal};
 
@@ -23,25 +23,46 @@ pub fn words(numbers: &[usize]) -> Vec<u8> {
     numbers.iter().flat_map(|&n| word_bytes(n)).collect()
 }
 
-/// The depth in the four bytes from `at` on.
-pub fn depth(bytes: &[u8], at: usize) -> i32 {
-    i32::from_be_bytes(*bytes[at..].first_chunk().expect("a depth has four bytes"))
+/// A depth in centimetres, or none: a gap.
+pub type Value = Option<i32>;
+
+/// The four bytes that stand for a gap.
+pub const GAP: [u8; 4] = [0x80, 0, 0, 0];
+
+/// What the four bytes from `at` on stand for.
+pub fn value(bytes: &[u8], at: usize) -> Value {
+    let four = *bytes[at..].first_chunk().expect("a value has four bytes");
+    (four != GAP).then_some(i32::from_be_bytes(four))
 }
 
-pub fn put_depth(bytes: &mut [u8], at: usize, depth: i32) {
-    bytes[at..at + 4].copy_from_slice(&depth.to_be_bytes());
+pub fn value_bytes(value: Value) -> [u8; 4] {
+    value.map_or(GAP, i32::to_be_bytes)
 }
 
+pub fn put_value(bytes: &mut [u8], at: usize, value: Value) {
+    bytes[at..at + 4].copy_from_slice(&value_bytes(value));
+}
+
+pub fn values(values: &[Value]) -> Vec<u8> {
+    values.iter().flat_map(|&value| value_bytes(value)).collect()
+}
+
+/// The bytes of depths with no gap among them.
 pub fn depths(depths: &[i32]) -> Vec<u8> {
-    depths.iter().flat_map(|d| d.to_be_bytes()).collect()
+    depths.iter().flat_map(|depth| depth.to_be_bytes()).collect()
 }
 
-/// The depths that `bytes` hold, none if one is out of range or not whole.
-pub fn read_depths(bytes: &[u8]) -> Option<Vec<i32>> {
+/// Whether it is a depth in range, or a gap.
+pub fn is_valid(value: Value) -> bool {
+    value.is_none_or(|depth| (-DEEPEST..=DEEPEST).contains(&depth))
+}
+
+/// The values that `bytes` hold, none if one is not valid or not whole.
+pub fn read_values(bytes: &[u8]) -> Option<Vec<Value>> {
     if !bytes.len().is_multiple_of(4) {
         return None;
     }
-    bytes.chunks_exact(4).map(|four| Some(depth(four, 0)).filter(|d| (-DEEPEST..=DEEPEST).contains(d))).collect()
+    bytes.chunks_exact(4).map(|four| Some(value(four, 0)).filter(|&value| is_valid(value))).collect()
 }
 
 /// The front of an output buffer, as much as is needed; the rest stays.

@@ -3,13 +3,14 @@
 //!
 //! | module | what it holds |
 //! |---|---|
-//! | `bytes` | words and depths, high byte first |
+//! | `bytes` | words, depths and gaps, high byte first |
 //! | `refusal` | the numbers of the refusals, in the specification's words |
 //! | `mesh`, `walks`, `rounds`, `split`, `messages`, `state`, `parts`, `listing` | the model, one module for each of the specification's subjects |
 //! | `calls` | the public calls as a trait, and the model behind it |
 //! | `tuned` | the same calls once more, as fast as safe Rust makes them |
 //! | `engine` | the static library behind the same trait |
 //! | `compare` | each call on all of these at once |
+//! | `gaps` | which rules on gaps a call met |
 //! | `generate` | random, extreme and damaged inputs |
 
 pub mod bytes;
@@ -17,6 +18,7 @@ pub mod calls;
 pub mod compare;
 #[cfg(engine)]
 pub mod engine;
+pub mod gaps;
 pub mod generate;
 pub mod listing;
 pub mod mesh;

@@ -1,6 +1,6 @@
 //! The calls over a part: state size, start, write, take, advance, collect and points (numbers 21 to 29).
 
-use crate::bytes::{depths, needed, put_depth, put_word, words};
+use crate::bytes::{needed, put_value, put_word, values, words, Value};
 use crate::calls::{PartInput, RuleInput};
 use crate::mesh::Mesh;
 use crate::messages::Message;
@@ -117,7 +117,7 @@ pub fn start(input: PartInput, rule: RuleInput, field: &[u8], state: &mut [u8]) 
     front[0] = front.len();
     let round_and_flags = vec![0; 2 + 2 * MOST_PARTS];
     let held = lists.globals.iter().map(|&c| field[c - split.mesh.first_cell()]);
-    let held = depths(&held.collect::<Vec<_>>());
+    let held = values(&held.collect::<Vec<_>>());
     state.copy_from_slice(&[words(&front), round_and_flags, held].concat());
     Ok(state.len() as u32)
 }
@@ -135,7 +135,7 @@ pub fn write(state: &mut [u8], to: u32, out: &mut [u8]) -> Answer {
         from: view.part,
         to,
         round: view.round,
-        depths: exports.map(|t| view.depth(state, view.export(state, t))).collect(),
+        values: exports.map(|t| view.value(state, view.export(state, t))).collect(),
     };
     out.copy_from_slice(&message.encode());
     state[view.sizes.written(to)] = 1;
@@ -147,7 +147,7 @@ pub fn take(state: &mut [u8], message: &[u8]) -> Answer {
     let message = Message::read(message)?;
     let view = State::read(state)?;
     let imports = view.imports(state, message.from);
-    if message.to != view.part || imports.len() == 0 || imports.len() != message.depths.len() {
+    if message.to != view.part || imports.len() == 0 || imports.len() != message.values.len() {
         return Err(Refusal::Sender);
     }
     if message.round != view.round {
@@ -158,13 +158,13 @@ pub fn take(state: &mut [u8], message: &[u8]) -> Answer {
         return Err(Refusal::AlreadyTaken);
     }
     state[taken] = 1;
-    for (local, &depth) in imports.zip(&message.depths) {
-        put_depth(state, view.sizes.depth(local), depth);
+    for (local, &value) in imports.zip(&message.values) {
+        put_value(state, view.sizes.value(local), value);
     }
     Ok(0)
 }
 
-/// Makes a round of the owned cells, all from old depths. Nothing is taken or written in the new round.
+/// Makes a round of the owned cells, all from old values. Nothing is taken or written in the new round.
 pub fn advance(state: &mut [u8]) -> Answer {
     let view = State::read(state)?;
     if !view.all_taken(state) {
@@ -177,16 +177,16 @@ pub fn advance(state: &mut [u8]) -> Answer {
     if view.round == LAST_ROUND {
         return Err(Refusal::LastRound);
     }
-    let new: Vec<i32> = view.owned().map(|l| view.new_depth(state, l)).collect();
-    for (local, depth) in view.owned().zip(new) {
-        put_depth(state, view.sizes.depth(local), depth);
+    let new: Vec<Value> = view.owned().map(|l| view.new_value(state, l)).collect();
+    for (local, value) in view.owned().zip(new) {
+        put_value(state, view.sizes.value(local), value);
     }
     put_word(state, view.sizes.round(), view.round + 1);
     state[view.sizes.flags()].fill(0);
     Ok(0)
 }
 
-/// Puts the owned depths into a field; their count.
+/// Puts the owned values into a field; their count.
 pub fn collect(state: &[u8], round: u32, field: &mut [u8]) -> Answer {
     let view = State::read(state)?;
     if round as usize != view.round {
@@ -195,12 +195,12 @@ pub fn collect(state: &[u8], round: u32, field: &mut [u8]) -> Answer {
     let field = needed(field, 4 * view.cells)?;
     for local in view.owned() {
         let place = view.global(state, local) - view.first_cell;
-        put_depth(field, 4 * place, view.depth(state, local));
+        put_value(field, 4 * place, view.value(state, local));
     }
     Ok(view.sizes.owned as u32)
 }
 
-/// Puts each point that touches the owned cells, its number and then its depth; their count.
+/// Puts each point that touches the owned cells, its number and then its value; their count.
 pub fn points(state: &[u8], out: &mut [u8]) -> Answer {
     let view = State::read(state)?;
     if !view.all_taken(state) {
@@ -212,7 +212,7 @@ pub fn points(state: &[u8], out: &mut [u8]) -> Answer {
     let out = needed(out, 6 * view.sizes.points)?;
     for (point, k) in out.chunks_exact_mut(6).zip(1..) {
         put_word(point, 0, view.point(state, k));
-        put_depth(point, 2, view.point_depth(state, k));
+        put_value(point, 2, view.point_value(state, k));
     }
     Ok(view.sizes.points as u32)
 }

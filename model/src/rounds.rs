@@ -1,6 +1,6 @@
-//! Rules, fields, the undivided round and the depths at the points (numbers 11 and 14).
+//! Rules, fields, the undivided round and the values at the points (numbers 11 and 14).
 
-use crate::bytes::{needed, put_depth, read_depths, word};
+use crate::bytes::{needed, put_value, read_values, word, Value};
 use crate::calls::RuleInput;
 use crate::mesh::Mesh;
 use crate::refusal::{Answer, Refusal};
@@ -32,44 +32,47 @@ impl Rule {
         }
     }
 
-    /// The new depth of a cell from the layers and old depths of its reach, among them its own.
-    pub fn new_depth(&self, own: i32, reach: impl Iterator<Item = (usize, i32)>) -> i32 {
+    /// The new value of a cell from the layers and old values of its reach, among them its own. Hold keeps a gap; the others
+    /// pass over gaps.
+    pub fn new_value(&self, own: Value, reach: impl Iterator<Item = (usize, Value)>) -> Value {
         match self {
             Rule::Hold => own,
             Rule::Mean(weights) => mean(reach.map(|(layer, old)| (weights[layer / 2], old))),
-            Rule::Shoalest => reach.fold(own, |least, (_, old)| least.min(old)),
+            Rule::Shoalest => reach.filter_map(|(_, old)| old).min(),
         }
     }
 }
 
-/// The mean of depths with their weights, which are not all 0. The fraction is dropped toward zero, as Rust's quotient
-/// does; a mean of depths is a depth.
-fn mean(weighed: impl Iterator<Item = (usize, i32)>) -> i32 {
+/// The mean of values with their weights. Gaps are passed over, in the divisor too, and where no weight above 0 is left the
+/// mean is a gap. The fraction is dropped toward zero, as Rust's quotient does; a mean of depths is a depth.
+fn mean(weighed: impl Iterator<Item = (usize, Value)>) -> Value {
     let (mut sum, mut weight) = (0, 0);
-    for (v, depth) in weighed {
-        sum += v as i64 * i64::from(depth);
-        weight += v as i64;
+    for (v, value) in weighed {
+        if let Some(depth) = value {
+            sum += v as i64 * i64::from(depth);
+            weight += v as i64;
+        }
     }
-    (sum / weight) as i32
+    (weight > 0).then(|| (sum / weight) as i32)
 }
 
 /// The mean with all weights 1, rounded like the rule.
-pub fn plain_mean(depths: impl Iterator<Item = i32>) -> i32 {
-    mean(depths.map(|depth| (1, depth)))
+pub fn plain_mean(values: impl Iterator<Item = Value>) -> Value {
+    mean(values.map(|value| (1, value)))
 }
 
-/// The depth at each point of the mesh, from point 1 on: the plain mean of the depths of the cells incident to it.
-pub fn undivided_points(mesh: &Mesh, field: &[i32]) -> Vec<i32> {
-    let depths_at = |point: usize| mesh.cells_at(point).iter().map(|&cell| field[cell - mesh.first_cell()]);
-    mesh.elements(0).map(|point| plain_mean(depths_at(point))).collect()
+/// The value at each point of the mesh, from point 1 on: the plain mean of the values of the cells incident to it.
+pub fn undivided_points(mesh: &Mesh, field: &[Value]) -> Vec<Value> {
+    let values_at = |point: usize| mesh.cells_at(point).iter().map(|&cell| field[cell - mesh.first_cell()]);
+    mesh.elements(0).map(|point| plain_mean(values_at(point))).collect()
 }
 
-/// The depths of a field, one for each cell in rising number.
-pub fn read_field(bytes: &[u8], cells: usize) -> Answer<Vec<i32>> {
-    read_depths(bytes).filter(|depths| depths.len() == cells).ok_or(Refusal::Field)
+/// The values of a field, one for each cell in rising number.
+pub fn read_field(bytes: &[u8], cells: usize) -> Answer<Vec<Value>> {
+    read_values(bytes).filter(|values| values.len() == cells).ok_or(Refusal::Field)
 }
 
-/// The field after one round of the rule at every cell; the count of its depths.
+/// The field after one round of the rule at every cell; the count of its values.
 pub fn round(mesh: &[u8], stencil: &[u8], rule: RuleInput, field: &[u8], out: &mut [u8]) -> Answer {
     let mesh = Mesh::read(mesh)?;
     let stencil = Stencil::read(stencil, mesh.top())?;
@@ -81,8 +84,8 @@ pub fn round(mesh: &[u8], stencil: &[u8], rule: RuleInput, field: &[u8], out: &m
     let old_of = |cell: usize| old[cell - mesh.first_cell()];
     for (place, cell) in cells.clone().enumerate() {
         let reach = reaches.of(cell).iter();
-        let new = rule.new_depth(old_of(cell), reach.map(|entry| (entry.layer, old_of(entry.cell))));
-        put_depth(out, 4 * place, new);
+        let new = rule.new_value(old_of(cell), reach.map(|entry| (entry.layer, old_of(entry.cell))));
+        put_value(out, 4 * place, new);
     }
     Ok(cells.len() as u32)
 }

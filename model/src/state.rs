@@ -2,7 +2,7 @@
 
 use std::ops::Range;
 
-use crate::bytes::{depth, word, DEEPEST};
+use crate::bytes::{is_valid, value, word, Value};
 use crate::calls::RuleInput;
 use crate::mesh::MOST_ELEMENTS;
 use crate::refusal::{Answer, Refusal};
@@ -111,7 +111,7 @@ impl Sizes {
         self.taken(1)..self.written(MOST_PARTS) + 1
     }
 
-    pub fn depth(&self, local: Local) -> usize {
+    pub fn value(&self, local: Local) -> usize {
         2 * self.words() + 30 + 4 * local.0
     }
 }
@@ -119,7 +119,7 @@ impl Sizes {
 /// The lists of bytes that begin with a state, as test 20 finds them.
 pub struct State {
     pub part: usize,
-    rule: Rule,
+    pub rule: Rule,
     pub first_cell: usize,
     pub cells: usize,
     pub round: usize,
@@ -156,7 +156,7 @@ impl State {
             && state.has_lists(bytes, steps)
             && state.round <= LAST_ROUND
             && bytes[state.sizes.flags()].iter().all(|&flag| flag <= 1)
-            && state.held().all(|l| state.has_depth(bytes, l));
+            && state.held().all(|l| is_valid(state.value(bytes, l)));
         whole.then_some(state)
     }
 
@@ -193,10 +193,6 @@ impl State {
             && (0..sizes.point_cells).all(|t| self.point_cell(bytes, t).0 <= sizes.held)
     }
 
-    fn has_depth(&self, bytes: &[u8], local: Local) -> bool {
-        (-DEEPEST..=DEEPEST).contains(&self.depth(bytes, local))
-    }
-
     pub fn owned(&self) -> impl Iterator<Item = Local> {
         (1..=self.sizes.owned).map(Local)
     }
@@ -209,8 +205,8 @@ impl State {
         word(bytes, self.sizes.global(local))
     }
 
-    pub fn depth(&self, bytes: &[u8], local: Local) -> i32 {
-        depth(bytes, self.sizes.depth(local))
+    pub fn value(&self, bytes: &[u8], local: Local) -> Value {
+        value(bytes, self.sizes.value(local))
     }
 
     /// The held cells imported from a part; none from a number that is no part.
@@ -237,10 +233,13 @@ impl State {
         word(bytes, self.sizes.point(k))
     }
 
-    /// The depth at the k-th point, from those of the cells at it.
-    pub fn point_depth(&self, bytes: &[u8], k: usize) -> i32 {
-        let cells = between_ends(bytes, self.sizes.point_ends(), k).map(|t| self.point_cell(bytes, t));
-        plain_mean(cells.map(|cell| self.depth(bytes, cell)))
+    /// The values of the cells at the k-th point.
+    pub fn around<'a>(&'a self, bytes: &'a [u8], k: usize) -> impl Iterator<Item = Value> + 'a {
+        between_ends(bytes, self.sizes.point_ends(), k).map(|t| self.value(bytes, self.point_cell(bytes, t)))
+    }
+
+    pub fn point_value(&self, bytes: &[u8], k: usize) -> Value {
+        plain_mean(self.around(bytes, k))
     }
 
     /// Whether some cell at a point is none, since one is outside the reach of an owned cell at its point.
@@ -262,10 +261,14 @@ impl State {
         (Local(word(bytes, at)), word(bytes, at + 1))
     }
 
-    pub fn new_depth(&self, bytes: &[u8], owned: Local) -> i32 {
+    /// The layers and values of an owned cell's reach.
+    pub fn olds<'a>(&'a self, bytes: &'a [u8], owned: Local) -> impl Iterator<Item = (usize, Value)> + 'a {
         let entries = self.reach(owned, bytes).map(|t| self.entry(bytes, t));
-        let reach = entries.map(|(cell, layer)| (layer, self.depth(bytes, cell)));
-        self.rule.new_depth(self.depth(bytes, owned), reach)
+        entries.map(|(cell, layer)| (layer, self.value(bytes, cell)))
+    }
+
+    pub fn new_value(&self, bytes: &[u8], owned: Local) -> Value {
+        self.rule.new_value(self.value(bytes, owned), self.olds(bytes, owned))
     }
 }
 

@@ -1,14 +1,16 @@
-//! The linear walks and lists against the specification's definitions, taken word by word over sets, on small meshes.
+//! The linear walks, lists and rounds against the specification's definitions, taken word by word over sets, on small
+//! meshes.
 
 use std::collections::BTreeSet;
 
-use jemlayos_model::bytes::word;
+use jemlayos_model::bytes::{read_values, value, word, Value};
 use jemlayos_model::calls::{under_test, List};
 use jemlayos_model::generate::damage::damaged_mesh;
 use jemlayos_model::generate::random::Random;
 use jemlayos_model::generate::scenarios::Scenario;
 use jemlayos_model::mesh::Mesh;
 use jemlayos_model::refusal::Refusal;
+use jemlayos_model::rounds::undivided_points;
 use jemlayos_model::split::Range;
 use jemlayos_model::walks::{Reaches, Stencil};
 
@@ -138,11 +140,42 @@ impl<'a> Paper<'a> {
         })
     }
 
+    /// The old value of a cell.
+    fn old(&self, cell: usize) -> Value {
+        let first = self.chains.len() - self.scenario.cells;
+        value(&self.scenario.field, 4 * (cell - first))
+    }
+
+    /// What the rule makes of a cell. Mean and shoalest go by the depths that are left without the gaps.
+    fn new_value(&self, cell: usize) -> Value {
+        let weight = |layer: usize| word(&self.scenario.weights, layer / 2);
+        let depths = self.reach(cell).into_iter().filter_map(|(c, layer)| Some((layer, self.old(c)?)));
+        match self.scenario.kind {
+            0 => self.old(cell),
+            1 => mean(depths.map(|(layer, depth)| (weight(layer), depth)).collect()),
+            _ => depths.map(|(_, depth)| depth).collect::<BTreeSet<_>>().first().copied(),
+        }
+    }
+
+    /// The plain mean of the depths around a point.
+    fn point_value(&self, point: usize) -> Value {
+        mean(self.around(point).into_iter().filter_map(|c| Some((1, self.old(c)?))).collect())
+    }
+
     fn range(&self, part: u32, range: Range, dimension: usize) -> Set {
         let mut elements = self.of_dimension(dimension);
         elements.retain(|&e| self.is_in(part, range, e));
         elements
     }
+}
+
+/// The mean of weighed depths: the number nearest to zero of those that are less than 1 from the quotient, or a gap where no
+/// weight is left to divide by.
+fn mean(weighed: Vec<(usize, i32)>) -> Value {
+    let weights: i64 = weighed.iter().map(|&(weight, _)| weight as i64).sum();
+    let sum: i64 = weighed.iter().map(|&(weight, depth)| weight as i64 * i64::from(depth)).sum();
+    let quotient = (weights > 0).then(|| sum.abs().div_euclid(weights) * sum.signum())?;
+    Some(quotient.try_into().unwrap())
 }
 
 /// Random inputs over meshes of few cells: the definitions take long.
@@ -230,6 +263,35 @@ fn points_of_a_state_are_the_defined_sets() {
         }
     }
     assert!(accepted > 100 && refused > 100, "29 held for {refused} parts and not for {accepted}");
+}
+
+#[test]
+fn rounds_and_points_are_the_defined_values() {
+    let mut gaps = [0; 4];
+    for scenario in scenarios(12, 600, 30) {
+        let paper = Paper::of(&scenario);
+        let cells = rising(paper.of_dimension(scenario.top));
+        let mut out = vec![0; scenario.field.len()];
+        let rule = scenario.rule();
+        under_test().round(&scenario.mesh, &scenario.stencil, rule, &scenario.field, &mut out).unwrap();
+        let new: Vec<Value> = cells.iter().map(|&cell| paper.new_value(cell)).collect();
+        assert_eq!(read_values(&out).unwrap(), new);
+        let left = cells.iter().zip(&new).filter(|(&cell, new)| paper.old(cell).is_none() && new.is_none()).count();
+        let filled = cells.iter().zip(&new).filter(|(&cell, new)| paper.old(cell).is_none() && new.is_some()).count();
+
+        let points = rising(paper.of_dimension(0));
+        let at_points: Vec<Value> = points.iter().map(|&point| paper.point_value(point)).collect();
+        let mesh = Mesh::read(&scenario.mesh).unwrap();
+        assert_eq!(undivided_points(&mesh, &read_values(&scenario.field).unwrap()), at_points);
+        let is_gap = |value: &&Value| value.is_none();
+        let around_gaps = |&&point: &&usize| paper.around(point).into_iter().any(|c| paper.old(c).is_none());
+        let at_gaps = points.iter().filter(around_gaps).count();
+        let only_gaps = at_points.iter().filter(is_gap).count();
+        for (gaps, count) in gaps.iter_mut().zip([left, filled, at_gaps - only_gaps, only_gaps]) {
+            *gaps += count;
+        }
+    }
+    assert!(gaps.iter().all(|&count| count > 200), "gaps were left, filled, passed over at points and given: {gaps:?}");
 }
 
 #[test]

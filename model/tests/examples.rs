@@ -177,7 +177,7 @@ fn mean_of_two_rounds() {
 fn the_fraction_is_dropped_toward_zero() {
     let weights = words(&[1, 3]);
     let rule = Rule::read(mean(&weights), 2).ok().unwrap();
-    assert_eq!(rule.new_depth(-1, [(0, -1), (2, -2)].into_iter()), -1);
+    assert_eq!(rule.new_value(Some(-1), [(0, Some(-1)), (2, Some(-2))].into_iter()), Some(-1));
 }
 
 #[test]

@@ -140,8 +140,8 @@ fn one_part_under_the_stencil_of_the_cells_alone_is_29() {
 fn points_of_the_triangles() {
     let state = started(&triangles(), &[1; 3], 1, &[2, 0, 2], &[3, 6, 10]);
     assert_eq!(points(&state), [(1, 6), (2, 4), (3, 4), (4, 6), (5, 10), (6, 10)]);
-    let undivided = undivided_points(&Mesh::read(&triangles()).unwrap(), &[3, 6, 10]);
-    assert_eq!(undivided, [6, 4, 4, 6, 10, 10]);
+    let undivided = undivided_points(&Mesh::read(&triangles()).unwrap(), &[3, 6, 10].map(Some));
+    assert_eq!(undivided, [6, 4, 4, 6, 10, 10].map(Some));
 }
 
 #[test]

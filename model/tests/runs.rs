@@ -1,9 +1,9 @@
 //! Whole runs: any order of calls on the parts, repeated and refused ones too, gives the undivided field, and the undivided
-//! depths at the points.
+//! values at the points. Some fields have gaps.
 
 use std::collections::BTreeMap;
 
-use jemlayos_model::bytes::{read_depths, word};
+use jemlayos_model::bytes::{read_values, value, word, Value, GAP};
 use jemlayos_model::calls::{under_test, List};
 use jemlayos_model::generate::random::Random;
 use jemlayos_model::generate::scenarios::Scenario;
@@ -76,12 +76,12 @@ struct Run<'a> {
     fields: Vec<Vec<u8>>,
     /// Of each part.
     points: Vec<Points>,
-    /// The depths at all points after each number of rounds.
-    undivided_points: Vec<Vec<i32>>,
-    /// Which part gave a point at a round first, and its depth there.
+    /// The values at all points after each number of rounds.
+    undivided_points: Vec<Vec<Value>>,
+    /// Which part gave a point at a round first, and its value there.
     given: BTreeMap<(usize, usize), (usize, [u8; 4])>,
-    /// How often points were given, and how often a point that another part had given at that round.
-    counts: [usize; 2],
+    /// How often points were given, how often a point that another part had given at that round, and how often a gap.
+    counts: [usize; 3],
 }
 
 impl Run<'_> {
@@ -123,7 +123,7 @@ impl Run<'_> {
         }
     }
 
-    /// What a part gives are its points with the undivided depths, once all imports are taken and if no cell at them is
+    /// What a part gives are its points with the undivided values, once all imports are taken and if no cell at them is
     /// outside a reach. So what two parts give for one point at one round is the same.
     fn points(&mut self, place: usize) {
         let (round, points) = (self.rounds[place], &self.points[place]);
@@ -136,11 +136,12 @@ impl Run<'_> {
         } else {
             assert_eq!(answer, Ok(points.numbers.len() as u32));
             for (six, &point) in out.chunks_exact(6).zip(&points.numbers) {
-                let (number, depth) = (word(six, 0), [six[2], six[3], six[4], six[5]]);
-                assert_eq!((number, i32::from_be_bytes(depth)), (point, self.undivided_points[round][point - 1]));
-                let &mut (first, given) = self.given.entry((round, point)).or_insert((place, depth));
-                assert_eq!(depth, given);
+                let (number, four) = (word(six, 0), [six[2], six[3], six[4], six[5]]);
+                assert_eq!((number, value(six, 2)), (point, self.undivided_points[round][point - 1]));
+                let &mut (first, given) = self.given.entry((round, point)).or_insert((place, four));
+                assert_eq!(four, given);
                 self.counts[1] += usize::from(first != place);
+                self.counts[2] += usize::from(four == GAP);
             }
             assert_eq!(out[6 * points.numbers.len()..], [0xee; 2]);
             self.counts[0] += 1;
@@ -154,8 +155,8 @@ impl Run<'_> {
         let owned = self.scenario.owners.iter().filter(|&&owner| owner == part).count();
         let answer = under_test().collect(&self.states[place], round as u32, &mut field);
         assert_eq!(answer, Ok(owned as u32));
-        let depths = field.chunks(4).zip(self.fields[round].chunks(4));
-        for ((found, undivided), &owner) in depths.zip(&self.scenario.owners) {
+        let values = field.chunks(4).zip(self.fields[round].chunks(4));
+        for ((found, undivided), &owner) in values.zip(&self.scenario.owners) {
             assert_eq!(found, if owner == part { undivided } else { &[0xee; 4] });
         }
         assert_eq!(field[4 * self.scenario.cells..], [0xee; 2]);
@@ -165,7 +166,7 @@ impl Run<'_> {
 #[test]
 fn every_order_of_calls_gives_the_undivided_field() {
     let random = &mut Random::new(5);
-    let (mut runs, mut late, mut counts) = (0, 0, [0; 2]);
+    let (mut runs, mut late, mut filled, mut counts) = (0, 0, 0, [0; 3]);
     while runs < 150 {
         let scenario = Scenario::random(random);
         if under_test().state_size(scenario.part(1)).is_err() || scenario.parts > 6 {
@@ -175,7 +176,7 @@ fn every_order_of_calls_gives_the_undivided_field() {
         let states = started(&scenario);
         let fields = undivided(&scenario, 4);
         let mesh = Mesh::read(&scenario.mesh).unwrap();
-        let at_points = |field: &Vec<u8>| undivided_points(&mesh, &read_depths(field).unwrap());
+        let at_points = |field: &Vec<u8>| undivided_points(&mesh, &read_values(field).unwrap());
         let mut run = Run {
             scenario: &scenario,
             written: Vec::new(),
@@ -191,10 +192,14 @@ fn every_order_of_calls_gives_the_undivided_field() {
         for _ in 0..3_000 {
             run.call(random);
         }
-        late += usize::from(run.rounds.iter().any(|&round| round >= 2));
+        let is_late = run.rounds.iter().any(|&round| round >= 2);
+        late += usize::from(is_late);
+        let gaps_after = |round: usize| run.fields[round].chunks(4).filter(|&four| four == GAP).count();
+        filled += usize::from(is_late && gaps_after(1) < gaps_after(0));
         counts = run.counts;
     }
     assert!(late > 100, "only {late} runs came to round 2");
+    assert!(filled > 15, "only {filled} of these had a gap filled");
     assert!(counts.iter().all(|&count| count > 1_000), "points were given {counts:?} times");
 }
 

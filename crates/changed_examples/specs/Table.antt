@@ -1,20 +1,23 @@
 -- Examples beside those of document 01, as entries of one table under one theorem, all by computation over the definitions. The examples of later
 -- requests go here, over the inputs of `worked_examples`, whose table stays document 01's. Assumes nothing.
 use mathlib.Core.Path.{_≡_, refl}
+use mathlib.Core.Bool.{Bool, true, false}
 use mathlib.Core.List.{List, [], _∷_, _++_, map}
 use Prim.Native.Nat.{ℕ, _+_, _*_}
 use lib.IntN.{ℤ, pos, negsuc}
 use lib.ListN.{length, replicate}
 use Rattle.vocabulary.specs.Bytes.{Bytes, over}
-use Rattle.vocabulary.specs.Lists.{isIn, placeOf, joined, repeats, someOf, everyOf}
+use Rattle.vocabulary.specs.Lists.{isIn, placeOf, joined, repeats, someOf, everyOf, filtered}
 use Rattle.vocabulary.specs.Intervals.{isUpTo, picked, every, some, listed, blocks, total}
 use Rattle.layout.specs.Words.{word, wordAt, words, wordBytes, bytesOf}
-use Rattle.depths.specs.Depths.{four, numberFrom, signed, unsigned, depthFrom, numberBytes, depthBytes, inRange, rangedAt}
+use Rattle.depths.specs.Depths.{four, numberFrom, signed, unsigned, depthFrom, numberBytes, depthBytes, inRange, gapBytes, valueFrom, valueBytes, isDepth, isValid, rangedAt}
+use Rattle.depths.specs.declared.Value.{Value}
+use Rattle.depths.specs.declared.Value.the-variants.{Depth, Gap}
 use Rattle.mesh.specs.Meet.{meet, stamp, unlike}
 use Rattle.mesh.specs.Mesh.{below, dimension, elementIn, nextOf, follow, records, chain, allRecords, bad1, badCount, bad2, meshLength, bad3}
 use Rattle.mesh.specs.Mesh.{headed, bad4, badItem, badChain, bad5, leaves, unclosed, bad6, bare, bad7, meshTests, meshNumber}
 use Rattle.mesh.specs.Walks.{incident, steps, validAt, bad10, stepTo, walked, stepsTo, layer, reach, bad13, cellsAt}
-use Rattle.round_rule.specs.Rules.{weightCount, tooHeavy, bad11, weight, depthSum, weightSum, quotient, plainMean, least, newDepth}
+use Rattle.round_rule.specs.Rules.{weightCount, tooHeavy, bad11, withoutGaps, weight, readBy, depthSum, weightSum, quotient, meanOf, plainMean, least, leastOf, newDepth}
 use Rattle.round.specs.Rounds.{bad14, schemeOf, depthIn, oldsIn, newIn, round, undivided}
 use Rattle.messages.specs.Messages.{bad15}
 use Rattle.split.specs.Lists.{bad8, bad9, bad12, splitTests, sizeTests}
@@ -56,6 +59,24 @@ oneCell = inputs (bytesOf (1 ∷ 2 ∷ 1 ∷ 0 ∷ 0 ∷ 2 ∷ 0 ∷ 0 ∷ 1 ∷
 abbrev at : ℕ → ℕ → Bytes
 at p depth = wordBytes p ++ depthBytes (pos depth)
 
+-- ---- gaps (F-2)
+
+-- the bytes of values
+abbrev values : List Value → Bytes
+values xs = joined (map valueBytes xs)
+
+-- a depth of n centimetres
+abbrev deep : ℕ → Value
+deep n = Depth (pos n)
+
+-- five cells, three of them without a depth
+abbrev withHoles : List Value
+withHoles = deep 100 ∷ Gap ∷ deep 300 ∷ Gap ∷ Gap ∷ []
+
+-- a message of one value, from part 2 to part 1 at round 0
+abbrev messageOf : Bytes → Bytes
+messageOf x = bytesOf (2 ∷ 1 ∷ 0 ∷ 1 ∷ []) ++ x
+
 -- ---- the table
 
 -- an entry, by the definition that it is about
@@ -70,6 +91,12 @@ pub data Example : Type 0 where
   points-number : Bytes → ℕ → ℕ → Example
   -- a state, and what a points call on it gives
   points-given : Bytes → List Bytes → Example
+  -- a rule's kind and weights, and the undivided fields of the five cells after one round, after two and so on, from the one with gaps
+  filled : ℕ → Bytes → List (List Value) → Example
+  -- the bytes of one value, and whether 15 refuses a message of it
+  sent : Bytes → Bool → Example
+  -- a field of the five cells that 14 does not refuse
+  sounded : List Value → Example
 
 -- what an entry claims
 abbrev pub Holds : Example → Type 0
@@ -78,6 +105,9 @@ Holds (plain zs z) = plainMean (map depthBytes zs) ≡ depthBytes z
 Holds (point-words b a ws) = wordAt b 0 ∷ listed a (length ws) (wordAt b) ≡ (a + length ws) ∷ ws
 Holds (points-number b long n) = pointsNumber b (replicate long 0) ≡ n
 Holds (points-given b ps) = pointsOut b (replicate (6 * length ps) 0) ≡ joined ps
+Holds (filled kind v fs) = listed 1 (length fs) (undivided (schemeOf five (fiveInputs .split .stencil) kind v) (values withHoles)) ≡ map values fs
+Holds (sent x refused) = bad15 (messageOf x) ≡ refused
+Holds (sounded xs) = bad14 5 (values xs) ≡ false
 
 abbrev pub AllHold : List Example → Type 0
 AllHold [] = Unit {0}
@@ -117,14 +147,40 @@ table =
     ∷ point-words (started throughEdges 2) 50 (3 ∷ 1 ∷ 5 ∷ 6 ∷ 0 ∷ 2 ∷ 3 ∷ 4 ∷ 0 ∷ 0 ∷ 0 ∷ 0 ∷ [])
     -- a cell is in its own reach
     ∷ points-given (started oneCell 1) (at 1 300 ∷ at 2 300 ∷ [])
+    -- F-2: a mean of weights 2 1 passes over gaps, in its divisor too, and so fills them
+    ∷ filled 1 (bytesOf (2 ∷ 1 ∷ [])) (
+    (deep 100 ∷ deep 200 ∷ deep 300 ∷ deep 300 ∷ Gap ∷ [])
+    ∷ (deep 133 ∷ deep 200 ∷ deep 275 ∷ deep 300 ∷ deep 300 ∷ [])
+    ∷ []
+    )
+    -- "with .. only zero weights left, the new value is a gap": weights 1 0 leave every cell as it is, so it is so at every round
+    ∷ filled 1 (bytesOf (1 ∷ 0 ∷ [])) (withHoles ∷ [])
+    -- shoalest passes over gaps; hold keeps them
+    ∷ filled 2 [] ((deep 100 ∷ deep 100 ∷ deep 300 ∷ deep 300 ∷ Gap ∷ []) ∷ (deep 100 ∷ deep 100 ∷ deep 100 ∷ deep 300 ∷ deep 300 ∷ []) ∷ [])
+    ∷ filled 0 [] (withHoles ∷ [])
+    -- "A point with only gaps is a gap."
+    ∷ points-given (started (fiveInOne (1 ∷ 0 ∷ 1 ∷ []) (values withHoles)) 1) (
+    at 1 100
+    ∷ at 2 100
+    ∷ at 3 300
+    ∷ at 4 300
+    ∷ (0x00 ∷ 0x05 ∷ 0x80 ∷ 0x00 ∷ 0x00 ∷ 0x00 ∷ [])
+    ∷ (0x00 ∷ 0x06 ∷ 0x80 ∷ 0x00 ∷ 0x00 ∷ 0x00 ∷ [])
+    ∷ []
+    )
+    -- "14 and 15 let this value through", and none beside it
+    ∷ sent (0x80 ∷ 0x00 ∷ 0x00 ∷ 0x00 ∷ []) false
+    ∷ sent (0x80 ∷ 0x00 ∷ 0x00 ∷ 0x01 ∷ []) true
+    ∷ sounded (Gap ∷ Gap ∷ Gap ∷ Gap ∷ Gap ∷ [])
     ∷ []
 
 pub changed : AllHold table
-unfolding over isIn placeOf joined repeats someOf everyOf isUpTo picked every some listed blocks total word wordAt words wordBytes bytesOf four numberFrom signed unsigned depthFrom
-    numberBytes depthBytes inRange rangedAt meet stamp unlike below dimension elementIn nextOf follow records chain allRecords bad1 badCount bad2 meshLength bad3 headed bad4 badItem
-    badChain bad5 leaves unclosed bad6 bare bad7 meshTests meshNumber incident steps validAt bad10 stepTo walked stepsTo layer reach bad13 cellsAt weightCount tooHeavy bad11 weight
-    depthSum weightSum quotient least newDepth bad14 schemeOf depthIn oldsIn newIn round undivided bad15 bad8 bad9 bad12 splitTests sizeTests splitOf owns owned reaches holds held
-    imports exports inside interior halo locals localOf globalOf touches pointsOf cellPoints pointEnds bad29 weights localReach localExports localAround listsIn listsOf rises climbs
-    listsTests dynamicTests isState bad20 importsFrom outside takeTestsIn takenIn allTaken pointsTestsIn pointGiven takeNumber takeState pointsNumber pointsOut importEnds exportEnds
-    reachEnds reachWords exportWords aroundWords listsLong listsRegions stateSize sizeNumber firstState startNumber startState five triangles field fiveInputs
-changed = (refl, (refl, (refl, (refl, (refl, (refl, (refl, (refl, (refl, (refl, (refl, (refl, (refl, (refl, (refl, tt)))))))))))))))
+unfolding over isIn placeOf joined repeats someOf everyOf isUpTo picked every some listed blocks total word wordAt words wordBytes bytesOf four numberFrom signed unsigned
+    depthFrom numberBytes depthBytes inRange gapBytes valueFrom valueBytes isDepth isValid rangedAt meet stamp unlike below dimension elementIn nextOf follow records chain
+    allRecords bad1 badCount bad2 meshLength bad3 headed bad4 badItem badChain bad5 leaves unclosed bad6 bare bad7 meshTests meshNumber incident steps validAt bad10 stepTo
+    walked stepsTo layer reach bad13 cellsAt weightCount tooHeavy bad11 filtered withoutGaps weight readBy depthSum weightSum quotient meanOf least leastOf newDepth bad14
+    schemeOf depthIn oldsIn newIn round undivided bad15 bad8 bad9 bad12 splitTests sizeTests splitOf owns owned reaches holds held imports exports inside interior halo locals
+    localOf globalOf touches pointsOf cellPoints pointEnds bad29 weights localReach localExports localAround listsIn listsOf rises climbs listsTests dynamicTests isState bad20
+    importsFrom outside takeTestsIn takenIn allTaken pointsTestsIn pointGiven takeNumber takeState pointsNumber pointsOut importEnds exportEnds reachEnds reachWords exportWords
+    aroundWords listsLong listsRegions stateSize sizeNumber firstState startNumber startState five triangles field fiveInputs
+changed = (refl, (refl, (refl, (refl, (refl, (refl, (refl, (refl, (refl, (refl, (refl, (refl, (refl, (refl, (refl, (refl, (refl, (refl, (refl, (refl, (refl, (refl, (refl, tt)))))))))))))))))))))))

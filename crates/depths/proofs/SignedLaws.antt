@@ -1,7 +1,8 @@
--- What the functions' needs ask: signed numbers of 32 bits and their registers, stored bytes, and the loop over depths. Assumes nothing.
+-- What the functions' needs ask: signed numbers of 32 bits and their registers, stored bytes, and the loop over values. Assumes nothing.
 use mathlib.Core.Path.{_≡_, refl, sym, ap, _∙_}
 use mathlib.Core.Bool.{Bool, true, false, true≢false}
 use Prim.Native.Nat.{ℕ, suc, _+_, _-_, _*_, _/_, _%_, _≤_, _<_}
+use native.Mathlib.Nat.{zero-add}
 use native.Mathlib.Omega.{arith}
 use lib.IntN.{ℤ, pos, negsuc, natAbs, _+ℤ_, _-ℤ_}
 use lib.Signed.{mag, ltZ, leZ, nonNeg}
@@ -13,8 +14,13 @@ use mir.ValLaws.{toZ-pos, toZ-ofZ}
 use borrow.Author.Tests.{lt-ltb, le-ltb, ltb-true, leb-true, leb-false, le-leb, lt-leb}
 use Rattle.vocabulary.specs.Bytes.{Bytes, over}
 use Rattle.vocabulary.specs.ByteLaws.{over-more}
+use Rattle.vocabulary.specs.Intervals.{every}
+use Rattle.vocabulary.specs.IntervalLaws.{every-more, every-fails, every-witness, at-last}
 use Rattle.layout.specs.Words.{wordBytes}
-use Rattle.depths.specs.Depths.{numberBytes, signed, unsigned, depthFrom, depthBytes, inRange, rangedAt}
+use Rattle.depths.specs.Depths.{numberFrom, numberBytes, signed, unsigned, depthFrom, depthBytes, inRange, gapNumber, valueFrom, valueBytes, isValid, rangedAt}
+use Rattle.depths.specs.declared.Value.{Value}
+use Rattle.depths.specs.declared.Value.the-variants.{Depth, Gap}
+use Rattle.depths.specs.DepthLaws.{gap-is, value-gap, value-depth}
 
 pub number-stores : (b x y : Bytes) (o v : ℕ) → o + 3 < length b → x ≡ over b o (wordBytes (v / 65536)) → y ≡ over x (o + 2) (wordBytes (v % 65536)) → y ≡ over b o (numberBytes v)
 unfolding wordBytes numberBytes
@@ -92,10 +98,6 @@ module _ (z : ℤ) (f : SFits w32 z) where
   pub cast-gives : (y : ℤ) → y ≡ pos (unsigned z) → (natAbs y ≡ unsigned z) × (natAbs y < 4294967296)
   cast-gives y e = rw e (refl, unsigned-less)
 
-  pub depth-stores : (b y : Bytes) (o v : ℕ) → v ≡ unsigned (toZ w32 (ofZ w32 z)) → y ≡ over b o (numberBytes v) → y ≡ over b o (depthBytes z)
-  unfolding depthBytes
-  depth-stores b y o v e g = rw (toZ-ofZ w32 z f) at (g ∙ ap (λ (n : ℕ). over b o (numberBytes n)) e)
-
 -- ---- depths in range
 
 module _ (z : ℤ) (f : SFits w32 z) where
@@ -115,7 +117,55 @@ module _ (z : ℤ) (f : SFits w32 z) where
       go (pos n) s = absurd (true≢false s)
       go (negsuc n) s = s ∙ sym (lt-leb (suc n) 1200000 (omega (arith, leb-false n 1199999 s)))
 
--- the test's answer is about the k-th depth
-pub ranged-told : (b : Bytes) (at k : ℕ) (z : ℤ) (t : Bool) → z ≡ depthFrom b (at + 4 * k) → mag z < 2147483648 → t ≡ inRange (toZ w32 (ofZ w32 z)) → t ≡ rangedAt b at k
-unfolding rangedAt
-ranged-told b at k z t e f g = rw (← e) (rw (toZ-ofZ w32 z (record { sfits = f })) at g)
+-- ---- depths and gaps
+
+-- what was read, by the number of the bytes
+module _ (b : Bytes) (o v : ℕ) (e : v ≡ numberFrom b o) where
+  pub gap-read : v ≡ gapNumber → Gap ≡ valueFrom b o
+  gap-read g = sym (value-gap b o (sym e ∙ g))
+
+  pub depth-read : (z : ℤ) → (v ≡ gapNumber → ⊥) → mag z < 2147483648 → z ≡ signed v → Depth (toZ w32 (ofZ w32 z)) ≡ valueFrom b o
+  unfolding depthFrom
+  depth-read z h f g = ap Depth (toZ-ofZ w32 z (record { sfits = f }) ∙ g ∙ ap signed e) ∙ sym (value-depth b o (λ q. h (e ∙ q)))
+
+-- what is to be stored, and what was
+module _ (x : Value) where
+  pub depth-number : (z : ℤ) (v : ℕ) → x ≡ Depth z → SFits w32 z → v ≡ unsigned (toZ w32 (ofZ w32 z)) → numberBytes v ≡ valueBytes x
+  unfolding valueBytes depthBytes
+  depth-number z v e f g = rw e (ap (λ n. numberBytes n) (rw (toZ-ofZ w32 z f) at g))
+
+  pub gap-number : x ≡ Gap → numberBytes gapNumber ≡ valueBytes x
+  unfolding valueBytes
+  gap-number e = rw e gap-is
+
+  pub value-put : (b y : Bytes) (o v : ℕ) → numberBytes v ≡ valueBytes x → y ≡ over b o (numberBytes v) → y ≡ over b o (valueBytes x)
+  value-put b y o v e g = g ∙ ap (λ (f : Bytes). over b o f) e
+
+-- what the test says of the k-th value
+module _ (b : Bytes) (at k : ℕ) (x : Value) (e : x ≡ valueFrom b (at + 4 * k)) where
+  pub depth-told : (z : ℤ) (t : Bool) → x ≡ Depth z → SFits w32 z → t ≡ inRange (toZ w32 (ofZ w32 z)) → t ≡ rangedAt b at k
+  unfolding rangedAt isValid
+  depth-told z t q f g = rw (← e, q) (rw (toZ-ofZ w32 z f) at g)
+
+  pub gap-told : (t : Bool) → x ≡ Gap → t ≡ true → t ≡ rangedAt b at k
+  unfolding rangedAt isValid
+  gap-told t q g = rw (← e, q) g
+
+-- the test goes on with one more value: t is what was told of it
+module _ (b : Bytes) (at k : ℕ) (v w : Bool) (i : v ≡ every 0 k (rangedAt b at)) (t : Bool) (told : t ≡ rangedAt b at k) where
+  last : rangedAt b at (0 + k) ≡ t
+  last = ap (rangedAt b at) (zero-add k) ∙ sym told
+
+  pub fine-turn : t ≡ true → w ≡ v → w ≡ every 0 (k + 1) (rangedAt b at)
+  fine-turn f e = go v i e
+    where
+      go : (u : Bool) → u ≡ every 0 k (rangedAt b at) → w ≡ u → w ≡ every 0 (k + 1) (rangedAt b at)
+      go true q g = g ∙ sym (every-more 0 (rangedAt b at) k (sym q) (last ∙ f))
+      go false q g =
+          let y = every-witness 0 (rangedAt b at) k (sym q) in g ∙ sym (every-fails 0 (rangedAt b at) (k + 1) (y .0) (omega (arith, y .1)) (y .2))
+
+  pub wrong-turn : t ≡ false → w ≡ t → w ≡ every 0 (k + 1) (rangedAt b at)
+  wrong-turn f g = g ∙ f ∙ sym (every-fails 0 (rangedAt b at) (k + 1) k (omega arith) (last ∙ f))
+
+pub valid-end : (b : Bytes) (at n k : ℕ) (v : Bool) → k ≤ n → n ≤ k → v ≡ every 0 k (rangedAt b at) → v ≡ every 0 n (rangedAt b at)
+valid-end b at n k v g h i = at-last (λ j. v ≡ every 0 j (rangedAt b at)) k n g h i

@@ -1,16 +1,16 @@
--- Laws of depths in bytes: fours and where they stand, depths written and read back, both ways, and the range. Assumes nothing.
+-- Laws of depths and gaps in bytes: fours and where they stand, depths and values written and read back, both ways, the range, and what is valid. Assumes nothing.
 use mathlib.Core.Path.{_≡_, refl, sym, ap, ap₂, _∙_, subst}
 use mathlib.Core.Logic.{_⊎_, ⊎-elim}
-use mathlib.Core.Bool.{Bool, true, false, cond}
+use mathlib.Core.Bool.{Bool, true, false, cond, false≢true}
 use mathlib.Core.List.{List, [], _∷_, _++_}
 use Prim.Native.Nat.{ℕ, zero, suc, _+_, _-_, _*_, _/_, _%_, _<_, _≤_}
 use native.Mathlib.Nat.{not-suc-le-zero, le-of-suc-le-suc, add-zero, zero-add}
 use native.Mathlib.Omega.{arith}
 use lib.IntN.{ℤ, pos, negsuc, natAbs}
-use lib.Dec.{ltb}
+use lib.Dec.{eqb, ltb}
 use lib.ListN.{length, getD, set, take, drop, length-append, length-drop, List·getD-append}
 use lib.Seq.{getD-append-add, getD-set-other, getD-take, getD-drop, length-take-le, ext-getD}
-use borrow.Author.Tests.{lt-ltb, le-ltb, leb-true, le-leb}
+use borrow.Author.Tests.{lt-ltb, le-ltb, leb-true, le-leb, eq-eqb, ne-eqb, eqb-true}
 use Rattle.vocabulary.specs.Bytes.{Bytes, byteAt, over}
 use Rattle.vocabulary.specs.Lists.{All, joined}
 use Rattle.vocabulary.specs.Intervals.{every, listed, blocks}
@@ -19,6 +19,9 @@ use Rattle.vocabulary.specs.ByteLaws.{over-in, over-before, over-after, over-mo
 use Rattle.layout.specs.Words.{word}
 use Rattle.layout.specs.WordLaws.{word-same}
 use Rattle.depths.specs.Depths.{deepest, Valid, four, numberFrom, signed, unsigned, depthFrom, depthOf, numberBytes, depthBytes, inRange, rangedAt}
+use Rattle.depths.specs.Depths.{gapBytes, gapNumber, valueFrom, valueOf, valueBytes, isDepth, isValid, Within}
+use Rattle.depths.specs.declared.Value.{Value}
+use Rattle.depths.specs.declared.Value.the-variants.{Depth, Gap}
 
 -- ---- fours
 
@@ -86,10 +89,6 @@ module _ (b : Bytes) (at : ℕ) (xs : Bytes) (h : at + length xs ≤ length b) w
 
   pub four-after : (o : ℕ) → at + length xs ≤ o → four (over b at xs) o ≡ four b o
   four-after o k = four-same (over b at xs) b o o (λ j l. over-after b at xs h (o + j) (omega arith))
-
--- four bytes stored
-pub four-stored : (b : Bytes) (o : ℕ) (x : Bytes) → length x ≡ 4 → o + 3 < length b → four (over b o x) o ≡ x
-four-stored b o x l h = ap (λ n. four (over b o x) n) (sym (add-zero o)) ∙ four-in b o x (omega arith) 0 (omega arith) ∙ four-whole x l
 
 -- fours one after another
 module _ (a n : ℕ) (g : ℕ → Bytes) (l : (j : ℕ) → j < n → length (g (a + j)) ≡ 4) where
@@ -237,9 +236,6 @@ pub depth-four : (b : Bytes) (o : ℕ) → depthOf (four b o) ≡ depthFrom b o
 unfolding depthFrom
 depth-four b o = ap signed (number-same (four b o) b 0 o (λ k h. ap (λ n. byteAt (four b o) n) (zero-add k) ∙ getD-four b o k h))
 
-pub depth-same : (x y : Bytes) (o p : ℕ) → four x o ≡ four y p → depthFrom x o ≡ depthFrom y p
-depth-same x y o p e = sym (depth-four x o) ∙ ap (λ f. depthOf f) e ∙ depth-four y p
-
 -- the depth that was written
 pub depth-back : (z : ℤ) → natAbs z < 2147483648 → depthOf (depthBytes z) ≡ z
 unfolding depthFrom depthBytes
@@ -249,21 +245,6 @@ depth-back z h = ap signed (number-back (unsigned z)) ∙ signed-unsigned z h
 pub depth-bytes : (b : Bytes) (o : ℕ) → ((k : ℕ) → k < 4 → byteAt b (o + k) < 256) → depthBytes (depthFrom b o) ≡ four b o
 unfolding depthFrom depthBytes
 depth-bytes b o h = ap (λ v. numberBytes v) (unsigned-signed (numberFrom b o) (number-less b o h)) ∙ number-bytes b o h
-
--- the depth that was stored
-pub depth-stored : (b : Bytes) (o : ℕ) (z : ℤ) → o + 3 < length b → natAbs z < 2147483648 → depthFrom (over b o (depthBytes z)) o ≡ z
-depth-stored b o z h k =
-    sym (depth-four (over b o (depthBytes z)) o) ∙ ap (λ f. depthOf f) (four-stored b o (depthBytes z) (length-depthBytes z) h) ∙ depth-back z k
-
--- two depths with the same bytes are one
-pub depthBytes-same : (y z : ℤ) → natAbs y < 2147483648 → natAbs z < 2147483648 → depthBytes y ≡ depthBytes z → y ≡ z
-depthBytes-same y z h k e = sym (depth-back y h) ∙ ap (λ f. depthOf f) e ∙ depth-back z k
-
--- a depth's bytes are bytes
-pub depth-small : (z : ℤ) → natAbs z < 2147483648 → All (λ x. x < 256) (depthBytes z)
-unfolding depthBytes numberBytes unsigned
-depth-small (pos n) h = (omega arith, (omega arith, (omega arith, (omega arith, tt))))
-depth-small (negsuc n) h = (omega arith, (omega arith, (omega arith, (omega arith, tt))))
 
 -- ---- the range
 
@@ -275,8 +256,98 @@ pub range-intro : (z : ℤ) → natAbs z ≤ deepest → inRange z ≡ true
 unfolding inRange
 range-intro z h = le-leb _ _ h
 
--- each of the depths in range
-pub ranged-size : (b : Bytes) (at n k : ℕ) → every 0 n (rangedAt b at) ≡ true → k < n → Valid b (at + 4 * k)
+-- ---- depths and gaps (F-2)
+
+-- a gap is no depth
+pub gap-alone : (z : ℤ) → Gap ≡ Depth z → ⊥
+unfolding isDepth
+gap-alone z e = false≢true (ap isDepth e)
+
+pub length-valueBytes : (x : Value) → length (valueBytes x) ≡ 4
+unfolding valueBytes gapBytes
+length-valueBytes (Depth z) = length-depthBytes z
+length-valueBytes Gap = refl
+
+-- the gap as a number
+gap-number : numberFrom gapBytes 0 ≡ gapNumber
+unfolding numberFrom gapBytes word
+gap-number = omega arith
+
+pub gap-is : numberBytes gapNumber ≡ gapBytes
+unfolding numberBytes gapBytes
+gap-is = refl
+
+-- the number tells which of the two it is
+pub value-gap : (b : Bytes) (o : ℕ) → numberFrom b o ≡ gapNumber → valueFrom b o ≡ Gap
+unfolding valueFrom
+value-gap b o e = simp (eq-eqb _ _ e)
+
+pub value-depth : (b : Bytes) (o : ℕ) → (numberFrom b o ≡ gapNumber → ⊥) → valueFrom b o ≡ Depth (depthFrom b o)
+unfolding valueFrom
+value-depth b o h = simp (ne-eqb _ _ h)
+
+-- a value that is a depth is the depth that its bytes have
+pub value-is : (b : Bytes) (o : ℕ) (z : ℤ) → valueFrom b o ≡ Depth z → z ≡ depthFrom b o
+unfolding valueFrom
+value-is b o z e = go (eqb (numberFrom b o) gapNumber) e
+  where
+    z-of : Value → ℤ
+    z-of (Depth y) = y
+    z-of Gap = pos 0
+
+    go : (t : Bool) → cond t Gap (Depth (depthFrom b o)) ≡ Depth z → z ≡ depthFrom b o
+    go true q = absurd (gap-alone z q)
+    go false q = ap z-of (sym q)
+
+-- equal fours are equal values
+pub value-four : (b : Bytes) (o : ℕ) → valueOf (four b o) ≡ valueFrom b o
+unfolding valueFrom
+value-four b o =
+    ap₂ (λ n z. cond (eqb n gapNumber) Gap (Depth z)) (number-same (four b o) b 0 o (λ k h. ap (λ n. byteAt (four b o) n) (zero-add k) ∙ getD-four b o k h)) (depth-four b o)
+
+pub value-same : (x y : Bytes) (o p : ℕ) → four x o ≡ four y p → valueFrom x o ≡ valueFrom y p
+value-same x y o p e = sym (value-four x o) ∙ ap (λ f. valueOf f) e ∙ value-four y p
+
+-- no depth of a size below 2^31 has the gap's number
+number-no-gap : (z : ℤ) → natAbs z < 2147483648 → unsigned z ≡ gapNumber → ⊥
+unfolding unsigned
+number-no-gap (pos n) h e = omega arith
+number-no-gap (negsuc n) h e = omega arith
+
+-- what was written
+pub value-back : (m : ℕ) → m < 2147483648 → (x : Value) → Within m x → valueOf (valueBytes x) ≡ x
+unfolding Within valueBytes gapBytes depthBytes
+value-back m l (Depth z) h =
+    value-depth (depthBytes z) 0 (λ e. number-no-gap z (omega arith) (sym (number-back (unsigned z)) ∙ e)) ∙ ap Depth (depth-back z (omega arith))
+value-back m l Gap h = value-gap gapBytes 0 gap-number
+
+-- the bytes of what was read
+pub value-bytes : (b : Bytes) (o : ℕ) → ((k : ℕ) → k < 4 → byteAt b (o + k) < 256) → valueBytes (valueFrom b o) ≡ four b o
+unfolding valueFrom valueBytes
+value-bytes b o h = go (eqb (numberFrom b o) gapNumber) refl
+  where
+    go : (t : Bool) → eqb (numberFrom b o) gapNumber ≡ t → valueBytes (cond t Gap (Depth (depthFrom b o))) ≡ four b o
+    go true e = sym gap-is ∙ ap (λ v. numberBytes v) (sym (eqb-true _ _ e)) ∙ number-bytes b o h
+    go false e = depth-bytes b o h
+
+-- a value within m has a gap's bytes only if it is one; the depth -2^31 has them too
+pub bytes-gap : (m : ℕ) → m < 2147483648 → (x : Value) → Within m x → valueBytes x ≡ gapBytes → x ≡ Gap
+unfolding valueBytes
+bytes-gap m l x h e = sym (value-back m l x h) ∙ ap (λ f. valueOf f) e ∙ value-gap gapBytes 0 gap-number
+
+-- valid, and within the range
+pub valid-within : (x : Value) → isValid x ≡ true → Within deepest x
+unfolding isValid Within
+valid-within (Depth z) e = range-size z e
+valid-within Gap e = tt
+
+pub within-valid : (x : Value) → Within deepest x → isValid x ≡ true
+unfolding isValid Within
+within-valid (Depth z) h = range-intro z h
+within-valid Gap h = refl
+
+-- each of the values valid
+pub ranged-valid : (b : Bytes) (at n k : ℕ) → every 0 n (rangedAt b at) ≡ true → k < n → Valid b (at + 4 * k)
 unfolding rangedAt
-ranged-size b at n k e h =
-    range-size (depthFrom b (at + 4 * k)) (ap (λ j. inRange (depthFrom b (at + 4 * j))) (sym (zero-add k)) ∙ every-at 0 (rangedAt b at) n k e h)
+ranged-valid b at n k e h =
+    valid-within (valueFrom b (at + 4 * k)) (ap (λ j. isValid (valueFrom b (at + 4 * j))) (sym (zero-add k)) ∙ every-at 0 (rangedAt b at) n k e h)

@@ -1,13 +1,15 @@
--- Depths in bytes. "A depth is a signed whole number of centimetres from −1,200,000 to 1,200,000, positive down. A field is four bytes a
--- cell, two's complement, high byte first." In fields, messages and states a depth stays its four bytes; only a rule reads them as a
--- number. Assumes nothing.
-use mathlib.Core.Bool.{Bool, cond}
+-- Depths and gaps in bytes. "A depth is a signed whole number of centimetres from −1,200,000 to 1,200,000, positive down. A field is four bytes a
+-- cell, two's complement, high byte first." In fields, messages and states a depth or a gap (F-2) stays its four bytes; only the rules,
+-- the tests 14, 15 and 20 and the equality of fields read what they stand for. Where a name says depth and gives bytes, they may be a gap's. Assumes nothing.
+use mathlib.Core.Bool.{Bool, true, false, cond}
 use mathlib.Core.List.{[], _∷_}
 use Prim.Native.Nat.{ℕ, _+_, _-_, _*_, _/_, _%_, _≤_}
-use lib.Dec.{ltb, leb}
+use lib.Dec.{eqb, ltb, leb}
 use lib.IntN.{ℤ, pos, negsuc, natAbs}
 use Rattle.vocabulary.specs.Bytes.{Bytes, byteAt}
 use Rattle.layout.specs.Words.{word}
+use Rattle.depths.specs.declared.Value.{Value}
+use Rattle.depths.specs.declared.Value.the-variants.{Depth, Gap}
 
 -- the four bytes from o on; a byte past the end counts 0
 unfoldable pub four : Bytes → ℕ → Bytes
@@ -47,13 +49,45 @@ deepest = 1200000
 unfoldable pub inRange : ℤ → Bool
 inRange z = leb (natAbs z) deepest
 
--- the four bytes from o on have a depth in range; and the same as a fact
-abbrev pub validDepth : Bytes → ℕ → Bool
-validDepth b o = inRange (depthFrom b o)
+-- ---- gaps (F-2)
+
+-- "The four bytes 80 00 00 00 (hexadecimal) now stand for a gap", and the number that they are
+unfoldable pub gapBytes : Bytes
+gapBytes = 128 ∷ 0 ∷ 0 ∷ 0 ∷ []
+
+abbrev pub gapNumber : ℕ
+gapNumber = 2147483648
+
+-- "Reading a depth gives either a depth or a gap": what the four bytes from o on stand for
+unfoldable pub valueFrom : Bytes → ℕ → Value
+valueFrom b o = cond (eqb (numberFrom b o) gapNumber) Gap (Depth (depthFrom b o))
+
+-- what four bytes stand for, and the four bytes of each
+abbrev pub valueOf : Bytes → Value
+valueOf x = valueFrom x 0
+
+unfoldable pub valueBytes : Value → Bytes
+valueBytes (Depth z) = depthBytes z
+valueBytes Gap = gapBytes
+
+-- whether it is a depth
+unfoldable pub isDepth : Value → Bool
+isDepth (Depth z) = true
+isDepth Gap = false
+
+-- what a field, a message or a state may hold: a depth in range, or a gap ("14 and 15 let this value through")
+unfoldable pub isValid : Value → Bool
+isValid (Depth z) = inRange z
+isValid Gap = true
+
+-- of the values that stand one after another from the place `at` on, the k-th is valid
+unfoldable pub rangedAt : Bytes → ℕ → ℕ → Bool
+rangedAt b at k = isValid (valueFrom b (at + 4 * k))
+
+-- a depth of at most m centimetres, up or down, or a gap; and as a fact that the four bytes from o on are valid
+unfoldable pub Within : ℕ → Value → Type 0
+Within m (Depth z) = natAbs z ≤ m
+Within m Gap = Unit {0}
 
 abbrev pub Valid : Bytes → ℕ → Type 0
-Valid b o = natAbs (depthFrom b o) ≤ deepest
-
--- of the depths that stand one after another from the place `at` on, the k-th is valid
-unfoldable pub rangedAt : Bytes → ℕ → ℕ → Bool
-rangedAt b at k = validDepth b (at + 4 * k)
+Valid b o = Within deepest (valueFrom b o)

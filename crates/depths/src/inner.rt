@@ -1,4 +1,5 @@
-// Depths at places that the caller knows to be there.
+// Depths and gaps at places that the caller knows to be there.
+use crate::Value;
 use crate::in_range;
 use layout::inner::put_word;
 use layout::inner::word_in;
@@ -7,7 +8,10 @@ ghost use Prim.Native.Nat.{_+_, _*_, _<_, _≤_};
 ghost use lib.ListN.{length};
 ghost use Rattle.vocabulary.specs.Bytes.{over};
 ghost use Rattle.vocabulary.specs.Intervals.{every};
-ghost use Rattle.depths.specs.Depths.{numberFrom, numberBytes, signed, unsigned, depthFrom, depthBytes, rangedAt};
+ghost use Rattle.depths.specs.Depths.{numberFrom, numberBytes, signed, unsigned, valueFrom, valueBytes, rangedAt};
+
+// The number whose four bytes stand for a gap.
+const GAP_NUMBER: usize = 2147483648;
 
 // The four bytes from `o` on as a number, high byte first.
 fn number_in(b: &[u8], o: usize) -> usize
@@ -39,12 +43,16 @@ fn to_unsigned(z: i32) -> usize
     }
 }
 
-// The depth in the four bytes from `o` on.
-pub fn depth_in(b: &[u8], o: usize) -> i32
+// What stands in the four bytes from `o` on.
+pub fn value_in(b: &[u8], o: usize) -> Value
     requires { ⌜ o + 3 < length (now b) ⌝ }
-    ensures { λ r. ⌜ r ≡ depthFrom (now (b .entry)) o ⌝ }
+    ensures { λ r. ⌜ r ≡ valueFrom (now (b .entry)) o ⌝ }
 {
-    to_signed(number_in(b, o))
+    let v = number_in(b, o);
+    if v == GAP_NUMBER {
+        return Value::Gap;
+    }
+    Value::Depth(to_signed(v))
 }
 
 fn put_number(b: &mut [u8], o: usize, v: usize)
@@ -55,23 +63,37 @@ fn put_number(b: &mut [u8], o: usize, v: usize)
     put_word(b, o + 2, v % 65536);
 }
 
-// Stores the depth `z` in the four bytes from `o` on.
-pub fn put_depth(b: &mut [u8], o: usize, z: i32)
-    requires { ⌜ o + 3 < length (now b) ⌝ }
-    ensures { λ _. ⌜ now (b .exit) ≡ over (now (b .entry)) o (depthBytes z) ⌝ }
+// The number whose four bytes stand for a depth or a gap.
+fn number_of(x: Value) -> usize
+    ensures { λ r. ⌜ (numberBytes r ≡ valueBytes x) × (r < 4294967296) ⌝ }
 {
-    put_number(b, o, to_unsigned(z));
+    match x {
+        Value::Depth(z) => to_unsigned(z),
+        Value::Gap => GAP_NUMBER,
+    }
 }
 
-// Whether the n depths from `at` on are in range.
-pub fn depths_in_range(b: &[u8], at: usize, n: usize) -> bool
+// Stores a depth or a gap in the four bytes from `o` on.
+pub fn put_value(b: &mut [u8], o: usize, x: Value)
+    requires { ⌜ o + 3 < length (now b) ⌝ }
+    ensures { λ _. ⌜ now (b .exit) ≡ over (now (b .entry)) o (valueBytes x) ⌝ }
+{
+    put_number(b, o, number_of(x));
+}
+
+// Whether the n values from `at` on may stand in a field: each a depth in range or a gap.
+pub fn values_valid(b: &[u8], at: usize, n: usize) -> bool
     requires { ⌜ at + 4 * n ≤ length (now b) ⌝ }
     ensures { λ r. ⌜ r ≡ every 0 n (rangedAt (now (b .entry)) at) ⌝ }
 {
+    // no way out before the end, so that several values are tested at once
+    let mut valid = true;
     for k in 0..n {
-        if !in_range(depth_in(b, at + 4 * k)) {
-            return false;
-        }
+        let fine = match value_in(b, at + 4 * k) {
+            Value::Depth(z) => in_range(z),
+            Value::Gap => true,
+        };
+        valid = fine && valid;
     }
-    true
+    valid
 }

@@ -17,13 +17,13 @@ use Rattle.vocabulary.specs.ListLaws.{All-getD, All-map, All-append, All-split,
 use Rattle.vocabulary.specs.IntervalLaws.{every-intro, listed-length, listed-back}
 use Rattle.layout.specs.Words.{wordAt, words, bytesOf}
 use Rattle.layout.specs.WordLaws.{word-same, wordAt-first, length-bytesOf, bytesOf-bytes, bytesOf-words, words-same}
-use Rattle.depths.specs.Depths.{four, depthOf, inRange, rangedAt}
-use Rattle.depths.specs.DepthLaws.{four-past, joined-at, joined-length, joined-fours, depth-four}
+use Rattle.depths.specs.Depths.{four, valueOf, isValid, rangedAt}
+use Rattle.depths.specs.DepthLaws.{four-past, joined-at, joined-length, joined-fours, value-four}
 use Rattle.messages.specs.Messages.{headerSize, depthStart, messageSize, depthsOf, Message, encode, fromIn, toIn, roundIn, countIn, bad15, Reading, read, refused, reading}
 
--- a depth that may stand in a message: four bytes, in range
+-- a value that may stand in a message: four bytes, a depth in range or a gap
 abbrev pub Sound : Bytes → Type 0
-Sound z = (length z ≡ 4) × (inRange (depthOf z) ≡ true)
+Sound z = (length z ≡ 4) × (isValid (valueOf z) ≡ true)
 
 -- ---- the bytes of a message
 
@@ -75,7 +75,7 @@ module _ (x : Message) where
         let ranged : every 0 (length (x .depths)) (rangedAt (encode x) headerSize) ≡ true =
         every-intro 0 (rangedAt (encode x) headerSize) (length (x .depths))
         (λ t h.
-        ap (λ z. inRange z) (sym (depth-four (encode x) (depthStart (0 + t))) ∙ ap (λ f. depthOf f) (ap (λ k. four (encode x) (depthStart k)) (zero-add t) ∙ encode-depth four-long t h))
+        ap (λ z. isValid z) (sym (value-four (encode x) (depthStart (0 + t))) ∙ ap (λ f. valueOf f) (ap (λ k. four (encode x) (depthStart k)) (zero-add t) ∙ encode-depth four-long t h))
         ∙ All-getD Sound (x .depths) t [] s h .1) in
         simp (encode-word 3 (omega arith), le-ltb _ _ short, eq-eqb _ _ long, ranged)
 

@@ -1,7 +1,7 @@
 // Messages. Here stands the reader, which takes any bytes; what supposes room for a message is in `inner`.
 pub mod inner;
 
-use depths::inner::depths_in_range;
+use depths::inner::values_valid;
 use layout::word_at;
 ghost use mathlib.Core.Path.{_≡_};
 ghost use Rattle.messages.specs.Messages.{bad15, reading};
@@ -35,7 +35,7 @@ fn bad_message(b: &[u8]) -> bool
     if b.len() != HEADER_SIZE + 4 * count {
         return true;
     }
-    !depths_in_range(b, HEADER_SIZE, count)
+    !values_valid(b, HEADER_SIZE, count)
 }
 
 // Reads a message out of any bytes.

@@ -22,7 +22,7 @@ use Rattle.vocabulary.specs.TestLaws.{passed-by}
 use Rattle.layout.specs.Words.{word, wordBytes, bytesOf}
 use Rattle.layout.specs.WordLaws.{word-same, word-in, word-left, word-back, length-wordBytes, length-bytesOf, wordAt-first}
 use Rattle.depths.specs.Depths.{four}
-use Rattle.depths.specs.DepthLaws.{length-depthBytes, length-four, four-same, four-whole, four-set, four-in, four-before, four-after, four-past, four-drop, fours-length, fours-at, joined-at}
+use Rattle.depths.specs.DepthLaws.{length-valueBytes, length-four, four-same, four-whole, four-set, four-in, four-before, four-after, four-past, four-drop, fours-length, fours-at, joined-at}
 use Rattle.round_rule.specs.Rules.{plainMean}
 use Rattle.messages.specs.Messages.{depthStart, depthsOf, encode, fromIn, toIn, roundIn, countIn, headerSize}
 use Rattle.part_state.specs.State.{Lists, roundAt, takenPlace, depthPlace, depthsPlace}
@@ -292,7 +292,7 @@ module _ (L : Lists) (changes : ℕ) (b out : Bytes) where
 pub given-six : (L : Lists) (changes : ℕ) (b : Bytes) (k : ℕ) → length (pointGiven L changes b k) ≡ 6
 unfolding pointGiven
 given-six L changes b k =
-    length-append (wordBytes (L .point k)) (plainMean (map (depthAt changes b) (L .around k))) ∙ ap₂ _+_ (length-wordBytes (L .point k)) (length-depthBytes _)
+    length-append (wordBytes (L .point k)) (plainMean (map (depthAt changes b) (L .around k))) ∙ ap₂ _+_ (length-wordBytes (L .point k)) (length-valueBytes _)
 
 pub points-length : (L : Lists) (changes : ℕ) (b : Bytes) → length (pointsGiven L changes b) ≡ 6 * L .points
 points-length L changes b = rows-length 1 (pointGiven L changes b) 6 (L .points) (λ j h. given-six L changes b (1 + j))

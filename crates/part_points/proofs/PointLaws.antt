@@ -6,12 +6,8 @@ use Prim.Native.Nat.{ℕ, zero, suc, _+_, _-_, _*_, _≤_, _<_}
 use native.Mathlib.Nat.{zero-add}
 use native.Mathlib.Omega.{arith}
 use lib.Dec.{eqb, ltb}
-use lib.IntN.{ℤ}
-use lib.Signed.{mag}
 use lib.ListN.{length}
 use lib.Seq.{length-take-le}
-use mir.Syntax.{w32}
-use mir.Val.{toZ, ofZ}
 use borrow.Author.Tests.{eqb-false, eq-eqb, ne-eqb, lt-ltb, le-ltb, ltb-true, ltb-false, not-true, not-false}
 use Rattle.vocabulary.specs.Bytes.{Bytes, over}
 use Rattle.vocabulary.specs.ByteLaws.{over-more}
@@ -26,11 +22,11 @@ use Rattle.layout.specs.WordLaws.{length-wordBytes}
 use Rattle.layout.specs.AnswerLaws.{refuses, accepts}
 use Rattle.layout.specs.declared.Answer.{Answer}
 use Rattle.layout.specs.declared.Answer.the-variants.{Done, Refused}
-use Rattle.depths.specs.Depths.{Valid, depthBytes}
-use Rattle.depths.specs.DepthLaws.{ranged-size}
+use Rattle.depths.specs.Depths.{Valid, valueBytes}
+use Rattle.depths.specs.DepthLaws.{ranged-valid}
+use Rattle.depths.specs.declared.Value.{Value}
 use Rattle.round_rule.specs.Rules.{plainMean}
 use Rattle.round_rule.specs.Update.{placedAt, PlacesThere}
-use Rattle.round_rule.proofs.Registers.{depth-held}
 use Rattle.part_state.specs.State.{Lists, listsIn, listsOf, dynamic, heldCount, ownedCount, reachCount, exportCount, pointCount, pointAt, pointEnd, pointCells, pointCellAt, localAround}
 use Rattle.part_state.specs.State.{pointsFrom, pointEndsWord, pointCellsWord, depthPlace, depthsPlace}
 use Rattle.part_state.specs.StateLaws.{Whole}
@@ -137,12 +133,12 @@ module _ (lists : Bytes) (changes : ℕ) (b : Bytes) (o : Opened lists changes b
         pub rest-none : 6 * z .points ≤ room → 0 ≡ pointsRest (listsIn lists) changes b room
         rest-none h = rest-last false (le-ltb _ _ h)
 
-  -- ---- the depth at a point
+  -- ---- the value at a point
 
   deep : (x : ℕ) → 1 ≤ x → x ≤ heldCount lists → Valid b (depthPlace changes x)
   deep x h k =
       let p : depthsPlace changes + 4 * (x - 1) ≡ depthPlace changes x = omega arith in
-      subst (λ y. Valid b y) p (ranged-size b (depthsPlace changes) (heldCount lists) (x - 1) (w .ranged) (omega arith))
+      subst (λ y. Valid b y) p (ranged-valid b (depthsPlace changes) (heldCount lists) (x - 1) (w .ranged) (omega arith))
 
   module _ (z : Sizes) (C : Counts lists z) (k : ℕ) (h : 1 ≤ k) (q : k ≤ z .points) (ends : ℕ) (ee : ends ≡ pointEndStart z) where
     -- the lists are short, so the place of an end is small
@@ -194,14 +190,13 @@ module _ (lists : Bytes) (changes : ℕ) (b : Bytes) (o : Opened lists changes b
 
       pub point-ready : outside (listsIn lists) ≡ false → PlacesThere lists (2 * (cells + from)) n b (depthBase changes)
       point-ready e = record {
-        some = omega (arith, size-is, climb);
         few = omega (arith, row-fits, o .place-small, w .lists-fit);
         listed-there = omega (arith, row-fits, lists-length, w .lists-fit, ce, C .held-is, C .owned-is, C .reached-is, C .sent-is, C .points-is);
         there = λ t l. omega (arith, cell-is t l, cell-high t l, long lists changes b o);
         ranged = λ t l. deep (word lists (2 * (cells + from) + 2 * t)) (omega (arith, cell-is t l, cell-low t l e)) (omega (arith, cell-is t l, cell-high t l));
       }
 
-      -- the depths of the cells at the point, as the mean finds them
+      -- the values of the cells at the point, as the mean finds them
       near : listed 0 n (placedAt lists (2 * (cells + from)) b (depthBase changes)) ≡ map (depthAt changes b) (localAround lists k)
       unfolding placedAt localAround
       near =
@@ -210,9 +205,9 @@ module _ (lists : Bytes) (changes : ℕ) (b : Bytes) (o : Opened lists changes b
           ∙ ap₂ (λ x m. listed x m (λ t. depthAt changes b (pointCellAt lists t))) (sym from-is) (sym size-is)
           ∙ sym (listed-map (depthAt changes b) (pointEnd lists (k - 1)) (pointCellAt lists) (pointEnd lists k - pointEnd lists (k - 1)))
 
-      pub point-told : (r : ℤ) → mag r < 2147483648 → depthBytes r ≡ plainMean (listed 0 n (placedAt lists (2 * (cells + from)) b (depthBase changes)))
-          → depthBytes (toZ w32 (ofZ w32 r)) ≡ plainMean (map (depthAt changes b) (localAround lists k))
-      point-told r m e = ap depthBytes (depth-held r r m refl) ∙ e ∙ ap (λ xs. plainMean xs) near
+      pub point-told : (r : Value) → valueBytes r ≡ plainMean (listed 0 n (placedAt lists (2 * (cells + from)) b (depthBase changes)))
+          → valueBytes r ≡ plainMean (map (depthAt changes b) (localAround lists k))
+      point-told r e = e ∙ ap (λ xs. plainMean xs) near
 
 -- ---- what is stored
 
@@ -222,17 +217,17 @@ unfolding pointGiven listsIn
 given-is lists changes b k = refl
 
 module _ (lists : Bytes) (changes : ℕ) (b : Bytes) (z : Sizes) (C : Counts lists z) (k : ℕ) where
-  pub point-put : (start number : ℕ) → start ≡ pointStart z → number ≡ wordAt lists (start + k) → (r : ℤ) → mag r < 2147483648
-      → depthBytes r ≡ plainMean (map (depthAt changes b) (localAround lists k)) → (out x y : Bytes) (at : ℕ) → at + 2 ≤ length out
-      → x ≡ over out at (wordBytes number) → y ≡ over x (at + 2) (depthBytes (toZ w32 (ofZ w32 r))) → y ≡ over out at (pointGiven (listsIn lists) changes b k)
-  point-put start number se ne r m e out x y at room xe ye =
+  pub point-put : (start number : ℕ) → start ≡ pointStart z → number ≡ wordAt lists (start + k) → (r : Value)
+      → valueBytes r ≡ plainMean (map (depthAt changes b) (localAround lists k)) → (out x y : Bytes) (at : ℕ) → at + 2 ≤ length out
+      → x ≡ over out at (wordBytes number) → y ≡ over x (at + 2) (valueBytes r) → y ≡ over out at (pointGiven (listsIn lists) changes b k)
+  point-put start number se ne r e out x y at room xe ye =
       let l : length (wordBytes number) ≡ 2 = length-wordBytes number in
       let i : at + 2 ≡ at + length (wordBytes number) = omega arith in
       let s : start + k ≡ pointsFrom lists + k = omega (arith, se, C .held-is, C .owned-is, C .reached-is, C .sent-is) in
       ye
-      ∙ ap₂ (λ (u : Bytes) j. over u j (depthBytes (toZ w32 (ofZ w32 r)))) xe i
-      ∙ over-more out at (wordBytes number) (omega arith) (depthBytes (toZ w32 (ofZ w32 r)))
-      ∙ ap₂ (λ p (d : Bytes). over out at (wordBytes p ++ d)) (ne ∙ ap (wordAt lists) s) (ap depthBytes (depth-held r r m refl) ∙ e)
+      ∙ ap₂ (λ (u : Bytes) j. over u j (valueBytes r)) xe i
+      ∙ over-more out at (wordBytes number) (omega arith) (valueBytes r)
+      ∙ ap₂ (λ p (d : Bytes). over out at (wordBytes p ++ d)) (ne ∙ ap (wordAt lists) s) e
       ∙ ap (over out at) (given-is lists changes b k)
 
 -- one more point behind those before it

@@ -1,5 +1,6 @@
-// Points: the depths at the points that touch the owned cells (F-1).
-use depths::inner::put_depth;
+// Points: the values at the points that touch the owned cells (F-1, F-2).
+use depths::Value;
+use depths::inner::put_value;
 use layout::Answer;
 use layout::inner::put_word;
 use layout::inner::word_in;
@@ -19,14 +20,14 @@ ghost use Prim.Native.Nat.{_-_, _*_, _≤_};
 ghost use lib.ListN.{length};
 ghost use Rattle.vocabulary.specs.Bytes.{over};
 ghost use Rattle.vocabulary.specs.Intervals.{some};
-ghost use Rattle.depths.specs.Depths.{depthBytes};
+ghost use Rattle.depths.specs.Depths.{valueBytes};
 ghost use Rattle.round_rule.specs.Rules.{plainMean};
 ghost use Rattle.part_state.specs.State.{listsIn, localAround, pointCells};
 ghost use Rattle.part_state.specs.Checks.{Counts, Fitting};
 ghost use Rattle.part_calls.specs.Opened.{Opened, unreadAt, pointsRest};
 ghost use Rattle.part_calls.specs.Calls.{outside, depthAt, pointGiven, pointsGiven, pointsAnswer, pointsOut};
 
-// How many bytes a point takes: the word of its number and its depth.
+// How many bytes a point takes: the word of its number and the four of its value.
 const POINT_SIZE: usize = 6;
 
 // Whether some cell at a point is not to be read. The ends of the points rise from 0 to the count of all their cells, so one pass sees every cell.
@@ -60,27 +61,27 @@ fn points_rest(lists: &[u8], b: &[u8], changes: usize, sizes: Sizes, room: usize
     0
 }
 
-// The depth at the k-th point.
-fn point_depth(lists: &[u8], b: &[u8], changes: usize, sizes: Sizes, k: usize) -> i32
+// The value at the k-th point: a gap where only gaps are around it.
+fn point_depth(lists: &[u8], b: &[u8], changes: usize, sizes: Sizes, k: usize) -> Value
     requires { ⌜ Opened (now lists) changes (now b) × Counts (now lists) sizes × (outside (listsIn (now lists)) ≡ false) × (1 ≤ k) × (k ≤ sizes .points) ⌝ }
-    ensures { λ r. ⌜ depthBytes r ≡ plainMean (map (depthAt changes (now (b .entry))) (localAround (now (lists .entry)) k)) ⌝ }
+    ensures { λ r. ⌜ valueBytes r ≡ plainMean (map (depthAt changes (now (b .entry))) (localAround (now (lists .entry)) k)) ⌝ }
 {
     let end = sizes.point_ends_word() + (k - 1);
     let at = 2 * (sizes.point_cells_word() + word_at(lists, end));
     plain_mean(lists, at, count_between(lists, end), b, changes + DEPTH)
 }
 
-// Stores the number of the k-th point and its depth.
+// Stores the number of the k-th point and its value.
 fn put_point(lists: &[u8], b: &[u8], changes: usize, sizes: Sizes, k: usize, out: &mut [u8])
     requires { ⌜ Opened (now lists) changes (now b) × Counts (now lists) sizes × (outside (listsIn (now lists)) ≡ false) × (1 ≤ k) × (k ≤ sizes .points)
         × (6 * sizes .points ≤ length (now out)) ⌝ }
     ensures { λ _. ⌜ now (out .exit) ≡ over (now (out .entry)) (6 * (k - 1)) (pointGiven (listsIn (now (lists .entry))) changes (now (b .entry)) k) ⌝ }
 {
-    let z = point_depth(lists, b, changes, sizes, k);
+    let x = point_depth(lists, b, changes, sizes, k);
     let number = word_at(lists, sizes.points_word() + k);
     let at = POINT_SIZE * (k - 1);
     put_word(out, at, number);
-    put_depth(out, at + 2, z);
+    put_value(out, at + 2, x);
 }
 
 // Stores all points in rising order.
@@ -107,7 +108,7 @@ fn points_from(lists: &[u8], b: &[u8], changes: usize, out: &mut [u8]) -> Answer
     Answer::Done(sizes.points as u32)
 }
 
-// Gives each point that touches an owned cell, in rising number, with its depth, and changes no other byte of the output.
+// Gives each point that touches an owned cell, in rising number, with its value, and changes no other byte of the output.
 pub fn points(b: &[u8], out: &mut [u8]) -> Answer
     ensures { λ r. ⌜ (r ≡ pointsAnswer (now (b .entry)) (now (out .entry))) × (now (out .exit) ≡ pointsOut (now (b .entry)) (now (out .entry))) ⌝ }
 {

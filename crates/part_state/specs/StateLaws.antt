@@ -23,7 +23,7 @@ use Rattle.layout.specs.Limits.{lastRound, mostElements, mostParts, mostSteps}
 use Rattle.depths.specs.Depths.{rangedAt}
 use Rattle.round_rule.specs.Rules.{bad11}
 use Rattle.part_state.specs.State.{stepCount, ruleKind, weights, firstOfMesh, cellsOfMesh, globalAt, exportEnd, exportCount, exportAt, validGlobal}
-use Rattle.part_state.specs.State.{validEntry, ownFound, validExport, reachEnd, reachCount, climbs, pointCount, pointEnd, pointCells, pointCellAt, validPointCell}
+use Rattle.part_state.specs.State.{validEntry, validExport, reachEnd, reachCount, climbs, pointCount, pointEnd, pointCells, pointCellAt, validPointCell}
 use Rattle.part_state.specs.State.{entryAt, localReach, dynamic, importEnd, ownedCount, heldCount, rises, listsLength, listsTests, validFlags, dynamicTests, isState}
 use Rattle.part_state.specs.State.{roundAt, takenPlace, writtenPlace, stateLength, depthsPlace}
 
@@ -86,7 +86,6 @@ pub record Whole (lists : Bytes) (changes : ℕ) (b : Bytes) : Type 0 where
   pub rule : bad11 (ruleKind lists) (stepCount lists) (weights lists) ≡ false
   pub globals : (l : ℕ) → 1 ≤ l → l ≤ heldCount lists → (firstOfMesh lists ≤ globalAt lists l) × (globalAt lists l < firstOfMesh lists + cellsOfMesh lists)
   pub layers : (t : ℕ) → t < reachCount lists → (entryAt lists t) .layer ≤ stepCount lists
-  pub owns : (l : ℕ) → 1 ≤ l → l ≤ ownedCount lists → ownFound lists l ≡ true
   pub export-ends : (i j : ℕ) → i ≤ j → j ≤ mostParts → exportEnd lists i ≤ exportEnd lists j
   pub exported : (t : ℕ) → t < exportCount lists → (1 ≤ exportAt lists t) × (exportAt lists t ≤ ownedCount lists)
   pub point-first : pointEnd lists 0 ≡ 0
@@ -109,7 +108,6 @@ whole-is lists changes b e =
     let reaches-pass : eqb (reachEnd lists 0) 0 && rises (ownedCount lists) (reachEnd lists) ≡ true = search l in
     let globals-pass : every 1 (heldCount lists) (validGlobal lists) ≡ true = search l in
     let entries-pass : every 0 (reachCount lists) (validEntry lists) ≡ true = search l in
-    let own-pass : every 1 (ownedCount lists) (ownFound lists) ≡ true = search l in
     let exported-pass : every 0 (exportCount lists) (validExport lists) ≡ true = search l in
     let points-pass : eqb (pointEnd lists 0) 0 && climbs (pointCount lists) (pointEnd lists) ≡ true = search l in
     let cells-pass : every 0 (pointCells lists) (validPointCell lists) ≡ true = search l in
@@ -147,7 +145,6 @@ whole-is lists changes b e =
           let q = eqb ((entryAt lists t) .layer % 2) 0 in
           let r = leb ((entryAt lists t) .layer) (stepCount lists) in
           leb-true _ _ (and-true (p && q) r x .1);
-      owns = λ x h k. every-in 1 (ownFound lists) (ownedCount lists) x own-pass h (omega arith);
       export-ends = λ i j h k. rises-grow mostParts (exportEnd lists) (and-true (eqb (exportEnd lists 0) 0) (rises mostParts (exportEnd lists)) exports-pass .1) i j h k;
       exported = λ t h.
           upTo-true (ownedCount lists) (exportAt lists t) (every-in 0 (validExport lists) (exportCount lists) t exported-pass (omega arith) (omega arith));

@@ -5,7 +5,7 @@ use crate::places::LENGTH;
 use crate::places::TAKEN;
 use crate::places::WRITTEN;
 use crate::places::sizes_of;
-use depths::inner::depths_in_range;
+use depths::inner::values_valid;
 use layout::byte_at;
 use layout::inner::word_in;
 use layout::limits::LAST_ROUND;
@@ -57,7 +57,7 @@ fn valid_changes(b: &[u8], changes: usize, n: usize) -> bool
     if !valid_flags(b, changes) {
         return false;
     }
-    depths_in_range(b, changes + DEPTHS, n)
+    values_valid(b, changes + DEPTHS, n)
 }
 
 // The state b, whose lists end at `changes`.

@@ -1,27 +1,22 @@
--- The new depths of a part's owned cells, from the lists of its state. Assumes nothing.
+-- The new values of a part's owned cells, from the lists of its state. Assumes nothing.
 use mathlib.Core.Path.{_≡_, refl, sym, ap, ap₂, _∙_, subst}
-use mathlib.Core.Bool.{true, false, _&&_}
+use mathlib.Core.Bool.{false}
 use mathlib.Core.List.{map}
 use Prim.Native.Nat.{ℕ, _+_, _-_, _*_, _≤_, _<_}
 use native.Mathlib.Nat.{zero-add}
 use native.Mathlib.Omega.{arith}
-use lib.Dec.{eqb}
-use lib.IntN.{ℤ}
-use lib.Signed.{mag}
-use lib.ListN.{length, getD, take, drop}
+use lib.ListN.{length, take, drop}
 use lib.Seq.{length-take-le}
-use mir.Syntax.{w32}
-use mir.Val.{toZ, ofZ}
-use borrow.Author.Tests.{eqb-true}
 use Rattle.vocabulary.specs.Bytes.{Bytes, over}
-use Rattle.vocabulary.specs.ListLaws.{and-true, someOf-witness}
 use Rattle.vocabulary.specs.Intervals.{listed, blocks}
-use Rattle.vocabulary.specs.IntervalLaws.{listed-map, listed-length, listed-at, listed-moved}
+use Rattle.vocabulary.specs.IntervalLaws.{listed-map, listed-moved}
 use Rattle.layout.specs.Words.{word, wordAt}
-use Rattle.depths.specs.Depths.{Valid, four, depthBytes}
-use Rattle.depths.specs.DepthLaws.{length-four, fours-store, ranged-size}
+use Rattle.depths.specs.Depths.{Valid, four, valueBytes}
+use Rattle.depths.specs.DepthLaws.{length-four, fours-store, ranged-valid}
+use Rattle.depths.specs.declared.Value.{Value}
 use Rattle.round_rule.specs.Rules.{Old, newDepth, bad11, weightCount}
-use Rattle.round_rule.specs.RuleLaws.{rule-known, rule-light, rule-first, new-length}
+use Rattle.round_rule.specs.RuleLaws.{rule-known, new-length}
+use Rattle.round_rule.specs.UpdateLaws.{weighed-from}
 use Rattle.round_rule.specs.Kinds.{kindNumber, ruleOf}
 use Rattle.round_rule.specs.declared.Kind.{Kind}
 use Rattle.round_rule.specs.declared.Rule.{Rule}
@@ -29,10 +24,8 @@ use Rattle.round_rule.specs.declared.Rule.the-variants.{Known, Unknown}
 use Rattle.round_rule.proofs.KindLaws.{known-number, unknown-number}
 use Rattle.round_rule.specs.Update.{tableEntries, oldsAt, UpdateReady}
 use Rattle.round_rule.specs.Update as update
-use Rattle.round_rule.specs.UpdateLaws.{weightSum-own}
-use Rattle.round_rule.proofs.Registers.{depth-held}
 use Rattle.part_state.specs.State.{LocalNear, listsIn, ruleKind, stepCount, weights, heldCount, ownedCount, reachEnd, weightsPlace}
-use Rattle.part_state.specs.State.{reachCount, entryAt, localReach, ownFound, depthPlace, depthsPlace, entryWord, reachWord}
+use Rattle.part_state.specs.State.{reachCount, entryAt, localReach, depthPlace, depthsPlace, entryWord, reachWord}
 use Rattle.part_state.specs.Checks.{reachStart, entryStart, Counts, depthBase}
 use Rattle.part_state.specs.declared.places.Sizes.{Sizes}
 use Rattle.part_calls.specs.Calls.{depthAt, newAt}
@@ -44,7 +37,7 @@ word-of : (b : Bytes) (o i : ℕ) → o ≡ 2 * i → word b o ≡ wordAt b i
 unfolding wordAt
 word-of b o i e = ap (word b) e
 
--- the old depth of an entry of a local reach
+-- the old value of an entry of a local reach
 abbrev oldOf : Bytes → ℕ → LocalNear → Old
 oldOf b changes e = record { layer = e .layer; depth = depthAt changes b (e .local) }
 
@@ -67,41 +60,44 @@ module _ (lists : Bytes) (changes : ℕ) (b : Bytes) (o : Opened lists changes b
   deep : (x : ℕ) → 1 ≤ x → x ≤ heldCount lists → Valid b (depthPlace changes x)
   deep x h k =
       let p : depthsPlace changes + 4 * (x - 1) ≡ depthPlace changes x = omega arith in
-      subst (λ y. Valid b y) p (ranged-size b (depthsPlace changes) (heldCount lists) (x - 1) (w .ranged) (omega arith))
+      subst (λ y. Valid b y) p (ranged-valid b (depthsPlace changes) (heldCount lists) (x - 1) (w .ranged) (omega arith))
 
-  own-witness : (l : ℕ) → ownFound lists l ≡ true → (t : ℕ) × (t < reachEnd lists l - reachEnd lists (l - 1)) × ((entryAt lists (reachEnd lists (l - 1) + t)) .layer ≡ 0)
-  unfolding localReach
-  own-witness l e =
-      let p = someOf-witness (λ (x : LocalNear). eqb (x .local) l && eqb (x .layer) 0) (localReach lists l) (record { local = 0; layer = 0 }) e in
-      let n : ℕ = reachEnd lists l - reachEnd lists (l - 1) in
-      let q : p .0 < reachEnd lists l - reachEnd lists (l - 1) = omega (arith, p .1, listed-length (reachEnd lists (l - 1)) (entryAt lists) (reachEnd lists l - reachEnd lists (l - 1))) in
-      let g = listed-at (reachEnd lists (l - 1)) (entryAt lists) (reachEnd lists l - reachEnd lists (l - 1)) (p .0) (record { local = 0; layer = 0 }) q in (
-        p .0,
-        q,
-        ap (λ (x : LocalNear). x .layer) (sym g) ∙ eqb-true _ _ (and-true (eqb (getD (localReach lists l) (p .0) (record { local = 0; layer = 0 }) .local) l)
-            (eqb (getD (localReach lists l) (p .0) (record { local = 0; layer = 0 }) .layer) 0) (p .2) .1),
-      )
+  -- the two ends of a reach, at words that are there
+  module _ (z : Sizes) (C : Counts lists z) (ends l : ℕ) (ee : ends ≡ reachStart z) (h : 1 ≤ l) (k : l ≤ z .owned) where
+    pub last-end-there : 2 * (ends + (l - 1)) + 2 + 1 < length lists
+    last-end-there = omega (arith, lists-length, w .lists-fit, C .held-is, C .owned-is)
 
-  module _ (z : Sizes) (C : Counts lists z) (ends at l from n : ℕ) (ee : ends ≡ reachStart z) (ae : at ≡ entryStart z) (h : 1 ≤ l) (k : l ≤ z .owned)
-      (fe : from ≡ wordAt lists (ends + (l - 1))) (ne : n ≡ wordAt lists (ends + (l - 1) + 1) - wordAt lists (ends + (l - 1))) where
+    pub first-end-there : 2 * (ends + (l - 1)) + 1 < length lists
+    first-end-there = omega (arith, last-end-there)
+
+  module _ (z : Sizes) (C : Counts lists z) (ends at l from to : ℕ) (ee : ends ≡ reachStart z) (ae : at ≡ entryStart z) (h : 1 ≤ l) (k : l ≤ z .owned)
+      (fe : from ≡ word lists (2 * (ends + (l - 1)))) (te : to ≡ word lists (2 * (ends + (l - 1)) + 2)) where
+    abbrev n : ℕ
+    n = to - from
+
     own-l : l ≤ ownedCount lists
     own-l = omega (arith, C .owned-is)
 
     from-is : reachEnd lists (l - 1) ≡ from
-    from-is = ap (λ x. wordAt lists (x + (l - 1))) (sym (ee ∙ ap reachWord (C .held-is))) ∙ sym fe
+    unfolding wordAt
+    from-is = let p : 2 * (reachWord (heldCount lists) + (l - 1)) ≡ 2 * (ends + (l - 1)) = omega (arith, C .held-is) in ap (λ x. word lists x) p ∙ sym fe
+
+    to-is : reachEnd lists l ≡ to
+    unfolding wordAt
+    to-is = let p : 2 * (reachWord (heldCount lists) + l) ≡ 2 * (ends + (l - 1)) + 2 = omega (arith, C .held-is) in ap (λ x. word lists x) p ∙ sym te
 
     size-is : reachEnd lists l - reachEnd lists (l - 1) ≡ n
-    size-is =
-        let p : reachWord (heldCount lists) + l ≡ ends + (l - 1) + 1 = omega (arith, C .held-is) in
-        let q : reachWord (heldCount lists) + (l - 1) ≡ ends + (l - 1) = omega (arith, C .held-is) in
-        ap₂ (λ x y. wordAt lists x - wordAt lists y) p q ∙ sym ne
+    size-is = ap₂ _-_ to-is from-is
+
+    pub ends-rise : from ≤ to
+    ends-rise = omega (arith, from-is, to-is, w .reach-ends (l - 1) l (omega arith) own-l)
 
     row-fits : from + n ≤ reachCount lists
     row-fits =
         omega (
           arith,
           from-is,
-          size-is,
+          to-is,
           w .reach-ends (l - 1) l (omega arith) own-l,
           w .reach-ends l (ownedCount lists) own-l (omega arith),
         )
@@ -125,12 +121,6 @@ module _ (lists : Bytes) (changes : ℕ) (b : Bytes) (o : Opened lists changes b
         ∙ ap₂ (λ x m. listed x m (λ t. oldOf b changes (entryAt lists t))) (sym from-is) (sym size-is)
         ∙ sym (listed-map (oldOf b changes) (reachEnd lists (l - 1)) (entryAt lists) (reachEnd lists l - reachEnd lists (l - 1)))
 
-    -- the cell's own entry
-    own-entry : (t : ℕ) × (t < n) × ((entryAt lists (from + t)) .layer ≡ 0)
-    own-entry =
-        let p = own-witness l (w .owns l h own-l) in
-        (p .0, omega (arith, p .1, size-is), ap (λ x. (entryAt lists (x + p .0)) .layer) (sym from-is) ∙ p .2)
-
     pub renew-ready : (kind : ℕ) (v : Bytes) → kind ≡ ruleKind lists → v ≡ weights lists → UpdateReady kind v lists (2 * at + 4 * from) n b (depthBase changes) l
     renew-ready kind v ke ve = record {
       reached = record {
@@ -144,19 +134,14 @@ module _ (lists : Bytes) (changes : ℕ) (b : Bytes) (o : Opened lists changes b
       own-ranged = deep l h (omega (arith, own-l, own-few lists changes b o));
       weighed = λ one.
           let r : bad11 1 (stepCount lists) v ≡ false = subst (λ x. bad11 x (stepCount lists) v ≡ false) (sym ke ∙ one) (ap (bad11 (ruleKind lists) (stepCount lists)) ve ∙ w .rule) in
-          let e = own-entry in
-          record {
-            light = λ t q. rule-light (stepCount lists) v r _ (omega (arith, entry-layer t q, w .layers (from + t) (omega (arith, row-fits))));
-            heavy = weightSum-own lists (2 * at + 4 * from) b (depthBase changes) v n (e .0) (e .1) (entry-layer (e .0) (e .1) ∙ e .2) (rule-first (stepCount lists) v r);
-          };
+          weighed-from v lists (2 * at + 4 * from) n (stepCount lists) r (w .steps-few) (λ t q. omega (arith, entry-layer t q, w .layers (from + t) (omega (arith, row-fits))));
     }
 
-    pub renew-told : (kind : ℕ) (v : Bytes) → kind ≡ ruleKind lists → v ≡ weights lists → (new : ℤ) → mag new < 2147483648
-        → depthBytes new ≡ newDepth kind v (four b (depthPlace changes l)) (oldsAt b (depthBase changes) (tableEntries lists (2 * at + 4 * from) n))
-        → depthBytes (toZ w32 (ofZ w32 new)) ≡ newAt (listsIn lists) changes b l
-    renew-told kind v ke ve new m e =
-        ap depthBytes (depth-held new new m refl)
-        ∙ e
+    pub renew-told : (kind : ℕ) (v : Bytes) → kind ≡ ruleKind lists → v ≡ weights lists → (new : Value)
+        → valueBytes new ≡ newDepth kind v (four b (depthPlace changes l)) (oldsAt b (depthBase changes) (tableEntries lists (2 * at + 4 * from) n))
+        → valueBytes new ≡ newAt (listsIn lists) changes b l
+    renew-told kind v ke ve new e =
+        e
         ∙ ap₂ (λ x (y : Bytes). newDepth x y (four b (depthPlace changes l)) (oldsAt b (depthBase changes) (tableEntries lists (2 * at + 4 * from) n))) ke ve
         ∙ ap (newDepth (ruleKind lists) (weights lists) (four b (depthPlace changes l))) near
         ∙ new-is lists changes b l
@@ -167,14 +152,14 @@ pub new-four : (lists : Bytes) (changes : ℕ) (b : Bytes) (l : ℕ) → length 
 new-four lists changes b l = ap length (sym (new-is lists changes b l)) ∙ new-length (ruleKind lists) (weights lists) _ _ (length-four b (depthPlace changes l))
 
 module _ (lists : Bytes) (changes : ℕ) (b new : Bytes) (owned : ℕ) where
-  pub renew-turn : 4 * owned ≤ length new → (l : ℕ) → 1 ≤ l → l < owned + 1 → (z : ℤ) → mag z < 2147483648 → depthBytes z ≡ newAt (listsIn lists) changes b l → (x y : Bytes)
-      → x ≡ over new 0 (blocks 1 (l - 1) (newAt (listsIn lists) changes b)) → y ≡ over x (4 * (l - 1)) (depthBytes (toZ w32 (ofZ w32 z)))
+  pub renew-turn : 4 * owned ≤ length new → (l : ℕ) → 1 ≤ l → l < owned + 1 → (n : Value) → valueBytes n ≡ newAt (listsIn lists) changes b l → (x y : Bytes)
+      → x ≡ over new 0 (blocks 1 (l - 1) (newAt (listsIn lists) changes b)) → y ≡ over x (4 * (l - 1)) (valueBytes n)
       → y ≡ over new 0 (blocks 1 (l + 1 - 1) (newAt (listsIn lists) changes b))
-  renew-turn room l h k z m e x y p q =
+  renew-turn room l h k n e x y p q =
       let i : l ≡ 1 + (l - 1) = omega arith in
       let j : l - 1 + 1 ≡ l + 1 - 1 = omega arith in
       q
-      ∙ ap₂ (λ (u : Bytes) (v : Bytes). over u (4 * (l - 1)) v) p (ap depthBytes (depth-held z z m refl) ∙ e ∙ ap (newAt (listsIn lists) changes b) i)
+      ∙ ap₂ (λ (u : Bytes) (v : Bytes). over u (4 * (l - 1)) v) p (e ∙ ap (newAt (listsIn lists) changes b) i)
       ∙ ap (λ n. over (over new 0 (blocks 1 (l - 1) (newAt (listsIn lists) changes b))) n (newAt (listsIn lists) changes b (1 + (l - 1)))) (sym (zero-add (4 * (l - 1))))
       ∙ fours-store 1 (l - 1) (newAt (listsIn lists) changes b) (λ t c. new-four lists changes b (1 + t)) new 0 (omega arith)
       ∙ ap (λ n. over new 0 (blocks 1 n (newAt (listsIn lists) changes b))) j

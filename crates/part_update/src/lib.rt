@@ -1,2 +1,2 @@
-// The new depths of a part's owned cells: all that stands here, in `inner`, supposes a state.
+// The new values of a part's owned cells: all that stands here, in `inner`, supposes a state.
 pub mod inner;

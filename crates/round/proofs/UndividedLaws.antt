@@ -1,24 +1,21 @@
 -- The undivided round by the rows of the table of the reaches, and its number by the tests that the code makes one after the other.
 -- Assumes nothing.
-use mathlib.Core.Path.{_≡_, refl, sym, ap, ap₂, _∙_}
+use mathlib.Core.Path.{_≡_, sym, ap, ap₂, _∙_}
 use mathlib.Core.Bool.{Bool, true, false, cond}
 use mathlib.Core.List.{List, map}
 use Prim.Native.Nat.{ℕ, _+_, _-_, _*_, _%_, _≤_, _<_}
 use native.Mathlib.Nat.{zero-add}
 use native.Mathlib.Omega.{arith}
 use lib.Dec.{ltb}
-use lib.IntN.{ℤ}
-use lib.Signed.{mag}
-use mir.Syntax.{w32}
-use mir.Val.{toZ, ofZ}
 use lib.ListN.{length, getD, length-map}
 use borrow.Author.Tests.{lt-ltb, le-ltb}
 use Rattle.vocabulary.specs.Bytes.{Bytes, over}
 use Rattle.vocabulary.specs.ListLaws.{All-getD, getD-map-any}
 use Rattle.vocabulary.specs.Intervals.{listed, blocks}
 use Rattle.vocabulary.specs.IntervalLaws.{listed-back, blocks-moved}
-use Rattle.depths.specs.Depths.{four, depthBytes}
+use Rattle.depths.specs.Depths.{four, valueBytes}
 use Rattle.depths.specs.DepthLaws.{length-four, fours-store}
+use Rattle.depths.specs.declared.Value.{Value}
 use Rattle.layout.specs.AnswerLaws.{refuses, accepts}
 use Rattle.layout.specs.declared.Answer.{Answer}
 use Rattle.layout.specs.declared.Answer.the-variants.{Done, Refused}
@@ -26,7 +23,7 @@ use Rattle.layout.specs.Limits.{mostReached, tableBytes}
 use Rattle.mesh.specs.Mesh.{top, firstCell, cellCount, meshNumber}
 use Rattle.mesh.specs.MeshLaws.{mesh-then, mesh-refuses}
 use Rattle.mesh.specs.Walks.{Near, reach, steps, bad10, bad13}
-use Rattle.mesh.specs.WalkLaws.{reach-in, reach-own, reach-layers}
+use Rattle.mesh.specs.WalkLaws.{steps-few, reach-in, reach-layers}
 use Rattle.walk_reach_table.specs.Tables.{Tabled}
 use Rattle.walk_reach_table.proofs.SizeLaws.{table-refused}
 use Rattle.walk_reach_table.proofs.EntryLaws.{row-fits, row-size, row-cell, row-layer, table-length}
@@ -43,7 +40,6 @@ use Rattle.round.specs.RoundLaws.{field-length, field-ranged, placed, ol
 use Rattle.round_rule.specs.Update.{tableEntry, tableEntries, oldsAt, UpdateReady}
 use Rattle.round_rule.specs.UpdateLaws.{ready-from}
 use Rattle.round.specs.Rows.{rowNew, Row, Rows}
-use Rattle.round_rule.proofs.Registers.{depth-held}
 
 -- ---- one row
 
@@ -51,11 +47,11 @@ module _ (kind : ℕ) (v table : Bytes) (ends : List ℕ) (f : Bytes) (j from to
   pub row-ready : Row kind v table ends f j → UpdateReady kind v table (4 * from) (to - from) f 0 j
   row-ready r = rw (fe, te) (r .ready)
 
-  -- z is what the update gave, in its register
-  pub row-returned : (z : ℤ) → mag z < 2147483648 → depthBytes z ≡ newDepth kind v (four f (0 + 4 * j)) (oldsAt f 0 (tableEntries table (4 * from) (to - from)))
-      → depthBytes (toZ w32 (ofZ w32 z)) ≡ rowNew kind v table ends f j
+  -- x is what the update gave
+  pub row-returned : (x : Value) → valueBytes x ≡ newDepth kind v (four f (0 + 4 * j)) (oldsAt f 0 (tableEntries table (4 * from) (to - from)))
+      → valueBytes x ≡ rowNew kind v table ends f j
   unfolding rowNew
-  row-returned z h e = ap depthBytes (depth-held z z h refl) ∙ rw (fe, te) at e
+  row-returned x e = rw (fe, te) at e
 
 -- ---- the rows, one after the other
 
@@ -67,12 +63,12 @@ module _ (kind : ℕ) (v table : Bytes) (ends : List ℕ) (f : Bytes) (b : Bytes
   unfolding rowNew
   row-four j = new-length kind v _ _ (length-four f (0 + 4 * j))
 
-  -- z is what `new_at` gave, in its register
-  pub renew-turn : (x y : Bytes) (j : ℕ) (z : ℤ) → mag z < 2147483648 → j < cells → x ≡ over b 0 (blocks 0 j (rowNew kind v table ends f)) → depthBytes z ≡ rowNew kind v table ends f j
-      → y ≡ over x (4 * j) (depthBytes (toZ w32 (ofZ w32 z))) → y ≡ over b 0 (blocks 0 (j + 1) (rowNew kind v table ends f))
-  renew-turn x y j z m h e p q =
+  -- n is what `new_at` gave
+  pub renew-turn : (x y : Bytes) (j : ℕ) (n : Value) → j < cells → x ≡ over b 0 (blocks 0 j (rowNew kind v table ends f)) → valueBytes n ≡ rowNew kind v table ends f j
+      → y ≡ over x (4 * j) (valueBytes n) → y ≡ over b 0 (blocks 0 (j + 1) (rowNew kind v table ends f))
+  renew-turn x y j n h e p q =
       q
-      ∙ ap₂ (λ (w : Bytes) (d : Bytes). over w (4 * j) d) e (ap depthBytes (depth-held z z m refl) ∙ p)
+      ∙ ap₂ (λ (w : Bytes) (d : Bytes). over w (4 * j) d) e p
       ∙ ap₂ (λ o i. over (over b 0 (blocks 0 j (rowNew kind v table ends f))) o (rowNew kind v table ends f i)) (sym (zero-add (4 * j))) (sym (zero-add j))
       ∙ fours-store 0 j (rowNew kind v table ends f) (λ k l. row-four (0 + k)) b 0 (omega arith)
 
@@ -122,10 +118,9 @@ module _ (m st : Bytes) (kind : ℕ) (v f before table : Bytes) (ends : List ℕ
     row-is-ready field j h =
         let es : List Near = reach m st (firstCell m + j) in
         let z : getD ends (j + 1) 0 - getD ends j 0 ≡ length es = size j h in
-        let o = reach-own m st (firstCell m + j) (omega arith) (omega arith) in
         record {
           rises = omega (arith, row-size m st before table ends r made few room j h);
-          ready = ready-from kind v table (4 * getD ends j 0) (getD ends (j + 1) 0 - getD ends j 0) f 0 j (cellCount m) (steps st) rule
+          ready = ready-from kind v table (4 * getD ends j 0) (getD ends (j + 1) 0 - getD ends j 0) f 0 j (cellCount m) (steps st) rule (steps-few (top m) st stencil)
               (omega (arith, row-fits m st before table ends r made few room j h))
               (omega (arith, row-fits m st before table ends r made few room j h, table-length m st before table ends r made few room))
               (omega (arith, field-length (cellCount m) f field))
@@ -138,10 +133,7 @@ module _ (m st : Bytes) (kind : ℕ) (v f before table : Bytes) (ends : List ℕ
               (λ t k.
               let q : t < length es = omega arith in
               let w = All-getD (λ (e : Near). (e .layer % 2 ≡ 0) × (e .layer ≤ steps st)) es t (record { cell = 0; layer = 0 }) (reach-layers m st (firstCell m + j) stencil) q in
-              omega (arith, row-layer m st before table ends r made few room j t (record { cell = 0; layer = 0 }) h q, w .1))
-              (o .0)
-              (omega (arith, o .1))
-              (row-layer m st before table ends r made few room j (o .0) (record { cell = 0; layer = 0 }) h (o .1) ∙ ap (λ (e : Near). e .layer) (o .2));
+              omega (arith, row-layer m st before table ends r made few room j t (record { cell = 0; layer = 0 }) h q, w .1));
         }
 
     pub rows-ready : (cells : ℕ) → cells ≡ cellCount m → cells < 65536 → (b : Bool) → b ≡ bad14 cells f → b ≡ false → Rows kind v table ends cells f

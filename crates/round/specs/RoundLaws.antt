@@ -7,7 +7,6 @@ use Prim.Native.Nat.{ℕ, zero, suc, _+_, _-_, _*_, _≤_, _<_}
 use native.Mathlib.Nat.{zero-add}
 use native.Mathlib.Omega.{arith}
 use lib.Dec.{eqb, ltb}
-use lib.IntN.{natAbs}
 use lib.ListN.{length}
 use borrow.Author.Tests.{not-false, eqb-true, eq-eqb, ltb-true, ltb-false}
 use Rattle.vocabulary.specs.Bytes.{Bytes}
@@ -17,18 +16,18 @@ use Rattle.vocabulary.specs.ListLaws.{or-false}
 use Rattle.vocabulary.specs.Intervals.{every, blocks}
 use Rattle.vocabulary.specs.IntervalLaws.{every-intro}
 use Rattle.layout.specs.Words.{word}
-use Rattle.depths.specs.Depths.{deepest, Valid, four, numberFrom, signed, depthFrom, depthOf, rangedAt}
-use Rattle.depths.specs.DepthLaws.{length-four, four-same, depth-same, depth-four, fours-length, fours-at, range-intro, ranged-size}
+use Rattle.depths.specs.Depths.{deepest, Within, Valid, four, numberFrom, signed, depthFrom, valueFrom, valueOf, rangedAt}
+use Rattle.depths.specs.DepthLaws.{length-four, four-same, value-same, value-four, fours-length, fours-at, within-valid, ranged-valid}
 use Rattle.mesh.specs.Walks.{Near}
-use Rattle.round_rule.specs.RuleLaws.{SmallSum, new-small, new-length}
+use Rattle.round_rule.specs.RuleLaws.{SmallOld, new-within, new-length}
 use Rattle.round.specs.Rounds.{bad14, Scheme, schemeOf, depthIn, oldsIn, newIn, round, undivided}
 use Rattle.round_rule.specs.Update.{oldsAt}
 
 -- ---- an accepted field of n cells
 
-none-small : Valid [] 0
-unfolding depthFrom signed numberFrom word
-none-small = omega arith
+none-valid : Valid [] 0
+unfolding Within valueFrom depthFrom signed numberFrom word
+none-valid = omega arith
 
 module _ (n : ℕ) (f : Bytes) where
   pub field-good : length f ≡ 4 * n → every 0 n (rangedAt f 0) ≡ true → bad14 n f ≡ false
@@ -44,18 +43,18 @@ module _ (n : ℕ) (f : Bytes) where
     unfolding bad14
     field-ranged = not-false (every 0 n (rangedAt f 0)) (or-false (not (eqb (length f) (4 * n))) (not (every 0 n (rangedAt f 0))) e .1)
 
-    -- past the end every byte counts 0, so no depth is out of range
+    -- past the end every byte counts 0, so every value is valid
     pub field-depth : (j : ℕ) → Valid f (4 * j)
     field-depth j = go (ltb j n) refl
       where
         go : (b : Bool) → ltb j n ≡ b → Valid f (4 * j)
-        go true h = rw zero-add at (ranged-size f 0 n j field-ranged (ltb-true j n h))
+        go true h = rw zero-add at (ranged-valid f 0 n j field-ranged (ltb-true j n h))
         go false h =
             let k : n ≤ j = ltb-false j n h in
             let l : length f ≡ 4 * n = field-length in
-            let z : depthFrom f (4 * j) ≡ depthFrom [] 0 =
-            depth-same f [] (4 * j) 0 (four-same f [] (4 * j) 0 (λ i q. byte-past f (4 * j + i) (omega arith) ∙ sym (byte-past [] (0 + i) (omega arith)))) in
-            rw z none-small
+            let z : valueFrom f (4 * j) ≡ valueFrom [] 0 =
+            value-same f [] (4 * j) 0 (four-same f [] (4 * j) 0 (λ i q. byte-past f (4 * j + i) (omega arith) ∙ sym (byte-past [] (0 + i) (omega arith)))) in
+            rw z none-valid
 
 -- ---- the reach of a cell by places in the field: place 0 is the first cell's
 
@@ -87,14 +86,14 @@ module _ (m st : Bytes) (kind : ℕ) (v f : Bytes) where
       let S : Scheme = schemeOf m st kind v in
       fours-at (S .first) (S .cells) (newIn S f) (λ i _. new-four (S .first + i)) j h
 
-  olds-small : (e : bad14 (schemeOf m st kind v .cells) f ≡ false) (ns : List Near) → All (SmallSum deepest) (oldsIn (schemeOf m st kind v) f ns)
+  olds-within : (e : bad14 (schemeOf m st kind v .cells) f ≡ false) (ns : List Near) → All (SmallOld deepest) (oldsIn (schemeOf m st kind v) f ns)
   unfolding oldsIn depthIn
-  olds-small e [] = tt
-  olds-small e (x ∷ ns) = (rw depth-four (field-depth _ f e _), olds-small e ns)
+  olds-within e [] = tt
+  olds-within e (x ∷ ns) = (rw value-four (field-depth _ f e _), olds-within e ns)
 
-  new-ranged : bad14 (schemeOf m st kind v .cells) f ≡ false → (c : ℕ) → natAbs (depthOf (newIn (schemeOf m st kind v) f c)) ≤ deepest
+  new-valid : bad14 (schemeOf m st kind v .cells) f ≡ false → (c : ℕ) → Within deepest (valueOf (newIn (schemeOf m st kind v) f c))
   unfolding newIn schemeOf depthIn
-  new-ranged e c = new-small v deepest kind _ _ (omega arith) (rw depth-four (field-depth _ f e _)) (olds-small e _)
+  new-valid e c = new-within v deepest kind _ _ (omega arith) (rw value-four (field-depth _ f e _)) (olds-within e _)
 
   pub round-good : bad14 (schemeOf m st kind v .cells) f ≡ false → bad14 (schemeOf m st kind v .cells) (round (schemeOf m st kind v) f) ≡ false
   unfolding round rangedAt
@@ -107,8 +106,8 @@ module _ (m st : Bytes) (kind : ℕ) (v f : Bytes) where
       (every-intro 0 (rangedAt g 0) n
       (λ i h.
       let q : 0 + 4 * (0 + i) ≡ 4 * i = omega arith in
-      range-intro _
-      (rw (q, ← depth-four, round-at i h) (new-ranged e (S .first + i)))))
+      within-valid _
+      (rw (q, ← value-four, round-at i h) (new-valid e (S .first + i)))))
 
 pub undivided-good : (m st : Bytes) (kind : ℕ) (v f : Bytes) (k : ℕ) → bad14 (schemeOf m st kind v .cells) f ≡ false
     → bad14 (schemeOf m st kind v .cells) (undivided (schemeOf m st kind v) f k) ≡ false

@@ -16,7 +16,7 @@ use Rattle.round_rule.specs.Rules.{RuleInput, Old, newDepth, plainMean, bad11}
 
 -- ---- fields: "A field is four bytes a cell", in rising number of the cells
 
--- "Field length or a depth wrong", for a mesh of n cells
+-- "Field length or a depth wrong", for a mesh of n cells; a gap is let through (F-2)
 unfoldable pub bad14 : ℕ → Bytes → Bool
 bad14 n f = not (eqb (length f) (4 * n)) || not (every 0 n (rangedAt f 0))
 
@@ -58,7 +58,7 @@ module _ (S : Scheme) where
   undivided f zero = f
   undivided f (suc k) = round (undivided f k)
 
-  -- the depth at point p of a field (F-1): "the plain mean of the depths of the cells incident to it, all weights 1, rounded like the rule"
+  -- the value at point p of a field (F-1, F-2): "the plain mean of the depths of the cells incident to it, all weights 1, rounded like the rule"
   unfoldable pub pointIn : Bytes → ℕ → Bytes
   pointIn f p = plainMean (map (depthIn f) (S .around p))
 
@@ -86,7 +86,7 @@ module _ (I : RoundInput) (out : Bytes) where
   unfoldable pub roundNumber : ℕ
   roundNumber = firstOf (meshTests (I .mesh) ++ laterTests)
 
-  -- it gives the count of depths
+  -- it gives the count of values
   unfoldable pub roundAnswer : Answer
   roundAnswer = answer roundNumber (cellCount (I .mesh))
 

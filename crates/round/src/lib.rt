@@ -1,7 +1,7 @@
 // Fields and the undivided round.
 mod undivided;
 
-use depths::inner::depths_in_range;
+use depths::inner::values_valid;
 pub use undivided::undivided_round;
 ghost use mathlib.Core.Path.{_≡_};
 ghost use Rattle.round.specs.Rounds.{bad14};
@@ -16,5 +16,5 @@ pub fn bad_field(cells: usize, f: &[u8]) -> bool
     if f.len() / 4 != cells {
         return true;
     }
-    !depths_in_range(f, 0, cells)
+    !values_valid(f, 0, cells)
 }

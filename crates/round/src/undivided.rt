@@ -1,6 +1,7 @@
 // The undivided round.
 use crate::bad_field;
-use depths::inner::put_depth;
+use depths::Value;
+use depths::inner::put_value;
 use layout::Answer;
 use layout::limits::ELEMENT_PLACES;
 use layout::limits::MOST_REACHED;
@@ -24,7 +25,7 @@ ghost use lib.ListN.{length};
 ghost use Rattle.vocabulary.specs.Bytes.{over};
 ghost use Rattle.vocabulary.specs.Intervals.{blocks};
 ghost use Rattle.layout.specs.Limits.{elementPlaces, recordPlaces};
-ghost use Rattle.depths.specs.Depths.{depthBytes};
+ghost use Rattle.depths.specs.Depths.{valueBytes};
 ghost use Rattle.mesh.specs.Mesh.{top, meshNumber};
 ghost use Rattle.mesh.specs.Walks.{steps, bad10};
 ghost use Rattle.round_rule.specs.Rules.{bad11};
@@ -32,17 +33,17 @@ ghost use Rattle.round_rule.specs.Kinds.{kindNumber};
 ghost use Rattle.round.specs.Rounds.{roundInput, roundAnswer, roundOut};
 ghost use Rattle.round.specs.Rows.{rowNew, Row, Rows};
 
-// The new depth of the cell at place j, from its row of the table.
-fn new_at(kind: Kind, weights: &[u8], table: &[u8], ends: &[u16], f: &[u8], j: usize) -> i32
+// The new value of the cell at place j, from its row of the table.
+fn new_at(kind: Kind, weights: &[u8], table: &[u8], ends: &[u16], f: &[u8], j: usize) -> Value
     requires { ⌜ (j ≤ 65535) × Row (kindNumber kind) (now weights) (now table) (now ends) (now f) j ⌝ }
-    ensures { λ r. ⌜ depthBytes r ≡ rowNew (kindNumber kind) (now (weights .entry)) (now (table .entry)) (now (ends .entry)) (now (f .entry)) j ⌝ }
+    ensures { λ r. ⌜ valueBytes r ≡ rowNew (kindNumber kind) (now (weights .entry)) (now (table .entry)) (now (ends .entry)) (now (f .entry)) j ⌝ }
 {
     let from = number_at(ends, j) as usize;
     let to = number_at(ends, j + 1) as usize;
     new_depth(kind, weights, table, 4 * from, to - from, f, 0, j)
 }
 
-// The new depths of all cells: f is only read and out only written, so every one comes from old ones.
+// The new values of all cells: f is only read and out only written, so every one comes from old ones.
 fn renew(
     kind: Kind,
     weights: &[u8],
@@ -56,8 +57,8 @@ fn renew(
     ensures { λ _. ⌜ now (out .exit) ≡ over (now (out .entry)) 0 (blocks 0 cells (rowNew (kindNumber kind) (now (weights .entry)) (now (table .entry)) (now (ends .entry)) (now (f .entry)))) ⌝ }
 {
     for j in 0..cells {
-        let z = new_at(kind, weights, table, ends, f, j);
-        put_depth(out, 4 * j, z);
+        let x = new_at(kind, weights, table, ends, f, j);
+        put_value(out, 4 * j, x);
     }
 }
 

@@ -1,96 +1,151 @@
--- What the two loops over a reach keep, and what their calls ask. Assumes nothing.
+-- What the loops over the entries of a table keep, and what their calls ask. Assumes nothing.
 use mathlib.Core.Path.{_≡_, refl, sym, ap, ap₂, _∙_, subst}
+use mathlib.Core.List.{List}
 use Prim.Native.Nat.{ℕ, _+_, _*_, _/_, _≤_, _<_}
+use native.Mathlib.Nat.{add-zero}
 use native.Mathlib.Omega.{arith}
 use lib.IntN.{ℤ, pos, natAbs, _+ℤ_, _*ℤ_}
 use lib.ListN.{length}
-use lib.Signed.{mag}
-use mir.Syntax.{w32, w64}
-use mir.Val.{toZ, ofZ}
+use mir.Syntax.{w8, w32, w64}
+use mir.Val.{Fits, SFits, toZ, ofZ}
 use mir.ValLaws.{toZ-ofZ}
-use Rattle.vocabulary.specs.Bytes.{Bytes}
-use Rattle.layout.specs.Words.{word, wordAt}
-use Rattle.depths.specs.Depths.{deepest, depthFrom}
-use Rattle.round_rule.specs.Rules.{depthSum, weightSum, quotient, lesser, least}
-use Rattle.round_rule.specs.RuleLaws.{size-more}
-use Rattle.round_rule.specs.Update.{tableEntries, oldsAt, TableThere, Weighed}
-use Rattle.round_rule.specs.UpdateLaws.{olds-start, depthSum-turn, weightSum-turn, least-turn}
-use Rattle.round_rule.proofs.Registers.{fits-long, depth-held}
+use Rattle.vocabulary.specs.Bytes.{Bytes, byteAt}
+use Rattle.vocabulary.specs.Lists.{filtered}
 use Rattle.vocabulary.specs.IntervalLaws.{at-last}
-use Rattle.layout.specs.Limits.{mostWeight}
+use Rattle.layout.specs.Words.{word, wordAt}
+use Rattle.layout.specs.Limits.{mostSteps, mostWeight}
+use Rattle.depths.specs.Depths.{deepest, Within, four, valueFrom, valueOf}
+use Rattle.depths.specs.DepthLaws.{value-four, value-is}
+use Rattle.depths.specs.declared.Value.{Value}
+use Rattle.depths.specs.declared.Value.the-variants.{Depth, Gap}
+use Rattle.round_rule.specs.Rules.{Old, withoutGaps, readBy, weight, meanOf, leastOf}
+use Rattle.round_rule.specs.RuleLaws.{pass-gap, take-depth, least-snoc}
+use Rattle.round_rule.specs.Update.{tableEntry, tableEntries, oldAt, oldsAt, TableThere, Weighed, dividedBy, lesserOf}
+use Rattle.round_rule.specs.UpdateLaws.{olds-start, olds-turn}
+use Rattle.round_rule.proofs.Sums.{Summed, depth-within, summed-none, summed-gap, summed-depth, summed-mean}
 
--- ---- what stands in an entry
+-- ---- a weight by its low byte
 
-pub weight-read : (v b : Bytes) (o y w : ℕ) → y ≡ word b o → w ≡ wordAt v (y / 2) → w ≡ wordAt v (word b o / 2)
-weight-read v b o y w e g = rw e at g
+low-is : (v : Bytes) (o : ℕ) → word v o ≤ mostWeight → byteAt v (o + 1) ≡ word v o
+unfolding word
+low-is v o h = omega arith
 
-pub old-read : (b f : Bytes) (base o y : ℕ) (d : ℤ) → y ≡ word b o → mag d < 2147483648 → d ≡ depthFrom f (base + 4 * y) → toZ w32 (ofZ w32 d) ≡ depthFrom f (base + 4 * word b o)
-old-read b f base o y d e h g = depth-held d _ h (rw e at g)
+pub byte-fits : (v : Bytes) (i : ℕ) → ((k : ℕ) → Fits w8 (byteAt v k)) → Fits w64 (byteAt v i)
+byte-fits v i w = record { fits = omega (arith, w i .fits) }
 
-pub old-there : (b : Bytes) (at n : ℕ) (f : Bytes) (base t : ℕ) → TableThere b at n f base → t < n → base + 4 * word b (at + 4 * t) + 3 < length f
-old-there b at n f base t R h = R .there t h
+module _ (b : Bytes) (at t : ℕ) (low : word b (at + 4 * t + 2) ≤ mostSteps) where
+  layer-read : byteAt b (at + 4 * t + 3) ≡ word b (at + 4 * t + 2)
+  unfolding word
+  layer-read = let e : at + 4 * t + 2 + 1 ≡ at + 4 * t + 3 = omega arith in rw (← e) (omega arith)
+
+  pub layer-small : byteAt b (at + 4 * t + 3) ≤ mostSteps
+  layer-small = rw layer-read low
+
+  module _ (v : Bytes) where
+    pub weight-index : 2 * (word b (at + 4 * t + 2) / 2) + 1 < length v → 2 * (byteAt b (at + 4 * t + 3) / 2) + 1 < length v
+    weight-index h = rw layer-read h
+
+    module _ (light : wordAt v (word b (at + 4 * t + 2) / 2) ≤ mostWeight) where
+      pub weight-read : byteAt v (2 * (byteAt b (at + 4 * t + 3) / 2) + 1) ≡ wordAt v (word b (at + 4 * t + 2) / 2)
+      unfolding wordAt
+      weight-read = rw layer-read (low-is v (2 * (word b (at + 4 * t + 2) / 2)) light)
+
+      pub weight-light : byteAt v (2 * (byteAt b (at + 4 * t + 3) / 2) + 1) ≤ mostWeight
+      weight-light = rw weight-read light
+
+-- ---- an entry of the table, and the value that it names: p is its place in f, and x what was read there
+
+module _ (b : Bytes) (at n : ℕ) (f : Bytes) (base : ℕ) (R : TableThere b at n f base) (t : ℕ) (lt : t < n) where
+  pub entry-listed : at + 4 * t + 1 < length b
+  entry-listed = omega (arith, R .listed-there)
+
+  pub entry-fits : length f < 18446744073709551616 → base + 4 * word b (at + 4 * t) < 18446744073709551616
+  entry-fits l = omega (arith, R .there t lt)
+
+  module _ (p : ℕ) (e : p ≡ base + 4 * word b (at + 4 * t)) where
+    pub entry-there : p + 3 < length f
+    entry-there = rw e (R .there t lt)
+
+    pub entry-within : (x : Value) → x ≡ valueFrom f p → Within deepest x
+    entry-within x r = rw (r, e) (R .ranged t lt)
+
+    pub entry-small : (x : Value) (z : ℤ) → x ≡ valueFrom f p → x ≡ Depth z → SFits w32 z → natAbs (toZ w32 (ofZ w32 z)) ≤ deepest
+    entry-small x z r g h = rw (toZ-ofZ w32 z h) (depth-within deepest x z (entry-within x r) g)
+
+-- ---- the mean
+
+module _ (v b : Bytes) (at : ℕ) (f : Bytes) (base : ℕ) where
+  abbrev olds : ℕ → List Old
+  olds t = oldsAt f base (tableEntries b at t)
+
+  pub sum-start : Summed v (oldsAt f base (tableEntries b at 0)) 0 (pos 0) 0
+  sum-start = rw olds-start (summed-none v)
+
+  module _ (n t : ℕ) (lt : t < n) (R : TableThere b at n f base) where
+    pub layer-low : Weighed v b at n → word b (at + 4 * t + 2) ≤ mostSteps
+    layer-low W = W .low t lt
+
+    pub weight-there : Weighed v b at n → 2 * (word b (at + 4 * t + 2) / 2) + 1 < length v
+    weight-there W = W .there t lt
+
+    pub weight-known : Weighed v b at n → wordAt v (word b (at + 4 * t + 2) / 2) ≤ mostWeight
+    weight-known W = W .light t lt
+
+    pub is-light : (w : ℕ) → Weighed v b at n → w ≡ wordAt v (word b (at + 4 * t + 2) / 2) → w ≤ mostWeight
+    is-light w W e = rw e (W .light t lt)
+
+    module _ (p : ℕ) (e : p ≡ base + 4 * word b (at + 4 * t)) (x : Value) (r : x ≡ valueFrom f p) (sum weights sum′ y : ℕ)
+        (S : Summed v (oldsAt f base (tableEntries b at t)) t (toZ w64 sum) weights) where
+      pub sum-depth : (z s : ℤ) (w : ℕ) → x ≡ Depth z → SFits w32 z → Weighed v b at n → w ≡ wordAt v (word b (at + 4 * t + 2) / 2)
+          → s ≡ toZ w64 sum +ℤ pos w *ℤ toZ w32 (ofZ w32 z) → sum′ ≡ ofZ w64 s → y ≡ w
+          → Summed v (oldsAt f base (tableEntries b at (t + 1))) (t + 1) (toZ w64 sum′) (weights + y)
+      unfolding weight
+      sum-depth z s w g h W i k a c =
+          rw (a, c)
+          (summed-depth v (olds t) (olds (t + 1)) (oldAt f base (tableEntry b at t)) (olds-turn b at f base t) f p (base + 4 * word b (at + 4 * t)) refl e x r t sum weights S
+          z s w g h (entry-within b at n f base R t lt p e x r) i (is-light w W i) (omega (arith, R .few)) k)
+
+      pub sum-gap : x ≡ Gap → sum′ ≡ sum → y ≡ 0 → Summed v (oldsAt f base (tableEntries b at (t + 1))) (t + 1) (toZ w64 sum′) (weights + y)
+      sum-gap g a c =
+          rw (a, c, add-zero weights)
+          (summed-gap v (olds t) (olds (t + 1)) (oldAt f base (tableEntry b at t)) (olds-turn b at f base t) f p (base + 4 * word b (at + 4 * t)) refl e x r t sum weights S g)
+
+  module _ (n t sum weights : ℕ) (g : t ≤ n) (h : n ≤ t) (S : Summed v (oldsAt f base (tableEntries b at t)) t (toZ w64 sum) weights) where
+    whole : Summed v (olds n) n (toZ w64 sum) weights
+    whole = let q : t ≡ n = omega arith in subst (λ k. Summed v (olds k) k (toZ w64 sum) weights) q S
+
+    pub sum-few : TableThere b at n f base → weights ≤ 983025
+    sum-few R = omega (arith, R .few, whole .weights-size)
+
+    pub sum-large : natAbs (toZ w64 sum) ≤ weights * deepest
+    sum-large = S .sum-size
+
+    pub sum-end : (x : Value) → x ≡ dividedBy (toZ w64 sum) weights → x ≡ meanOf v (readBy v 1 (oldsAt f base (tableEntries b at n)))
+    sum-end x e = e ∙ summed-mean v (olds n) n (toZ w64 sum) weights whole
 
 -- ---- the least so far
 
 module _ (b : Bytes) (at : ℕ) (f : Bytes) (base : ℕ) where
-  pub least-start : (z e : ℤ) → mag z < 2147483648 → z ≡ e → toZ w32 (ofZ w32 z) ≡ least e (oldsAt f base (tableEntries b at 0))
-  unfolding least
-  least-start z e h p = rw olds-start (depth-held z e h p)
+  pub least-start : Gap ≡ leastOf (withoutGaps (oldsAt f base (tableEntries b at 0)))
+  unfolding leastOf withoutGaps filtered
+  least-start = rw olds-start refl
 
-  pub least-more : (z : ℕ) (e d r : ℤ) (t : ℕ) → toZ w32 z ≡ least e (oldsAt f base (tableEntries b at t)) → mag d < 2147483648 → d ≡ depthFrom f (base + 4 * word b (at + 4 * t))
-      → mag r < 2147483648 → r ≡ lesser (toZ w32 (ofZ w32 d)) (toZ w32 z) → toZ w32 (ofZ w32 r) ≡ least e (oldsAt f base (tableEntries b at (t + 1)))
-  least-more z e d r t i h p k q = depth-held r _ k (q ∙ ap₂ lesser (depth-held d _ h p) i) ∙ sym (least-turn b at f base e t)
+  module _ (t p : ℕ) (e : p ≡ base + 4 * word b (at + 4 * t)) (x : Value) (r : x ≡ valueFrom f p) (y y′ : Value) (i : y ≡ leastOf (withoutGaps (oldsAt f base (tableEntries b at t)))) where
+    entry-read : valueOf (four f (base + 4 * word b (at + 4 * t))) ≡ x
+    entry-read = value-four f (base + 4 * word b (at + 4 * t)) ∙ ap (λ n. valueFrom f n) (sym e) ∙ sym r
 
-  pub least-end : (z : ℕ) (e : ℤ) (n t : ℕ) → toZ w32 z ≡ least e (oldsAt f base (tableEntries b at t)) → t ≤ n → n ≤ t → toZ w32 z ≡ least e (oldsAt f base (tableEntries b at n))
-  least-end z e n t i g h = at-last (λ j. toZ w32 z ≡ least e (oldsAt f base (tableEntries b at j))) t n g h i
+    pub least-depth : (z : ℤ) → x ≡ Depth z → SFits w32 z → y′ ≡ lesserOf (toZ w32 (ofZ w32 z)) y → y′ ≡ leastOf (withoutGaps (oldsAt f base (tableEntries b at (t + 1))))
+    least-depth z g h k =
+        let o : Old = oldAt f base (tableEntry b at t) in
+        let os : List Old = oldsAt f base (tableEntries b at t) in
+        k
+        ∙ ap₂ lesserOf (toZ-ofZ w32 z h ∙ value-is (o .depth) 0 z (entry-read ∙ g)) i
+        ∙ sym (ap (λ xs. leastOf (withoutGaps xs)) (olds-turn b at f base t) ∙ ap leastOf (take-depth os o z (entry-read ∙ g)) ∙ least-snoc (withoutGaps os) o)
 
--- ---- the sums so far: sum is the number that the register holds
+    pub least-gap : x ≡ Gap → y′ ≡ y → y′ ≡ leastOf (withoutGaps (oldsAt f base (tableEntries b at (t + 1))))
+    least-gap g k =
+        let os : List Old = oldsAt f base (tableEntries b at t) in
+        k ∙ i ∙ sym (ap (λ xs. leastOf (withoutGaps xs)) (olds-turn b at f base t) ∙ ap leastOf (pass-gap os (oldAt f base (tableEntry b at t)) (entry-read ∙ g)))
 
-pub record Summed (v b : Bytes) (at : ℕ) (f : Bytes) (base t : ℕ) (sum : ℤ) (weights : ℕ) : Type 0 where
-  pub sum-is : sum ≡ depthSum v (oldsAt f base (tableEntries b at t))
-  pub weights-is : weights ≡ weightSum v (oldsAt f base (tableEntries b at t))
-  pub sum-size : natAbs sum ≤ weights * deepest
-  pub weights-size : weights ≤ mostWeight * t
-
-module _ (v b : Bytes) (at : ℕ) (f : Bytes) (base : ℕ) where
-  pub sum-start : Summed v b at f base 0 (pos 0) 0
-  unfolding depthSum weightSum
-  sum-start = record { sum-is = rw olds-start refl; weights-is = rw olds-start refl; sum-size = omega arith; weights-size = omega arith }
-
-  module _ (n t : ℕ) (lt : t < n) where
-    pub is-light : (w : ℕ) → Weighed v b at n f base → w ≡ wordAt v (word b (at + 4 * t + 2) / 2) → w ≤ mostWeight
-    is-light w W e = rw e (W .light t lt)
-
-    pub is-small : (d : ℤ) → TableThere b at n f base → mag d < 2147483648 → d ≡ depthFrom f (base + 4 * word b (at + 4 * t)) → natAbs (toZ w32 (ofZ w32 d)) ≤ deepest
-    is-small d R h g = rw (depth-held d _ h g) (R .ranged t lt)
-
-    pub sum-turn : (sum weights w : ℕ) (d r : ℤ) → TableThere b at n f base → Weighed v b at n f base → Summed v b at f base t (toZ w64 sum) weights
-        → w ≡ wordAt v (word b (at + 4 * t + 2) / 2) → mag d < 2147483648 → d ≡ depthFrom f (base + 4 * word b (at + 4 * t))
-        → r ≡ toZ w64 sum +ℤ pos w *ℤ toZ w32 (ofZ w32 d) → Summed v b at f base (t + 1) (toZ w64 (ofZ w64 r)) (weights + w)
-    sum-turn sum weights w d r R W S e h g q =
-        let k : natAbs r ≤ (weights + w) * deepest =
-        rw q (size-more w (toZ w32 (ofZ w32 d)) (toZ w64 sum) weights deepest (is-small d R h g) (S .sum-size)) in
-        let l : weights + w ≤ mostWeight * (t + 1) = omega (arith, S .weights-size, is-light w W e) in
-        let p : toZ w64 (ofZ w64 r) ≡ r = toZ-ofZ w64 r (fits-long r (omega (arith, R .few))) in
-        record {
-          sum-is =
-              p
-              ∙ q
-              ∙ ap₂ (λ s z. s +ℤ pos w *ℤ z) (S .sum-is) (depth-held d _ h g)
-              ∙ ap (λ u. depthSum v (oldsAt f base (tableEntries b at t)) +ℤ pos u *ℤ depthFrom f (base + 4 * word b (at + 4 * t))) e
-              ∙ sym (depthSum-turn b at f base v t);
-          weights-is = ap₂ _+_ (S .weights-is) e ∙ sym (weightSum-turn b at f base v t);
-          sum-size = rw p k;
-          weights-size = l;
-        }
-
-  module _ (n t sum weights : ℕ) (g : t ≤ n) (h : n ≤ t) (S : Summed v b at f base t (toZ w64 sum) weights) where
-    whole : Summed v b at f base n (toZ w64 sum) weights
-    whole = let q : t ≡ n = omega arith in subst (λ k. Summed v b at f base k (toZ w64 sum) weights) q S
-
-    pub is-heavy : Weighed v b at n f base → 1 ≤ weights
-    is-heavy W = rw (whole .weights-is) (W .heavy)
-
-    pub sum-end : (r : ℤ) → mag r < 2147483648 → r ≡ quotient (toZ w64 sum) weights
-        → toZ w32 (ofZ w32 r) ≡ quotient (depthSum v (oldsAt f base (tableEntries b at n))) (weightSum v (oldsAt f base (tableEntries b at n)))
-    sum-end r k q = depth-held r _ k (q ∙ ap₂ quotient (whole .sum-is) (whole .weights-is))
+  pub least-end : (n t : ℕ) (y : Value) → y ≡ leastOf (withoutGaps (oldsAt f base (tableEntries b at t))) → t ≤ n → n ≤ t → y ≡ leastOf (withoutGaps (oldsAt f base (tableEntries b at n)))
+  least-end n t y i g h = at-last (λ j. y ≡ leastOf (withoutGaps (oldsAt f base (tableEntries b at j)))) t n g h i

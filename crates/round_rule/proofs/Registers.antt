@@ -1,4 +1,4 @@
--- What the registers of 32 and 64 bits hold of the numbers in a sum, a quotient and a comparison of depths. Assumes nothing.
+-- What the registers of 32 and 64 bits hold of the numbers in a sum, a quotient, a mean and a comparison of depths. Assumes nothing.
 use mathlib.Core.Path.{_≡_, refl, sym, ap, _∙_}
 use mathlib.Core.Bool.{true, false, cond}
 use Prim.Native.Nat.{ℕ, _*_, _≤_, _<_, _^_}
@@ -6,13 +6,16 @@ use native.Mathlib.Nat.{mul-le-mul, div-le-of-le-mul}
 use native.Mathlib.Omega.{arith}
 use lib.IntN.{ℤ, pos, negsuc, natAbs, _+ℤ_, _*ℤ_}
 use lib.Signed.{mag, ltZ, quotZ}
-use borrow.Author.Tests.{ltb-false}
+use borrow.Author.Tests.{ltb-false, ne-eqb}
 use mir.Syntax.{w32, w64}
 use mir.Val.{SFits, toZ, ofZ}
 use mir.ValLaws.{toZ-pos, toZ-ofZ}
 use Rattle.layout.specs.Limits.{mostWeight}
 use Rattle.depths.specs.Depths.{deepest}
-use Rattle.round_rule.specs.Rules.{quotient, lesser}
+use Rattle.depths.specs.declared.Value.{Value}
+use Rattle.depths.specs.declared.Value.the-variants.{Depth, Gap}
+use Rattle.round_rule.specs.Rules.{quotient}
+use Rattle.round_rule.specs.Update.{dividedBy, lesserOf}
 use Rattle.round_rule.specs.RuleLaws.{size-add, size-times, size-quotient}
 
 -- ---- small numbers fit
@@ -97,19 +100,30 @@ module _ (sum : ℤ) (w : ℕ) (fs : SFits w64 sum) (pre : (1 ≤ w) × (w ≤ 9
     pub short-gives : toZ w32 (ofZ w32 (quotZ (toZ w32 (ofZ w32 (toZ w64 (ofZ w64 sum)))) (toZ w32 w))) ≡ quotient sum w
     short-gives = toZ-ofZ w32 _ short-fits ∙ short-is
 
+-- ---- a mean by its sums
+
+module _ (sum : ℤ) (w : ℕ) where
+  pub nothing-read : w ≡ 0 → Gap ≡ dividedBy sum w
+  nothing-read e = simp e
+
+  pub something-read : (w ≡ 0 → ⊥) → SFits w64 sum → (r : ℤ) → mag r < 2147483648 → r ≡ quotient (toZ w64 (ofZ w64 sum)) w → Depth (toZ w32 (ofZ w32 r)) ≡ dividedBy sum w
+  something-read h fs r k e = simp (ne-eqb w 0 h) (ap Depth (toZ-ofZ w32 r (record { sfits = k }) ∙ e ∙ ap (λ z. quotient z w) (toZ-ofZ w64 sum fs)))
+
 -- ---- the lesser of two
 
-module _ (y z : ℤ) (fy : SFits w32 y) (fz : SFits w32 z) where
-  test-is : ltZ (toZ w32 (ofZ w32 y)) (toZ w32 (ofZ w32 z)) ≡ ltZ y z
-  test-is = rw (toZ-ofZ w32 y fy, toZ-ofZ w32 z fz) refl
+module _ (y : ℤ) (x : Value) (fy : SFits w32 y) where
+  module _ (z : ℤ) (e : x ≡ Depth z) (fz : SFits w32 z) where
+    test-is : ltZ (toZ w32 (ofZ w32 y)) (toZ w32 (ofZ w32 z)) ≡ ltZ y z
+    test-is = rw (toZ-ofZ w32 y fy, toZ-ofZ w32 z fz) refl
 
-  pub lesser-first : ltZ (toZ w32 (ofZ w32 y)) (toZ w32 (ofZ w32 z)) ≡ true → toZ w32 (ofZ w32 y) ≡ lesser y z
-  lesser-first t = toZ-ofZ w32 y fy ∙ ap (λ b. cond b y z) (sym (sym test-is ∙ t))
+    pub lesser-first : ltZ (toZ w32 (ofZ w32 y)) (toZ w32 (ofZ w32 z)) ≡ true → Depth (toZ w32 (ofZ w32 y)) ≡ lesserOf y x
+    unfolding lesserOf
+    lesser-first t = rw e (ap Depth (toZ-ofZ w32 y fy ∙ ap (λ b. cond b y z) (sym (sym test-is ∙ t))))
 
-  pub lesser-second : ltZ (toZ w32 (ofZ w32 y)) (toZ w32 (ofZ w32 z)) ≡ false → toZ w32 (ofZ w32 z) ≡ lesser y z
-  lesser-second t = toZ-ofZ w32 z fz ∙ ap (λ b. cond b y z) (sym (sym test-is ∙ t))
+    pub lesser-second : ltZ (toZ w32 (ofZ w32 y)) (toZ w32 (ofZ w32 z)) ≡ false → Depth (toZ w32 (ofZ w32 z)) ≡ lesserOf y x
+    unfolding lesserOf
+    lesser-second t = rw e (ap Depth (toZ-ofZ w32 z fz ∙ ap (λ b. cond b y z) (sym (sym test-is ∙ t))))
 
--- ---- a depth that a call gave, in its register
-
-pub depth-held : (z e : ℤ) → mag z < 2147483648 → z ≡ e → toZ w32 (ofZ w32 z) ≡ e
-depth-held z e h p = toZ-ofZ w32 z (record { sfits = h }) ∙ p
+  pub lesser-alone : x ≡ Gap → Depth (toZ w32 (ofZ w32 y)) ≡ lesserOf y x
+  unfolding lesserOf
+  lesser-alone e = rw e (ap Depth (toZ-ofZ w32 y fy))

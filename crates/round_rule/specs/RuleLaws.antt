@@ -1,27 +1,42 @@
--- Laws of the rules: one more old depth at the end, a plain mean in any order, depths in range give a new depth in range, a new depth is four bytes, and what an
--- accepted rule says of its weights. Assumes nothing.
+-- Laws of the rules: what a rule reads, one more old value at the end, a plain mean in any order, values within a bound give a new value within it, when a new value is a
+-- gap, a new value is four bytes, and what an accepted rule says of its weights. Assumes nothing.
 use mathlib.Core.Path.{_≡_, refl, sym, ap, ap₂, _∙_, subst}
-use mathlib.Core.Logic.{_≢_}
-use mathlib.Core.Bool.{Bool, true, false, not, cond, _&&_, _||_}
+use mathlib.Core.Logic.{_↔_, _≢_}
+use mathlib.Core.Bool.{Bool, true, false, not, cond, _&&_, _||_, true≢false}
 use mathlib.Core.List.{List, [], _∷_, _++_, map, reverse, reverseAux}
 use Prim.Native.Nat.{ℕ, zero, suc, _+_, _-_, _*_, _/_, _<_, _≤_, zero-le}
 use native.Mathlib.Nat.{mul-le-mul-left, div-le-of-le-mul, zero-add, add-zero}
 use native.Mathlib.Omega.{arith}
 use lib.Dec.{eqb, ltb}
-use lib.IntN.{ℤ, pos, negsuc, negℤ, natAbs, subℕ, _+ℤ_, _*ℤ_, +ℤ-idl, +ℤ-idr, +ℤ-assoc, +ℤ-comm}
+use lib.IntN.{ℤ, pos, negsuc, negℤ, natAbs, subℕ, _+ℤ_, _*ℤ_, +ℤ-idl, +ℤ-idr, +ℤ-assoc, +ℤ-comm, zero-*ℤ}
 use lib.ListN.{length}
 use lib.Signed.{ltZ}
-use borrow.Author.Tests.{ltb-true, ltb-false, eqb-false}
+use borrow.Author.Tests.{ltb-true, ltb-false, eqb-true, ne-eqb, not-false}
 use Rattle.vocabulary.specs.Bytes.{Bytes}
-use Rattle.vocabulary.specs.Lists.{All}
-use Rattle.vocabulary.specs.ListLaws.{cond-has, or-false}
+use Rattle.vocabulary.specs.Lists.{All, filtered}
+use Rattle.vocabulary.specs.ListLaws.{cond-has, or-false, All-of-map, filtered-in, filtered-out, filtered-again, filtered-has}
 use Rattle.vocabulary.specs.Intervals.{some}
 use Rattle.vocabulary.specs.IntervalLaws.{some-at}
-use Rattle.layout.specs.Words.{wordAt, bytesOf}
+use Rattle.layout.specs.Words.{word, wordAt, wordBytes, bytesOf}
 use Rattle.layout.specs.Limits.{mostWeight}
-use Rattle.depths.specs.Depths.{depthOf, depthBytes}
-use Rattle.depths.specs.DepthLaws.{length-depthBytes, depth-back, depth-small}
-use Rattle.round_rule.specs.Rules.{Old, weightCount, tooHeavy, bad11, weight, depthSum, weightSum, quotient, plainMean, lesser, least, newDepth}
+use Rattle.depths.specs.Depths.{depthOf, gapBytes, isDepth, valueOf, valueBytes, Within}
+use Rattle.depths.specs.DepthLaws.{gap-alone, value-is, length-valueBytes, value-back, bytes-gap}
+use Rattle.depths.specs.declared.Value.{Value}
+use Rattle.depths.specs.declared.Value.the-variants.{Depth, Gap}
+use Rattle.round_rule.specs.Rules.{Old, weightCount, tooHeavy, bad11, withoutGaps, readBy, weight, depthSum, weightSum, quotient, meanOf, plainMean, lesser, least}
+use Rattle.round_rule.specs.Rules.{leastOf, newDepth}
+use Rattle.round_rule.specs.Update.{dividedBy, lesserOf}
+
+-- ---- what is read
+
+-- one more old value at the end of a reach: a gap is passed over, a depth is read
+pub pass-gap : (os : List Old) (o : Old) → valueOf (o .depth) ≡ Gap → withoutGaps (os ++ (o ∷ [])) ≡ withoutGaps os
+unfolding withoutGaps isDepth
+pass-gap os o e = filtered-out (λ o. isDepth (valueOf (o .depth))) os o (ap isDepth e)
+
+pub take-depth : (os : List Old) (o : Old) (z : ℤ) → valueOf (o .depth) ≡ Depth z → withoutGaps (os ++ (o ∷ [])) ≡ withoutGaps os ++ (o ∷ [])
+unfolding withoutGaps isDepth
+take-depth os o z e = filtered-in (λ o. isDepth (valueOf (o .depth))) os o (ap isDepth e)
 
 -- ---- one more at the end
 
@@ -37,36 +52,124 @@ unfolding weightSum
 weightSum-snoc v [] o = omega arith
 weightSum-snoc v (p ∷ os) o = omega (arith, weightSum-snoc v os o)
 
-pub least-snoc : (z : ℤ) (os : List Old) (o : Old) → least z (os ++ (o ∷ [])) ≡ lesser (depthOf (o .depth)) (least z os)
+least-last : (z : ℤ) (os : List Old) (o : Old) → least z (os ++ (o ∷ [])) ≡ lesser (depthOf (o .depth)) (least z os)
 unfolding least
-least-snoc z [] o = refl
-least-snoc z (p ∷ os) o = least-snoc (lesser (depthOf (p .depth)) z) os o
+least-last z [] o = refl
+least-last z (p ∷ os) o = least-last (lesser (depthOf (p .depth)) z) os o
 
--- ---- a plain mean is the same whichever way round its depths come
+pub least-snoc : (os : List Old) (o : Old) → leastOf (os ++ (o ∷ [])) ≡ lesserOf (depthOf (o .depth)) (leastOf os)
+unfolding leastOf lesserOf least
+least-snoc [] o = refl
+least-snoc (p ∷ os) o = ap Depth (least-last (depthOf (p .depth)) os o)
+
+-- ---- a mean by its two sums: a weight of zero adds to neither, so to pass over it changes no mean; and of other weights only no weights have the sum zero
+
+module _ (v : Bytes) where
+  abbrev heavy : List Old → List Old
+  heavy os = filtered (λ o. ltb 0 (weight v o)) os
+
+  depths-heavy : (os : List Old) → depthSum v (heavy os) ≡ depthSum v os
+  unfolding filtered depthSum
+  depths-heavy [] = refl
+  depths-heavy (o ∷ os) = go (ltb 0 (weight v o)) refl (depths-heavy os)
+    where
+      go : (t : Bool) → ltb 0 (weight v o) ≡ t → depthSum v (heavy os) ≡ depthSum v os
+          → depthSum v (cond t (o ∷ heavy os) (heavy os)) ≡ pos (weight v o) *ℤ depthOf (o .depth) +ℤ depthSum v os
+      go true e r = ap (λ s. pos (weight v o) *ℤ depthOf (o .depth) +ℤ s) r
+      go false e r =
+          let h : weight v o ≤ 0 = ltb-false 0 (weight v o) e in
+          let n : 0 ≡ weight v o = omega arith in
+          r ∙ sym (+ℤ-idl (depthSum v os)) ∙ ap (λ x. x +ℤ depthSum v os) (sym (zero-*ℤ (depthOf (o .depth))))
+          ∙ ap (λ w. pos w *ℤ depthOf (o .depth) +ℤ depthSum v os) n
+
+  weights-heavy : (os : List Old) → weightSum v (heavy os) ≡ weightSum v os
+  unfolding filtered weightSum
+  weights-heavy [] = refl
+  weights-heavy (o ∷ os) = go (ltb 0 (weight v o)) refl (weights-heavy os)
+    where
+      go : (t : Bool) → ltb 0 (weight v o) ≡ t → weightSum v (heavy os) ≡ weightSum v os → weightSum v (cond t (o ∷ heavy os) (heavy os)) ≡ weight v o + weightSum v os
+      go true e r = ap (λ s. weight v o + s) r
+      go false e r = let h : weight v o ≤ 0 = ltb-false 0 (weight v o) e in omega arith
+
+  -- one that is read makes a sum of weights above zero
+  sum-heavy : (o : Old) (os xs : List Old) → heavy xs ≡ o ∷ os → weightSum v xs ≢ 0
+  unfolding filtered weightSum
+  sum-heavy o os [] e z = let n : 0 ≡ suc (length os) = ap length e in omega arith
+  sum-heavy o os (x ∷ xs) e z = go (ltb 0 (weight v x)) refl e (λ r. sum-heavy o os xs r)
+    where
+      go : (t : Bool) → ltb 0 (weight v x) ≡ t → cond t (x ∷ heavy xs) (heavy xs) ≡ o ∷ os → (heavy xs ≡ o ∷ os → weightSum v xs ≢ 0) → ⊥
+      go true q r f = let h : 0 < weight v x = ltb-true 0 (weight v x) q in omega arith
+      go false q r f = f r (omega arith)
+
+  mean-heavy : (xs zs : List Old) → heavy xs ≡ zs → meanOf v zs ≡ dividedBy (depthSum v zs) (weightSum v zs)
+  unfolding meanOf weightSum depthSum
+  mean-heavy xs [] e = refl
+  mean-heavy xs (o ∷ os) e =
+      simp (ne-eqb (weightSum v (o ∷ os)) 0 (λ z. sum-heavy o os xs e (sym (weights-heavy xs) ∙ ap (weightSum v) e ∙ z)))
+
+  pub mean-by-sums : (os : List Old) → meanOf v (readBy v 1 os) ≡ dividedBy (depthSum v (withoutGaps os)) (weightSum v (withoutGaps os))
+  unfolding readBy
+  mean-by-sums os =
+      mean-heavy (withoutGaps os) (heavy (withoutGaps os)) refl ∙ ap₂ (λ s n. dividedBy s n) (depths-heavy (withoutGaps os)) (weights-heavy (withoutGaps os))
+
+-- ---- a plain mean is the same whichever way round its values come
 
 module _ (v : Bytes) where
   abbrev old : Bytes → Old
   old x = record { layer = 0; depth = x }
 
-  sum-turned : (xs ys : List Bytes) → depthSum v (map old (reverseAux xs ys)) ≡ depthSum v (map old xs) +ℤ depthSum v (map old ys)
-  unfolding depthSum
-  sum-turned [] ys = sym (+ℤ-idl (depthSum v (map old ys)))
-  sum-turned (x ∷ xs) ys =
-      let t : ℤ = pos (weight v (old x)) *ℤ depthOf x in
-      let s : ℤ = depthSum v (map old xs) in
-      let r : ℤ = depthSum v (map old ys) in
-      sum-turned xs (x ∷ ys) ∙ sym (+ℤ-assoc s t r) ∙ ap (λ z. z +ℤ r) (+ℤ-comm s t)
+  -- what one value adds to the two sums
+  abbrev addedDepth : Bytes → ℤ
+  addedDepth x = cond (isDepth (valueOf x)) (pos (weight v (old x)) *ℤ depthOf x) (pos 0)
 
-  weights-turned : (xs ys : List Bytes) → weightSum v (map old (reverseAux xs ys)) ≡ weightSum v (map old xs) + weightSum v (map old ys)
-  unfolding weightSum
+  abbrev addedWeight : Bytes → ℕ
+  addedWeight x = cond (isDepth (valueOf x)) (weight v (old x)) 0
+
+  depth-added : (x : Bytes) (os : List Old) → depthSum v (withoutGaps (old x ∷ os)) ≡ addedDepth x +ℤ depthSum v (withoutGaps os)
+  unfolding withoutGaps filtered depthSum
+  depth-added x os = go (isDepth (valueOf x))
+    where
+      go : (t : Bool) → depthSum v (cond t (old x ∷ withoutGaps os) (withoutGaps os)) ≡ cond t (pos (weight v (old x)) *ℤ depthOf x) (pos 0) +ℤ depthSum v (withoutGaps os)
+      go true = refl
+      go false = sym (+ℤ-idl (depthSum v (withoutGaps os)))
+
+  weight-added : (x : Bytes) (os : List Old) → weightSum v (withoutGaps (old x ∷ os)) ≡ addedWeight x + weightSum v (withoutGaps os)
+  unfolding withoutGaps filtered weightSum
+  weight-added x os = go (isDepth (valueOf x))
+    where
+      go : (t : Bool) → weightSum v (cond t (old x ∷ withoutGaps os) (withoutGaps os)) ≡ cond t (weight v (old x)) 0 + weightSum v (withoutGaps os)
+      go true = refl
+      go false = sym (zero-add (weightSum v (withoutGaps os)))
+
+  abbrev depthsOf : List Bytes → ℤ
+  depthsOf xs = depthSum v (withoutGaps (map old xs))
+
+  abbrev weightsOf : List Bytes → ℕ
+  weightsOf xs = weightSum v (withoutGaps (map old xs))
+
+  sum-turned : (xs ys : List Bytes) → depthsOf (reverseAux xs ys) ≡ depthsOf xs +ℤ depthsOf ys
+  unfolding withoutGaps filtered depthSum
+  sum-turned [] ys = sym (+ℤ-idl (depthsOf ys))
+  sum-turned (x ∷ xs) ys =
+      let t : ℤ = addedDepth x in
+      sum-turned xs (x ∷ ys)
+      ∙ ap (λ z. depthsOf xs +ℤ z) (depth-added x (map old ys))
+      ∙ sym (+ℤ-assoc (depthsOf xs) t (depthsOf ys))
+      ∙ ap (λ z. z +ℤ depthsOf ys) (+ℤ-comm (depthsOf xs) t ∙ sym (depth-added x (map old xs)))
+
+  weights-turned : (xs ys : List Bytes) → weightsOf (reverseAux xs ys) ≡ weightsOf xs + weightsOf ys
+  unfolding withoutGaps filtered weightSum
   weights-turned [] ys = omega arith
-  weights-turned (x ∷ xs) ys = omega (arith, weights-turned xs (x ∷ ys))
+  weights-turned (x ∷ xs) ys = omega (arith, weights-turned xs (x ∷ ys), weight-added x (map old xs), weight-added x (map old ys))
 
 pub mean-reversed : (xs : List Bytes) → plainMean (reverse xs) ≡ plainMean xs
-unfolding depthSum weightSum
+unfolding withoutGaps filtered depthSum weightSum
 mean-reversed xs =
     let v : Bytes = bytesOf (1 ∷ []) in
-    ap₂ (λ s n. depthBytes (quotient s n)) (sum-turned v xs [] ∙ +ℤ-idr (depthSum v (map (old v) xs))) (weights-turned v xs [] ∙ add-zero (weightSum v (map (old v) xs)))
+    ap valueBytes
+    (mean-by-sums v (map (old v) (reverse xs))
+    ∙ ap₂ (λ s n. dividedBy s n) (sum-turned v xs [] ∙ +ℤ-idr (depthsOf v xs)) (weights-turned v xs [] ∙ add-zero (weightsOf v xs))
+    ∙ sym (mean-by-sums v (map (old v) xs)))
 
 -- ---- sizes of integers
 
@@ -101,59 +204,149 @@ pub size-more : (w : ℕ) (x s : ℤ) (a m : ℕ) → natAbs x ≤ m → natAbs 
 size-more w x s a m h k =
     let p : w * natAbs x ≤ w * m = mul-le-mul-left w h in omega (arith, size-add s (pos w *ℤ x), size-times w x)
 
--- ---- of depths of size at most m the new depth has size at most m
+-- ---- of values within m the new value is within m
 
-abbrev pub SmallSum : ℕ → Old → Type 0
-SmallSum m o = natAbs (depthOf (o .depth)) ≤ m
+abbrev pub SmallOld : ℕ → Old → Type 0
+SmallOld m o = Within m (valueOf (o .depth))
 
-kept : (m : ℕ) → m < 2147483648 → (z : ℤ) → natAbs z ≤ m → natAbs (depthOf (depthBytes z)) ≤ m
-kept m l z k = subst (λ y. natAbs y ≤ m) (sym (depth-back z (omega arith))) k
+abbrev SmallDepth : ℕ → Old → Type 0
+SmallDepth m o = natAbs (depthOf (o .depth)) ≤ m
+
+module _ (m : ℕ) where
+  -- a value that is a depth
+  depth-within : (x : Bytes) → isDepth (valueOf x) ≡ true → Within m (valueOf x) → natAbs (depthOf x) ≤ m
+  unfolding isDepth Within
+  depth-within x d w = go (valueOf x) refl d w
+    where
+      go : (y : Value) → valueOf x ≡ y → isDepth y ≡ true → Within m y → natAbs (depthOf x) ≤ m
+      go (Depth z) e d w = subst (λ u. natAbs u ≤ m) (value-is x 0 z e) w
+      go Gap e d w = absurd (true≢false (sym d))
+
+  depths-within : (os : List Old) → All (SmallOld m) os → All (SmallDepth m) (withoutGaps os)
+  unfolding withoutGaps
+  depths-within os a = filtered-has (λ o. isDepth (valueOf (o .depth))) (SmallOld m) (SmallDepth m) (λ o. depth-within (o .depth)) os a
+
+-- a mean by its two sums
+pub divided-within : (sum : ℤ) (w m : ℕ) → natAbs sum ≤ w * m → Within m (dividedBy sum w)
+unfolding Within
+divided-within sum w m h =
+    cond-has (Within m) (eqb w 0) Gap (Depth (quotient sum w)) (λ e. tt) (λ e. subst (λ n. n ≤ m) (sym (size-quotient sum w)) (div-le-of-le-mul w h))
 
 module _ (v : Bytes) (m : ℕ) where
-  pub sum-small : (os : List Old) → All (SmallSum m) os → natAbs (depthSum v os) ≤ weightSum v os * m
+  sum-within : (xs : List Old) → All (SmallDepth m) xs → natAbs (depthSum v xs) ≤ weightSum v xs * m
   unfolding depthSum weightSum
-  sum-small [] a = zero-le
-  sum-small (o ∷ os) a =
+  sum-within [] a = zero-le
+  sum-within (o ∷ os) a =
       let x : ℤ = depthOf (o .depth) in
       let p : weight v o * natAbs x ≤ weight v o * m = mul-le-mul-left (weight v o) (a .0) in
-      omega (arith, size-add (pos (weight v o) *ℤ x) (depthSum v os), size-times (weight v o) x, sum-small os (a .1))
+      omega (arith, size-add (pos (weight v o) *ℤ x) (depthSum v os), size-times (weight v o) x, sum-within os (a .1))
 
-  pub mean-small : (os : List Old) → All (SmallSum m) os → natAbs (quotient (depthSum v os) (weightSum v os)) ≤ m
-  mean-small os a =
-      subst (λ n. n ≤ m) (sym (size-quotient (depthSum v os) (weightSum v os))) (div-le-of-le-mul (weightSum v os) (sum-small os a))
+  pub mean-within : (os : List Old) → All (SmallOld m) os → Within m (meanOf v (readBy v 1 os))
+  mean-within os a =
+      subst (Within m) (sym (mean-by-sums v os)) (divided-within (depthSum v (withoutGaps os)) (weightSum v (withoutGaps os)) m (sum-within (withoutGaps os) (depths-within m os a)))
 
-  pub least-small : (z : ℤ) (os : List Old) → natAbs z ≤ m → All (SmallSum m) os → natAbs (least z os) ≤ m
+  least-depth : (z : ℤ) (xs : List Old) → natAbs z ≤ m → All (SmallDepth m) xs → natAbs (least z xs) ≤ m
   unfolding least
-  least-small z [] h a = h
-  least-small z (o ∷ os) h a =
+  least-depth z [] h a = h
+  least-depth z (o ∷ os) h a =
       let y : ℤ = depthOf (o .depth) in
-      least-small (lesser y z) os (cond-has (λ x. natAbs x ≤ m) (ltZ y z) y z (λ e. a .0) (λ e. h)) (a .1)
+      least-depth (lesser y z) os (cond-has (λ x. natAbs x ≤ m) (ltZ y z) y z (λ e. a .0) (λ e. h)) (a .1)
+
+  pub least-within : (os : List Old) → All (SmallOld m) os → Within m (leastOf (withoutGaps os))
+  unfolding Within leastOf
+  least-within os a = go (withoutGaps os) (depths-within m os a)
+    where
+      go : (xs : List Old) → All (SmallDepth m) xs → Within m (leastOf xs)
+      go [] b = tt
+      go (o ∷ xs) b = least-depth (depthOf (o .depth)) xs (b .0) (b .1)
 
   -- whatever the kind
-  pub new-small : (kind : ℕ) (own : Bytes) (os : List Old) → m < 2147483648 → natAbs (depthOf own) ≤ m → All (SmallSum m) os
-      → natAbs (depthOf (newDepth kind v own os)) ≤ m
-  unfolding newDepth
-  new-small zero own os l h a = h
-  new-small (suc zero) own os l h a = kept m l (quotient (depthSum v os) (weightSum v os)) (mean-small os a)
-  new-small (suc (suc zero)) own os l h a = kept m l (least (depthOf own) os) (least-small (depthOf own) os h a)
-  new-small (suc (suc (suc kind))) own os l h a = h
+  pub new-within : (kind : ℕ) (own : Bytes) (os : List Old) → m < 2147483648 → Within m (valueOf own) → All (SmallOld m) os → Within m (valueOf (newDepth kind v own os))
+  unfolding newDepth readBy
+  new-within zero own os l h a = h
+  new-within (suc zero) own os l h a = subst (Within m) (sym (value-back m l (meanOf v (readBy v 1 os)) (mean-within os a))) (mean-within os a)
+  new-within (suc (suc zero)) own os l h a = subst (Within m) (sym (value-back m l (leastOf (withoutGaps os)) (least-within os a))) (least-within os a)
+  new-within (suc (suc (suc kind))) own os l h a = h
 
--- ---- a new depth is four bytes
+-- ---- a new value is four bytes
 
 pub new-length : (kind : ℕ) (v own : Bytes) (os : List Old) → length own ≡ 4 → length (newDepth kind v own os) ≡ 4
 unfolding newDepth
 new-length zero v own os l = l
-new-length (suc zero) v own os l = length-depthBytes (quotient (depthSum v os) (weightSum v os))
-new-length (suc (suc zero)) v own os l = length-depthBytes (least (depthOf own) os)
+new-length (suc zero) v own os l = length-valueBytes (meanOf v (readBy v 1 os))
+new-length (suc (suc zero)) v own os l = length-valueBytes (leastOf (readBy v 2 os))
 new-length (suc (suc (suc kind))) v own os l = l
 
-pub new-bytes : (kind : ℕ) (v own : Bytes) (os : List Old) (m : ℕ) → m < 2147483648 → natAbs (depthOf own) ≤ m → All (SmallSum m) os → All (λ x. x < 256) own
-    → All (λ x. x < 256) (newDepth kind v own os)
+-- ---- the paper's words on gaps (F-2)
+
+-- "Mean and shoalest pass over gaps, a mean's divisor too"
+pub passed-over : (kind : ℕ) (v own : Bytes) (os : List Old) → newDepth kind v own os ≡ newDepth kind v own (withoutGaps os)
+unfolding newDepth readBy withoutGaps
+passed-over zero v own os = refl
+passed-over (suc zero) v own os = ap (λ xs. valueBytes (meanOf v (filtered (λ o. ltb 0 (weight v o)) xs))) (sym (filtered-again (λ o. isDepth (valueOf (o .depth))) os))
+passed-over (suc (suc zero)) v own os = ap (λ xs. valueBytes (leastOf xs)) (sym (filtered-again (λ o. isDepth (valueOf (o .depth))) os))
+passed-over (suc (suc (suc kind))) v own os = refl
+
+-- the cell's own gap stays under hold
+pub hold-keeps : (v own : Bytes) (os : List Old) → newDepth 0 v own os ≡ own
 unfolding newDepth
-new-bytes zero v own os m l h a w = w
-new-bytes (suc zero) v own os m l h a w = depth-small (quotient (depthSum v os) (weightSum v os)) (omega (arith, mean-small v m os a))
-new-bytes (suc (suc zero)) v own os m l h a w = depth-small (least (depthOf own) os) (omega (arith, least-small v m (depthOf own) os h a))
-new-bytes (suc (suc (suc kind))) v own os m l h a w = w
+hold-keeps v own os = refl
+
+mean-gap : (v : Bytes) (xs : List Old) → meanOf v xs ≡ Gap → xs ≡ []
+unfolding meanOf
+mean-gap v [] e = refl
+mean-gap v (o ∷ os) e = absurd (gap-alone (quotient (depthSum v (o ∷ os)) (weightSum v (o ∷ os))) (sym e))
+
+least-gap : (xs : List Old) → leastOf xs ≡ Gap → xs ≡ []
+unfolding leastOf
+least-gap [] e = refl
+least-gap (o ∷ os) e = absurd (gap-alone (least (depthOf (o .depth)) os) (sym e))
+
+-- "with only gaps, or only zero weights left, the new value is a gap", and else it is none, even where the cell's own old value is
+pub gap-exactly : (kind : ℕ) → 1 ≤ kind → kind ≤ 2 → (v own : Bytes) (os : List Old) (m : ℕ) → m < 2147483648 → All (SmallOld m) os
+    → (newDepth kind v own os ≡ gapBytes) ↔ (readBy v kind os ≡ [])
+unfolding newDepth readBy meanOf leastOf valueBytes
+gap-exactly zero i k v own os m l a = let z : ⊥ = omega arith in absurd z
+gap-exactly (suc zero) i k v own os m l a =
+    (λ e. mean-gap v (readBy v 1 os) (bytes-gap m l (meanOf v (readBy v 1 os)) (mean-within v m os a) e), λ e. ap (λ xs. valueBytes (meanOf v xs)) e)
+gap-exactly (suc (suc zero)) i k v own os m l a =
+    (λ e. least-gap (withoutGaps os) (bytes-gap m l (leastOf (withoutGaps os)) (least-within v m os a) e), λ e. ap (λ xs. valueBytes (leastOf xs)) e)
+gap-exactly (suc (suc (suc kind))) i k v own os m l a = let z : ⊥ = omega arith in absurd z
+
+-- "A point with only gaps is a gap", and no other is
+module _ where
+  abbrev ones : Bytes
+  ones = bytesOf (1 ∷ [])
+
+  abbrev read : List Bytes → List Old
+  read xs = readBy ones 1 (map (old ones) xs)
+
+  read-gap : (x : Bytes) (xs : List Bytes) → valueOf x ≡ Gap → read (x ∷ xs) ≡ read xs
+  unfolding readBy withoutGaps filtered isDepth
+  read-gap x xs e = ap (λ t. heavy ones (cond t (old ones x ∷ withoutGaps (map (old ones) xs)) (withoutGaps (map (old ones) xs)))) (ap isDepth e)
+
+  read-depth : (x : Bytes) (xs : List Bytes) (z : ℤ) → valueOf x ≡ Depth z → read (x ∷ xs) ≡ old ones x ∷ read xs
+  unfolding readBy withoutGaps filtered isDepth weight wordAt word bytesOf wordBytes
+  read-depth x xs z e = ap (λ t. heavy ones (cond t (old ones x ∷ withoutGaps (map (old ones) xs)) (withoutGaps (map (old ones) xs)))) (ap isDepth e)
+
+  none-read : (xs : List Bytes) → read xs ≡ [] → All (λ x. valueOf x ≡ Gap) xs
+  none-read [] e = tt
+  none-read (x ∷ xs) e = go (valueOf x) refl (λ q. none-read xs q)
+    where
+      go : (y : Value) → valueOf x ≡ y → (read xs ≡ [] → All (λ x. valueOf x ≡ Gap) xs) → All (λ x. valueOf x ≡ Gap) (x ∷ xs)
+      go (Depth z) q rest = let n : suc (length (read xs)) ≡ 0 = ap length (sym (read-depth x xs z q) ∙ e) in let no : ⊥ = omega arith in absurd no
+      go Gap q rest = (q, rest (sym (read-gap x xs q) ∙ e))
+
+  gaps-read : (xs : List Bytes) → All (λ x. valueOf x ≡ Gap) xs → read xs ≡ []
+  unfolding readBy withoutGaps filtered
+  gaps-read [] a = refl
+  gaps-read (x ∷ xs) a = read-gap x xs (a .0) ∙ gaps-read xs (a .1)
+
+pub point-gap : (xs : List Bytes) (m : ℕ) → m < 2147483648 → All (λ x. Within m (valueOf x)) xs → (plainMean xs ≡ gapBytes) ↔ All (λ x. valueOf x ≡ Gap) xs
+unfolding newDepth valueBytes
+point-gap xs m l a =
+    let g = gap-exactly 1 (omega arith) (omega arith) (bytesOf (1 ∷ [])) [] (map (old (bytesOf (1 ∷ []))) xs) m l (All-of-map (SmallOld m) (old (bytesOf (1 ∷ []))) xs a) in
+    (λ e. none-read xs (g .0 e), λ b. g .1 (gaps-read xs b))
 
 -- ---- an accepted rule
 
@@ -166,19 +359,24 @@ rule-known kind n v e =
     ltb-false 2 kind (or-false (ltb 2 kind) a (or-false (ltb 2 kind || a) b (or-false (ltb 2 kind || a || b) c e .0) .0) .0)
 
 module _ (n : ℕ) (v : Bytes) (e : bad11 1 n v ≡ false) where
-  split : (some 0 (n / 2 + 1) (tooHeavy v) ≡ false) × (eqb (wordAt v 0) 0 ≡ false)
+  -- "Mean has weights v0, .., v(n/2)"
+  pub rule-long : length v ≡ 2 * (n / 2 + 1)
   unfolding bad11 weightCount
-  split =
+  rule-long =
       let a = not (eqb (length v) (2 * (n / 2 + 1))) in
       let b = some 0 (n / 2 + 1) (tooHeavy v) in
-      let p = or-false (a || b) (eqb (wordAt v 0) 0) e in (or-false a b (p .0) .1, p .1)
+      eqb-true _ _ (not-false (eqb (length v) (2 * (n / 2 + 1))) (or-false a b (or-false (a || b) (eqb (wordAt v 0) 0) e .0) .0))
 
-  -- "each 0 to 15, v0 at least 1"
+  none-heavy : some 0 (n / 2 + 1) (tooHeavy v) ≡ false
+  unfolding bad11 weightCount
+  none-heavy =
+      let a = not (eqb (length v) (2 * (n / 2 + 1))) in
+      let b = some 0 (n / 2 + 1) (tooHeavy v) in
+      or-false a b (or-false (a || b) (eqb (wordAt v 0) 0) e .0) .1
+
+  -- "each 0 to 15"
   pub rule-light : (layer : ℕ) → layer ≤ n → wordAt v (layer / 2) ≤ mostWeight
   unfolding tooHeavy
   rule-light layer h =
       ltb-false mostWeight (wordAt v (layer / 2))
-      (ap (λ k. tooHeavy v k) (sym (zero-add (layer / 2))) ∙ some-at 0 (tooHeavy v) (n / 2 + 1) (layer / 2) (split .0) (omega arith))
-
-  pub rule-first : 1 ≤ wordAt v 0
-  rule-first = let h : wordAt v 0 ≢ 0 = eqb-false (wordAt v 0) 0 (split .1) in omega arith
+      (ap (λ k. tooHeavy v k) (sym (zero-add (layer / 2))) ∙ some-at 0 (tooHeavy v) (n / 2 + 1) (layer / 2) none-heavy (omega arith))

@@ -1,4 +1,4 @@
--- Rules and the new depth of one cell, and the refusal 11. Assumes nothing.
+-- Rules and the new value of one cell, a depth or a gap, and the refusal 11. Assumes nothing.
 --
 -- "The rule kind is 0 hold, 1 mean, 2 shoalest."
 use mathlib.Core.Bool.{Bool, _&&_, _||_, not, cond}
@@ -8,11 +8,14 @@ use lib.Dec.{eqb, ltb}
 use lib.IntN.{ℤ, pos, _+ℤ_, _*ℤ_}
 use lib.ListN.{length}
 use lib.Signed.{ltZ, quotZ}
+use Rattle.vocabulary.specs.Lists.{filtered}
 use Rattle.vocabulary.specs.Intervals.{some}
 use Rattle.vocabulary.specs.Bytes.{Bytes}
 use Rattle.layout.specs.Words.{wordAt, bytesOf}
 use Rattle.layout.specs.Limits.{mostWeight}
-use Rattle.depths.specs.Depths.{depthOf, depthBytes}
+use Rattle.depths.specs.Depths.{depthOf, isDepth, valueOf, valueBytes}
+use Rattle.depths.specs.declared.Value.{Value}
+use Rattle.depths.specs.declared.Value.the-variants.{Depth, Gap}
 
 -- a rule as a call is given it: its kind, and its weights as words
 pub record RuleInput : Type 0 where
@@ -35,17 +38,26 @@ bad11 kind n v =
     || some 0 (weightCount kind n) (tooHeavy v)
     || (eqb kind 1 && eqb (wordAt v 0) 0)
 
--- an old depth of a reach, as its four bytes, and the layer it is met at
+-- an old value of a reach, as its four bytes, and the layer it is met at
 pub record Old : Type 0 where
   pub layer : ℕ
   pub depth : Bytes
+
+-- "pass over gaps" (F-2)
+unfoldable pub withoutGaps : List Old → List Old
+withoutGaps os = filtered (λ o. isDepth (valueOf (o .depth))) os
 
 module _ (v : Bytes) where
   -- the weight of what is met at a layer
   unfoldable pub weight : Old → ℕ
   weight o = wordAt v (o .layer / 2)
 
-  -- "the sum of v(layer/2) × old depth over the reach", and "the sum of those weights"
+  -- what a mean (kind 1) or shoalest (kind 2) reads of a reach: "Mean and shoalest pass over gaps" (F-2), and a mean passes over what has weight zero. Hold reads none
+  -- of it; what stands here for other kinds is arbitrary.
+  unfoldable pub readBy : ℕ → List Old → List Old
+  readBy kind os = cond (eqb kind 1) (filtered (λ o. ltb 0 (weight o)) (withoutGaps os)) (withoutGaps os)
+
+  -- "the sum of v(layer/2) × old depth over the reach", and "the sum of those weights", over a list without gaps
   unfoldable pub depthSum : List Old → ℤ
   depthSum [] = pos 0
   depthSum (o ∷ os) = pos (weight o) *ℤ depthOf (o .depth) +ℤ depthSum os
@@ -58,11 +70,17 @@ module _ (v : Bytes) where
 unfoldable pub quotient : ℤ → ℕ → ℤ
 quotient sum weights = quotZ sum (pos weights)
 
--- "The new depth is the sum of v(layer/2) × old depth over the reach, divided by the sum of those weights, fraction dropped toward zero."
-abbrev pub mean : Bytes → List Old → Bytes
-mean v os = depthBytes (quotient (depthSum v os) (weightSum v os))
+-- of what is read: "The new depth is the sum of v(layer/2) × old depth over the reach, divided by the sum of those weights"; ".. with only gaps, or only zero weights
+-- left, the new value is a gap" (F-2)
+unfoldable pub meanOf : Bytes → List Old → Value
+meanOf v [] = Gap
+meanOf v (o ∷ os) = Depth (quotient (depthSum v (o ∷ os)) (weightSum v (o ∷ os)))
 
--- the mean of depths alone: "the plain mean .., all weights 1, rounded like the rule" (F-1)
+-- the mean as four bytes: "pass over gaps, a mean's divisor too" (F-2)
+abbrev pub mean : Bytes → List Old → Bytes
+mean v os = valueBytes (meanOf v (readBy v 1 os))
+
+-- the mean of values alone: "the plain mean .., all weights 1, rounded like the rule" (F-1); "A point with only gaps is a gap." (F-2)
 abbrev pub plainMean : List Bytes → Bytes
 plainMean xs = mean (bytesOf (1 ∷ [])) (map (λ x. record { layer = 0; depth = x }) xs)
 
@@ -70,15 +88,20 @@ plainMean xs = mean (bytesOf (1 ∷ [])) (map (λ x. record { layer = 0; depth =
 abbrev pub lesser : ℤ → ℤ → ℤ
 lesser y z = cond (ltZ y z) y z
 
--- the least of z and the old depths: "Shoalest is the least old depth in the reach", where z is the cell's own
+-- the least of z and the old depths, over a list without gaps
 unfoldable pub least : ℤ → List Old → ℤ
 least z [] = z
 least z (o ∷ os) = least (lesser (depthOf (o .depth)) z) os
 
--- the new depth of a cell, from its own old depth and those of its reach in rising order of the cells, itself among them: 0 hold, 1 mean,
--- 2 shoalest. 11 refuses every other kind before a depth is made, so what stands for it here is arbitrary.
+-- of what is read: "Shoalest is the least old depth in the reach"; with only gaps, a gap (F-2)
+unfoldable pub leastOf : List Old → Value
+leastOf [] = Gap
+leastOf (o ∷ os) = Depth (least (depthOf (o .depth)) os)
+
+-- the new value of a cell as four bytes, from its own old value and those of its reach in rising order of the cells, itself among them: 0 hold, 1 mean,
+-- 2 shoalest. 11 refuses every other kind before a value is made, so what stands for it here is arbitrary.
 unfoldable pub newDepth : ℕ → Bytes → Bytes → List Old → Bytes
 newDepth zero v own os = own
 newDepth (suc zero) v own os = mean v os
-newDepth (suc (suc zero)) v own os = depthBytes (least (depthOf own) os)
+newDepth (suc (suc zero)) v own os = valueBytes (leastOf (readBy v 2 os))
 newDepth (suc (suc (suc kind))) v own os = own

@@ -1,42 +1,36 @@
-// The new depth of one cell, from a table of its reach and the bytes of a field, where the caller knows both to be there.
+// The new value of one cell, a depth or a gap, from a table of its reach and the bytes of a field, where the caller knows both to be there.
 use crate::Kind;
-use depths::inner::depth_in;
+use depths::Value;
+use depths::inner::value_in;
 use layout::inner::word_in;
-use layout::word_at;
 ghost use mathlib.Core.Path.{_≡_};
 ghost use Prim.Native.Nat.{_+_, _*_, _/_, _<_, _≤_};
 ghost use lib.IntN.{pos, natAbs, _+ℤ_, _*ℤ_};
 ghost use lib.ListN.{length};
 ghost use Rattle.vocabulary.specs.Intervals.{listed};
 ghost use Rattle.layout.specs.Words.{word, wordAt};
-ghost use Rattle.layout.specs.Limits.{mostWeight};
-ghost use Rattle.depths.specs.Depths.{deepest, four, depthFrom, depthBytes};
-ghost use Rattle.round_rule.specs.Rules.{depthSum, weightSum, quotient, plainMean, lesser, least, newDepth};
+ghost use Rattle.layout.specs.Limits.{mostSteps, mostWeight};
+ghost use Rattle.depths.specs.Depths.{deepest, four, valueBytes, Within};
+ghost use Rattle.round_rule.specs.Rules.{withoutGaps, readBy, quotient, meanOf, plainMean, leastOf, newDepth};
 ghost use Rattle.round_rule.specs.Kinds.{kindNumber};
-ghost use Rattle.round_rule.specs.Update.{tableEntries, oldsAt, TableThere, Weighed, UpdateReady, placedAt, PlacesThere};
+ghost use Rattle.round_rule.specs.Update.{tableEntries, oldsAt, TableThere, Weighed, UpdateReady, placedAt, PlacesThere, dividedBy, lesserOf};
 
-// The weight of entry t.
+// The weight of entry t. No layer is above 8 and no weight above 15, so the low byte of each word is all of it.
 fn weight_of(weights: &[u8], b: &[u8], at: usize, t: usize) -> usize
-    requires { ⌜ at + 4 * t + 3 < length (now b) ⌝ }
-    ensures { λ r. ⌜ (r ≡ wordAt (now (weights .entry)) (word (now (b .entry)) (at + 4 * t + 2) / 2)) × (r < 65536) ⌝ }
+    requires { ⌜ (at + 4 * t + 3 < length (now b)) × (word (now b) (at + 4 * t + 2) ≤ mostSteps)
+        × (2 * (word (now b) (at + 4 * t + 2) / 2) + 1 < length (now weights)) × (wordAt (now weights) (word (now b) (at + 4 * t + 2) / 2) ≤ mostWeight) ⌝ }
+    ensures { λ r. ⌜ (r ≡ wordAt (now (weights .entry)) (word (now (b .entry)) (at + 4 * t + 2) / 2)) × (r ≤ mostWeight) ⌝ }
 {
-    word_at(weights, word_in(b, at + 4 * t + 2) / 2)
+    let layer = b[at + 4 * t + 3] as usize;
+    weights[2 * (layer / 2) + 1] as usize
 }
 
-// The old depth at a place of the field.
-fn depth_of(f: &[u8], base: usize, cell: usize) -> i32
-    requires { ⌜ base + 4 * cell + 3 < length (now f) ⌝ }
-    ensures { λ r. ⌜ r ≡ depthFrom (now (f .entry)) (base + 4 * cell) ⌝ }
+// The place in the field at `base` that the word at `o` in b names.
+fn place_of(b: &[u8], o: usize, base: usize) -> usize
+    requires { ⌜ (o + 1 < length (now b)) × (base + 4 * word (now b) o < 18446744073709551616) ⌝ }
+    ensures { λ r. ⌜ r ≡ base + 4 * word (now (b .entry)) o ⌝ }
 {
-    depth_in(f, base + 4 * cell)
-}
-
-// The old depth of entry t.
-fn old_of(b: &[u8], at: usize, t: usize, f: &[u8], base: usize) -> i32
-    requires { ⌜ (at + 4 * t + 3 < length (now b)) × (base + 4 * word (now b) (at + 4 * t) + 3 < length (now f)) ⌝ }
-    ensures { λ r. ⌜ r ≡ depthFrom (now (f .entry)) (base + 4 * word (now (b .entry)) (at + 4 * t)) ⌝ }
-{
-    depth_of(f, base, word_in(b, at + 4 * t))
+    base + 4 * word_in(b, o)
 }
 
 // One more weighed depth. The product is taken in 32 bits, which hold it: so the depth is read at once and not byte by byte.
@@ -69,65 +63,82 @@ fn quotient(sum: i64, w: usize) -> i32
     (sum as i32) / (w as i32)
 }
 
-// The mean over the n entries at `at` in b.
-fn mean_of(weights: &[u8], b: &[u8], at: usize, n: usize, f: &[u8], base: usize) -> i32
-    requires { ⌜ TableThere (now b) at n (now f) base × Weighed (now weights) (now b) at n (now f) base ⌝ }
-    ensures { λ r.
-        let olds = oldsAt (now (f .entry)) base (tableEntries (now (b .entry)) at n) in
-        ⌜ r ≡ quotient (depthSum (now (weights .entry)) olds) (weightSum (now (weights .entry)) olds) ⌝ }
+// The mean by its two sums. A sum of weights of 0 says that nothing was read: only gaps, or only weights of 0.
+fn mean_by(sum: i64, w: usize) -> Value
+    requires { ⌜ (w ≤ 983025) × (natAbs sum ≤ w * deepest) ⌝ }
+    ensures { λ r. ⌜ r ≡ dividedBy sum w ⌝ }
+{
+    if w == 0 {
+        return Value::Gap;
+    }
+    Value::Depth(quotient(sum, w))
+}
+
+// The mean over the n entries at `at` in b. Gaps are passed over, in the sum and in its divisor.
+fn mean_of(weights: &[u8], b: &[u8], at: usize, n: usize, f: &[u8], base: usize) -> Value
+    requires { ⌜ TableThere (now b) at n (now f) base × Weighed (now weights) (now b) at n ⌝ }
+    ensures { λ r. ⌜ r ≡ meanOf (now (weights .entry)) (readBy (now (weights .entry)) 1 (oldsAt (now (f .entry)) base (tableEntries (now (b .entry)) at n))) ⌝ }
 {
     let mut sum: i64 = 0;
     let mut weight_sum: usize = 0;
     for t in 0..n {
         let w = weight_of(weights, b, at, t);
-        let d = old_of(b, at, t, f, base);
-        sum = add_weighed(sum, w, d);
-        weight_sum += w;
+        weight_sum += match value_in(f, place_of(b, at + 4 * t, base)) {
+            Value::Depth(z) => {
+                sum = add_weighed(sum, w, z);
+                w
+            }
+            Value::Gap => 0, // it counts for nothing in the divisor
+        };
     }
-    quotient(sum, weight_sum)
+    mean_by(sum, weight_sum)
 }
 
-// The depth at the place that word t gives.
-fn placed_of(b: &[u8], at: usize, t: usize, f: &[u8], base: usize) -> i32
-    requires { ⌜ (at + 2 * t + 1 < length (now b)) × (base + 4 * word (now b) (at + 2 * t) + 3 < length (now f)) ⌝ }
-    ensures { λ r. ⌜ r ≡ depthFrom (now (f .entry)) (base + 4 * word (now (b .entry)) (at + 2 * t)) ⌝ }
-{
-    depth_of(f, base, word_in(b, at + 2 * t))
-}
-
-// The mean, all weights 1, of the n depths of the field at `base` in f whose places are the words at `at` in b.
-pub fn plain_mean(b: &[u8], at: usize, n: usize, f: &[u8], base: usize) -> i32
+// The mean, all weights 1, of the n values of the field at `base` in f whose places are the words at `at` in b.
+pub fn plain_mean(b: &[u8], at: usize, n: usize, f: &[u8], base: usize) -> Value
     requires { ⌜ PlacesThere (now b) at n (now f) base ⌝ }
-    ensures { λ r. ⌜ (depthBytes r ≡ plainMean (listed 0 n (placedAt (now (b .entry)) at (now (f .entry)) base))) × (natAbs r ≤ deepest) ⌝ }
+    ensures { λ r. ⌜ (valueBytes r ≡ plainMean (listed 0 n (placedAt (now (b .entry)) at (now (f .entry)) base))) × Within deepest r ⌝ }
 {
     let mut sum: i64 = 0;
+    let mut count: usize = 0;
     for t in 0..n {
-        let d = placed_of(b, at, t, f, base);
-        sum = add_weighed(sum, 1, d);
+        count += match value_in(f, place_of(b, at + 2 * t, base)) {
+            Value::Depth(z) => {
+                sum = add_weighed(sum, 1, z);
+                1
+            }
+            Value::Gap => 0,
+        };
     }
-    quotient(sum, n)
+    mean_by(sum, count)
 }
 
-// The lesser of two depths.
-fn lesser(y: i32, z: i32) -> i32
-    ensures { λ r. ⌜ r ≡ lesser y z ⌝ }
+// The lesser of a depth and the least so far, which is a gap where none was read.
+fn lesser_of(y: i32, x: Value) -> Value
+    ensures { λ r. ⌜ r ≡ lesserOf y x ⌝ }
 {
-    if y < z { y } else { z }
+    match x {
+        Value::Depth(z) => Value::Depth(if y < z { y } else { z }),
+        Value::Gap => Value::Depth(y),
+    }
 }
 
-// The least of the cell's own depth and those of the n entries.
-fn least_of(b: &[u8], at: usize, n: usize, f: &[u8], base: usize, own: usize) -> i32
-    requires { ⌜ TableThere (now b) at n (now f) base × (base + 4 * own + 3 < length (now f)) ⌝ }
-    ensures { λ r. ⌜ r ≡ least (depthFrom (now (f .entry)) (base + 4 * own)) (oldsAt (now (f .entry)) base (tableEntries (now (b .entry)) at n)) ⌝ }
+// The least depth of the n entries.
+fn least_of(b: &[u8], at: usize, n: usize, f: &[u8], base: usize) -> Value
+    requires { ⌜ TableThere (now b) at n (now f) base ⌝ }
+    ensures { λ r. ⌜ r ≡ leastOf (withoutGaps (oldsAt (now (f .entry)) base (tableEntries (now (b .entry)) at n))) ⌝ }
 {
-    let mut z = depth_of(f, base, own);
+    let mut x = Value::Gap;
     for t in 0..n {
-        z = lesser(old_of(b, at, t, f, base), z);
+        x = match value_in(f, place_of(b, at + 4 * t, base)) {
+            Value::Depth(z) => lesser_of(z, x),
+            Value::Gap => x,
+        };
     }
-    z
+    x
 }
 
-// The new depth of the cell at the place `own` of the field that stands at `base` in f. Its reach are the n entries at `at` in b.
+// The new value of the cell at the place `own` of the field that stands at `base` in f. Its reach are the n entries at `at` in b.
 pub fn new_depth(
     kind: Kind,
     weights: &[u8],
@@ -137,14 +148,14 @@ pub fn new_depth(
     f: &[u8],
     base: usize,
     own: usize,
-) -> i32
+) -> Value
     requires { ⌜ UpdateReady (kindNumber kind) (now weights) (now b) at n (now f) base own ⌝ }
-    ensures { λ r. ⌜ (depthBytes r ≡ newDepth (kindNumber kind) (now (weights .entry)) (four (now (f .entry)) (base + 4 * own))
-        (oldsAt (now (f .entry)) base (tableEntries (now (b .entry)) at n))) × (natAbs r ≤ deepest) ⌝ }
+    ensures { λ r. ⌜ (valueBytes r ≡ newDepth (kindNumber kind) (now (weights .entry)) (four (now (f .entry)) (base + 4 * own))
+        (oldsAt (now (f .entry)) base (tableEntries (now (b .entry)) at n))) × Within deepest r ⌝ }
 {
     match kind {
-        Kind::Hold => depth_of(f, base, own),
+        Kind::Hold => value_in(f, base + 4 * own),
         Kind::Mean => mean_of(weights, b, at, n, f, base),
-        Kind::Shoalest => least_of(b, at, n, f, base, own),
+        Kind::Shoalest => least_of(b, at, n, f, base),
     }
 }

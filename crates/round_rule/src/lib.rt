@@ -1,4 +1,4 @@
-// Rules, and the new depth of one cell. Here stands the test that takes any bytes; what supposes something is in `inner`.
+// Rules, and the new value of one cell. Here stands the test that takes any bytes; what supposes something is in `inner`.
 pub mod inner;
 
 use layout::limits::MOST_WEIGHT;
@@ -8,7 +8,7 @@ ghost use Rattle.vocabulary.specs.Intervals.{some};
 ghost use Rattle.round_rule.specs.Rules.{tooHeavy, bad11};
 ghost use Rattle.round_rule.specs.Kinds.{kindNumber, ruleOf};
 
-// "The rule kind is 0 hold, 1 mean, 2 shoalest": each chooses another update of a depth.
+// "The rule kind is 0 hold, 1 mean, 2 shoalest": each chooses another update of a value.
 pub enum Kind {
     Hold,
     Mean,

@@ -9,8 +9,8 @@ use Rattle.vocabulary.specs.Lists.{All}
 use Rattle.vocabulary.specs.ListLaws.{All-map, All-of-map}
 use Rattle.vocabulary.specs.IntervalLaws.{listed-all}
 use Rattle.layout.specs.Limits.{mostParts}
-use Rattle.depths.specs.Depths.{depthOf}
-use Rattle.depths.specs.DepthLaws.{length-four, range-intro}
+use Rattle.depths.specs.Depths.{valueOf}
+use Rattle.depths.specs.DepthLaws.{length-four, within-valid}
 use Rattle.messages.specs.Messages.{encode, reading}
 use Rattle.messages.specs.MessageLaws.{Sound, read-back, read-once}
 use Rattle.part_state.specs.State.{listsIn, listsOf, dynamic, isState, localExports, exportEnd, exportAt, heldCount, depthPlace}
@@ -44,7 +44,7 @@ module _ (b : Bytes) (s : isState b ≡ true) where
       let lists : Bytes = take (dynamic b) b in
       All-of-map Sound (depthAt (dynamic b) b) (localExports lists j)
       (All-map (localExports lists j)
-      (λ l h. (length-four b (depthPlace (dynamic b) l), range-intro (depthOf (depthAt (dynamic b) b l)) (ranged-local b (dynamic b) (heldCount lists) l (whole .ranged) (h .0) (h .1))))
+      (λ l h. (length-four b (depthPlace (dynamic b) l), within-valid (valueOf (depthAt (dynamic b) b l)) (ranged-local b (dynamic b) (heldCount lists) l (whole .ranged) (h .0) (h .1))))
       (exports-held j least most))
 
 pub message-theorem : MessageTheorem

@@ -16,7 +16,7 @@ use Rattle.vocabulary.specs.IntervalLaws.{every-intro, picked-length-le, blocks
 use Rattle.vocabulary.specs.Tests.{allOf}
 use Rattle.vocabulary.specs.TestLaws.{allOf-intro}
 use Rattle.depths.specs.Depths.{four}
-use Rattle.depths.specs.DepthLaws.{depth-four}
+use Rattle.depths.specs.DepthLaws.{value-four}
 use Rattle.mesh.specs.Mesh.{top, below, elements, recordCount, firstCell, cellCount, bad1, bad2, badCount}
 use Rattle.mesh.specs.MeshLaws.{mesh-sized}
 use Rattle.mesh.specs.Walks.{Near, steps}
@@ -39,7 +39,7 @@ use Rattle.run_theorem.specs.Run.{StatesKept}
 use Rattle.run_theorem.specs.RunLaws.{Part}
 use Rattle.run_theorem.specs.StartLaws.{Ready, started-facts, frontIn, reach-inside, owner-inside, order-full}
 use Rattle.run_theorem.specs.StartLaws.{stateOf, state-dynamic, state-front, state-length, state-flag, state-round, state-depth, start-is}
-use Rattle.run_theorem.specs.KeptLaws.{InRange, local-ranged, write-kept, take-kept, advance-kept}
+use Rattle.run_theorem.specs.KeptLaws.{ValidFour, local-ranged, write-kept, take-kept, advance-kept}
 use Rattle.split.specs.Lists.{splitIn}
 use Rattle.layout.specs.Limits.{lastRound, mostElements, mostParts, mostRecords, mostSteps}
 
@@ -269,11 +269,11 @@ module _ (I : Inputs) (R : Ready I) (i : ℕ) (part : Part (I .split .parts) i) 
     zero-flag : (p : ℕ) → p < 2 * mostParts → (q : ℕ) → q ≡ length lists + (2 + p) → leb (byteAt b q) 1 ≡ true
     zero-flag p h q e = le-leb (byteAt b q) 1 (omega (arith, ap (λ x. byteAt b x) e ∙ state-flag I i tail p h))
 
-    state-fine : (l : ℕ) → 1 ≤ l → l ≤ heldCount lists → InRange (four b (depthPlace (length lists) l))
+    state-fine : (l : ℕ) → 1 ≤ l → l ≤ heldCount lists → ValidFour (four b (depthPlace (length lists) l))
     unfolding depthIn schemeOf
     state-fine l h q =
-        subst InRange (sym (state-depth I i tail l h (omega (arith, held-is))))
-        (rw depth-four (field-depth (cellCount (I .split .mesh)) (I .field) (R .field-good) (globalOf order l - firstCell (I .split .mesh))))
+        subst ValidFour (sym (state-depth I i tail l h (omega (arith, held-is))))
+        (rw value-four (field-depth (cellCount (I .split .mesh)) (I .field) (R .field-good) (globalOf order l - firstCell (I .split .mesh))))
 
     changes-fine : allOf (dynamicTests b (length lists) (heldCount lists)) ≡ true
     unfolding dynamicTests

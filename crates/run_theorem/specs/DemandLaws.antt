@@ -1,5 +1,5 @@
 -- Demand 3: every order of calls on the bytes of all parts gives the undivided field. Assumes nothing.
-use mathlib.Core.Path.{_≡_, refl, sym, ap, ap₂, _∙_}
+use mathlib.Core.Path.{_≡_, refl, sym, ap, ap₂, _∙_, subst₂}
 use mathlib.Core.Bool.{Bool, true, false, cond, false≢true}
 use mathlib.Core.List.{List, [], _∷_, _++_, map, append-assoc}
 use Prim.Native.Nat.{ℕ, zero, suc, _+_, _*_, _<_}
@@ -15,7 +15,7 @@ use Rattle.vocabulary.specs.ListLaws.{mem-all}
 use Rattle.layout.specs.Words.{word, wordAt, wordBytes}
 use Rattle.layout.specs.WordLaws.{word-same, word-left, word-back}
 use Rattle.depths.specs.Depths.{four}
-use Rattle.depths.specs.DepthLaws.{fours-same, four-same, four-past, four-whole, length-depthBytes}
+use Rattle.depths.specs.DepthLaws.{fours-same, four-same, four-past, four-whole, length-valueBytes}
 use Rattle.mesh.specs.Mesh.{cellCount}
 use Rattle.round.specs.Rounds.{schemeOf, undivided, pointIn}
 use Rattle.round.specs.RoundLaws.{field-length, undivided-good}
@@ -23,7 +23,7 @@ use Rattle.split.specs.Split.{pointsOf, pointsIn}
 use Rattle.split.specs.Lists.{splitIn}
 use Rattle.part_state.specs.State.{isState}
 use Rattle.part_start.specs.Start.{firstState, Inputs, schemeIn, startNumber, startState}
-use Rattle.run_theorem.specs.Run.{PointDepths, begin, Run, endOf, collectsOf, pointsGivenBy, Right, Gathered, RightPoints, RunTheorem}
+use Rattle.run_theorem.specs.Run.{PointDepths, begin, Run, endOf, collectsOf, pointsGivenBy, Right, Gathered, RightPoints, SameField, RunTheorem}
 use Rattle.run_theorem.specs.WorldLaws.{StateHolds, Inv, run-inv}
 use Rattle.run_theorem.specs.StartLaws.{Ready, started-facts, frontIn, start-is, begin-good, parted}
 use Rattle.run_theorem.specs.PointStartLaws.{pointed}
@@ -105,7 +105,7 @@ point-read I g r t h =
     let piece : ℕ → Bytes = λ p. wordBytes p ++ depth p in
     let x : Bytes = joined (map piece ps) in
     let p : ℕ = getD ps t 0 in
-    let four-long : (p : ℕ) → length (depth p) ≡ 4 = λ p. length-depthBytes _ in
+    let four-long : (p : ℕ) → length (depth p) ≡ 4 = λ p. length-valueBytes _ in
     let at : (k : ℕ) → k < 6 → byteAt (g .out) (6 * t + k) ≡ byteAt (piece p) k =
     λ k l. ap (λ b. byteAt b (6 * t + k)) (r .given ∙ over-front (g .before) x) ∙ pieces-at piece (λ p. omega (arith, four-long p)) ps (drop (length x) (g .before)) t k h l in
     let z : 6 * t ≡ 6 * t + 0 = omega arith in (
@@ -123,7 +123,8 @@ run-theorem = record {
   two-runs = λ I J mesh stencil rule r s k G H g h.
       let p = gathered-whole I r k G g in
       let q = gathered-whole J s k H h in
-      (λ e. sym p ∙ e ∙ q, λ e. p ∙ e ∙ sym q);
+      let same : Bytes → Bytes → Type 0 = SameField (cellCount (I .split .mesh)) in
+      (subst₂ same p q, subst₂ same (sym p) (sym q));
   each-points = points-right;
   shared-point = λ I r g h m n e t u p q w.
       let a = point-read I g (mem-all (RightPoints I) (pointsGivenBy r) m (points-right I r)) t p in

@@ -6,7 +6,6 @@ use mathlib.Core.List.{List, map}
 use Prim.Native.Nat.{ℕ, _+_, _-_, _*_, _<_, _≤_}
 use native.Mathlib.Omega.{arith}
 use lib.Dec.{eqb}
-use lib.IntN.{natAbs}
 use lib.ListN.{length, set, take, length-set}
 use lib.Seq.{getD-set-same, getD-set-other}
 use borrow.Author.Tests.{eqb-true, eqb-false, leb-false}
@@ -18,10 +17,10 @@ use Rattle.vocabulary.specs.IntervalLaws.{every-intro}
 use Rattle.vocabulary.specs.TestLaws.{passed-by}
 use Rattle.layout.specs.WordLaws.{word-set}
 use Rattle.layout.specs.Limits.{lastRound, mostParts}
-use Rattle.depths.specs.Depths.{deepest, Valid, four, depthFrom, depthOf, rangedAt}
-use Rattle.depths.specs.DepthLaws.{length-four, four-set, depth-four, range-intro, ranged-size}
+use Rattle.depths.specs.Depths.{deepest, Within, Valid, four, valueFrom, valueOf, rangedAt}
+use Rattle.depths.specs.DepthLaws.{length-four, four-set, value-four, within-valid, ranged-valid}
 use Rattle.round_rule.specs.Rules.{Old}
-use Rattle.round_rule.specs.RuleLaws.{SmallSum, new-small, new-length}
+use Rattle.round_rule.specs.RuleLaws.{SmallOld, new-within, new-length}
 use Rattle.messages.specs.Messages.{headerSize, depthStart, depthsOf, fromIn, countIn}
 use Rattle.part_state.specs.State.{LocalNear, listsIn, listsOf, dynamic, ruleKind, weights, heldCount, ownedCount}
 use Rattle.part_state.specs.State.{localReach, isState, roundAt, takenPlace, writtenPlace, depthPlace, depthsPlace}
@@ -31,25 +30,25 @@ use Rattle.part_calls.specs.CallLaws.{Room, room-of, Taken, taken-facts}
 use Rattle.part_calls.specs.EffectLaws.{take-room, take-flag, take-frame, take-word, take-in, take-below, take-above, advance-frame, advance-word, advance-flag, advance-owned, advance-others}
 use Rattle.run_theorem.specs.StepLaws.{write-part}
 
--- a depth in range, by its four bytes
-abbrev pub InRange : Bytes → Type 0
-InRange x = natAbs (depthOf x) ≤ deepest
+-- a valid value, by its four bytes
+abbrev pub ValidFour : Bytes → Type 0
+ValidFour x = Within deepest (valueOf x)
 
 -- ---- what is left when the bytes before d stay
 
--- the depths of the local cells
-pub ranged-local : (b : Bytes) (changes n l : ℕ) → every 0 n (rangedAt b (depthsPlace changes)) ≡ true → 1 ≤ l → l ≤ n → InRange (depthAt changes b l)
+-- the values of the local cells
+pub ranged-local : (b : Bytes) (changes n l : ℕ) → every 0 n (rangedAt b (depthsPlace changes)) ≡ true → 1 ≤ l → l ≤ n → ValidFour (depthAt changes b l)
 ranged-local b changes n l e h k =
     let q : depthsPlace changes + 4 * (l - 1) ≡ depthPlace changes l = omega arith in
-    rw depth-four (subst (λ o. Valid b o) q (ranged-size b (depthsPlace changes) n (l - 1) e (omega arith)))
+    rw value-four (subst (λ o. Valid b o) q (ranged-valid b (depthsPlace changes) n (l - 1) e (omega arith)))
 
-pub local-ranged : (b : Bytes) (changes n : ℕ) → ((l : ℕ) → 1 ≤ l → l ≤ n → InRange (depthAt changes b l)) → every 0 n (rangedAt b (depthsPlace changes)) ≡ true
+pub local-ranged : (b : Bytes) (changes n : ℕ) → ((l : ℕ) → 1 ≤ l → l ≤ n → ValidFour (depthAt changes b l)) → every 0 n (rangedAt b (depthsPlace changes)) ≡ true
 unfolding rangedAt
 local-ranged b changes n f =
     every-intro 0 (rangedAt b (depthsPlace changes)) n
     (λ i h.
     let q : depthPlace changes (i + 1) ≡ depthsPlace changes + 4 * (0 + i) = omega arith in
-    range-intro (depthFrom b (depthsPlace changes + 4 * (0 + i))) (subst (λ o. Valid b o) q (rw depth-four at (f (i + 1) (omega arith) (omega arith)))))
+    within-valid (valueFrom b (depthsPlace changes + 4 * (0 + i))) (subst (λ o. Valid b o) q (rw value-four at (f (i + 1) (omega arith) (omega arith)))))
 
 module _ (b : Bytes) (s : isState b ≡ true) where
   abbrev lists : Bytes
@@ -67,7 +66,7 @@ module _ (b : Bytes) (s : isState b ≡ true) where
 
   kept : (b′ : Bytes) → Frame (dynamic b) b b′ → roundAt b′ (dynamic b) ≤ lastRound
       → ((j : ℕ) → 1 ≤ j → j ≤ mostParts → (byteAt b′ (takenPlace (dynamic b) j) ≤ 1) × (byteAt b′ (writtenPlace (dynamic b) j) ≤ 1))
-      → ((l : ℕ) → 1 ≤ l → l ≤ heldCount (take (dynamic b) b) → InRange (depthAt (dynamic b) b′ l)) → isState b′ ≡ true
+      → ((l : ℕ) → 1 ≤ l → l ≤ heldCount (take (dynamic b) b) → ValidFour (depthAt (dynamic b) b′ l)) → isState b′ ≡ true
   kept b′ f early flags fine =
       let h : dynamic b ≤ length b = omega (arith, whole .long) in
       let e : dynamic b′ ≡ dynamic b = frame-dynamic (dynamic b) b b′ h f (omega (arith, whole .lists-fit)) in
@@ -76,7 +75,7 @@ module _ (b : Bytes) (s : isState b ≡ true) where
       ∙ subst₂ (λ x n. isStateAt x n b′ ≡ true) (sym t) (sym e)
       (still-whole (take (dynamic b) b) (dynamic b) b b′ at-front (omega (arith, whole .long, f .same-length)) early flags (local-ranged b′ (dynamic b) (heldCount (take (dynamic b) b)) fine))
 
-  fine : (l : ℕ) → 1 ≤ l → l ≤ heldCount (take (dynamic b) b) → InRange (depthAt (dynamic b) b l)
+  fine : (l : ℕ) → 1 ≤ l → l ≤ heldCount (take (dynamic b) b) → ValidFour (depthAt (dynamic b) b l)
   fine l h k = ranged-local b (dynamic b) (heldCount (take (dynamic b) b)) l (whole .ranged) h k
 
   -- ---- write
@@ -97,7 +96,7 @@ module _ (b : Bytes) (s : isState b ≡ true) where
       (record { same-length = length-set b (writtenPlace changes j) 1; same = λ i h. getD-set-other b (writtenPlace changes j) i 1 0 (omega arith) })
       (rw (word-set b (writtenPlace changes j) 1 changes (omega arith) (omega arith)) (whole .early))
       (λ i h k. let g = whole .flags i h k in (set-flag (writtenPlace changes j) (takenPlace changes i) p (g .0), set-flag (writtenPlace changes j) (writtenPlace changes i) p (g .1)))
-      (λ l h k. subst InRange (sym (four-set b (writtenPlace changes j) 1 (depthPlace changes l) (inl (omega arith)))) (fine l h k))
+      (λ l h k. subst ValidFour (sym (four-set b (writtenPlace changes j) 1 (depthPlace changes l) (inl (omega arith)))) (fine l h k))
 
   -- ---- take
 
@@ -117,14 +116,14 @@ module _ (b : Bytes) (s : isState b ≡ true) where
         go false e = omega (arith, take-flag (listsOf b) (dynamic b) b x room v i h (eqb-false i _ e))
 
     taken-depth : (l : ℕ) → 1 ≤ l → l ≤ heldCount (take (dynamic b) b) → Place (listsOf b .before (fromIn x) + 1) (listsOf b .imported (fromIn x)) l
-        → InRange (depthAt (dynamic b) (takenIn (listsOf b) (dynamic b) b x) l)
-    taken-depth l h k (below q) = subst InRange (sym (take-below (listsOf b) (dynamic b) b x room v l h q)) (fine l h k)
+        → ValidFour (depthAt (dynamic b) (takenIn (listsOf b) (dynamic b) b x) l)
+    taken-depth l h k (below q) = subst ValidFour (sym (take-below (listsOf b) (dynamic b) b x room v l h q)) (fine l h k)
     taken-depth l h k (inside t q p) =
         let c : t < countIn x = omega (arith, v .count-is) in
         let e : depthAt (dynamic b) (takenIn (listsOf b) (dynamic b) b x) l ≡ four x (depthStart t) =
         ap (λ n. depthAt (dynamic b) (takenIn (listsOf b) (dynamic b) b x) n) p ∙ take-in (listsOf b) (dynamic b) b x room v t q in
-        subst InRange (sym e) (rw depth-four (ranged-size x headerSize (countIn x) t (v .ranged) c))
-    taken-depth l h k (above q) = subst InRange (sym (take-above (listsOf b) (dynamic b) b x room v l h q)) (fine l h k)
+        subst ValidFour (sym e) (rw value-four (ranged-valid x headerSize (countIn x) t (v .ranged) c))
+    taken-depth l h k (above q) = subst ValidFour (sym (take-above (listsOf b) (dynamic b) b x room v l h q)) (fine l h k)
 
     taken : isState (takenIn (listsOf b) (dynamic b) b x) ≡ true
     taken =
@@ -141,22 +140,22 @@ module _ (b : Bytes) (s : isState b ≡ true) where
   unfolding newAt listsOf listsIn
   new-four l = new-length (ruleKind (take (dynamic b) b)) (weights (take (dynamic b) b)) _ _ (length-four b _)
 
-  new-fine : (l : ℕ) → 1 ≤ l → l ≤ ownedCount (take (dynamic b) b) → InRange (newAt (listsOf b) (dynamic b) b l)
+  new-fine : (l : ℕ) → 1 ≤ l → l ≤ ownedCount (take (dynamic b) b) → ValidFour (newAt (listsOf b) (dynamic b) b l)
   unfolding newAt listsOf listsIn
   new-fine l h k =
       let es : List LocalNear = localReach (take (dynamic b) b) l in
       let old : LocalNear → Old = λ e. record { layer = e .layer; depth = depthAt (dynamic b) b (e .local) } in
-      new-small (weights (take (dynamic b) b)) deepest (ruleKind (take (dynamic b) b)) (depthAt (dynamic b) b l) (map old es) (omega arith)
+      new-within (weights (take (dynamic b) b)) deepest (ruleKind (take (dynamic b) b)) (depthAt (dynamic b) b l) (map old es) (omega arith)
       (fine l h (omega (arith, whole .ends 0 mostParts (omega arith) (omega arith))))
-      (All-of-map (SmallSum deepest) old es (All-map es (λ e q. fine (e .local) (q .0) (q .1)) (near-whole (take (dynamic b) b) (dynamic b) b whole l h k)))
+      (All-of-map (SmallOld deepest) old es (All-map es (λ e q. fine (e .local) (q .0) (q .1)) (near-whole (take (dynamic b) b) (dynamic b) b whole l h k)))
 
-  advanced-depth : (l : ℕ) → 1 ≤ l → l ≤ heldCount (take (dynamic b) b) → Place 0 (listsOf b .owned + 1) l → InRange (depthAt (dynamic b) (advancedIn (listsOf b) (dynamic b) b) l)
+  advanced-depth : (l : ℕ) → 1 ≤ l → l ≤ heldCount (take (dynamic b) b) → Place 0 (listsOf b .owned + 1) l → ValidFour (depthAt (dynamic b) (advancedIn (listsOf b) (dynamic b) b) l)
   unfolding listsOf listsIn
   advanced-depth l h k (below q) = let z : ⊥ = omega arith in absurd z
   advanced-depth l h k (inside t q p) =
       let c : l ≤ ownedCount (take (dynamic b) b) = omega arith in
-      subst InRange (sym (advance-owned (listsOf b) (dynamic b) b room new-four l h c)) (new-fine l h c)
-  advanced-depth l h k (above q) = subst InRange (sym (advance-others (listsOf b) (dynamic b) b room new-four l (omega arith))) (fine l h k)
+      subst ValidFour (sym (advance-owned (listsOf b) (dynamic b) b room new-four l h c)) (new-fine l h c)
+  advanced-depth l h k (above q) = subst ValidFour (sym (advance-others (listsOf b) (dynamic b) b room new-four l (omega arith))) (fine l h k)
 
   advanced : roundAt b (dynamic b) < lastRound → isState (advancedIn (listsOf b) (dynamic b) b) ≡ true
   advanced early =

@@ -8,6 +8,7 @@ pub mod WorldLaws
 pub mod StartLaws
 pub mod PointStartLaws
 pub mod DemandLaws
+pub mod FieldLaws
 pub mod BoundLaws
 pub mod KeptLaws
 pub mod BegunLaws

@@ -1,19 +1,21 @@
--- Runs: lists of calls on the states of all parts, what they gather, and the statement of demand 3, with the depths at the points (F-1). Assumes nothing.
+-- Runs: lists of calls on the states of all parts, what they gather, and the statement of demand 3, with the depths at the points (F-1) and with gaps (F-2). Assumes nothing.
 use mathlib.Core.Path.{_≡_}
 use mathlib.Core.Logic.{_↔_}
-use mathlib.Core.Bool.{true, not, cond}
+use mathlib.Core.Bool.{true, false, not, cond}
 use mathlib.Core.List.{List, [], _∷_, _++_, map, List·Memᴰ}
 use Prim.Native.Nat.{ℕ, suc, _+_, _-_, _*_, _/_, _<_, _≤_}
 use lib.Dec.{eqb, ltb}
+use lib.IntN.{ℤ}
 use lib.ListN.{length, getD, take}
 use Rattle.vocabulary.specs.Intervals.{isUpTo, total}
 use Rattle.vocabulary.specs.Lists.{All, joined}
 use Rattle.vocabulary.specs.Tests.{refuse, firstOf}
 use Rattle.vocabulary.specs.Bytes.{Bytes, byteAt, over}
 use Rattle.layout.specs.Words.{word, wordBytes}
-use Rattle.depths.specs.Depths.{four}
+use Rattle.depths.specs.Depths.{four, gapBytes, valueFrom, valueOf}
+use Rattle.depths.specs.declared.Value.the-variants.{Depth, Gap}
 use Rattle.mesh.specs.Mesh.{cellCount}
-use Rattle.round.specs.Rounds.{undivided, pointIn}
+use Rattle.round.specs.Rounds.{bad14, undivided, pointIn}
 use Rattle.messages.specs.Messages.{read, reading}
 use Rattle.split.specs.Split.{Split, ownerAt, owned, held, exports, locals, globalOf, pointsOf, pointsIn, bad29}
 use Rattle.part_state.specs.State.{isState, listsOf, dynamic, roundAt}
@@ -148,7 +150,7 @@ pub record Gathered (I : Inputs) (gs : List Collected) (k : ℕ) (G : Bytes) : T
   pub collected : (c : ℕ) → c < cellCount (I .split .mesh)
       → (g : Collected) × List·Memᴰ g gs × (g .part ≡ ownerIn I c) × (g .round ≡ k) × (four G (4 * c) ≡ four (g .field) (4 * c))
 
--- what an accepted points call gave: each point that touches its part's owned cells, in rising number, with the depth that the undivided field has there after
+-- what an accepted points call gave: each point that touches its part's owned cells, in rising number, with the value that the undivided field has there after
 -- as many rounds; the bytes behind stay (F-1)
 pub record RightPoints (I : Inputs) (g : PointDepths) : Type 0 where
   pub rounds : g .round ≡ g .made
@@ -156,20 +158,33 @@ pub record RightPoints (I : Inputs) (g : PointDepths) : Type 0 where
   pub given : g .out ≡ over (g .before) 0
       (joined (map (λ p. wordBytes p ++ pointIn (schemeIn I) (undivided (schemeIn I) (I .field) (g .round)) p) (pointsOf (splitIn (I .split)) (g .part))))
 
+-- "The equality of gathered fields counts a gap as equal to a gap alone" (F-2): two fields of n cells are equal where they have the same depth at each cell, or both
+-- a gap there
+unfoldable pub SameField : ℕ → Bytes → Bytes → Type 0
+SameField n f g = (c : ℕ) → c < n → valueFrom f (4 * c) ≡ valueFrom g (4 * c)
+
 -- any order of calls on the boards gives the field that one undivided computation gives: each accepted collect is right; a gathered field is
 -- the whole undivided field; and two runs on the same mesh, stencil and rule, under any two part maps, gather equal fields after k rounds
--- exactly where the undivided rule takes their starting fields to equal fields in k rounds. Each accepted points call is right, and "two parts sharing a
--- point must give the same depth there at the same round": the t-th point of one is the u-th of the other, both counted from 0
+-- exactly where the undivided rule takes their starting fields to equal fields in k rounds, equal depth for depth and a gap for a gap alone. Each accepted points
+-- call is right, and "two parts sharing a point must give the same depth there at the same round": the t-th point of one is the u-th of the other, both counted from 0
 pub record RunTheorem : Type 0 where
   pub each-collect : (I : Inputs) (r : Run I) → All (Right I) (collectsOf r)
   pub whole-field : (I : Inputs) (r : Run I) (k : ℕ) (G : Bytes) → Gathered I (collectsOf r) k G → G ≡ undivided (schemeIn I) (I .field) k
   pub two-runs : (I J : Inputs) → I .split .mesh ≡ J .split .mesh → I .split .stencil ≡ J .split .stencil → I .rule ≡ J .rule
       → (r : Run I) (s : Run J) (k : ℕ) (G H : Bytes) → Gathered I (collectsOf r) k G → Gathered J (collectsOf s) k H
-      → (G ≡ H) ↔ (undivided (schemeIn I) (I .field) k ≡ undivided (schemeIn J) (J .field) k)
+      → let n : ℕ = cellCount (I .split .mesh) in SameField n G H ↔ SameField n (undivided (schemeIn I) (I .field) k) (undivided (schemeIn J) (J .field) k)
   pub each-points : (I : Inputs) (r : Run I) → All (RightPoints I) (pointsGivenBy r)
   pub shared-point : (I : Inputs) (r : Run I) (g h : PointDepths) → List·Memᴰ g (pointsGivenBy r) → List·Memᴰ h (pointsGivenBy r) → g .round ≡ h .round
       → (t u : ℕ) → t < pointsIn (splitIn (I .split)) (g .part) → u < pointsIn (splitIn (I .split)) (h .part)
       → word (g .out) (6 * t) ≡ word (h .out) (6 * u) → four (g .out) (6 * t + 2) ≡ four (h .out) (6 * u + 2)
+
+-- of accepted fields, and a gathered one is accepted, this equality is that of their bytes (numbers below 256, as every lent byte is); of four bytes 80 00 00 00 alone
+-- are a gap; and a gap is no depth (F-2)
+pub record FieldEquality : Type 0 where
+  pub gathered-accepted : (I : Inputs) (r : Run I) (k : ℕ) (G : Bytes) → Gathered I (collectsOf r) k G → bad14 (cellCount (I .split .mesh)) G ≡ false
+  pub same-bytes : (n : ℕ) (f g : Bytes) → bad14 n f ≡ false → bad14 n g ≡ false → All (λ x. x < 256) f → All (λ x. x < 256) g → SameField n f g ↔ (f ≡ g)
+  pub gap-bytes : (x : Bytes) → length x ≡ 4 → All (λ y. y < 256) x → (valueOf x ≡ Gap) ↔ (x ≡ gapBytes)
+  pub gap-alone : (z : ℤ) → Gap ≡ Depth z → ⊥
 
 -- ---- the number of a points call in a run (F-1): by the mesh, the map and the stencil, whatever calls came before. 24 where an import is not taken; else 29 where
 -- a cell incident to a point of an owned cell is outside that cell's reach; else 16 where the output has less than six bytes for each point that touches an

@@ -324,6 +324,28 @@ fn depths() {
     bare(b"hold", 0, b"65517 45183");
 }
 
+// ---- gaps (F-2), whose words are 32768 and 0
+
+fn means_of_gaps() {
+    mean(b"0 100 32768 0 0 300 32768 0 32768 0");
+    mean(b"0 100 0 200 0 300 0 300 32768 0");
+    one_round(
+        b"mean 1 0",
+        1,
+        b"\x00\x01\x00\x00",
+        b"0 100 32768 0 0 300 32768 0 32768 0",
+    );
+}
+
+fn other_rules_on_gaps() {
+    bare(b"shoalest", 2, b"0 100 32768 0 0 300 32768 0 32768 0");
+    bare(b"shoalest", 2, b"0 100 0 100 0 300 0 300 32768 0");
+    bare(b"hold", 0, b"0 100 32768 0 0 300 32768 0 32768 0");
+    bare(b"hold", 0, b"32768 1");
+}
+
+// ---- fields and room: 14, 16
+
 fn fields() {
     let field = [0u8; 19];
     let mut out = [0u8; 20];
@@ -373,6 +395,8 @@ fn main() {
     counts_of_weights();
     weights();
     depths();
+    means_of_gaps();
+    other_rules_on_gaps();
     fields();
     room();
     layers();

@@ -13,7 +13,7 @@ pub const WEIGHTS: [u8; 4] = [0, 2, 0, 1];
 
 // ---- printing
 
-// How what a call gave is printed: a message byte by byte in hexadecimal, all else in decimal, a point as its number and its depth.
+// How what a call gave is printed: a message byte by byte in hexadecimal, all else in decimal, a point as its number and its depth. A gap is printed as such.
 pub enum Form {
     Words,
     Depths,
@@ -25,7 +25,9 @@ fn print_depth(high: usize, low: usize)
     requires { ⌜ (high < 65536) × (low < 65536) ⌝ }
 {
     let v = high * 65536 + low;
-    if v < 2147483648 {
+    if v == 2147483648 {
+        io::write_all(1, b"gap");
+    } else if v < 2147483648 {
         io::print_decimal(1, v as u64);
     } else {
         io::write_all(1, b"-");

@@ -222,11 +222,11 @@ fn first_points(
     say_all(Form::Points, b"its points", a, &out);
 }
 
-// The five cells as one part, from -1 -2 0 0 0. The stencil 1 goes nowhere, so a point between two cells is refused.
-fn one_part(name: &[u8], stencil: &[u8]) {
+// The five cells as one part. A depth is two words of the text, the high one first.
+fn one_part(name: &[u8], stencil: &[u8], text: &[u8]) {
     let m = five_cells();
     let mut field = [0u8; 20];
-    put_words(&mut field, b"65535 65535 65535 65534 0 0 0 0 0 0");
+    put_words(&mut field, text);
     first_points(name, &m, 1, b"\x01\x01\x01\x01\x01", 1, stencil, &field);
 }
 
@@ -238,9 +238,18 @@ fn triangle_points(name: &[u8], parts: u32, owners: &[u8], i: u32, stencil: &[u8
     first_points(name, &m, parts, owners, i, stencil, &field);
 }
 
+// From -1 -2 0 0 0. The stencil 1 goes nowhere, so a point between two cells is refused.
 fn reached_points() {
-    one_part(b"five cells as one part, stencil 1 0 1", &STENCIL);
-    one_part(b"five cells as one part, stencil 1", b"\x01");
+    one_part(
+        b"five cells as one part, stencil 1 0 1",
+        &STENCIL,
+        b"65535 65535 65535 65534",
+    );
+    one_part(
+        b"five cells as one part, stencil 1",
+        b"\x01",
+        b"65535 65535 65535 65534",
+    );
     triangle_points(
         b"triangles as one part, stencil 2 0 2",
         1,
@@ -297,6 +306,34 @@ fn no_point() {
     );
 }
 
+// ---- gaps (F-2), whose words are 32768 and 0
+
+fn points_of_gaps() {
+    one_part(
+        b"five cells as one part, 100 gap 300 gap gap",
+        &STENCIL,
+        b"0 100 32768 0 0 300 32768 0 32768 0",
+    );
+    one_part(
+        b"five cells as one part, five gaps",
+        &STENCIL,
+        b"32768 0 32768 0 32768 0 32768 0 32768 0",
+    );
+}
+
+// The copy of cell 4 is a gap.
+fn take_gap() {
+    let mut b = [0u8; 224];
+    let mut message = [0u8; 12];
+    start(b"start of part 1", 1, &mut b);
+    write(b"part 1 to part 2", &mut b, 2, &mut message);
+    take_words(b"take 80 00 00 01", &mut b, b"2 1 0 1 32768 1");
+    take_words(b"take a gap", &mut b, b"2 1 0 1 32768 0");
+    points(b"points of part 1", &b);
+    advance(b"part 1 advances", &mut b);
+    collect(b"part 1 at round 1", &b, 1);
+}
+
 fn main() {
     runs();
     last_rounds();
@@ -306,4 +343,6 @@ fn main() {
     unreached_points();
     one_cell();
     no_point();
+    points_of_gaps();
+    take_gap();
 }

@@ -1,4 +1,4 @@
--- Laws of the words over lists: tests joined by "and" and "or", places, properties of every element, tests of the elements, and maps.
+-- Laws of the words over lists: tests joined by "and" and "or", places, properties of every element, tests of the elements, those that pass, and maps.
 -- Assumes nothing.
 use mathlib.Core.Path.{_≡_, refl, sym, ap, ap₂, _∙_, subst}
 use mathlib.Core.Logic.{_⊎_, inl, inr, ⊎-elim}
@@ -11,7 +11,7 @@ use lib.ListN.{length, getD, length-append, List·getD-append, replicate, length
 use lib.Seq.{getD-append-add}
 use lib.Dec.{eqb}
 use borrow.Author.Tests.{eq-eqb, ne-eqb, eqb-true, eqb-false, not-true}
-use Rattle.vocabulary.specs.Lists.{isIn, placeOf, repeats, someOf, everyOf, joined, All, Zeros}
+use Rattle.vocabulary.specs.Lists.{isIn, placeOf, repeats, someOf, everyOf, filtered, joined, All, Zeros}
 
 -- ---- tests
 
@@ -358,6 +358,44 @@ pub someOf-cong : {A : Type 0} (p q : A → Bool) (xs : List A) → All (λ x. p
 unfolding someOf
 someOf-cong p q [] a = refl
 someOf-cong p q (x ∷ xs) a = ap₂ _||_ (a .0) (someOf-cong p q xs (a .1))
+
+-- ---- the elements that pass
+
+module _ {A : Type 0} (p : A → Bool) where
+  filtered-append : (xs ys : List A) → filtered p (xs ++ ys) ≡ filtered p xs ++ filtered p ys
+  unfolding filtered
+  filtered-append [] ys = refl
+  filtered-append (x ∷ xs) ys = go (p x) (filtered-append xs ys)
+    where
+      go : (t : Bool) → filtered p (xs ++ ys) ≡ filtered p xs ++ filtered p ys
+          → cond t (x ∷ filtered p (xs ++ ys)) (filtered p (xs ++ ys)) ≡ cond t (x ∷ filtered p xs) (filtered p xs) ++ filtered p ys
+      go true e = ap (λ zs. x ∷ zs) e
+      go false e = e
+
+  -- one more that passes, or does not
+  pub filtered-in : (xs : List A) (x : A) → p x ≡ true → filtered p (xs ++ (x ∷ [])) ≡ filtered p xs ++ (x ∷ [])
+  unfolding filtered
+  filtered-in xs x e = filtered-append xs (x ∷ []) ∙ ap (λ t. filtered p xs ++ cond t (x ∷ []) []) e
+
+  pub filtered-out : (xs : List A) (x : A) → p x ≡ false → filtered p (xs ++ (x ∷ [])) ≡ filtered p xs
+  unfolding filtered
+  filtered-out xs x e = filtered-append xs (x ∷ []) ∙ ap (λ t. filtered p xs ++ cond t (x ∷ []) []) e ∙ append-nil (filtered p xs)
+
+  -- what passed passes
+  pub filtered-again : (xs : List A) → filtered p (filtered p xs) ≡ filtered p xs
+  unfolding filtered
+  filtered-again [] = refl
+  filtered-again (x ∷ xs) = go (p x) refl (filtered-again xs)
+    where
+      go : (t : Bool) → p x ≡ t → filtered p (filtered p xs) ≡ filtered p xs → filtered p (cond t (x ∷ filtered p xs) (filtered p xs)) ≡ cond t (x ∷ filtered p xs) (filtered p xs)
+      go true e r = ap (λ t. cond t (x ∷ filtered p (filtered p xs)) (filtered p (filtered p xs))) e ∙ ap (λ zs. x ∷ zs) r
+      go false e r = r
+
+  -- what holds of all holds of those that pass, and what follows from it and from passing
+  pub filtered-has : (P Q : A → Type 0) → ((x : A) → p x ≡ true → P x → Q x) → (xs : List A) → All P xs → All Q (filtered p xs)
+  unfolding filtered
+  filtered-has P Q f [] a = tt
+  filtered-has P Q f (x ∷ xs) a = cond-has (All Q) (p x) (x ∷ filtered p xs) (filtered p xs) (λ e. (f x e (a .0), filtered-has P Q f xs (a .1))) (λ e. filtered-has P Q f xs (a .1))
 
 -- ---- repeats
 

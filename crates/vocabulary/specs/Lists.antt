@@ -1,4 +1,4 @@
--- Words over a list: membership, the first place of a number, a repeat, and tests of the elements. Assumes nothing.
+-- Words over a list: membership, the first place of a number, a repeat, tests of the elements, and those that pass. Assumes nothing.
 use mathlib.Core.Path.{_≡_}
 use mathlib.Core.Bool.{Bool, true, false, _&&_, _||_, cond}
 use mathlib.Core.List.{List, [], _∷_, _++_}
@@ -34,6 +34,11 @@ someOf (x ∷ xs) p = p x || someOf xs p
 unfoldable pub everyOf : {A : Type 0} → List A → (A → Bool) → Bool
 everyOf [] p = true
 everyOf (x ∷ xs) p = p x && everyOf xs p
+
+-- the elements that pass
+unfoldable pub filtered : {A : Type 0} → (A → Bool) → List A → List A
+filtered p [] = []
+filtered p (x ∷ xs) = cond (p x) (x ∷ filtered p xs) (filtered p xs)
 
 -- every element has the property
 abbrev pub All : {A : Type 0} → (A → Type 0) → List A → Type 0

@@ -8,17 +8,17 @@ use native.Mathlib.Omega.{arith}
 use lib.IntN.{ℤ, pos, negsuc}
 use lib.ListN.{length, take, replicate}
 use Rattle.vocabulary.specs.Bytes.{Bytes, over}
-use Rattle.vocabulary.specs.Lists.{isIn, placeOf, joined, repeats, someOf, everyOf}
+use Rattle.vocabulary.specs.Lists.{isIn, placeOf, joined, repeats, someOf, everyOf, filtered}
 use Rattle.vocabulary.specs.Intervals.{isUpTo, picked, every, some, listed, blocks, total}
 use Rattle.layout.specs.Answers.{answer}
-use Rattle.depths.specs.Depths.{four, numberFrom, signed, unsigned, depthFrom, numberBytes, depthBytes, inRange, rangedAt}
+use Rattle.depths.specs.Depths.{four, numberFrom, signed, unsigned, depthFrom, numberBytes, depthBytes, inRange, valueFrom, valueBytes, isDepth, isValid, rangedAt}
 use Rattle.layout.specs.Words.{word, wordAt, words, wordBytes, bytesOf}
 use Rattle.mesh.specs.Meet.{meet, stamp, unlike}
 use Rattle.mesh.specs.Mesh.{below, dimension, elementIn, nextOf, follow, records, chain, allRecords, bad1, badCount, bad2, meshLength, bad3}
 use Rattle.mesh.specs.Mesh.{headed, bad4, badItem, badChain, bad5, leaves, unclosed, bad6, bare, bad7, meshTests, meshNumber, checkAnswer}
 use Rattle.mesh.specs.Walks.{Near, incident, steps, validAt, bad10, stepTo, walked, stepsTo, layer, reach, bad13, cellsAt}
 use Rattle.round.specs.Rounds.{bad14, schemeOf, depthIn, oldsIn, newIn, round, undivided, roundNumber, roundAnswer, roundOut}
-use Rattle.round_rule.specs.Rules.{weightCount, tooHeavy, bad11, weight, depthSum, weightSum, quotient, least, newDepth}
+use Rattle.round_rule.specs.Rules.{weightCount, tooHeavy, bad11, withoutGaps, weight, readBy, depthSum, weightSum, quotient, meanOf, least, leastOf, newDepth}
 use Rattle.round_rule.specs.Update.{tableEntries, oldsAt}
 use Rattle.messages.specs.Messages.{encode, bad15, reading}
 use Rattle.split.specs.Lists.{bad8, bad9, bad12, splitTests, sizeTests, others, listOf, listWords, listNumber, listAnswer, listOut, splitInput}
@@ -293,17 +293,18 @@ table =
 
 pub worked : AllHold table
 unfolding over isIn placeOf joined repeats someOf everyOf isUpTo picked every some listed blocks total answer four numberFrom signed unsigned depthFrom numberBytes depthBytes
-    inRange rangedAt word wordAt words wordBytes bytesOf meet stamp unlike below dimension elementIn nextOf follow records chain allRecords bad1 badCount bad2 meshLength bad3
-    headed bad4 badItem badChain bad5 leaves unclosed bad6 bare bad7 meshTests meshNumber checkAnswer incident steps validAt bad10 stepTo walked stepsTo layer reach bad13 bad14
-    schemeOf depthIn oldsIn newIn round undivided roundNumber roundAnswer roundOut weightCount tooHeavy bad11 weight depthSum weightSum quotient least newDepth tableEntries
-    oldsAt encode bad15 reading bad8 bad9 bad12 splitTests sizeTests others listOf listWords listNumber listAnswer listOut splitOf owns owned reaches holds held imports exports
-    inside interior halo locals localOf globalOf cellsAt holdsLower touches another isCopied isShared isExposed isPrivate range pointsOf cellPoints pointEnds bad29 importsFrom
-    exportsTo messageTo writeTestsIn writtenIn takeTestsIn takenIn allTaken allWritten advanceTestsIn newAt advancedIn collectTestsIn scatter outside pointsTestsIn pointGiven
-    writeNumber message writeAnswer writeState writeOut takeNumber takeAnswer takeState advanceNumber advanceAnswer advanceState collectNumber collectAnswer collectOut
-    pointsNumber pointsOut put more step run Fair Honest startNumber startState begin StateBound importEnds exportEnds reachEnds reachWords exportWords aroundWords listsLong
-    listsRegions stateSize sizeNumber sizeAnswer firstState startAnswer weights localReach localExports localAround listsIn listsOf rises climbs listsTests dynamicTests isState
-    bad20 ascii digits decimal spaced line lineUnlessEmpty dimensionText partText splitText meshPiece mapPiece partsPiece ownersPiece lastPiece stencilPiece listingNumber
-    listText buffers calls field five fiveInputs listInput numberAt runNumbers triangles
+    inRange valueFrom valueBytes isDepth isValid rangedAt word wordAt words wordBytes bytesOf meet stamp unlike below dimension elementIn nextOf follow records chain allRecords
+    bad1 badCount bad2 meshLength bad3 headed bad4 badItem badChain bad5 leaves unclosed bad6 bare bad7 meshTests meshNumber checkAnswer incident steps validAt bad10 stepTo
+    walked stepsTo layer reach bad13 bad14 schemeOf depthIn oldsIn newIn round undivided roundNumber roundAnswer roundOut weightCount tooHeavy bad11 filtered withoutGaps weight
+    readBy depthSum weightSum quotient meanOf least leastOf newDepth tableEntries oldsAt encode bad15 reading bad8 bad9 bad12 splitTests sizeTests others listOf listWords
+    listNumber listAnswer listOut splitOf owns owned reaches holds held imports exports inside interior halo locals localOf globalOf cellsAt holdsLower touches another isCopied
+    isShared isExposed isPrivate range pointsOf cellPoints pointEnds bad29 importsFrom exportsTo messageTo writeTestsIn writtenIn takeTestsIn takenIn allTaken allWritten
+    advanceTestsIn newAt advancedIn collectTestsIn scatter outside pointsTestsIn pointGiven writeNumber message writeAnswer writeState writeOut takeNumber takeAnswer takeState
+    advanceNumber advanceAnswer advanceState collectNumber collectAnswer collectOut pointsNumber pointsOut put more step run Fair Honest startNumber startState begin StateBound
+    importEnds exportEnds reachEnds reachWords exportWords aroundWords listsLong listsRegions stateSize sizeNumber sizeAnswer firstState startAnswer weights localReach
+    localExports localAround listsIn listsOf rises climbs listsTests dynamicTests isState bad20 ascii digits decimal spaced line lineUnlessEmpty dimensionText partText
+    splitText meshPiece mapPiece partsPiece ownersPiece lastPiece stencilPiece listingNumber listText buffers calls field five fiveInputs listInput numberAt runNumbers
+    triangles
 worked = (refl, (refl, (refl, (refl, (refl, (refl, (refl, (refl, (refl, (refl, (refl, (refl, (refl, (refl, (refl, (refl, (refl, (refl, (refl, (refl, (refl, (refl, (refl, (refl, (refl, (honest, (refl, (refl, tt))))))))))))))))))))))))))))
   where
     honest : Honest (begin fiveInputs buffers) calls

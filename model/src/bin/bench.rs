@@ -10,7 +10,7 @@ use std::{env, fs};
 
 use jemlayos_model::calls::{engine, tuned, Calls, List, Model};
 use jemlayos_model::generate::random::Random;
-use jemlayos_model::generate::scenarios::{stencil_through, Deal, Scenario};
+use jemlayos_model::generate::scenarios::{field, stencil_through, Deal, Scenario};
 use jemlayos_model::generate::shapes::Shape;
 use jemlayos_model::mesh::Mesh;
 use jemlayos_model::refusal::Answer;
@@ -313,7 +313,8 @@ fn families() -> [Family; 5] {
     ]
 }
 
-/// The inputs of every call at one size, for one number of parts, as the tuned calls make them.
+/// The inputs of every call at one size, for one number of parts, as the tuned calls make them. No value is a gap where
+/// nothing else is said.
 struct Case {
     scenario: Scenario,
     records: usize,
@@ -330,42 +331,69 @@ struct Case {
     message: Vec<u8>,
     /// The part's state with all messages taken and written.
     ready: Vec<u8>,
+    /// A field in which half of the cells are gaps, and the state that `ready` is from it.
+    half_gaps: Vec<u8>,
+    ready_half_gaps: Vec<u8>,
 }
 
 impl Case {
     fn over(shape: &Shape, stencil: &[u8], parts: u32) -> Case {
-        let mut scenario = Scenario::over(&mut Random::new(1), shape, parts as usize, Deal::Blocks, stencil.to_vec());
+        let random = &mut Random::new(1);
+        let mut scenario = Scenario::over(random, shape, parts as usize, Deal::Blocks, stencil.to_vec());
         scenario.kind = 1;
         scenario.weights = [0, 1].repeat(stencil.len() / 2 + 1);
-        let start = |part: u32| {
-            let length = tuned().state_size(scenario.part(part)).expect("an accepted size");
-            let mut state = vec![0; length as usize];
-            tuned().start(scenario.part(part), scenario.rule(), &scenario.field, &mut state).expect("a start");
-            state
-        };
+        scenario.field = field(random, scenario.cells, 0);
+        let half_gaps = field(random, scenario.cells, 50);
         let part = parts.div_ceil(2);
-        let state = start(part);
-        let mut ready = state.clone();
-        let mut last = (0, Vec::new());
-        for other in (1..=parts).filter(|&other| other != part) {
-            let mut message = vec![0; 8 + 4 * scenario.cells];
-            // Parts that share nothing have no messages.
-            let _ = tuned().write(&mut ready, other, &mut message);
-            if let Ok(length) = tuned().write(&mut start(other), part, &mut message) {
-                message.truncate(length as usize);
-                tuned().take(&mut ready, &message).expect("a fitting message");
-                last = (other, message);
-            }
+        let (ready, sender, message) = exchanged(&scenario, &scenario.field, part);
+        let (ready_half_gaps, ..) = exchanged(&scenario, &half_gaps, part);
+        Case {
+            records: shape.records(),
+            reached: reached(&scenario, |_| true),
+            part,
+            entries: reached(&scenario, |owner| owner == part),
+            state: started(&scenario, &scenario.field, part),
+            sender,
+            message,
+            ready,
+            half_gaps,
+            ready_half_gaps,
+            scenario,
         }
-        let (sender, message) = last;
-        let (records, reached, entries) =
-            (shape.records(), reached(&scenario, |_| true), reached(&scenario, |owner| owner == part));
-        Case { records, reached, entries, part, state, sender, message, ready, scenario }
     }
 
     fn list(&self, calls: &dyn Calls, list: List, out: &mut [u8]) -> Answer {
         calls.list(self.scenario.part(self.part), list, out)
     }
+
+    fn round(&self, calls: &dyn Calls, field: &[u8], out: &mut [u8]) -> Answer {
+        calls.round(&self.scenario.mesh, &self.scenario.stencil, self.scenario.rule(), field, out)
+    }
+}
+
+/// The state of a part as start leaves it.
+fn started(scenario: &Scenario, field: &[u8], part: u32) -> Vec<u8> {
+    let length = tuned().state_size(scenario.part(part)).expect("an accepted size");
+    let mut state = vec![0; length as usize];
+    tuned().start(scenario.part(part), scenario.rule(), field, &mut state).expect("a start");
+    state
+}
+
+/// The state of a part with all messages of round 0 taken and written, the last sender, and its message.
+fn exchanged(scenario: &Scenario, field: &[u8], part: u32) -> (Vec<u8>, u32, Vec<u8>) {
+    let mut state = started(scenario, field, part);
+    let mut last = (0, Vec::new());
+    for other in (1..=scenario.parts).filter(|&other| other != part) {
+        let mut message = vec![0; 8 + 4 * scenario.cells];
+        // Parts that share nothing have no messages.
+        let _ = tuned().write(&mut state, other, &mut message);
+        if let Ok(length) = tuned().write(&mut started(scenario, field, other), part, &mut message) {
+            message.truncate(length as usize);
+            tuned().take(&mut state, &message).expect("a fitting message");
+            last = (other, message);
+        }
+    }
+    (state, last.0, last.1)
 }
 
 /// The sizes of the reaches of some owners' cells together.
@@ -388,7 +416,7 @@ struct Call {
     make: fn(&Case, &dyn Calls, &mut [u8]) -> Answer,
 }
 
-const CALLS: [Call; 11] = [
+const CALLS: [Call; 13] = [
     Call {
         name: "check mesh",
         c_name: "jem_check_mesh",
@@ -415,10 +443,14 @@ const CALLS: [Call; 11] = [
         c_name: "jem_round",
         work: |case| case.reached,
         lend: |case| case.scenario.field.clone(),
-        make: |case, calls, out| {
-            let Scenario { mesh, stencil, field, .. } = &case.scenario;
-            calls.round(mesh, stencil, case.scenario.rule(), field, out)
-        },
+        make: |case, calls, out| case.round(calls, &case.scenario.field, out),
+    },
+    Call {
+        name: "undivided round, half gaps",
+        c_name: "jem_round",
+        work: |case| case.reached,
+        lend: |case| case.half_gaps.clone(),
+        make: |case, calls, out| case.round(calls, &case.half_gaps, out),
     },
     Call {
         name: "state size",
@@ -459,6 +491,13 @@ const CALLS: [Call; 11] = [
         c_name: "jem_advance",
         work: |case| case.entries,
         lend: |case| case.ready.clone(),
+        make: |_, calls, state| calls.advance(state),
+    },
+    Call {
+        name: "advance, half gaps",
+        c_name: "jem_advance",
+        work: |case| case.entries,
+        lend: |case| case.ready_half_gaps.clone(),
         make: |_, calls, state| calls.advance(state),
     },
     Call {

@@ -1,8 +1,8 @@
 //! Compares the engine and the tuned calls with the model, call by call: answers and every lent byte.
 //!
 //! `differential [seed [cases]]`; without a seed it takes one from the clock. Where JEMLAYOS_LIST names a list program,
-//! what that prints is compared too. Exits with 1 on a difference, or where a call was never accepted, or never refused with
-//! one of the numbers that it tries.
+//! what that prints is compared too. Exits with 1 on a difference, or where a call was never accepted, never refused with one
+//! of the numbers that it tries, or never met one of the rules on gaps that it can meet.
 
 use std::cell::RefCell;
 use std::collections::BTreeMap;
@@ -11,11 +11,12 @@ use std::io::Write;
 use std::process::{Command, ExitCode, Stdio};
 use std::time::{Instant, SystemTime, UNIX_EPOCH};
 
-use jemlayos_model::calls::{others, Calls, List};
+use jemlayos_model::calls::{others, Calls, List, PartInput, RuleInput};
 use jemlayos_model::compare::Compared;
+use jemlayos_model::gaps::{self, Meetings, Met};
 use jemlayos_model::generate::damage::{damaged_byte, damaged_bytes, damaged_mesh, long_meshes};
 use jemlayos_model::generate::random::Random;
-use jemlayos_model::generate::scenarios::Scenario;
+use jemlayos_model::generate::scenarios::{Scenario, GAP_SHARES};
 use jemlayos_model::generate::traffic;
 use jemlayos_model::listing;
 use jemlayos_model::mesh::MOST_ELEMENTS;
@@ -34,12 +35,13 @@ fn main() -> ExitCode {
         tally.count(call, answer.err().map_or(0, Refusal::number));
         differences.iter().for_each(|difference| tally.differ(difference));
     };
-    let all = Compared { others: others(), told };
+    let compared = Compared { others: others(), told };
     let list_program = ListProgram { path: std::env::var_os("JEMLAYOS_LIST"), tally: &tally };
-    for other in &all.others {
+    for other in &compared.others {
         print!("{} against model, ", other.name());
     }
     println!("seed {seed}, {cases} cases");
+    let all = Watched { calls: &compared, tally: &tally };
 
     let began = Instant::now();
     let random = &mut Random::new(seed);
@@ -49,7 +51,7 @@ fn main() -> ExitCode {
     for (_, scenario) in Scenario::extremes(random) {
         try_inputs(&all, random, &scenario);
         list_program.compare(&scenario.listing_input());
-        try_run(&all, random, &scenario, 30);
+        all.try_run(random, &scenario, 30);
     }
     for case in 1..=cases {
         tally.borrow_mut().case = case;
@@ -57,7 +59,8 @@ fn main() -> ExitCode {
         let _ = all.check_mesh(&mesh);
         let mut scenario = if case % 50 == 0 { Scenario::large(random) } else { Scenario::random(random) };
         if case % 4 > 0 {
-            try_run(&all, random, &scenario, 60);
+            all.try_run(random, &scenario, 60);
+            try_odd_value(&all, random, &scenario);
             scenario.damage(random);
         }
         try_inputs(&all, random, &scenario);
@@ -93,6 +96,10 @@ struct Tally {
     case: u64,
     /// How often each call gave each number, 0 where it was accepted.
     answers: BTreeMap<&'static str, BTreeMap<u32, u64>>,
+    /// How many calls met each rule on gaps.
+    met: BTreeMap<(&'static str, Met), u64>,
+    /// How many runs there were of each kind of rule and each share of gaps.
+    runs: BTreeMap<(u32, usize), u64>,
     differences: u64,
 }
 
@@ -124,8 +131,19 @@ impl Tally {
             missing += usize::from(count == 0);
             println!("{count:>9} × {refusal}");
         }
+        for call in self.answers.keys().filter(|call| !gaps::meets(call).is_empty()) {
+            let counts = gaps::meets(call).iter().map(|&met| (met, self.met.get(&(call, met)).copied().unwrap_or(0)));
+            missing += counts.clone().filter(|&(_, count)| count == 0).count();
+            println!("{call}, gaps: {}", joined(counts.map(|(met, count)| format!("{met} {count}"))));
+        }
+        for kind in 0..=2 {
+            let counts = GAP_SHARES.map(|share| (share, self.runs.get(&(kind, share)).copied().unwrap_or(0)));
+            missing += counts.iter().filter(|&&(_, count)| count == 0).count();
+            let counts = counts.iter().map(|(share, count)| format!("{share} % gaps {count}"));
+            println!("runs of kind {kind}: {}", joined(counts));
+        }
         println!(
-            "{calls} calls in {seconds:.1} s, {} differences, {missing} answers that a call did not reach",
+            "{calls} calls in {seconds:.1} s, {} differences, {missing} cases that were not reached",
             self.differences
         );
         if self.differences == 0 && missing == 0 {
@@ -133,6 +151,86 @@ impl Tally {
         } else {
             ExitCode::FAILURE
         }
+    }
+}
+
+fn joined(counts: impl Iterator<Item = String>) -> String {
+    counts.collect::<Vec<_>>().join(", ")
+}
+
+/// Makes each call, and counts the rules on gaps that it met.
+struct Watched<'a> {
+    calls: &'a dyn Calls,
+    tally: &'a RefCell<Tally>,
+}
+
+impl Watched<'_> {
+    fn count(&self, call: &'static str, answer: Answer, met: Meetings) -> Answer {
+        let mut tally = self.tally.borrow_mut();
+        for met in met {
+            *tally.met.entry((call, met)).or_default() += 1;
+        }
+        answer
+    }
+
+    fn try_run(&self, random: &mut Random, scenario: &Scenario, turns: usize) {
+        if try_run(self, random, scenario, turns) {
+            *self.tally.borrow_mut().runs.entry((scenario.kind, scenario.gap_share)).or_default() += 1;
+        }
+    }
+}
+
+impl Calls for Watched<'_> {
+    fn name(&self) -> &'static str {
+        self.calls.name()
+    }
+
+    fn check_mesh(&self, mesh: &[u8]) -> Answer {
+        self.calls.check_mesh(mesh)
+    }
+
+    fn list(&self, input: PartInput, list: List, out: &mut [u8]) -> Answer {
+        self.calls.list(input, list, out)
+    }
+
+    fn round(&self, mesh: &[u8], stencil: &[u8], rule: RuleInput, field: &[u8], out: &mut [u8]) -> Answer {
+        let answer = self.calls.round(mesh, stencil, rule, field, out);
+        self.count("round", answer, gaps::in_round(mesh, stencil, rule, field, answer))
+    }
+
+    fn state_size(&self, input: PartInput) -> Answer {
+        self.calls.state_size(input)
+    }
+
+    fn start(&self, input: PartInput, rule: RuleInput, field: &[u8], state: &mut [u8]) -> Answer {
+        let answer = self.calls.start(input, rule, field, state);
+        self.count("start", answer, gaps::in_start(input.mesh, field, answer))
+    }
+
+    fn write(&self, state: &mut [u8], to: u32, out: &mut [u8]) -> Answer {
+        let answer = self.calls.write(state, to, out);
+        self.count("write", answer, gaps::in_write(state, out, answer))
+    }
+
+    fn take(&self, state: &mut [u8], message: &[u8]) -> Answer {
+        let answer = self.calls.take(state, message);
+        self.count("take", answer, gaps::in_take(state, message, answer))
+    }
+
+    fn advance(&self, state: &mut [u8]) -> Answer {
+        let before = state.to_vec();
+        let answer = self.calls.advance(state);
+        self.count("advance", answer, gaps::in_advance(&before, answer))
+    }
+
+    fn collect(&self, state: &[u8], round: u32, field: &mut [u8]) -> Answer {
+        let answer = self.calls.collect(state, round, field);
+        self.count("collect", answer, gaps::in_collect(state, answer))
+    }
+
+    fn points(&self, state: &[u8], out: &mut [u8]) -> Answer {
+        let answer = self.calls.points(state, out);
+        self.count("points", answer, gaps::in_points(state, answer))
     }
 }
 
@@ -205,6 +303,16 @@ fn try_inputs(calls: &dyn Calls, random: &mut Random, scenario: &Scenario) {
     }
 }
 
+/// The calls that are given a field, with one value in it that is a gap, or neither a depth nor a gap.
+fn try_odd_value(calls: &dyn Calls, random: &mut Random, scenario: &Scenario) {
+    let mut odd = scenario.clone();
+    odd.put_odd_value(random);
+    let mut out = vec![0xee; odd.field.len()];
+    let _ = calls.round(&odd.mesh, &odd.stencil, odd.rule(), &odd.field, &mut out);
+    let size = calls.state_size(odd.part(1)).unwrap_or(64);
+    let _ = calls.start(odd.part(1), odd.rule(), &odd.field, &mut vec![0xee; size as usize]);
+}
+
 /// The list program's input as it is, cut, damaged, or as long as it may be and longer.
 fn try_listing(list_program: &ListProgram, random: &mut Random, scenario: &Scenario) {
     let mut input = scenario.listing_input();
@@ -217,10 +325,11 @@ fn try_listing(list_program: &ListProgram, random: &mut Random, scenario: &Scena
     list_program.compare(&input);
 }
 
-/// Random calls on the parts of a run, whose rounds a full exchange brings on now and then.
-fn try_run(calls: &dyn Calls, random: &mut Random, scenario: &Scenario, turns: usize) {
+/// Random calls on the parts of a run, whose rounds a full exchange brings on now and then. False where the inputs are
+/// refused.
+fn try_run(calls: &dyn Calls, random: &mut Random, scenario: &Scenario, turns: usize) -> bool {
     let Some(mut run) = Run::start(calls, scenario) else {
-        return;
+        return false;
     };
     for _ in 0..turns {
         let part = random.below(run.states.len());
@@ -246,6 +355,7 @@ fn try_run(calls: &dyn Calls, random: &mut Random, scenario: &Scenario, turns: u
             _ => run.collect(random, part),
         }
     }
+    true
 }
 
 struct Run<'a> {

@@ -3,7 +3,7 @@
 use super::damage::{damaged_bytes, damaged_mesh};
 use super::random::Random;
 use super::shapes::Shape;
-use crate::bytes::{depths, put_depth, words, DEEPEST};
+use crate::bytes::{put_value, values, words, Value, DEEPEST};
 use crate::calls::{PartInput, RuleInput};
 use crate::mesh::MOST_RECORDS;
 use crate::rounds::MOST_WEIGHT;
@@ -20,6 +20,8 @@ pub struct Scenario {
     pub stencil: Vec<u8>,
     pub kind: u32,
     pub weights: Vec<u8>,
+    /// How many of a hundred values of the field are gaps, about.
+    pub gap_share: usize,
     pub field: Vec<u8>,
 }
 
@@ -37,6 +39,7 @@ impl Scenario {
         let cells = shape.cells();
         let loose = random.below(4).min(MOST_RECORDS - shape.records());
         let (kind, weights) = rule(random, stencil.len() / 2);
+        let gap_share = random_gap_share(random);
         Scenario {
             top: shape.top,
             cells,
@@ -46,7 +49,8 @@ impl Scenario {
             stencil,
             kind,
             weights,
-            field: field(random, cells),
+            gap_share,
+            field: field(random, cells, gap_share),
         }
     }
 
@@ -211,11 +215,15 @@ impl Scenario {
     fn damage_field(&mut self, random: &mut Random) {
         if random.one_in(2) {
             self.field = damaged_bytes(random, &self.field);
-            return;
+        } else {
+            self.put_odd_value(random);
         }
-        let wrong = *random.pick(&[DEEPEST + 1, -DEEPEST - 1, i32::MIN, i32::MAX]);
+    }
+
+    /// One cell of the field is a gap, or neither a depth nor a gap.
+    pub fn put_odd_value(&mut self, random: &mut Random) {
         let cell = random.below(self.cells);
-        put_depth(&mut self.field, 4 * cell, wrong);
+        put_value(&mut self.field, 4 * cell, odd_value(random));
     }
 }
 
@@ -231,10 +239,12 @@ fn stencil(random: &mut Random, top: usize) -> Vec<u8> {
     stencil_through(top as u8, &through)
 }
 
-/// A kind and its weights, one for each even layer up to `layers`.
+/// A kind and its weights, one for each even layer up to `layers`: few, half or all of them but the first are 0.
 fn rule(random: &mut Random, layers: usize) -> (u32, Vec<u8>) {
-    let mut weights: Vec<usize> = (0..=layers).map(|_| random.between(0, MOST_WEIGHT)).collect();
-    weights[0] = weights[0].max(1);
+    let zeros = random.below(3);
+    let weight = |random: &mut Random| if random.below(2) < zeros { 0 } else { random.between(0, MOST_WEIGHT) };
+    let mut weights: Vec<usize> = (0..=layers).map(|_| weight(random)).collect();
+    weights[0] = random.between(1, MOST_WEIGHT);
     match random.below(4) {
         0 => (0, Vec::new()),
         1 => (2, Vec::new()),
@@ -258,18 +268,44 @@ fn owners(random: &mut Random, cells: usize, parts: usize, deal: Deal) -> Vec<u8
     owners
 }
 
-/// Depths that are small, anywhere in range, or at its ends.
-pub fn random_depth(random: &mut Random) -> i32 {
+/// How many of a hundred values are gaps, in one field, message or state.
+pub const GAP_SHARES: [usize; 5] = [0, 20, 60, 95, 100];
+
+/// Neither depths in range nor a gap, those next to either among them, and those that have three bytes of a gap.
+pub const WRONG_VALUES: [i32; 8] =
+    [DEEPEST + 1, -DEEPEST - 1, i32::MIN + 1, i32::MAX, -0x7fff_ff00, -0x7fff_0000, -0x7f00_0000, 0x4000_0000];
+
+/// Depths that are small, anywhere in range, or at its ends. Of 128 the bytes are those of a gap, low byte first.
+fn random_depth(random: &mut Random) -> i32 {
     let span = 2 * DEEPEST as usize;
     match random.below(4) {
         0 => random.below(41) as i32 - 20,
-        1 => *random.pick(&[-DEEPEST, DEEPEST, DEEPEST - 1, 0, -1, 256]),
+        1 => *random.pick(&[-DEEPEST, DEEPEST, DEEPEST - 1, 0, -1, 128, 256]),
         _ => random.between(0, span) as i32 - DEEPEST,
     }
 }
 
-fn field(random: &mut Random, cells: usize) -> Vec<u8> {
-    depths(&(0..cells).map(|_| random_depth(random)).collect::<Vec<_>>())
+/// One of the shares, more often one that leaves depths to be read.
+pub fn random_gap_share(random: &mut Random) -> usize {
+    *random.pick(&[0, 0, 0, 20, 20, 60, 60, 95, 100])
+}
+
+fn random_value(random: &mut Random, gap_share: usize) -> Value {
+    (random.below(100) >= gap_share).then(|| random_depth(random))
+}
+
+/// Values with one share of gaps among them.
+pub fn random_values(random: &mut Random, count: usize, gap_share: usize) -> Vec<Value> {
+    (0..count).map(|_| random_value(random, gap_share)).collect()
+}
+
+/// A gap, or neither a depth nor a gap.
+pub fn odd_value(random: &mut Random) -> Value {
+    (!random.one_in(4)).then(|| *random.pick(&WRONG_VALUES))
+}
+
+pub fn field(random: &mut Random, cells: usize, gap_share: usize) -> Vec<u8> {
+    values(&random_values(random, cells, gap_share))
 }
 
 /// 1,000 points and 1,000 cells of twelve points each.

@@ -2,12 +2,12 @@
 
 use super::damage::{damaged_byte, damaged_bytes};
 use super::random::Random;
-use super::scenarios::random_depth;
-use crate::bytes::{depths, put_word, word, words};
+use super::scenarios::{odd_value, random_gap_share, random_values};
+use crate::bytes::{put_value, put_word, values, word, words, Value};
 use crate::mesh::MOST_ELEMENTS;
 use crate::messages::Message;
 use crate::split::MOST_PARTS;
-use crate::state::LAST_ROUND;
+use crate::state::{Local, Sizes, LAST_ROUND};
 
 /// Something like one of the written messages: that one itself, whichever round or receiver it is of, or a changed one.
 pub fn message(random: &mut Random, written: &[Vec<u8>]) -> Vec<u8> {
@@ -32,32 +32,43 @@ pub fn message_for(random: &mut Random, state: &[u8]) -> Vec<u8> {
         from,
         to: word(state, 1),
         round: word(state, word(state, 0)),
-        depths: (0..imports(from)).map(|_| random_depth(random)).collect(),
+        values: some_values(random, imports(from)),
     };
     message.encode()
 }
 
 fn random_message(random: &mut Random) -> Message {
+    let count = random.below(4);
     Message {
         from: random.between(0, MOST_PARTS + 1),
         to: random.between(0, MOST_PARTS + 1),
         round: random.below(3),
-        depths: (0..random.below(4)).map(|_| random_depth(random)).collect(),
+        values: some_values(random, count),
     }
 }
 
-/// One field of a message is another one.
+/// Values with some share of gaps among them.
+fn some_values(random: &mut Random, count: usize) -> Vec<Value> {
+    let gap_share = random_gap_share(random);
+    random_values(random, count, gap_share)
+}
+
+/// One field of a message is another one, or one of its values is odd.
 fn changed_message(random: &mut Random, bytes: &[u8]) -> Vec<u8> {
     let mut message = Message::read(bytes).expect("a written message");
-    match random.below(6) {
+    match random.below(7) {
         0 => message.from = random.between(0, MOST_PARTS + 1),
         1 => message.to = random.between(0, MOST_PARTS + 1),
         2 => message.round = (message.round + random.between(1, 2)) % LAST_ROUND,
-        3 => message.depths.push(random_depth(random)),
+        3 => message.values.extend(some_values(random, 1)),
         4 => {
-            message.depths.pop();
+            message.values.pop();
         }
-        _ => message.depths.iter_mut().for_each(|depth| *depth = random_depth(random)),
+        5 if !message.values.is_empty() => {
+            let place = random.below(message.values.len());
+            message.values[place] = odd_value(random);
+        }
+        _ => message.values = some_values(random, message.values.len()),
     }
     message.encode()
 }
@@ -71,10 +82,10 @@ pub fn at_round(state: &[u8], round: usize) -> Vec<u8> {
     state
 }
 
-/// The state cut, in a longer buffer, with one word set anew, or with a byte damaged.
+/// The state cut, in a longer buffer, with one word set anew, with an odd value, or with a byte damaged.
 pub fn broken_state(random: &mut Random, state: &[u8]) -> Vec<u8> {
     let mut broken = state.to_vec();
-    match random.below(6) {
+    match random.below(7) {
         0 => broken.truncate(random.below(state.len())),
         1 => broken.extend(random.bytes(5)),
         2 => {
@@ -82,6 +93,13 @@ pub fn broken_state(random: &mut Random, state: &[u8]) -> Vec<u8> {
             let near = word(state, place);
             let number = *random.pick(&[0, 1, 17, near + 1, near.saturating_sub(1), 2_001, 60_001, 65_535]);
             put_word(&mut broken, place, number.min(65_535));
+        }
+        3 => {
+            let sizes = Sizes::read(state);
+            if sizes.held > 0 && state.len() >= sizes.length() {
+                let local = Local(random.between(1, sizes.held));
+                put_value(&mut broken, sizes.value(local), odd_value(random));
+            }
         }
         _ => {
             let at = random.below(state.len());
@@ -132,7 +150,7 @@ pub fn forged_state(random: &mut Random) -> Vec<u8> {
     state.extend(words(&[round]));
     let unset = random.one_in(3);
     state.extend((0..2 * MOST_PARTS).map(|_| u8::from(!unset || random.one_in(2))));
-    state.extend(depths(&(0..held).map(|_| random_depth(random)).collect::<Vec<_>>()));
+    state.extend(values(&some_values(random, held)));
     state
 }
 

@@ -17,13 +17,13 @@ use split::Split;
 
 pub struct Tuned {
     split: Mutex<Split>,
-    /// The new depths of a part's owned cells.
-    new_depths: Mutex<Vec<[u8; 4]>>,
+    /// The new values of a part's owned cells.
+    new_values: Mutex<Vec<[u8; 4]>>,
 }
 
 impl Default for Tuned {
     fn default() -> Self {
-        Tuned { split: Mutex::new(Split::new()), new_depths: Mutex::default() }
+        Tuned { split: Mutex::new(Split::new()), new_values: Mutex::default() }
     }
 }
 
@@ -66,7 +66,7 @@ impl Calls for Tuned {
     }
 
     fn advance(&self, state: &mut [u8]) -> Answer {
-        state::advance(state, &mut lent(&self.new_depths))
+        state::advance(state, &mut lent(&self.new_values))
     }
 
     fn collect(&self, state: &[u8], round: u32, field: &mut [u8]) -> Answer {

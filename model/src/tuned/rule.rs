@@ -1,6 +1,6 @@
-//! Rules and depths (numbers 11 and 14), in arrays of a fixed length.
+//! Rules and values (numbers 11 and 14), in arrays of a fixed length.
 
-use crate::bytes::DEEPEST;
+use crate::bytes::{Value, DEEPEST, GAP};
 use crate::calls::RuleInput;
 use crate::refusal::{Answer, Refusal};
 use crate::rounds::MOST_WEIGHT;
@@ -31,48 +31,72 @@ impl Rule {
         }
     }
 
-    /// The new depth of a cell from the layers and old depths of its reach, among them its own.
+    /// The new value of a cell from the layers and old values of its reach, among them its own. `GAPS` is false where none of
+    /// all values is a gap, so that none is looked for.
     #[inline(always)]
-    pub fn new_depth(&self, own: i32, reach: impl Iterator<Item = (u16, i32)>) -> i32 {
+    pub fn new_value<const GAPS: bool>(&self, own: [u8; 4], reach: impl Iterator<Item = (u16, [u8; 4])>) -> Value {
         match self {
-            Rule::Hold => own,
+            Rule::Hold => value_of::<GAPS>(own),
             Rule::Mean(weights) => {
                 let (mut sum, mut weight) = (0, 0);
                 for (layer, old) in reach {
-                    let v = weights[usize::from(layer / 2 % 8)];
-                    sum += i64::from(v) * i64::from(old);
-                    weight += v;
+                    if let Some(depth) = value_of::<GAPS>(old) {
+                        let v = weights[usize::from(layer / 2 % 8)];
+                        sum += i64::from(v) * i64::from(depth);
+                        weight += v;
+                    }
                 }
                 quotient(sum, weight)
             }
-            Rule::Shoalest => reach.fold(own, |least, (_, old)| least.min(old)),
+            Rule::Shoalest => reach.filter_map(|(_, old)| value_of::<GAPS>(old)).min(),
         }
     }
 }
 
-/// The fraction is dropped toward zero. Numbers of 32 bits are divided faster, and most sums fit.
+/// The fraction is dropped toward zero. Numbers of 32 bits are divided faster, and most sums fit. A gap where nothing was
+/// weighed.
 #[inline(always)]
-fn quotient(sum: i64, weight: i32) -> i32 {
-    i32::try_from(sum).map_or_else(|_| (sum / i64::from(weight)) as i32, |sum| sum / weight)
+fn quotient(sum: i64, weight: i32) -> Value {
+    if weight == 0 {
+        return None;
+    }
+    Some(i32::try_from(sum).map_or_else(|_| (sum / i64::from(weight)) as i32, |sum| sum / weight))
 }
 
 /// The mean with all weights 1.
 #[inline(always)]
-pub fn plain_mean(depths: impl ExactSizeIterator<Item = i32>) -> i32 {
-    let count = depths.len() as i32;
-    quotient(depths.map(i64::from).sum(), count)
+pub fn plain_mean<const GAPS: bool>(values: impl ExactSizeIterator<Item = [u8; 4]>) -> Value {
+    let (mut sum, mut count) = (0, values.len() as i32);
+    for value in values {
+        match value_of::<GAPS>(value) {
+            Some(depth) => sum += i64::from(depth),
+            None => count -= 1,
+        }
+    }
+    quotient(sum, count)
 }
 
-pub fn depths_fit(depths: &[[u8; 4]]) -> bool {
-    let fits = |&bytes: &[u8; 4]| i32::from_be_bytes(bytes).wrapping_add(DEEPEST) as u32 <= 2 * DEEPEST as u32;
-    depths.iter().fold(true, |all, depth| all & fits(depth))
+/// What four bytes stand for.
+#[inline(always)]
+fn value_of<const GAPS: bool>(bytes: [u8; 4]) -> Value {
+    (!GAPS || bytes != GAP).then_some(i32::from_be_bytes(bytes))
 }
 
-/// The depths of a field of that many cells.
+/// Whether each is a depth in range or a gap.
+pub fn values_fit(values: &[[u8; 4]]) -> bool {
+    let is_depth = |bytes: [u8; 4]| i32::from_be_bytes(bytes).wrapping_add(DEEPEST) as u32 <= 2 * DEEPEST as u32;
+    values.iter().fold(true, |all, &bytes| all & (is_depth(bytes) | (bytes == GAP)))
+}
+
+pub fn has_gap(values: &[[u8; 4]]) -> bool {
+    values.iter().fold(false, |any, &bytes| any | (bytes == GAP))
+}
+
+/// The values of a field of that many cells.
 pub fn read_field(bytes: &[u8], cells: u16) -> Answer<&[[u8; 4]]> {
-    let (depths, []) = bytes.as_chunks() else { return Err(Refusal::Field) };
-    if depths.len() != usize::from(cells) || !depths_fit(depths) {
+    let (values, []) = bytes.as_chunks() else { return Err(Refusal::Field) };
+    if values.len() != usize::from(cells) || !values_fit(values) {
         return Err(Refusal::Field);
     }
-    Ok(depths)
+    Ok(values)
 }

@@ -4,10 +4,10 @@
 use std::mem::take;
 
 use super::mesh::Mesh;
-use super::rule::{read_field, Rule};
+use super::rule::{has_gap, read_field, Rule};
 use super::tables::{table, Marks, Rows, Table};
 use super::walks::{check_stencil, through, Walks};
-use crate::bytes::needed;
+use crate::bytes::{needed, value_bytes};
 use crate::calls::{List, PartInput, RuleInput};
 use crate::refusal::{Answer, Refusal};
 use crate::split::{PartSet, Range, MOST_HELD, MOST_PARTS};
@@ -70,7 +70,7 @@ impl Split {
         Ok(self.mesh.cells().into())
     }
 
-    /// The field after one round of the rule at every cell; the count of its depths.
+    /// The field after one round of the rule at every cell; the count of its values.
     pub fn round(&mut self, mesh: &[u8], stencil: &[u8], rule: RuleInput, field: &[u8], out: &mut [u8]) -> Answer {
         self.mesh.read(mesh)?;
         check_stencil(stencil, self.mesh.top)?;
@@ -80,12 +80,20 @@ impl Split {
         }
         let old = read_field(field, self.mesh.cells())?;
         let out = needed(out, field.len())?.as_chunks_mut().0;
-        let depth = |cell: u16| i32::from_be_bytes(old[usize::from(cell)]);
-        for (cell, new) in (0..).zip(out) {
-            let reach = self.walks.reaches.row(cell).iter().map(|entry| (entry.layer, depth(entry.cell)));
-            *new = rule.new_depth(depth(cell), reach).to_be_bytes();
+        if has_gap(old) {
+            self.renew::<true>(&rule, old, out);
+        } else {
+            self.renew::<false>(&rule, old, out);
         }
         Ok(self.mesh.cells().into())
+    }
+
+    fn renew<const GAPS: bool>(&self, rule: &Rule, old: &[[u8; 4]], new: &mut [[u8; 4]]) {
+        let value = |cell: u16| old[usize::from(cell)];
+        for (cell, new) in (0..).zip(new) {
+            let reach = self.walks.reaches.row(cell).iter().map(|entry| (entry.layer, value(entry.cell)));
+            *new = value_bytes(rule.new_value::<GAPS>(value(cell), reach));
+        }
     }
 
     /// A list of a part as words; their count.

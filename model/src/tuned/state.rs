@@ -1,7 +1,7 @@
 //! The calls over a state. The test for its form (number 20) goes over each list once.
 
-use super::rule::{depths_fit, plain_mean, Rule};
-use crate::bytes::{needed, put_word, word};
+use super::rule::{has_gap, plain_mean, values_fit, Rule};
+use crate::bytes::{needed, put_word, value_bytes, word};
 use crate::calls::RuleInput;
 use crate::mesh::MOST_ELEMENTS;
 use crate::refusal::{Answer, Refusal};
@@ -34,7 +34,7 @@ struct Lists<'a> {
     /// A local number each, or 0.
     point_cells: &'a [[u8; 2]],
     flags: &'a [u8],
-    depths: &'a [[u8; 4]],
+    values: &'a [[u8; 4]],
 }
 
 fn number(word: [u8; 2]) -> usize {
@@ -62,7 +62,7 @@ impl<'a> Lists<'a> {
             point_ends,
             point_cells,
             flags: &rest[2..2 + 2 * MOST_PARTS],
-            depths: rest[2 + 2 * MOST_PARTS..].as_chunks().0,
+            values: rest[2 + 2 * MOST_PARTS..].as_chunks().0,
         }
     }
 
@@ -81,8 +81,8 @@ impl<'a> Lists<'a> {
         all_done(self.import_ends, &self.flags[..MOST_PARTS])
     }
 
-    fn depth(&self, local: usize) -> [u8; 4] {
-        self.depths[local - 1]
+    fn value(&self, local: usize) -> [u8; 4] {
+        self.values[local - 1]
     }
 }
 
@@ -121,7 +121,7 @@ impl State {
             && all_below(lists.point_cells, 0, state.sizes.held + 1)
             && state.round <= LAST_ROUND
             && lists.flags.iter().fold(true, |all, &flag| all & (flag <= 1))
-            && depths_fit(lists.depths);
+            && values_fit(lists.values);
         whole.then_some((state, lists))
     }
 
@@ -172,8 +172,8 @@ pub fn write(bytes: &mut [u8], to: u32, out: &mut [u8]) -> Answer {
     for (i, number) in [state.part, to, state.round, exports.len()].into_iter().enumerate() {
         put_word(out, i, number);
     }
-    for (depth, &local) in out[8..].as_chunks_mut().0.iter_mut().zip(exports) {
-        *depth = lists.depth(number(local));
+    for (value, &local) in out[8..].as_chunks_mut().0.iter_mut().zip(exports) {
+        *value = lists.value(number(local));
     }
     bytes[state.sizes.written(to)] = 1;
     Ok(out.len() as u32)
@@ -182,14 +182,14 @@ pub fn write(bytes: &mut [u8], to: u32, out: &mut [u8]) -> Answer {
 /// Takes a message into the imports from its sender.
 pub fn take(bytes: &mut [u8], message: &[u8]) -> Answer {
     let (_, body) = message.split_at_checked(8).ok_or(Refusal::Message)?;
-    let (depths, []) = body.as_chunks() else { return Err(Refusal::Message) };
-    if depths.len() != word(message, 3) || !depths_fit(depths) {
+    let (values, []) = body.as_chunks() else { return Err(Refusal::Message) };
+    if values.len() != word(message, 3) || !values_fit(values) {
         return Err(Refusal::Message);
     }
     let (state, _) = State::read(bytes)?;
     let from = word(message, 0);
     let imports = part_range(bytes, IMPORT_ENDS, from);
-    if word(message, 1) != state.part || imports.is_empty() || imports.len() != depths.len() {
+    if word(message, 1) != state.part || imports.is_empty() || imports.len() != values.len() {
         return Err(Refusal::Sender);
     }
     if word(message, 2) != state.round {
@@ -200,12 +200,12 @@ pub fn take(bytes: &mut [u8], message: &[u8]) -> Answer {
         return Err(Refusal::AlreadyTaken);
     }
     bytes[taken] = 1;
-    let first = state.sizes.depth(Local(imports.start + 1));
+    let first = state.sizes.value(Local(imports.start + 1));
     bytes[first..first + body.len()].copy_from_slice(body);
     Ok(0)
 }
 
-/// Makes a round of the owned cells; `new` is room for their depths.
+/// Makes a round of the owned cells; `new` is room for their values.
 pub fn advance(bytes: &mut [u8], new: &mut Vec<[u8; 4]>) -> Answer {
     let (state, lists) = State::read(bytes)?;
     if !lists.all_taken() {
@@ -217,21 +217,28 @@ pub fn advance(bytes: &mut [u8], new: &mut Vec<[u8; 4]>) -> Answer {
     if state.round == LAST_ROUND {
         return Err(Refusal::LastRound);
     }
-    let depth = |local: usize| i32::from_be_bytes(lists.depth(local));
     new.clear();
-    new.extend((1..).zip(lists.reaches().flatten()).map(|(local, reach)| {
-        let entries = reach.iter().map(|&entry| u32::from_be_bytes(entry));
-        let reach = entries.map(|entry| (entry as u16, depth((entry >> 16) as usize)));
-        state.rule.new_depth(depth(local), reach).to_be_bytes()
-    }));
-    let (first, new) = (state.sizes.depth(Local(1)), new.as_flattened());
+    if has_gap(lists.values) {
+        renew::<true>(&state.rule, &lists, new);
+    } else {
+        renew::<false>(&state.rule, &lists, new);
+    }
+    let (first, new) = (state.sizes.value(Local(1)), new.as_flattened());
     bytes[first..first + new.len()].copy_from_slice(new);
     put_word(bytes, state.sizes.round(), state.round + 1);
     bytes[state.sizes.flags()].fill(0);
     Ok(0)
 }
 
-/// Puts the owned depths into a field; their count.
+fn renew<const GAPS: bool>(rule: &Rule, lists: &Lists, new: &mut Vec<[u8; 4]>) {
+    new.extend((1..).zip(lists.reaches().flatten()).map(|(local, reach)| {
+        let entries = reach.iter().map(|&entry| u32::from_be_bytes(entry));
+        let reach = entries.map(|entry| (entry as u16, lists.value((entry >> 16) as usize)));
+        value_bytes(rule.new_value::<GAPS>(lists.value(local), reach))
+    }));
+}
+
+/// Puts the owned values into a field; their count.
 pub fn collect(bytes: &[u8], round: u32, field: &mut [u8]) -> Answer {
     let (state, lists) = State::read(bytes)?;
     if round as usize != state.round {
@@ -239,13 +246,13 @@ pub fn collect(bytes: &[u8], round: u32, field: &mut [u8]) -> Answer {
     }
     let field = needed(field, 4 * state.cells)?.as_chunks_mut().0;
     let first = usize::from(state.first_cell);
-    for (&global, &depth) in lists.globals[..state.sizes.owned].iter().zip(lists.depths) {
-        field[number(global) - first] = depth;
+    for (&global, &value) in lists.globals[..state.sizes.owned].iter().zip(lists.values) {
+        field[number(global) - first] = value;
     }
     Ok(state.sizes.owned as u32)
 }
 
-/// Puts each point that touches the owned cells, its number and then its depth; their count.
+/// Puts each point that touches the owned cells, its number and then its value; their count.
 pub fn points(bytes: &[u8], out: &mut [u8]) -> Answer {
     let (state, lists) = State::read(bytes)?;
     if !lists.all_taken() {
@@ -255,10 +262,18 @@ pub fn points(bytes: &[u8], out: &mut [u8]) -> Answer {
         return Err(Refusal::PointReach);
     }
     let out = needed(out, 6 * state.sizes.points)?.as_chunks_mut::<6>().0;
-    for ((out, &point), cells) in out.iter_mut().zip(lists.points).zip(lists.around()) {
-        let depths = cells.iter().map(|&cell| i32::from_be_bytes(lists.depth(number(cell))));
-        out[..2].copy_from_slice(&point);
-        out[2..].copy_from_slice(&plain_mean(depths).to_be_bytes());
+    if has_gap(lists.values) {
+        put_points::<true>(&lists, out);
+    } else {
+        put_points::<false>(&lists, out);
     }
     Ok(state.sizes.points as u32)
+}
+
+fn put_points<const GAPS: bool>(lists: &Lists, out: &mut [[u8; 6]]) {
+    for ((out, &point), cells) in out.iter_mut().zip(lists.points).zip(lists.around()) {
+        let values = cells.iter().map(|&cell| lists.value(number(cell)));
+        out[..2].copy_from_slice(&point);
+        out[2..].copy_from_slice(&value_bytes(plain_mean::<GAPS>(values)));
+    }
 }

@@ -1,6 +1,7 @@
--- `part_update::inner::renew` meets its contract. The invariant: the new depths of the cells before l are made. Assumes nothing.
+-- `part_update::inner::renew` meets its contract. The invariant: the new values of the cells before l are made. Assumes nothing.
 use mathlib.Core.Path.{_≡_, refl}
 use Prim.Native.Nat.{_+_, _-_, _≤_}
+use native.Mathlib.Omega.{arith}
 use lib.ListN.{length}
 use Rattle.vocabulary.specs.Bytes.{over}
 use Rattle.vocabulary.specs.Intervals.{blocks}
@@ -33,6 +34,17 @@ renew-spec =
     (λ c κs. search needs)
     (λ c. search needs)
     (λ c. search needs)
-    (λ c. (search needs, search needs, search needs, search needs, search renew-turn))
+    (λ c.
+    let put = c .before .before in
+    let made = put .before .before in
+    let turn = made .before .before in
+    let pre = turn .before .before .before .before .before .before .pre in (
+      search needs,
+      search needs,
+      search needs,
+      search needs,
+      renew-turn _ _ _ _ _ (pre .4) _ (turn .loop .inv .1) (omega (arith, made .before .loop-test .taken, turn .loop .inv .0)) _ (made .renew-one .ensures) _ _ (turn .loop .inv .4)
+          (put .put-value .ensures),
+    ))
     (λ c. search needs)
     (λ c. search stored-up))

@@ -1,14 +1,18 @@
 -- `round_rule::inner::mean_of` meets its contract. The invariant: the two sums over the entries so far. Assumes nothing.
-use Prim.Native.Nat.{_-_, _≤_}
+use mathlib.Core.Logic.{⊎-elim}
+use Prim.Native.Nat.{_-_, _≤_, _<_}
 use mir.Syntax.{w64}
 use mir.Val.{toZ}
-use Rattle.round_rule.proofs.Reaches.{Summed, old-there, sum-start, is-light, is-small, sum-turn, is-heavy, sum-end}
+use Rattle.round_rule.specs.Update.{tableEntries, oldsAt}
+use Rattle.round_rule.proofs.Sums.{Summed, weights-fit}
+use Rattle.round_rule.proofs.Reaches.{entry-listed, entry-fits, entry-there, entry-small}
+use Rattle.round_rule.proofs.Reaches.{sum-start, layer-low, weight-there, weight-known, is-light, sum-depth, sum-gap, sum-few, sum-large, sum-end}
 use borrow.Author.Needs.{needs}
 use Rattle.round_rule.proofs.inner.mean_of.Statement.{statement}
 use Rattle.round_rule.proofs.inner.mean_of.Tie as tie
 
 abbrev Inv-loop : tie.InvT-loop
-Inv-loop v b at n f base sum₀ weights₀ t₀ sum weights t = (t ≤ n) × Summed v b at f base t (toZ w64 sum) weights
+Inv-loop v b at n f base sum₀ weights₀ t₀ sum weights t = (t ≤ n) × Summed v (oldsAt f base (tableEntries b at t)) t (toZ w64 sum) weights
 
 abbrev μ-loop : tie.MeasureT-loop
 μ-loop v b at n f base sum₀ weights₀ t₀ sum weights t = n - t
@@ -20,12 +24,34 @@ mean-of-spec =
     Inv-loop
     μ-loop
     (λ c. (search needs, search sum-start))
-    (λ c κs. search needs)
-    (λ c κs. (search needs, search old-there))
-    (λ c κs. (search needs, search is-light, search is-small))
+    (λ c κs. (search needs, search layer-low, search weight-there, search weight-known))
     (λ c. search needs)
     (λ c. search needs)
+    (λ c κs. (search entry-listed, search entry-fits))
+    (λ c κs. search entry-there)
     (λ c. search needs)
-    (λ c. (search needs, search sum-turn))
-    (λ c κs. (search is-heavy, search needs, search needs))
+    (λ c κs. (search needs, search is-light, search entry-small))
+    (λ c. search needs)
+    (λ c.
+    let at-loop = c .before .before .before .before .before in
+    let weight = c .before .before .before .before .weight-of .ensures .1 in
+    let share : c .before .match .weight-sum < 65536 = ⊎-elim (λ p. rw (p .5) (search (needs, weight))) (λ p. rw (p .3) (search (needs, weight))) (c .before .match .came) in
+    weights-fit _ _ _ _ _ _ _ (at-loop .before .loop .inv .1) (at-loop .loop-test .taken) (at-loop .before .before .before .before .before .pre .0 .few) share)
+    (λ c. search needs)
+    (λ c. search needs)
+    (λ c.
+    let at-loop = c .before .before .before .before .before in
+    let at-entry = at-loop .before .before .before .before .before in (
+      search needs,
+      ⊎-elim
+          (λ p.
+          sum-depth _ _ _ _ _ _ _ (at-loop .loop-test .taken) (at-entry .pre .0) _ (c .before .before .before .place-of .ensures) _ (c .before .before .value-in .ensures)
+          (at-loop .before .loop .sum) _ _ _ (at-loop .before .loop .inv .1) _ _ _ (p .1 .given .1) (search needs) (at-entry .pre .1)
+          (c .before .before .before .before .weight-of .ensures .0) (p .3 .ensures) (p .4) (p .5))
+          (λ p.
+          sum-gap _ _ _ _ _ _ _ (at-loop .loop-test .taken) (at-entry .pre .0) _ (c .before .before .before .place-of .ensures) _ (c .before .before .value-in .ensures)
+          (at-loop .before .loop .sum) _ _ _ (at-loop .before .loop .inv .1) (search needs) (p .2) (p .3))
+          (c .before .match .came),
+    ))
+    (λ c κs. (search sum-few, search sum-large))
     (λ c. search sum-end))

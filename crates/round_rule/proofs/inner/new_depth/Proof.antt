@@ -1,5 +1,5 @@
 -- `round_rule::inner::new_depth` meets its contract. Assumes nothing.
-use Rattle.round_rule.proofs.Chosen.{mean-weighed, holds, means, shoals, held-ranged, mean-ranged, least-ranged}
+use Rattle.round_rule.proofs.Chosen.{mean-weighed, holds, means, shoals, held-within, means-within, shoals-within}
 use borrow.Author.Needs.{needs}
 use Rattle.round_rule.proofs.inner.new_depth.Statement.{statement}
 use Rattle.round_rule.proofs.inner.new_depth.Tie as tie
@@ -9,11 +9,13 @@ new-depth-spec =
     tie.close
     (tie.spec
     (λ c. search needs)
+    (λ c. search needs)
+    (λ c. search needs)
     (λ c κs. search needs)
     (λ c. search needs)
     (λ c κs. (search needs, search mean-weighed))
     (λ c. search needs)
     (λ c κs. search needs)
-    (λ c. (search (holds, c .before .before .before .shared-slice-known3 .given), search held-ranged))
-    (λ c. (search means, search mean-ranged))
-    (λ c. (search shoals, search least-ranged)))
+    (λ c. (search (holds, c .before .before .before .shared-slice-known3 .given), search held-within))
+    (λ c. (search means, search means-within))
+    (λ c. (search shoals, search shoals-within)))
