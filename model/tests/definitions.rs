@@ -1,6 +1,14 @@
 //! The linear walks, lists and rounds against the specification's definitions, taken word by word over sets, on small
 //! meshes.
 
+mod common {
+    pub mod layout;
+    pub mod lists;
+    pub mod reaches;
+    pub mod states;
+    pub mod words;
+}
+
 use std::collections::BTreeSet;
 
 use jemlayos_model::bytes::{read_values, value, word, Value};
@@ -12,7 +20,11 @@ use jemlayos_model::mesh::Mesh;
 use jemlayos_model::refusal::Refusal;
 use jemlayos_model::rounds::undivided_points;
 use jemlayos_model::split::Range;
-use jemlayos_model::walks::{Reaches, Stencil};
+
+use common::layout::point_words;
+use common::lists::listed;
+use common::reaches::reaches;
+use common::states::started;
 
 type Set = BTreeSet<usize>;
 
@@ -185,12 +197,7 @@ fn scenarios(seed: u64, count: usize, most_cells: usize) -> impl Iterator<Item =
     all.filter(move |scenario| scenario.cells <= most_cells).take(count)
 }
 
-fn listed(scenario: &Scenario, part: u32, list: List) -> Vec<usize> {
-    let mut out = vec![0; 8_000];
-    let count = under_test().list(scenario.part(part), list, &mut out).unwrap() as usize;
-    (0..count).map(|i| word(&out, i)).collect()
-}
-
+/// The elements of a set, rising.
 fn rising(set: Set) -> Vec<usize> {
     set.into_iter().collect()
 }
@@ -200,11 +207,9 @@ fn reaches_are_the_walked_sets() {
     for scenario in scenarios(1, 400, 40) {
         let paper = Paper::of(&scenario);
         let mesh = Mesh::read(&scenario.mesh).unwrap();
-        let stencil = Stencil::read(&scenario.stencil, scenario.top).unwrap();
-        let reaches = Reaches::find(&mesh, &stencil).unwrap();
+        let reaches = reaches(&mesh, &scenario.stencil);
         for cell in mesh.cells() {
-            let found: Vec<_> = reaches.of(cell).iter().map(|r| (r.cell, r.layer)).collect();
-            assert_eq!(found, paper.reach(cell));
+            assert_eq!(reaches[&cell], paper.reach(cell));
         }
     }
 }
@@ -217,19 +222,19 @@ fn lists_are_the_defined_sets() {
             let interior = rising(paper.interior(part));
             let halo: Vec<_> = paper.owned(part).into_iter().filter(|c| !interior.contains(c)).collect();
             let mut locals = [interior.clone(), halo.clone()].concat();
-            assert_eq!(listed(&scenario, part, List::Interior), interior);
-            assert_eq!(listed(&scenario, part, List::Halo), halo);
+            assert_eq!(listed(scenario.part(part), List::Interior), interior);
+            assert_eq!(listed(scenario.part(part), List::Halo), halo);
             for other in 1..=scenario.parts {
                 let imports = rising(paper.imports(part, other));
-                assert_eq!(listed(&scenario, part, List::Imports(other)), imports);
-                assert_eq!(listed(&scenario, other, List::Exports(part)), imports);
+                assert_eq!(listed(scenario.part(part), List::Imports(other)), imports);
+                assert_eq!(listed(scenario.part(other), List::Exports(part)), imports);
                 locals.extend(imports);
             }
-            assert_eq!(listed(&scenario, part, List::Locals), locals);
+            assert_eq!(listed(scenario.part(part), List::Locals), locals);
             for range in Range::ALL {
                 for dimension in 0..scenario.top {
                     let list = List::Range(range, dimension as u32);
-                    assert_eq!(listed(&scenario, part, list), rising(paper.range(part, range, dimension)));
+                    assert_eq!(listed(scenario.part(part), list), rising(paper.range(part, range, dimension)));
                 }
             }
         }
@@ -242,13 +247,11 @@ fn points_of_a_state_are_the_defined_sets() {
     for scenario in scenarios(11, 200, 12) {
         let paper = Paper::of(&scenario);
         for part in 1..=scenario.parts {
-            let length = under_test().state_size(scenario.part(part)).unwrap() as usize;
-            let mut state = vec![0; length];
-            under_test().start(scenario.part(part), scenario.rule(), &scenario.field, &mut state).unwrap();
+            let state = started(scenario.part(part), scenario.rule(), &scenario.field);
             let points = rising(paper.points(part));
             let around: Vec<Set> = points.iter().map(|&p| paper.around(p)).collect();
             let leaves_reach = paper.leaves_reach(part);
-            let locals = listed(&scenario, part, List::Locals);
+            let locals = listed(scenario.part(part), List::Locals);
             let local = |c: usize| locals.iter().position(|&held| held == c).unwrap() + 1;
             let cell_word = |&c: &usize| if leaves_reach { 0 } else { local(c) };
 
@@ -256,9 +259,7 @@ fn points_of_a_state_are_the_defined_sets() {
             words.extend(points);
             words.extend((0..=around.len()).map(|k| around[..k].iter().map(Set::len).sum::<usize>()));
             words.extend(around.iter().flat_map(|cells| cells.iter().rev().map(cell_word)));
-            let end = word(&state, 0);
-            let found: Vec<usize> = (end - words.len()..end).map(|place| word(&state, place)).collect();
-            assert_eq!(found, words);
+            assert_eq!(point_words(&state), words);
             (accepted, refused) = (accepted + u32::from(!leaves_reach), refused + u32::from(leaves_reach));
         }
     }

@@ -1,17 +1,29 @@
 //! The examples of the specification, on the engine where it is linked and else on the model.
 
+mod common {
+    pub mod boards;
+    pub mod lists;
+    pub mod meshes;
+    pub mod reaches;
+    pub mod rounds;
+    pub mod states;
+    pub mod words;
+}
+
 use jemlayos_model::bytes::{depths, words};
-use jemlayos_model::calls::{under_test, List, PartInput, RuleInput};
-use jemlayos_model::generate::shapes::Shape;
+use jemlayos_model::calls::{under_test, List, RuleInput};
 use jemlayos_model::listing;
 use jemlayos_model::mesh::Mesh;
 use jemlayos_model::refusal::{Answer, Refusal};
 use jemlayos_model::rounds::Rule;
 use jemlayos_model::split::Range;
-use jemlayos_model::walks::{Reaches, Stencil};
 
-const OWNERS: [u8; 5] = [1, 1, 1, 2, 2];
-const STENCIL: [u8; 3] = [1, 0, 1];
+use common::boards::{boards, part_input, written, FIELD, MEAN, OWNERS, STENCIL};
+use common::lists::listed;
+use common::meshes::{five_cells, triangles};
+use common::reaches::reaches;
+use common::rounds::{collected, round};
+
 const LISTING: &str = "\
 parts 2
 part 1
@@ -34,18 +46,6 @@ dim 0 shared 4
 dim 0 copied 3
 ";
 
-/// Five cells in a row, word by word as the specification has them.
-fn five_cells() -> Vec<u8> {
-    let mut mesh = vec![1, 6, 5, 0, 0, 10];
-    mesh.extend([0, 0, 0, 0, 0, 0, 1, 3, 5, 7, 9]);
-    mesh.extend([1, 2, 2, 0, 2, 4, 3, 0, 3, 6, 4, 0, 4, 8, 5, 0, 5, 10, 6, 0]);
-    words(&mesh)
-}
-
-fn part<'a>(mesh: &'a [u8], part: u32) -> PartInput<'a> {
-    PartInput { mesh, parts: 2, owners: &OWNERS, part, stencil: &STENCIL }
-}
-
 /// The list program's input, from its pieces.
 fn input(parts: u8, owners: &[u8], stencil: &[u8]) -> Vec<u8> {
     let mut input = five_cells();
@@ -56,22 +56,9 @@ fn input(parts: u8, owners: &[u8], stencil: &[u8]) -> Vec<u8> {
     input
 }
 
+/// The mean with these words of weights.
 fn mean(weights: &[u8]) -> RuleInput<'_> {
     RuleInput { kind: 1, weights }
-}
-
-fn start(number: u32, field: &[i32]) -> Vec<u8> {
-    let mesh = five_cells();
-    let weights = words(&[2, 1]);
-    let mut state = vec![0; under_test().state_size(part(&mesh, number)).unwrap() as usize];
-    under_test().start(part(&mesh, number), mean(&weights), &depths(field), &mut state).unwrap();
-    state
-}
-
-fn written(state: &mut [u8], to: u32) -> Vec<u8> {
-    let mut message = vec![0; 12];
-    assert_eq!(under_test().write(state, to, &mut message), Ok(12));
-    message
 }
 
 #[test]
@@ -88,12 +75,7 @@ fn lists_are_printed() {
 #[test]
 fn lists_are_given_as_words() {
     let mesh = five_cells();
-    let list = |number: u32, list: List| {
-        let mut out = [0xee; 12];
-        let count = under_test().list(part(&mesh, number), list, &mut out).unwrap() as usize;
-        assert!(out[2 * count..].iter().all(|&byte| byte == 0xee));
-        out[..2 * count].chunks(2).map(|w| w[1]).collect::<Vec<u8>>()
-    };
+    let list = |part: u32, list: List| listed(part_input(&mesh, part), list);
     assert_eq!(list(1, List::Interior), [7, 8]);
     assert_eq!(list(1, List::Halo), [9]);
     assert_eq!(list(1, List::Imports(2)), [10]);
@@ -107,8 +89,8 @@ fn lists_are_given_as_words() {
     assert_eq!(list(2, List::Range(Range::Copied, 0)), [3]);
     assert_eq!(list(2, List::Range(Range::Copied, 1)), []);
     let mut short = [0; 3];
-    assert_eq!(under_test().list(part(&mesh, 1), List::Interior, &mut short), Err(Refusal::Output));
-    assert_eq!(under_test().list(part(&mesh, 1), List::Imports(3), &mut short), Err(Refusal::PartMap));
+    assert_eq!(under_test().list(part_input(&mesh, 1), List::Interior, &mut short), Err(Refusal::Output));
+    assert_eq!(under_test().list(part_input(&mesh, 1), List::Imports(3), &mut short), Err(Refusal::PartMap));
 }
 
 #[test]
@@ -163,14 +145,9 @@ fn lengths_of_73_and_11_bytes_and_an_empty_part_are_refused() {
 
 #[test]
 fn mean_of_two_rounds() {
-    let (mesh, weights) = (five_cells(), words(&[2, 1]));
-    let round = |field: &[i32]| {
-        let mut out = vec![0; 20];
-        assert_eq!(under_test().round(&mesh, &STENCIL, mean(&weights), &depths(field), &mut out), Ok(5));
-        out
-    };
-    assert_eq!(round(&[100, 200, 300, 400, 500]), depths(&[133, 200, 300, 400, 466]));
-    assert_eq!(round(&[133, 200, 300, 400, 466]), depths(&[155, 208, 300, 391, 444]));
+    let after_one = [133, 200, 300, 400, 466].map(Some);
+    assert_eq!(round(MEAN, FIELD), after_one);
+    assert_eq!(round(MEAN, after_one), [155, 208, 300, 391, 444].map(Some));
 }
 
 #[test]
@@ -182,8 +159,8 @@ fn the_fraction_is_dropped_toward_zero() {
 
 #[test]
 fn message_from_part_2_to_part_1() {
-    let mut state = start(2, &[100, 200, 300, 400, 500]);
-    assert_eq!(written(&mut state, 1), [0, 2, 0, 1, 0, 0, 0, 1, 0, 0, 0x01, 0x90]);
+    let [_, mut two] = boards(MEAN, FIELD);
+    assert_eq!(written(&mut two, 1), [0, 2, 0, 1, 0, 0, 0, 1, 0, 0, 0x01, 0x90]);
 }
 
 #[test]
@@ -200,8 +177,7 @@ fn depths_end_at_1_200_000() {
 
 #[test]
 fn a_message_of_the_next_round_is_taken_only_after_advance() {
-    let field = [100, 200, 300, 400, 500];
-    let (mut one, mut two) = (start(1, &field), start(2, &field));
+    let [mut one, mut two] = boards(MEAN, FIELD);
     let (to_two, to_one) = (written(&mut one, 2), written(&mut two, 1));
     assert_eq!(under_test().take(&mut two, &to_two), Ok(0));
     assert_eq!(under_test().advance(&mut two), Ok(0));
@@ -214,23 +190,18 @@ fn a_message_of_the_next_round_is_taken_only_after_advance() {
     assert_eq!(under_test().take(&mut one, &next), Ok(0));
     let to_two = written(&mut one, 2);
     assert_eq!(under_test().take(&mut two, &to_two), Ok(0));
-    let mut gathered = [0; 20];
     for state in [&mut one, &mut two] {
         assert_eq!(under_test().advance(state), Ok(0));
-        under_test().collect(state, 2, &mut gathered).unwrap();
     }
-    assert_eq!(gathered.to_vec(), depths(&[155, 208, 300, 391, 444]));
+    assert_eq!(collected(&[one, two], 2), [155, 208, 300, 391, 444].map(Some));
 }
 
 #[test]
 fn walks_return_to_what_they_visited() {
-    let triangles = Shape::of_simplices(&[vec![1, 2, 3], vec![2, 3, 4], vec![1, 5, 6]]);
-    let mesh = Mesh::read(&triangles.encode_in_order()).unwrap();
+    let mesh = Mesh::read(&triangles()).unwrap();
     assert_eq!(mesh.elements(1), 7..15);
-    let stencil = Stencil::read(&[2, 1, 2, 0, 2], 2).unwrap();
-    let reaches = Reaches::find(&mesh, &stencil).unwrap();
-    let reach = |cell| reaches.of(cell).iter().map(|r| (r.cell, r.layer)).collect::<Vec<_>>();
-    assert_eq!(reach(15), [(15, 0), (16, 2), (17, 4)]);
-    assert_eq!(reach(16), [(15, 2), (16, 0), (17, 4)]);
-    assert_eq!(reach(17), [(15, 4), (17, 0)]);
+    let reaches = reaches(&mesh, &[2, 1, 2, 0, 2]);
+    assert_eq!(reaches[&15], [(15, 0), (16, 2), (17, 4)]);
+    assert_eq!(reaches[&16], [(15, 2), (16, 0), (17, 4)]);
+    assert_eq!(reaches[&17], [(15, 4), (17, 0)]);
 }

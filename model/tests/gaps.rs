@@ -1,82 +1,34 @@
 //! Gaps: the examples of the request, and a test for each of its rules that the nearest slips do not pass.
 
-use jemlayos_model::bytes::{is_valid, put_value, read_values, value, value_bytes, values, word, words, Value, GAP};
+mod common {
+    pub mod boards;
+    pub mod meshes;
+    pub mod points;
+    pub mod rounds;
+    pub mod states;
+}
+
+use jemlayos_model::bytes::{is_valid, put_value, value, value_bytes, values, word, words, Value, GAP};
 use jemlayos_model::calls::{under_test, PartInput, RuleInput};
 use jemlayos_model::generate::scenarios::WRONG_VALUES;
-use jemlayos_model::generate::shapes::Shape;
 use jemlayos_model::mesh::Mesh;
 use jemlayos_model::refusal::{Answer, Refusal};
 use jemlayos_model::rounds::undivided_points;
 
-const OWNERS: [u8; 5] = [1, 1, 1, 2, 2];
-const STENCIL: [u8; 3] = [1, 0, 1];
+use common::boards::{boards, part_input, started, written, Rule, FIELD, MEAN, STENCIL};
+use common::meshes::{five_cells, triangles};
+use common::points::{exchange, points};
+use common::rounds::{collected, round};
+
 /// From part 2 to part 1, round 0, with a gap.
 const MESSAGE: [u8; 12] = [0, 2, 0, 1, 0, 0, 0, 1, 0x80, 0, 0, 0];
 
 /// The field of the request's examples.
 const HOLES: [Value; 5] = [Some(100), None, Some(300), None, None];
 
-fn five_cells() -> Vec<u8> {
-    Shape::row(5, 0).encode_in_order()
-}
-
-/// 15 (points 1 2 3), 16 (2 3 4) and 17 (1 5 6).
-fn triangles() -> Vec<u8> {
-    Shape::of_simplices(&[vec![1, 2, 3], vec![2, 3, 4], vec![1, 5, 6]]).encode_in_order()
-}
-
-/// A rule by its kind and its weights, which only a mean has.
-type Rule = (u32, &'static [usize]);
-
 const HOLD: Rule = (0, &[]);
-const MEAN: Rule = (1, &[2, 1]);
 const MEAN_WITH_ZERO: Rule = (1, &[1, 0]);
 const SHOALEST: Rule = (2, &[]);
-
-/// One undivided round of the five cells.
-fn round((kind, weights): Rule, field: [Value; 5]) -> [Value; 5] {
-    let rule = RuleInput { kind, weights: &words(weights) };
-    let mut out = [0xee; 20];
-    assert_eq!(under_test().round(&five_cells(), &STENCIL, rule, &values(&field), &mut out), Ok(5));
-    read_values(&out).unwrap().try_into().unwrap()
-}
-
-fn started(mesh: &[u8], owners: &[u8], part: u32, stencil: &[u8], (kind, weights): Rule, field: &[Value]) -> Vec<u8> {
-    let parts = owners.iter().copied().max().unwrap().into();
-    let input = PartInput { mesh, parts, owners, part, stencil };
-    let rule = RuleInput { kind, weights: &words(weights) };
-    let mut state = vec![0; under_test().state_size(input).unwrap() as usize];
-    assert_eq!(under_test().start(input, rule, &values(field), &mut state), Ok(state.len() as u32));
-    state
-}
-
-/// Both parts of the five cells, as they are started.
-fn boards(rule: Rule, field: [Value; 5]) -> [Vec<u8>; 2] {
-    [1, 2].map(|part| started(&five_cells(), &OWNERS, part, &STENCIL, rule, &field))
-}
-
-/// Each of the two boards takes the message of the other.
-fn exchange(boards: &mut [Vec<u8>; 2]) {
-    for (from, to) in [(0, 1), (1, 0)] {
-        let mut message = [0; 12];
-        under_test().write(&mut boards[from], to as u32 + 1, &mut message).unwrap();
-        under_test().take(&mut boards[to], &message).unwrap();
-    }
-}
-
-fn collected(boards: &[Vec<u8>; 2], round: u32) -> [Value; 5] {
-    let mut field = [0; 20];
-    assert_eq!(under_test().collect(&boards[0], round, &mut field), Ok(3));
-    assert_eq!(under_test().collect(&boards[1], round, &mut field), Ok(2));
-    read_values(&field).unwrap().try_into().unwrap()
-}
-
-/// What an accepted points call gives.
-fn points(state: &[u8]) -> Vec<(usize, Value)> {
-    let mut out = [0; 60];
-    let count = under_test().points(state, &mut out).unwrap() as usize;
-    out.chunks(6).take(count).map(|six| (word(six, 0), value(six, 2))).collect()
-}
 
 /// The undivided rounds give these fields, one after another, and so do the two boards.
 fn rounds_are(rule: Rule, fields: &[[Value; 5]]) {
@@ -133,9 +85,7 @@ fn points_of_holes() {
 #[test]
 fn a_message_with_a_gap_is_taken_and_one_with_80_00_00_01_is_15() {
     let [one, mut two] = boards(MEAN, HOLES);
-    let mut written = [0; 12];
-    assert_eq!(under_test().write(&mut two, 1, &mut written), Ok(12));
-    assert_eq!(written, MESSAGE);
+    assert_eq!(written(&mut two, 1), MESSAGE);
     assert_eq!(under_test().take(&mut one.clone(), &MESSAGE), Ok(0));
     let mut next = MESSAGE;
     next[11] = 1;
@@ -197,8 +147,12 @@ fn only_zero_weights_left_is_a_gap() {
 
 #[test]
 fn a_point_divides_by_the_depths_at_it() {
-    let state = |field: [Value; 3]| started(&triangles(), &[1; 3], 1, &[2, 0, 2], MEAN, &field);
-    let at_points = |field: [Value; 3]| points(&state(field)).into_iter().map(|(_, value)| value).collect::<Vec<_>>();
+    let mesh = triangles();
+    let input = PartInput { mesh: &mesh, parts: 1, owners: &[1; 3], part: 1, stencil: &[2, 0, 2] };
+    let at_points = |field: [Value; 3]| {
+        let given = points(&started(input, MEAN, &field));
+        given.into_iter().map(|(_, value)| value).collect::<Vec<_>>()
+    };
     // Point 1 is at 15 and 17, points 2 and 3 at 15 and 16, point 4 at 16, points 5 and 6 at 17.
     assert_eq!(at_points([Some(9), None, Some(4)]), [Some(6), Some(9), Some(9), None, Some(4), Some(4)]);
     assert_eq!(at_points([None, Some(-3), None]), [None, Some(-3), Some(-3), Some(-3), None, None]);
@@ -208,10 +162,10 @@ fn a_point_divides_by_the_depths_at_it() {
 
 #[test]
 fn a_gap_that_is_taken_stands_where_a_depth_was() {
-    let [mut one, _] = boards(MEAN, [100, 200, 300, 400, 500].map(Some));
+    let [mut one, _] = boards(MEAN, FIELD);
     under_test().take(&mut one, &MESSAGE).unwrap();
     assert_eq!(points(&one), [(1, Some(100)), (2, Some(150)), (3, Some(250)), (4, Some(300))]);
-    under_test().write(&mut one, 2, &mut [0; 12]).unwrap();
+    written(&mut one, 2);
     under_test().advance(&mut one).unwrap();
     let mut field = [0; 20];
     under_test().collect(&one, 1, &mut field).unwrap();
@@ -222,9 +176,7 @@ fn a_gap_that_is_taken_stands_where_a_depth_was() {
 #[test]
 fn write_and_collect_hand_on_the_four_bytes() {
     let [mut one, _] = boards(HOLD, [Some(-1), None, None, None, Some(3)]);
-    let mut message = [0xee; 12];
-    under_test().write(&mut one, 2, &mut message).unwrap();
-    assert_eq!(message, [0, 1, 0, 2, 0, 0, 0, 1, 0x80, 0, 0, 0]);
+    assert_eq!(written(&mut one, 2), [0, 1, 0, 2, 0, 0, 0, 1, 0x80, 0, 0, 0]);
     let mut field = [0xee; 20];
     under_test().collect(&one, 0, &mut field).unwrap();
     assert_eq!(field[..12], [0xff, 0xff, 0xff, 0xff, 0x80, 0, 0, 0, 0x80, 0, 0, 0]);
@@ -237,25 +189,20 @@ fn answers(four: Value) -> [Answer; 8] {
     let rule = RuleInput { kind: 1, weights: &words(&[2, 1]) };
     let mut field = values(&[1, 2, 3, 4, 5].map(Some));
     put_value(&mut field, 8, four);
-    let input = PartInput { mesh: &mesh, parts: 2, owners: &OWNERS, part: 1, stencil: &STENCIL };
     let mut message = MESSAGE;
     put_value(&mut message, 8, four);
-    let [one, two] = boards(MEAN, [1, 2, 3, 4, 5].map(Some));
+    let [one, mut two] = boards(MEAN, [1, 2, 3, 4, 5].map(Some));
     // The last value of a state is that of the only import.
     let mut state = one.clone();
     let last = state.len() - 4;
     put_value(&mut state, last, four);
-    let fitting = {
-        let mut message = [0; 12];
-        under_test().write(&mut two.clone(), 1, &mut message).unwrap();
-        message
-    };
+    let fitting = written(&mut two, 1);
     let mut done = state.clone();
     let flags = 2 * word(&done, 0) + 2;
     done[flags..flags + 32].fill(1);
     [
         under_test().round(&mesh, &STENCIL, rule, &field, &mut [0; 20]),
-        under_test().start(input, rule, &field, &mut [0; 300]),
+        under_test().start(part_input(&mesh, 1), rule, &field, &mut [0; 300]),
         under_test().take(&mut one.clone(), &message),
         under_test().take(&mut state.clone(), &fitting),
         under_test().write(&mut state.clone(), 2, &mut [0; 12]),

@@ -1,5 +1,10 @@
 //! The order of the tests: inputs with every fault at once, whose faults are mended one by one.
 
+mod common {
+    pub mod round_word;
+    pub mod states;
+}
+
 use jemlayos_model::bytes::{depths, put_word, word, words};
 use jemlayos_model::calls::{under_test, List};
 use jemlayos_model::generate::damage::long_meshes;
@@ -7,6 +12,8 @@ use jemlayos_model::generate::random::Random;
 use jemlayos_model::generate::scenarios::{stencil_through, Deal, Scenario};
 use jemlayos_model::generate::shapes::Shape;
 use jemlayos_model::refusal::{Answer, Refusal};
+
+use common::round_word::put_round;
 
 /// A refusal's number, 0 where there is none.
 fn number(answer: Answer) -> u32 {
@@ -21,17 +28,9 @@ fn row() -> Scenario {
     row
 }
 
+/// The state of a part of a scenario as it is started.
 fn started(scenario: &Scenario, part: u32) -> Vec<u8> {
-    let length = under_test().state_size(scenario.part(part)).unwrap();
-    let mut state = vec![0; length as usize];
-    let started = under_test().start(scenario.part(part), scenario.rule(), &scenario.field, &mut state);
-    assert_eq!(started, Ok(length));
-    state
-}
-
-fn put_round(state: &mut [u8], round: usize) {
-    let place = word(state, 0);
-    put_word(state, place, round);
+    common::states::started(scenario.part(part), scenario.rule(), &scenario.field)
 }
 
 /// The numbers that start, state size, a list and the undivided round give.

@@ -1,6 +1,14 @@
 //! Whole runs: any order of calls on the parts, repeated and refused ones too, gives the undivided field, and the undivided
 //! values at the points. Some fields have gaps.
 
+mod common {
+    pub mod layout;
+    pub mod lists;
+    pub mod reaches;
+    pub mod states;
+    pub mod words;
+}
+
 use std::collections::BTreeMap;
 
 use jemlayos_model::bytes::{read_values, value, word, Value, GAP};
@@ -11,7 +19,12 @@ use jemlayos_model::generate::traffic;
 use jemlayos_model::mesh::Mesh;
 use jemlayos_model::refusal::Refusal;
 use jemlayos_model::rounds::undivided_points;
-use jemlayos_model::walks::{Reaches, Stencil};
+
+use common::layout::{point_words, Lengths};
+use common::lists::listed;
+use common::reaches::reaches;
+use common::states::started_with_room;
+use common::words::read_words;
 
 /// The undivided field after each number of rounds.
 fn undivided(scenario: &Scenario, rounds: usize) -> Vec<Vec<u8>> {
@@ -25,15 +38,9 @@ fn undivided(scenario: &Scenario, rounds: usize) -> Vec<Vec<u8>> {
     fields
 }
 
+/// The states of all parts of a scenario as they are started, each with three more bytes after it.
 fn started(scenario: &Scenario) -> Vec<Vec<u8>> {
-    let start = |part: u32| {
-        let length = under_test().state_size(scenario.part(part)).unwrap();
-        let mut state = vec![0xee; length as usize + 3];
-        let answer = under_test().start(scenario.part(part), scenario.rule(), &scenario.field, &mut state);
-        assert_eq!(answer, Ok(length));
-        assert_eq!(state[length as usize..], [0xee; 3]);
-        state
-    };
+    let start = |part: u32| started_with_room(scenario.part(part), scenario.rule(), &scenario.field, 3);
     (1..=scenario.parts).map(start).collect()
 }
 
@@ -50,17 +57,17 @@ struct Points {
 impl Points {
     fn of(scenario: &Scenario, part: u32) -> Points {
         let mesh = Mesh::read(&scenario.mesh).unwrap();
-        let reaches = Reaches::find(&mesh, &Stencil::read(&scenario.stencil, scenario.top).unwrap()).unwrap();
+        let reaches = reaches(&mesh, &scenario.stencil);
         let owns = |cell: usize| u32::from(scenario.owners[cell - mesh.first_cell()]) == part;
         let touches = |&point: &usize| mesh.cells_at(point).iter().any(|&c| owns(c));
         let numbers: Vec<usize> = mesh.elements(0).filter(touches).collect();
-        let reached = |from: usize, cell: usize| reaches.of(from).iter().any(|entry| entry.cell == cell);
+        let reached = |from: usize, cell: usize| reaches[&from].iter().any(|&(reached, _)| reached == cell);
         let leave_reach = numbers.iter().map(|&point| mesh.cells_at(point)).any(|cells| {
             let mut owned = cells.iter().filter(|&&c| owns(c));
             owned.any(|&from| !cells.iter().all(|&cell| reached(from, cell)))
         });
-        let imports = |other: u32| under_test().list(scenario.part(part), List::Imports(other), &mut [0; 4_000]);
-        let senders = (1..=scenario.parts).filter(|&other| imports(other).unwrap() > 0).count();
+        let imports = |other: u32| listed(scenario.part(part), List::Imports(other));
+        let senders = (1..=scenario.parts).filter(|&other| !imports(other).is_empty()).count();
         Points { numbers, leave_reach, senders }
     }
 }
@@ -209,17 +216,13 @@ fn a_state_is_within_its_bound() {
     let extremes = Scenario::extremes(random).into_iter().map(|(_, scenario)| scenario);
     for scenario in extremes.collect::<Vec<_>>().into_iter().chain((0..200).map(|_| Scenario::random(random))) {
         for part in 1..=scenario.parts {
-            let Ok(length) = under_test().state_size(scenario.part(part)) else {
+            if under_test().state_size(scenario.part(part)).is_err() {
                 continue;
-            };
-            let mut state = vec![0; length as usize];
-            under_test().start(scenario.part(part), scenario.rule(), &scenario.field, &mut state).unwrap();
-            let sizes = |place: usize| word(&state, place);
-            let (owned, held, exports) = (sizes(11), sizes(27), sizes(44));
-            let reached = sizes(45 + held + owned);
-            let first = 46 + held + owned + 2 * reached + exports;
-            let points = sizes(first);
-            let point_cells = sizes(first + 1 + 2 * points);
+            }
+            let state = common::states::started(scenario.part(part), scenario.rule(), &scenario.field);
+            let Lengths { owned, held, reached, exports } = Lengths::of(&state);
+            let words = point_words(&state);
+            let (points, point_cells) = (words[0], words[1 + 2 * words[0]]);
             assert!(state.len() <= 200 + 40 * (held + reached + exports + points + point_cells));
             let (lists, at_points) = (6 * held + 2 * owned + 4 * reached + 2 * exports, 4 * points + 2 * point_cells);
             assert_eq!(state.len(), 130 + lists + at_points);
@@ -232,9 +235,8 @@ fn exports_rise_by_global_number_where_local_order_differs() {
     let random = &mut Random::new(10);
     let mut differing = 0;
     for state in (0..100).flat_map(|_| started(&Scenario::lopsided(random))) {
-        let (owned, held, exports) = (word(&state, 11), word(&state, 27), word(&state, 44));
-        let first = 46 + held + owned + 2 * word(&state, 45 + held + owned);
-        let locals: Vec<usize> = (first..first + exports).map(|place| word(&state, place)).collect();
+        let lengths = Lengths::of(&state);
+        let locals = read_words(&state, lengths.first_export()..lengths.point_count());
         for to in 1..=16 {
             let list = &locals[word(&state, 27 + to)..word(&state, 28 + to)];
             assert!(list.is_sorted_by_key(|local| word(&state, 44 + local)));
