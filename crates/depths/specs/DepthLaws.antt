@@ -36,17 +36,13 @@ pub length-four : (b : Bytes) (o : ℕ) → length (four b o) ≡ 4
 unfolding four
 length-four b o = refl
 
-pub getD-four : (b : Bytes) (o k : ℕ) → k < 4 → byteAt (four b o) k ≡ byteAt b (o + k)
+getD-four : (b : Bytes) (o k : ℕ) → k < 4 → byteAt (four b o) k ≡ byteAt b (o + k)
 unfolding four
 getD-four b o zero h = ap (λ n. byteAt b n) (sym (add-zero o))
 getD-four b o (suc zero) h = refl
 getD-four b o (suc (suc zero)) h = refl
 getD-four b o (suc (suc (suc zero))) h = refl
 getD-four b o (suc (suc (suc (suc k)))) h = let z : ⊥ = omega arith in absurd z
-
-pub four-four : (b : Bytes) (o : ℕ) → four (four b o) 0 ≡ four b o
-unfolding four
-four-four b o = refl
 
 -- four bytes are their own four
 pub four-whole : (x : Bytes) → length x ≡ 4 → four x 0 ≡ x
@@ -64,9 +60,6 @@ four-past p q o =
     (λ k h. ap (λ n. byteAt (p ++ q) n) (let e : length p + o + k ≡ length p + (o + k) = omega arith in e) ∙ getD-append-add p q (o + k) 0)
 
 -- of a part
-pub four-take : (n : ℕ) (b : Bytes) (o : ℕ) → o + 4 ≤ n → four (take n b) o ≡ four b o
-four-take n b o h = four-same (take n b) b o o (λ k l. getD-take n b (o + k) 0 (omega arith))
-
 pub four-drop : (n : ℕ) (b : Bytes) (o : ℕ) → four (drop n b) o ≡ four b (n + o)
 four-drop n b o =
     four-same (drop n b) b o (n + o) (λ k l. getD-drop n b (o + k) 0 ∙ ap (λ i. byteAt b i) (let e : n + (o + k) ≡ n + o + k = omega arith in e))
@@ -168,7 +161,7 @@ number-same x y o p h =
     (word-same x y o p a (h 1 (omega arith)))
     (word-same x y (o + 2) (p + 2) (h 2 (omega arith)) (ap (λ n. byteAt x n) e ∙ h 3 (omega arith) ∙ ap (λ n. byteAt y n) f))
 
-pub number-back : (v : ℕ) → numberFrom (numberBytes v) 0 ≡ v
+number-back : (v : ℕ) → numberFrom (numberBytes v) 0 ≡ v
 unfolding numberFrom numberBytes word
 number-back v = omega arith
 
@@ -179,11 +172,11 @@ module _ (b : Bytes) (o : ℕ) (h : (k : ℕ) → k < 4 → byteAt b (o + k) < 2
   last-byte : byteAt b (o + 2 + 1) < 256
   last-byte = let e : o + 3 ≡ o + 2 + 1 = omega arith in subst (λ n. byteAt b n < 256) e (h 3 (omega arith))
 
-  pub number-less : numberFrom b o < 4294967296
+  number-less : numberFrom b o < 4294967296
   unfolding numberFrom word
   number-less = omega (arith, first-byte, h 1 (omega arith), h 2 (omega arith), last-byte)
 
-  pub number-bytes : numberBytes (numberFrom b o) ≡ four b o
+  number-bytes : numberBytes (numberFrom b o) ≡ four b o
   unfolding numberBytes numberFrom word four
   number-bytes =
       let e : o + 2 + 1 ≡ o + 3 = omega arith in
@@ -209,7 +202,7 @@ module _ (b : Bytes) (o : ℕ) (h : (k : ℕ) → k < 4 → byteAt b (o + k) < 2
 
 -- ---- two's complement
 
-pub signed-unsigned : (z : ℤ) → natAbs z < 2147483648 → signed (unsigned z) ≡ z
+signed-unsigned : (z : ℤ) → natAbs z < 2147483648 → signed (unsigned z) ≡ z
 unfolding signed unsigned
 signed-unsigned (pos n) h = simp (lt-ltb _ _ h)
 signed-unsigned (negsuc n) h =
@@ -217,7 +210,7 @@ signed-unsigned (negsuc n) h =
     let b : 4294967295 - (4294967295 - n) ≡ n = omega arith in
     simp (le-ltb _ _ a, b)
 
-pub unsigned-signed : (v : ℕ) → v < 4294967296 → unsigned (signed v) ≡ v
+unsigned-signed : (v : ℕ) → v < 4294967296 → unsigned (signed v) ≡ v
 unfolding signed unsigned
 unsigned-signed v h = go (ltb v 2147483648) refl
   where
@@ -227,7 +220,7 @@ unsigned-signed v h = go (ltb v 2147483648) refl
 
 -- ---- depths
 
-pub length-depthBytes : (z : ℤ) → length (depthBytes z) ≡ 4
+length-depthBytes : (z : ℤ) → length (depthBytes z) ≡ 4
 unfolding depthBytes numberBytes
 length-depthBytes z = refl
 
@@ -237,22 +230,22 @@ unfolding depthFrom
 depth-four b o = ap signed (number-same (four b o) b 0 o (λ k h. ap (λ n. byteAt (four b o) n) (zero-add k) ∙ getD-four b o k h))
 
 -- the depth that was written
-pub depth-back : (z : ℤ) → natAbs z < 2147483648 → depthOf (depthBytes z) ≡ z
+depth-back : (z : ℤ) → natAbs z < 2147483648 → depthOf (depthBytes z) ≡ z
 unfolding depthFrom depthBytes
 depth-back z h = ap signed (number-back (unsigned z)) ∙ signed-unsigned z h
 
 -- the bytes of the depth that was read
-pub depth-bytes : (b : Bytes) (o : ℕ) → ((k : ℕ) → k < 4 → byteAt b (o + k) < 256) → depthBytes (depthFrom b o) ≡ four b o
+depth-bytes : (b : Bytes) (o : ℕ) → ((k : ℕ) → k < 4 → byteAt b (o + k) < 256) → depthBytes (depthFrom b o) ≡ four b o
 unfolding depthFrom depthBytes
 depth-bytes b o h = ap (λ v. numberBytes v) (unsigned-signed (numberFrom b o) (number-less b o h)) ∙ number-bytes b o h
 
 -- ---- the range
 
-pub range-size : (z : ℤ) → inRange z ≡ true → natAbs z ≤ deepest
+range-size : (z : ℤ) → inRange z ≡ true → natAbs z ≤ deepest
 unfolding inRange
 range-size z e = leb-true _ _ e
 
-pub range-intro : (z : ℤ) → natAbs z ≤ deepest → inRange z ≡ true
+range-intro : (z : ℤ) → natAbs z ≤ deepest → inRange z ≡ true
 unfolding inRange
 range-intro z h = le-leb _ _ h
 
@@ -336,7 +329,7 @@ unfolding valueBytes
 bytes-gap m l x h e = sym (value-back m l x h) ∙ ap (λ f. valueOf f) e ∙ value-gap gapBytes 0 gap-number
 
 -- valid, and within the range
-pub valid-within : (x : Value) → isValid x ≡ true → Within deepest x
+valid-within : (x : Value) → isValid x ≡ true → Within deepest x
 unfolding isValid Within
 valid-within (Depth z) e = range-size z e
 valid-within Gap e = tt

@@ -188,7 +188,7 @@ module _ (lists : Bytes) (changes : ℕ) (b : Bytes) (o : Opened lists changes b
         cell-high : pointCellAt lists (from + t) ≤ heldCount lists
         cell-high = w .point-cells (from + t) (omega (arith, row-fits))
 
-      pub point-ready : outside (listsIn lists) ≡ false → PlacesThere lists (2 * (cells + from)) n b (depthBase changes)
+      pub point-ready : outside (listsIn lists) ≡ false → PlacesThere 2 lists (2 * (cells + from)) n b (depthBase changes)
       point-ready e = record {
         few = omega (arith, row-fits, o .place-small, w .lists-fit);
         listed-there = omega (arith, row-fits, lists-length, w .lists-fit, ce, C .held-is, C .owned-is, C .reached-is, C .sent-is, C .points-is);

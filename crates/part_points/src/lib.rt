@@ -20,7 +20,7 @@ ghost use Prim.Native.Nat.{_-_, _*_, _≤_};
 ghost use lib.ListN.{length};
 ghost use Rattle.vocabulary.specs.Bytes.{over};
 ghost use Rattle.vocabulary.specs.Intervals.{some};
-ghost use Rattle.depths.specs.Depths.{valueBytes};
+ghost use Rattle.depths.specs.Depths.{deepest, valueBytes, Within};
 ghost use Rattle.round_rule.specs.Rules.{plainMean};
 ghost use Rattle.part_state.specs.State.{listsIn, localAround, pointCells};
 ghost use Rattle.part_state.specs.Checks.{Counts, Fitting};
@@ -64,7 +64,7 @@ fn points_rest(lists: &[u8], b: &[u8], changes: usize, sizes: Sizes, room: usize
 // The value at the k-th point: a gap where only gaps are around it.
 fn point_depth(lists: &[u8], b: &[u8], changes: usize, sizes: Sizes, k: usize) -> Value
     requires { ⌜ Opened (now lists) changes (now b) × Counts (now lists) sizes × (outside (listsIn (now lists)) ≡ false) × (1 ≤ k) × (k ≤ sizes .points) ⌝ }
-    ensures { λ r. ⌜ valueBytes r ≡ plainMean (map (depthAt changes (now (b .entry))) (localAround (now (lists .entry)) k)) ⌝ }
+    ensures { λ r. ⌜ (valueBytes r ≡ plainMean (map (depthAt changes (now (b .entry))) (localAround (now (lists .entry)) k))) × Within deepest r ⌝ }
 {
     let end = sizes.point_ends_word() + (k - 1);
     let at = 2 * (sizes.point_cells_word() + word_at(lists, end));

@@ -18,7 +18,7 @@ ghost use Prim.Native.Nat.{_+_, _*_, _≤_};
 ghost use lib.ListN.{length};
 ghost use Rattle.vocabulary.specs.Bytes.{over};
 ghost use Rattle.vocabulary.specs.Intervals.{blocks};
-ghost use Rattle.depths.specs.Depths.{valueBytes};
+ghost use Rattle.depths.specs.Depths.{deepest, valueBytes, Within};
 ghost use Rattle.round_rule.specs.Kinds.{kindNumber};
 ghost use Rattle.part_state.specs.State.{listsIn, ruleKind, weights};
 ghost use Rattle.part_state.specs.Checks.{Counts};
@@ -36,7 +36,7 @@ fn renew_one(
     l: usize,
 ) -> Value
     requires { ⌜ Opened (now lists) changes (now b) × (kindNumber kind ≡ ruleKind (now lists)) × (now weighting ≡ weights (now lists)) × Counts (now lists) sizes × (1 ≤ l) × (l ≤ sizes .owned) ⌝ }
-    ensures { λ r. ⌜ valueBytes r ≡ newAt (listsIn (now (lists .entry))) changes (now (b .entry)) l ⌝ }
+    ensures { λ r. ⌜ (valueBytes r ≡ newAt (listsIn (now (lists .entry))) changes (now (b .entry)) l) × Within deepest r ⌝ }
 {
     let o = 2 * (sizes.reach_word() + (l - 1));
     let from = word_in(lists, o);

@@ -67,10 +67,6 @@ olds-placed S f [] = refl
 olds-placed S f (e ∷ ns) =
     λ i. record { layer = e .layer; depth = four f (zero-add (4 * (e .cell - S .first)) i) } ∷ olds-placed S f ns i
 
-pub own-placed : (S : Scheme) (f : Bytes) (c : ℕ) → four f (0 + 4 * (c - S .first)) ≡ depthIn S f c
-unfolding depthIn
-own-placed S f c = ap (λ o. four f o) (zero-add (4 * (c - S .first)))
-
 -- ---- a round leaves an accepted field
 
 module _ (m st : Bytes) (kind : ℕ) (v f : Bytes) where

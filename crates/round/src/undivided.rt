@@ -25,7 +25,7 @@ ghost use lib.ListN.{length};
 ghost use Rattle.vocabulary.specs.Bytes.{over};
 ghost use Rattle.vocabulary.specs.Intervals.{blocks};
 ghost use Rattle.layout.specs.Limits.{elementPlaces, recordPlaces};
-ghost use Rattle.depths.specs.Depths.{valueBytes};
+ghost use Rattle.depths.specs.Depths.{deepest, valueBytes, Within};
 ghost use Rattle.mesh.specs.Mesh.{top, meshNumber};
 ghost use Rattle.mesh.specs.Walks.{steps, bad10};
 ghost use Rattle.round_rule.specs.Rules.{bad11};
@@ -36,7 +36,7 @@ ghost use Rattle.round.specs.Rows.{rowNew, Row, Rows};
 // The new value of the cell at place j, from its row of the table.
 fn new_at(kind: Kind, weights: &[u8], table: &[u8], ends: &[u16], f: &[u8], j: usize) -> Value
     requires { ⌜ (j ≤ 65535) × Row (kindNumber kind) (now weights) (now table) (now ends) (now f) j ⌝ }
-    ensures { λ r. ⌜ valueBytes r ≡ rowNew (kindNumber kind) (now (weights .entry)) (now (table .entry)) (now (ends .entry)) (now (f .entry)) j ⌝ }
+    ensures { λ r. ⌜ (valueBytes r ≡ rowNew (kindNumber kind) (now (weights .entry)) (now (table .entry)) (now (ends .entry)) (now (f .entry)) j) × Within deepest r ⌝ }
 {
     let from = number_at(ends, j) as usize;
     let to = number_at(ends, j + 1) as usize;

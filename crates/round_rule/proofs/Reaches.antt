@@ -14,15 +14,16 @@ use Rattle.vocabulary.specs.Lists.{filtered}
 use Rattle.vocabulary.specs.IntervalLaws.{at-last}
 use Rattle.layout.specs.Words.{word, wordAt}
 use Rattle.layout.specs.Limits.{mostSteps, mostWeight}
-use Rattle.depths.specs.Depths.{deepest, Within, four, valueFrom, valueOf}
-use Rattle.depths.specs.DepthLaws.{value-four, value-is}
+use Rattle.depths.specs.Depths.{deepest, four, valueFrom, valueOf}
+use Rattle.depths.specs.DepthLaws.{value-is}
 use Rattle.depths.specs.declared.Value.{Value}
 use Rattle.depths.specs.declared.Value.the-variants.{Depth, Gap}
 use Rattle.round_rule.specs.Rules.{Old, withoutGaps, readBy, weight, meanOf, leastOf}
 use Rattle.round_rule.specs.RuleLaws.{pass-gap, take-depth, least-snoc}
-use Rattle.round_rule.specs.Update.{tableEntry, tableEntries, oldAt, oldsAt, TableThere, Weighed, dividedBy, lesserOf}
+use Rattle.round_rule.specs.Update.{tableEntry, tableEntries, oldAt, oldsAt, PlacesThere, Weighed, dividedBy, lesserOf}
 use Rattle.round_rule.specs.UpdateLaws.{olds-start, olds-turn}
-use Rattle.round_rule.proofs.Sums.{Summed, depth-within, summed-none, summed-gap, summed-depth, summed-mean}
+use Rattle.round_rule.proofs.Places.{value-read, place-within}
+use Rattle.round_rule.proofs.Sums.{Summed, summed-none, summed-gap, summed-depth, summed-mean}
 
 -- ---- a weight by its low byte
 
@@ -53,25 +54,6 @@ module _ (b : Bytes) (at t : ℕ) (low : word b (at + 4 * t + 2) ≤ mostSteps) 
       pub weight-light : byteAt v (2 * (byteAt b (at + 4 * t + 3) / 2) + 1) ≤ mostWeight
       weight-light = rw weight-read light
 
--- ---- an entry of the table, and the value that it names: p is its place in f, and x what was read there
-
-module _ (b : Bytes) (at n : ℕ) (f : Bytes) (base : ℕ) (R : TableThere b at n f base) (t : ℕ) (lt : t < n) where
-  pub entry-listed : at + 4 * t + 1 < length b
-  entry-listed = omega (arith, R .listed-there)
-
-  pub entry-fits : length f < 18446744073709551616 → base + 4 * word b (at + 4 * t) < 18446744073709551616
-  entry-fits l = omega (arith, R .there t lt)
-
-  module _ (p : ℕ) (e : p ≡ base + 4 * word b (at + 4 * t)) where
-    pub entry-there : p + 3 < length f
-    entry-there = rw e (R .there t lt)
-
-    pub entry-within : (x : Value) → x ≡ valueFrom f p → Within deepest x
-    entry-within x r = rw (r, e) (R .ranged t lt)
-
-    pub entry-small : (x : Value) (z : ℤ) → x ≡ valueFrom f p → x ≡ Depth z → SFits w32 z → natAbs (toZ w32 (ofZ w32 z)) ≤ deepest
-    entry-small x z r g h = rw (toZ-ofZ w32 z h) (depth-within deepest x z (entry-within x r) g)
-
 -- ---- the mean
 
 module _ (v b : Bytes) (at : ℕ) (f : Bytes) (base : ℕ) where
@@ -81,7 +63,7 @@ module _ (v b : Bytes) (at : ℕ) (f : Bytes) (base : ℕ) where
   pub sum-start : Summed v (oldsAt f base (tableEntries b at 0)) 0 (pos 0) 0
   sum-start = rw olds-start (summed-none v)
 
-  module _ (n t : ℕ) (lt : t < n) (R : TableThere b at n f base) where
+  module _ (n t : ℕ) (lt : t < n) (R : PlacesThere 4 b at n f base) where
     pub layer-low : Weighed v b at n → word b (at + 4 * t + 2) ≤ mostSteps
     layer-low W = W .low t lt
 
@@ -103,7 +85,7 @@ module _ (v b : Bytes) (at : ℕ) (f : Bytes) (base : ℕ) where
       sum-depth z s w g h W i k a c =
           rw (a, c)
           (summed-depth v (olds t) (olds (t + 1)) (oldAt f base (tableEntry b at t)) (olds-turn b at f base t) f p (base + 4 * word b (at + 4 * t)) refl e x r t sum weights S
-          z s w g h (entry-within b at n f base R t lt p e x r) i (is-light w W i) (omega (arith, R .few)) k)
+          z s w g h (place-within 4 b at n f base R t lt p e x r) i (is-light w W i) (omega (arith, R .few)) k)
 
       pub sum-gap : x ≡ Gap → sum′ ≡ sum → y ≡ 0 → Summed v (oldsAt f base (tableEntries b at (t + 1))) (t + 1) (toZ w64 sum′) (weights + y)
       sum-gap g a c =
@@ -114,7 +96,7 @@ module _ (v b : Bytes) (at : ℕ) (f : Bytes) (base : ℕ) where
     whole : Summed v (olds n) n (toZ w64 sum) weights
     whole = let q : t ≡ n = omega arith in subst (λ k. Summed v (olds k) k (toZ w64 sum) weights) q S
 
-    pub sum-few : TableThere b at n f base → weights ≤ 983025
+    pub sum-few : PlacesThere 4 b at n f base → weights ≤ 983025
     sum-few R = omega (arith, R .few, whole .weights-size)
 
     pub sum-large : natAbs (toZ w64 sum) ≤ weights * deepest
@@ -132,7 +114,7 @@ module _ (b : Bytes) (at : ℕ) (f : Bytes) (base : ℕ) where
 
   module _ (t p : ℕ) (e : p ≡ base + 4 * word b (at + 4 * t)) (x : Value) (r : x ≡ valueFrom f p) (y y′ : Value) (i : y ≡ leastOf (withoutGaps (oldsAt f base (tableEntries b at t)))) where
     entry-read : valueOf (four f (base + 4 * word b (at + 4 * t))) ≡ x
-    entry-read = value-four f (base + 4 * word b (at + 4 * t)) ∙ ap (λ n. valueFrom f n) (sym e) ∙ sym r
+    entry-read = value-read f p (base + 4 * word b (at + 4 * t)) (four f (base + 4 * word b (at + 4 * t))) refl e x r
 
     pub least-depth : (z : ℤ) → x ≡ Depth z → SFits w32 z → y′ ≡ lesserOf (toZ w32 (ofZ w32 z)) y → y′ ≡ leastOf (withoutGaps (oldsAt f base (tableEntries b at (t + 1))))
     least-depth z g h k =

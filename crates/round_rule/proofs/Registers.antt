@@ -62,6 +62,10 @@ within : (z : ℤ) → ltZ z (negsuc 1999999999) ≡ false → ltZ (pos 20000000
 within (pos a) low high = ltb-false 2000000000 a high
 within (negsuc a) low high = let h : a ≤ 1999999999 = ltb-false 1999999999 a low in omega arith
 
+-- what a quotient of a register's sum gives
+pub wide-gives : (sum : ℤ) (w : ℕ) → SFits w64 sum → (r : ℤ) → mag r < 2147483648 → r ≡ quotient (toZ w64 (ofZ w64 sum)) w → toZ w32 (ofZ w32 r) ≡ quotient sum w
+wide-gives sum w fs r h e = toZ-ofZ w32 r (record { sfits = h }) ∙ e ∙ ap (λ z. quotient z w) (toZ-ofZ w64 sum fs)
+
 module _ (sum : ℤ) (w : ℕ) (fs : SFits w64 sum) (pre : (1 ≤ w) × (w ≤ 983025) × (natAbs sum ≤ w * deepest)) where
   quotient-is : quotZ (toZ w64 (ofZ w64 sum)) (toZ w64 w) ≡ quotient sum w
   unfolding quotient
@@ -78,9 +82,6 @@ module _ (sum : ℤ) (w : ℕ) (fs : SFits w64 sum) (pre : (1 ≤ w) × (w ≤ 9
 
   pub quotient-gives : toZ w32 (ofZ w32 (toZ w64 (ofZ w64 (quotZ (toZ w64 (ofZ w64 sum)) (toZ w64 w))))) ≡ quotient sum w
   quotient-gives = toZ-ofZ w32 _ quotient-narrow ∙ toZ-ofZ w64 _ quotient-fits ∙ quotient-is
-
-  pub wide-gives : (r : ℤ) → mag r < 2147483648 → r ≡ quotient (toZ w64 (ofZ w64 sum)) w → toZ w32 (ofZ w32 r) ≡ quotient sum w
-  wide-gives r h e = toZ-ofZ w32 r (record { sfits = h }) ∙ e ∙ ap (λ z. quotient z w) (toZ-ofZ w64 sum fs)
 
   -- of a sum that has 32 bits
   module _ (low : ltZ (toZ w64 (ofZ w64 sum)) (negsuc 1999999999) ≡ false) (high : ltZ (pos 2000000000) (toZ w64 (ofZ w64 sum)) ≡ false) where
@@ -107,7 +108,7 @@ module _ (sum : ℤ) (w : ℕ) where
   nothing-read e = simp e
 
   pub something-read : (w ≡ 0 → ⊥) → SFits w64 sum → (r : ℤ) → mag r < 2147483648 → r ≡ quotient (toZ w64 (ofZ w64 sum)) w → Depth (toZ w32 (ofZ w32 r)) ≡ dividedBy sum w
-  something-read h fs r k e = simp (ne-eqb w 0 h) (ap Depth (toZ-ofZ w32 r (record { sfits = k }) ∙ e ∙ ap (λ z. quotient z w) (toZ-ofZ w64 sum fs)))
+  something-read h fs r k e = simp (ne-eqb w 0 h) (ap Depth (wide-gives sum w fs r k e))
 
 -- ---- the lesser of two
 

@@ -23,7 +23,7 @@ use Rattle.depths.specs.Depths.{depthOf, gapBytes, isDepth, valueOf, valueBytes
 use Rattle.depths.specs.DepthLaws.{gap-alone, value-is, length-valueBytes, value-back, bytes-gap}
 use Rattle.depths.specs.declared.Value.{Value}
 use Rattle.depths.specs.declared.Value.the-variants.{Depth, Gap}
-use Rattle.round_rule.specs.Rules.{Old, weightCount, tooHeavy, bad11, withoutGaps, readBy, weight, depthSum, weightSum, quotient, meanOf, plainMean, lesser, least}
+use Rattle.round_rule.specs.Rules.{Old, weightCount, tooHeavy, bad11, withoutGaps, readBy, weight, depthSum, weightSum, quotient, meanOf, ones, plainOld, plainMean, lesser, least}
 use Rattle.round_rule.specs.Rules.{leastOf, newDepth}
 use Rattle.round_rule.specs.Update.{dividedBy, lesserOf}
 
@@ -115,37 +115,34 @@ module _ (v : Bytes) where
 -- ---- a plain mean is the same whichever way round its values come
 
 module _ (v : Bytes) where
-  abbrev old : Bytes → Old
-  old x = record { layer = 0; depth = x }
-
   -- what one value adds to the two sums
   abbrev addedDepth : Bytes → ℤ
-  addedDepth x = cond (isDepth (valueOf x)) (pos (weight v (old x)) *ℤ depthOf x) (pos 0)
+  addedDepth x = cond (isDepth (valueOf x)) (pos (weight v (plainOld x)) *ℤ depthOf x) (pos 0)
 
   abbrev addedWeight : Bytes → ℕ
-  addedWeight x = cond (isDepth (valueOf x)) (weight v (old x)) 0
+  addedWeight x = cond (isDepth (valueOf x)) (weight v (plainOld x)) 0
 
-  depth-added : (x : Bytes) (os : List Old) → depthSum v (withoutGaps (old x ∷ os)) ≡ addedDepth x +ℤ depthSum v (withoutGaps os)
+  depth-added : (x : Bytes) (os : List Old) → depthSum v (withoutGaps (plainOld x ∷ os)) ≡ addedDepth x +ℤ depthSum v (withoutGaps os)
   unfolding withoutGaps filtered depthSum
   depth-added x os = go (isDepth (valueOf x))
     where
-      go : (t : Bool) → depthSum v (cond t (old x ∷ withoutGaps os) (withoutGaps os)) ≡ cond t (pos (weight v (old x)) *ℤ depthOf x) (pos 0) +ℤ depthSum v (withoutGaps os)
+      go : (t : Bool) → depthSum v (cond t (plainOld x ∷ withoutGaps os) (withoutGaps os)) ≡ cond t (pos (weight v (plainOld x)) *ℤ depthOf x) (pos 0) +ℤ depthSum v (withoutGaps os)
       go true = refl
       go false = sym (+ℤ-idl (depthSum v (withoutGaps os)))
 
-  weight-added : (x : Bytes) (os : List Old) → weightSum v (withoutGaps (old x ∷ os)) ≡ addedWeight x + weightSum v (withoutGaps os)
+  weight-added : (x : Bytes) (os : List Old) → weightSum v (withoutGaps (plainOld x ∷ os)) ≡ addedWeight x + weightSum v (withoutGaps os)
   unfolding withoutGaps filtered weightSum
   weight-added x os = go (isDepth (valueOf x))
     where
-      go : (t : Bool) → weightSum v (cond t (old x ∷ withoutGaps os) (withoutGaps os)) ≡ cond t (weight v (old x)) 0 + weightSum v (withoutGaps os)
+      go : (t : Bool) → weightSum v (cond t (plainOld x ∷ withoutGaps os) (withoutGaps os)) ≡ cond t (weight v (plainOld x)) 0 + weightSum v (withoutGaps os)
       go true = refl
       go false = sym (zero-add (weightSum v (withoutGaps os)))
 
   abbrev depthsOf : List Bytes → ℤ
-  depthsOf xs = depthSum v (withoutGaps (map old xs))
+  depthsOf xs = depthSum v (withoutGaps (map plainOld xs))
 
   abbrev weightsOf : List Bytes → ℕ
-  weightsOf xs = weightSum v (withoutGaps (map old xs))
+  weightsOf xs = weightSum v (withoutGaps (map plainOld xs))
 
   sum-turned : (xs ys : List Bytes) → depthsOf (reverseAux xs ys) ≡ depthsOf xs +ℤ depthsOf ys
   unfolding withoutGaps filtered depthSum
@@ -153,23 +150,22 @@ module _ (v : Bytes) where
   sum-turned (x ∷ xs) ys =
       let t : ℤ = addedDepth x in
       sum-turned xs (x ∷ ys)
-      ∙ ap (λ z. depthsOf xs +ℤ z) (depth-added x (map old ys))
+      ∙ ap (λ z. depthsOf xs +ℤ z) (depth-added x (map plainOld ys))
       ∙ sym (+ℤ-assoc (depthsOf xs) t (depthsOf ys))
-      ∙ ap (λ z. z +ℤ depthsOf ys) (+ℤ-comm (depthsOf xs) t ∙ sym (depth-added x (map old xs)))
+      ∙ ap (λ z. z +ℤ depthsOf ys) (+ℤ-comm (depthsOf xs) t ∙ sym (depth-added x (map plainOld xs)))
 
   weights-turned : (xs ys : List Bytes) → weightsOf (reverseAux xs ys) ≡ weightsOf xs + weightsOf ys
   unfolding withoutGaps filtered weightSum
   weights-turned [] ys = omega arith
-  weights-turned (x ∷ xs) ys = omega (arith, weights-turned xs (x ∷ ys), weight-added x (map old xs), weight-added x (map old ys))
+  weights-turned (x ∷ xs) ys = omega (arith, weights-turned xs (x ∷ ys), weight-added x (map plainOld xs), weight-added x (map plainOld ys))
 
 pub mean-reversed : (xs : List Bytes) → plainMean (reverse xs) ≡ plainMean xs
 unfolding withoutGaps filtered depthSum weightSum
 mean-reversed xs =
-    let v : Bytes = bytesOf (1 ∷ []) in
     ap valueBytes
-    (mean-by-sums v (map (old v) (reverse xs))
-    ∙ ap₂ (λ s n. dividedBy s n) (sum-turned v xs [] ∙ +ℤ-idr (depthsOf v xs)) (weights-turned v xs [] ∙ add-zero (weightsOf v xs))
-    ∙ sym (mean-by-sums v (map (old v) xs)))
+    (mean-by-sums ones (map plainOld (reverse xs))
+    ∙ ap₂ (λ s n. dividedBy s n) (sum-turned ones xs [] ∙ +ℤ-idr (depthsOf ones xs)) (weights-turned ones xs [] ∙ add-zero (weightsOf ones xs))
+    ∙ sym (mean-by-sums ones (map plainOld xs)))
 
 -- ---- sizes of integers
 
@@ -214,9 +210,9 @@ SmallDepth m o = natAbs (depthOf (o .depth)) ≤ m
 
 module _ (m : ℕ) where
   -- a value that is a depth
-  depth-within : (x : Bytes) → isDepth (valueOf x) ≡ true → Within m (valueOf x) → natAbs (depthOf x) ≤ m
+  depth-size : (x : Bytes) → isDepth (valueOf x) ≡ true → Within m (valueOf x) → natAbs (depthOf x) ≤ m
   unfolding isDepth Within
-  depth-within x d w = go (valueOf x) refl d w
+  depth-size x d w = go (valueOf x) refl d w
     where
       go : (y : Value) → valueOf x ≡ y → isDepth y ≡ true → Within m y → natAbs (depthOf x) ≤ m
       go (Depth z) e d w = subst (λ u. natAbs u ≤ m) (value-is x 0 z e) w
@@ -224,7 +220,7 @@ module _ (m : ℕ) where
 
   depths-within : (os : List Old) → All (SmallOld m) os → All (SmallDepth m) (withoutGaps os)
   unfolding withoutGaps
-  depths-within os a = filtered-has (λ o. isDepth (valueOf (o .depth))) (SmallOld m) (SmallDepth m) (λ o. depth-within (o .depth)) os a
+  depths-within os a = filtered-has (λ o. isDepth (valueOf (o .depth))) (SmallOld m) (SmallDepth m) (λ o. depth-size (o .depth)) os a
 
 -- a mean by its two sums
 pub divided-within : (sum : ℤ) (w m : ℕ) → natAbs sum ≤ w * m → Within m (dividedBy sum w)
@@ -315,19 +311,16 @@ gap-exactly (suc (suc (suc kind))) i k v own os m l a = let z : ⊥ = omega arit
 
 -- "A point with only gaps is a gap", and no other is
 module _ where
-  abbrev ones : Bytes
-  ones = bytesOf (1 ∷ [])
-
   abbrev read : List Bytes → List Old
-  read xs = readBy ones 1 (map (old ones) xs)
+  read xs = readBy ones 1 (map plainOld xs)
 
   read-gap : (x : Bytes) (xs : List Bytes) → valueOf x ≡ Gap → read (x ∷ xs) ≡ read xs
   unfolding readBy withoutGaps filtered isDepth
-  read-gap x xs e = ap (λ t. heavy ones (cond t (old ones x ∷ withoutGaps (map (old ones) xs)) (withoutGaps (map (old ones) xs)))) (ap isDepth e)
+  read-gap x xs e = ap (λ t. heavy ones (cond t (plainOld x ∷ withoutGaps (map plainOld xs)) (withoutGaps (map plainOld xs)))) (ap isDepth e)
 
-  read-depth : (x : Bytes) (xs : List Bytes) (z : ℤ) → valueOf x ≡ Depth z → read (x ∷ xs) ≡ old ones x ∷ read xs
+  read-depth : (x : Bytes) (xs : List Bytes) (z : ℤ) → valueOf x ≡ Depth z → read (x ∷ xs) ≡ plainOld x ∷ read xs
   unfolding readBy withoutGaps filtered isDepth weight wordAt word bytesOf wordBytes
-  read-depth x xs z e = ap (λ t. heavy ones (cond t (old ones x ∷ withoutGaps (map (old ones) xs)) (withoutGaps (map (old ones) xs)))) (ap isDepth e)
+  read-depth x xs z e = ap (λ t. heavy ones (cond t (plainOld x ∷ withoutGaps (map plainOld xs)) (withoutGaps (map plainOld xs)))) (ap isDepth e)
 
   none-read : (xs : List Bytes) → read xs ≡ [] → All (λ x. valueOf x ≡ Gap) xs
   none-read [] e = tt
@@ -345,7 +338,7 @@ module _ where
 pub point-gap : (xs : List Bytes) (m : ℕ) → m < 2147483648 → All (λ x. Within m (valueOf x)) xs → (plainMean xs ≡ gapBytes) ↔ All (λ x. valueOf x ≡ Gap) xs
 unfolding newDepth valueBytes
 point-gap xs m l a =
-    let g = gap-exactly 1 (omega arith) (omega arith) (bytesOf (1 ∷ [])) [] (map (old (bytesOf (1 ∷ []))) xs) m l (All-of-map (SmallOld m) (old (bytesOf (1 ∷ []))) xs a) in
+    let g = gap-exactly 1 (omega arith) (omega arith) ones [] (map plainOld xs) m l (All-of-map (SmallOld m) plainOld xs a) in
     (λ e. none-read xs (g .0 e), λ b. g .1 (gaps-read xs b))
 
 -- ---- an accepted rule

@@ -81,8 +81,14 @@ abbrev pub mean : Bytes → List Old → Bytes
 mean v os = valueBytes (meanOf v (readBy v 1 os))
 
 -- the mean of values alone: "the plain mean .., all weights 1, rounded like the rule" (F-1); "A point with only gaps is a gap." (F-2)
+abbrev pub ones : Bytes
+ones = bytesOf (1 ∷ [])
+
+abbrev pub plainOld : Bytes → Old
+plainOld x = record { layer = 0; depth = x }
+
 abbrev pub plainMean : List Bytes → Bytes
-plainMean xs = mean (bytesOf (1 ∷ [])) (map (λ x. record { layer = 0; depth = x }) xs)
+plainMean xs = mean ones (map plainOld xs)
 
 -- the lesser of two depths
 abbrev pub lesser : ℤ → ℤ → ℤ

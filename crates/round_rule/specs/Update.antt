@@ -32,12 +32,12 @@ oldAt f base e = record { layer = e .layer; depth = four f (base + 4 * e .cell) 
 unfoldable pub oldsAt : Bytes → ℕ → List Near → List Old
 oldsAt f base ns = map (oldAt f base) ns
 
--- the table is there, and the values of its cells are there and valid
-pub record TableThere (b : Bytes) (at n : ℕ) (f : Bytes) (base : ℕ) : Type 0 where
+-- n entries of `width` bytes stand at the place `at` of b, each of them begins with the place of a value in the field, and these values are there and valid
+pub record PlacesThere (width : ℕ) (b : Bytes) (at n : ℕ) (f : Bytes) (base : ℕ) : Type 0 where
   pub few : n ≤ 65535
-  pub listed-there : at + 4 * n ≤ length b
-  pub there : (t : ℕ) → t < n → base + 4 * word b (at + 4 * t) + 3 < length f
-  pub ranged : (t : ℕ) → t < n → Valid f (base + 4 * word b (at + 4 * t))
+  pub listed-there : at + width * n ≤ length b
+  pub there : (t : ℕ) → t < n → base + 4 * word b (at + width * t) + 3 < length f
+  pub ranged : (t : ℕ) → t < n → Valid f (base + 4 * word b (at + width * t))
 
 -- each layer is one, and its weight is there and is a weight
 pub record Weighed (v b : Bytes) (at n : ℕ) : Type 0 where
@@ -55,7 +55,7 @@ lesserOf y Gap = Depth y
 
 -- what the update supposes: only a mean asks for weights
 pub record UpdateReady (kind : ℕ) (v b : Bytes) (at n : ℕ) (f : Bytes) (base own : ℕ) : Type 0 where
-  pub reached : TableThere b at n f base
+  pub reached : PlacesThere 4 b at n f base
   pub own-there : base + 4 * own + 3 < length f
   pub own-ranged : Valid f (base + 4 * own)
   pub weighed : kind ≡ 1 → Weighed v b at n
@@ -65,10 +65,3 @@ pub record UpdateReady (kind : ℕ) (v b : Bytes) (at n : ℕ) (f : Bytes) (base
 -- the t-th of these values
 unfoldable pub placedAt : Bytes → ℕ → Bytes → ℕ → ℕ → Bytes
 placedAt b at f base t = four f (base + 4 * word b (at + 2 * t))
-
--- the words are there, and the values at their places are there and valid
-pub record PlacesThere (b : Bytes) (at n : ℕ) (f : Bytes) (base : ℕ) : Type 0 where
-  pub few : n ≤ 65535
-  pub listed-there : at + 2 * n ≤ length b
-  pub there : (t : ℕ) → t < n → base + 4 * word b (at + 2 * t) + 3 < length f
-  pub ranged : (t : ℕ) → t < n → Valid f (base + 4 * word b (at + 2 * t))

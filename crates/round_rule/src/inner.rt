@@ -13,7 +13,7 @@ ghost use Rattle.layout.specs.Limits.{mostSteps, mostWeight};
 ghost use Rattle.depths.specs.Depths.{deepest, four, valueBytes, Within};
 ghost use Rattle.round_rule.specs.Rules.{withoutGaps, readBy, quotient, meanOf, plainMean, leastOf, newDepth};
 ghost use Rattle.round_rule.specs.Kinds.{kindNumber};
-ghost use Rattle.round_rule.specs.Update.{tableEntries, oldsAt, TableThere, Weighed, UpdateReady, placedAt, PlacesThere, dividedBy, lesserOf};
+ghost use Rattle.round_rule.specs.Update.{tableEntries, oldsAt, PlacesThere, Weighed, UpdateReady, placedAt, dividedBy, lesserOf};
 
 // The weight of entry t. No layer is above 8 and no weight above 15, so the low byte of each word is all of it.
 fn weight_of(weights: &[u8], b: &[u8], at: usize, t: usize) -> usize
@@ -76,7 +76,7 @@ fn mean_by(sum: i64, w: usize) -> Value
 
 // The mean over the n entries at `at` in b. Gaps are passed over, in the sum and in its divisor.
 fn mean_of(weights: &[u8], b: &[u8], at: usize, n: usize, f: &[u8], base: usize) -> Value
-    requires { ⌜ TableThere (now b) at n (now f) base × Weighed (now weights) (now b) at n ⌝ }
+    requires { ⌜ PlacesThere 4 (now b) at n (now f) base × Weighed (now weights) (now b) at n ⌝ }
     ensures { λ r. ⌜ r ≡ meanOf (now (weights .entry)) (readBy (now (weights .entry)) 1 (oldsAt (now (f .entry)) base (tableEntries (now (b .entry)) at n))) ⌝ }
 {
     let mut sum: i64 = 0;
@@ -96,7 +96,7 @@ fn mean_of(weights: &[u8], b: &[u8], at: usize, n: usize, f: &[u8], base: usize)
 
 // The mean, all weights 1, of the n values of the field at `base` in f whose places are the words at `at` in b.
 pub fn plain_mean(b: &[u8], at: usize, n: usize, f: &[u8], base: usize) -> Value
-    requires { ⌜ PlacesThere (now b) at n (now f) base ⌝ }
+    requires { ⌜ PlacesThere 2 (now b) at n (now f) base ⌝ }
     ensures { λ r. ⌜ (valueBytes r ≡ plainMean (listed 0 n (placedAt (now (b .entry)) at (now (f .entry)) base))) × Within deepest r ⌝ }
 {
     let mut sum: i64 = 0;
@@ -125,7 +125,7 @@ fn lesser_of(y: i32, x: Value) -> Value
 
 // The least depth of the n entries.
 fn least_of(b: &[u8], at: usize, n: usize, f: &[u8], base: usize) -> Value
-    requires { ⌜ TableThere (now b) at n (now f) base ⌝ }
+    requires { ⌜ PlacesThere 4 (now b) at n (now f) base ⌝ }
     ensures { λ r. ⌜ r ≡ leastOf (withoutGaps (oldsAt (now (f .entry)) base (tableEntries (now (b .entry)) at n))) ⌝ }
 {
     let mut x = Value::Gap;

@@ -51,9 +51,6 @@ local-ranged b changes n f =
     within-valid (valueFrom b (depthsPlace changes + 4 * (0 + i))) (subst (λ o. Valid b o) q (rw value-four at (f (i + 1) (omega arith) (omega arith)))))
 
 module _ (b : Bytes) (s : isState b ≡ true) where
-  abbrev lists : Bytes
-  lists = take (dynamic b) b
-
   at-front : isStateAt (take (dynamic b) b) (dynamic b) b ≡ true
   at-front = sym (state-at b) ∙ s
 

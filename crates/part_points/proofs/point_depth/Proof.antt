@@ -30,6 +30,8 @@ point-depth-spec =
     let counted = c .before in
     let cells = counted .before .before in
     let ends = cells .before in
-    let pre = ends .before .before .before .pre in
-    point-told _ _ _ (pre .0) _ (pre .1) _ (pre .3) (pre .4) _ (ends .point-ends-word .ensures) _ _ _ (cells .point-cells-word .ensures) (counted .before .word-at .ensures .0)
-    (counted .count-between .ensures .0) _ (c .plain-mean .ensures .0)))
+    let pre = ends .before .before .before .pre in (
+      point-told _ _ _ (pre .0) _ (pre .1) _ (pre .3) (pre .4) _ (ends .point-ends-word .ensures) _ _ _ (cells .point-cells-word .ensures) (counted .before .word-at .ensures .0)
+          (counted .count-between .ensures .0) _ (c .plain-mean .ensures .0),
+      c .plain-mean .ensures .1,
+    )))

@@ -43,7 +43,7 @@ renew-spec =
       search needs,
       search needs,
       search needs,
-      renew-turn _ _ _ _ _ (pre .4) _ (turn .loop .inv .1) (omega (arith, made .before .loop-test .taken, turn .loop .inv .0)) _ (made .renew-one .ensures) _ _ (turn .loop .inv .4)
+      renew-turn _ _ _ _ _ (pre .4) _ (turn .loop .inv .1) (omega (arith, made .before .loop-test .taken, turn .loop .inv .0)) _ (made .renew-one .ensures .0) _ _ (turn .loop .inv .4)
           (put .put-value .ensures),
     ))
     (λ c. search needs)

@@ -29,4 +29,4 @@ renew-one-spec =
     let pre = reach .before .before .before .before .pre in
     renew-ready _ _ _ (pre .0) _ (pre .3) _ _ _ _ _ (reach .reach-word .ensures) (c .entry-word .ensures) (pre .4) (pre .5) (c .before .before .word-in .ensures .0) (c .before .word-in2 .ensures .0)
     _ _ (pre .1) (pre .2))
-    (λ c. search renew-told))
+    (λ c. (search renew-told, c .new-depth .ensures .1)))

@@ -16,4 +16,4 @@ new-at-spec =
     (λ c. search needs)
     (λ c. search needs)
     (λ c κs. search row-ready)
-    (λ c. search row-returned))
+    (λ c. (search row-returned, c .new-depth .ensures .1)))

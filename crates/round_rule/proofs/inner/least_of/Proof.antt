@@ -4,7 +4,8 @@ use mathlib.Core.Logic.{⊎-elim}
 use Prim.Native.Nat.{_-_, _≤_}
 use Rattle.round_rule.specs.Rules.{withoutGaps, leastOf}
 use Rattle.round_rule.specs.Update.{tableEntries, oldsAt}
-use Rattle.round_rule.proofs.Reaches.{entry-listed, entry-fits, entry-there, least-start, least-depth, least-gap, least-end}
+use Rattle.round_rule.proofs.Places.{place-listed, place-fits, place-there}
+use Rattle.round_rule.proofs.Reaches.{least-start, least-depth, least-gap, least-end}
 use borrow.Author.Needs.{needs}
 use Rattle.round_rule.proofs.inner.least_of.Statement.{statement}
 use Rattle.round_rule.proofs.inner.least_of.Tie as tie
@@ -24,8 +25,8 @@ least-of-spec =
     (λ c. (search needs, search least-start))
     (λ c. search needs)
     (λ c. search needs)
-    (λ c κs. (search entry-listed, search entry-fits))
-    (λ c κs. search entry-there)
+    (λ c κs. (search (place-listed, needs), search place-fits))
+    (λ c κs. search place-there)
     (λ c. search needs)
     (λ c κs. search needs)
     (λ c. search needs)

@@ -5,7 +5,7 @@ use mir.Syntax.{w64}
 use mir.Val.{toZ}
 use Rattle.round_rule.specs.Update.{tableEntries, oldsAt}
 use Rattle.round_rule.proofs.Sums.{Summed, weights-fit}
-use Rattle.round_rule.proofs.Reaches.{entry-listed, entry-fits, entry-there, entry-small}
+use Rattle.round_rule.proofs.Places.{place-listed, place-fits, place-there, place-small}
 use Rattle.round_rule.proofs.Reaches.{sum-start, layer-low, weight-there, weight-known, is-light, sum-depth, sum-gap, sum-few, sum-large, sum-end}
 use borrow.Author.Needs.{needs}
 use Rattle.round_rule.proofs.inner.mean_of.Statement.{statement}
@@ -27,10 +27,10 @@ mean-of-spec =
     (λ c κs. (search needs, search layer-low, search weight-there, search weight-known))
     (λ c. search needs)
     (λ c. search needs)
-    (λ c κs. (search entry-listed, search entry-fits))
-    (λ c κs. search entry-there)
+    (λ c κs. (search (place-listed, needs), search place-fits))
+    (λ c κs. search place-there)
     (λ c. search needs)
-    (λ c κs. (search needs, search is-light, search entry-small))
+    (λ c κs. (search needs, search is-light, search place-small))
     (λ c. search needs)
     (λ c.
     let at-loop = c .before .before .before .before .before in

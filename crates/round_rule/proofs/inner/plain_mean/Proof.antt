@@ -4,8 +4,9 @@ use Prim.Native.Nat.{_-_, _≤_, _<_}
 use mir.Syntax.{w64}
 use mir.Val.{toZ}
 use Rattle.round_rule.proofs.Sums.{Summed, weights-fit}
-use Rattle.round_rule.proofs.Plain.{ones, plainOlds, placed-listed, placed-fits, placed-there}
-use Rattle.round_rule.proofs.Plain.{placed-small, plain-start, plain-depth, plain-gap, plain-few, plain-large, plain-end, plain-within}
+use Rattle.round_rule.specs.Rules.{ones}
+use Rattle.round_rule.proofs.Places.{place-listed, place-fits, place-there, place-small}
+use Rattle.round_rule.proofs.Plain.{plainOlds, plain-start, plain-depth, plain-gap, plain-few, plain-large, plain-end, plain-within}
 use borrow.Author.Needs.{needs}
 use Rattle.round_rule.proofs.inner.plain_mean.Statement.{statement}
 use Rattle.round_rule.proofs.inner.plain_mean.Tie as tie
@@ -25,10 +26,10 @@ plain-mean-spec =
     (λ c. (search needs, search plain-start))
     (λ c. search needs)
     (λ c. search needs)
-    (λ c κs. (search placed-listed, search placed-fits))
-    (λ c κs. search placed-there)
+    (λ c κs. (search (place-listed, needs), search place-fits))
+    (λ c κs. search place-there)
     (λ c. search needs)
-    (λ c κs. (search needs, search needs, search placed-small))
+    (λ c κs. (search needs, search needs, search place-small))
     (λ c. search needs)
     (λ c.
     let at-loop = c .before .before .before .before in
