@@ -1,5 +1,5 @@
 -- Examples beside those of document 01, as entries of one table under one theorem, all by computation over the definitions. The examples of later
--- requests go here, over the inputs of `worked_examples`, whose table stays document 01's. Assumes nothing.
+-- requests go here; the table of `worked_examples` stays document 01's. Assumes nothing.
 use mathlib.Core.Path.{_≡_, refl}
 use mathlib.Core.Bool.{Bool, true, false}
 use mathlib.Core.List.{List, [], _∷_, _++_, map}
@@ -25,9 +25,9 @@ use Rattle.split.specs.Split.{splitOf, owns, owned, reaches, holds, held, impor
 use Rattle.split.specs.Split.{locals, localOf, globalOf, touches, pointsOf, cellPoints, pointEnds, bad29}
 use Rattle.part_state.specs.State.{weights, localReach, localExports, localAround, listsIn, listsOf, rises, climbs, listsTests, dynamicTests, isState, bad20}
 use Rattle.part_calls.specs.Calls.{importsFrom, outside, takeTestsIn, takenIn, allTaken, pointsTestsIn, pointGiven, takeNumber, takeState, pointsNumber, pointsOut}
-use Rattle.part_start.specs.Start.{importEnds, exportEnds, reachEnds, reachWords, exportWords, aroundWords, listsLong, listsRegions, stateSize, sizeNumber}
-use Rattle.part_start.specs.Start.{inputs, Inputs, firstState, startNumber, startState}
-use Rattle.worked_examples.specs.Table.{five, triangles, field, fiveInputs}
+use Rattle.part_start_plan.specs.Start.{importEnds, exportEnds, reachEnds, reachWords, exportWords, aroundWords, listsLong, listsRegions, stateSize, sizeNumber}
+use Rattle.part_start_plan.specs.Start.{inputs, Inputs, firstState, startNumber, startState}
+use Rattle.example_inputs.specs.Inputs.{five, triangles, field, fiveInputs}
 
 -- ---- depths at the points (F-1)
 

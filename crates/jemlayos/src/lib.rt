@@ -8,7 +8,7 @@ ghost use Rattle.round.specs.Rounds.{roundInput, roundAnswer, roundOut};
 ghost use Rattle.split.specs.Lists.{splitInput, listAnswer, listOut};
 ghost use Rattle.split.specs.declared.Wanted.the-variants.{Interior, Halo, Locals, Imports, Exports, Private, Exposed, Shared, Copied};
 ghost use Rattle.part_calls.specs.Calls.{writeAnswer, writeState, writeOut, takeAnswer, takeState, advanceAnswer, advanceState, collectAnswer, collectOut, pointsAnswer, pointsOut};
-ghost use Rattle.part_start.specs.Start.{inputs, sizeAnswer, startAnswer, startState};
+ghost use Rattle.part_start_plan.specs.Start.{inputs, sizeAnswer, startAnswer, startState};
 
 // How many cells the mesh has.
 #[no_mangle]
@@ -205,7 +205,7 @@ pub extern "C" fn jem_state_size(
 ) -> u64
     ensures { λ r. ⌜ r ≡ packed (sizeAnswer (splitInput (now (mesh .entry)) parts (now (owners .entry)) (now (stencil .entry))) part) ⌝ }
 {
-    pack(part_start::state_size(mesh, parts, owners, part, stencil))
+    pack(part_size::state_size(mesh, parts, owners, part, stencil))
 }
 
 // Makes the state of a part at round 0.

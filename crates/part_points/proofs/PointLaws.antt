@@ -26,7 +26,7 @@ use Rattle.depths.specs.Depths.{Valid, valueBytes}
 use Rattle.depths.specs.DepthLaws.{ranged-valid}
 use Rattle.depths.specs.declared.Value.{Value}
 use Rattle.round_rule.specs.Rules.{plainMean}
-use Rattle.round_rule.specs.Update.{placedAt, PlacesThere}
+use Rattle.round_update.specs.Update.{placedAt, PlacesThere}
 use Rattle.part_state.specs.State.{Lists, listsIn, listsOf, dynamic, heldCount, ownedCount, reachCount, exportCount, pointCount, pointAt, pointEnd, pointCells, pointCellAt, localAround}
 use Rattle.part_state.specs.State.{pointsFrom, pointEndsWord, pointCellsWord, depthPlace, depthsPlace}
 use Rattle.part_state.specs.StateLaws.{Whole}

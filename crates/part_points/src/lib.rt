@@ -12,7 +12,7 @@ use part_state::inner::Sizes;
 use part_state::inner::count_between;
 use part_state::inner::sizes_of;
 use part_state::is_state;
-use round_rule::inner::plain_mean;
+use round_update::inner::plain_mean;
 ghost use mathlib.Core.Path.{_≡_};
 ghost use mathlib.Core.Bool.{false};
 ghost use mathlib.Core.List.{map};

@@ -16,14 +16,14 @@ use Rattle.depths.specs.DepthLaws.{length-four, fours-store, ranged-valid}
 use Rattle.depths.specs.declared.Value.{Value}
 use Rattle.round_rule.specs.Rules.{Old, newDepth, bad11, weightCount}
 use Rattle.round_rule.specs.RuleLaws.{rule-known, new-length}
-use Rattle.round_rule.specs.UpdateLaws.{weighed-from}
 use Rattle.round_rule.specs.Kinds.{kindNumber, ruleOf}
 use Rattle.round_rule.specs.declared.Kind.{Kind}
 use Rattle.round_rule.specs.declared.Rule.{Rule}
 use Rattle.round_rule.specs.declared.Rule.the-variants.{Known, Unknown}
 use Rattle.round_rule.proofs.KindLaws.{known-number, unknown-number}
-use Rattle.round_rule.specs.Update.{tableEntries, oldsAt, UpdateReady}
-use Rattle.round_rule.specs.Update as update
+use Rattle.round_update.specs.Update.{tableEntries, oldsAt, UpdateReady}
+use Rattle.round_update.specs.Update as update
+use Rattle.round_update.specs.UpdateLaws.{weighed-from}
 use Rattle.part_state.specs.State.{LocalNear, listsIn, ruleKind, stepCount, weights, heldCount, ownedCount, reachEnd, weightsPlace}
 use Rattle.part_state.specs.State.{reachCount, entryAt, localReach, depthPlace, depthsPlace, entryWord, reachWord}
 use Rattle.part_state.specs.Checks.{reachStart, entryStart, Counts, depthBase}

@@ -37,8 +37,8 @@ use Rattle.round_rule.proofs.Refusals.{known-rule, unknown-rule}
 use Rattle.round_rule.specs.RuleLaws.{new-length}
 use Rattle.round.specs.Rounds.{RoundInput, Scheme, schemeOf, depthIn, newIn, round, bad14, roundNumber, roundAnswer, roundOut, roundInput}
 use Rattle.round.specs.RoundLaws.{field-length, field-ranged, placed, olds-placed}
-use Rattle.round_rule.specs.Update.{tableEntry, tableEntries, oldsAt, UpdateReady}
-use Rattle.round_rule.specs.UpdateLaws.{ready-from}
+use Rattle.round_update.specs.Update.{tableEntry, tableEntries, oldsAt, UpdateReady}
+use Rattle.round_update.specs.UpdateLaws.{ready-from}
 use Rattle.round.specs.Rows.{rowNew, Row, Rows}
 
 -- ---- one row

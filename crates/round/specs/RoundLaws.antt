@@ -1,6 +1,6 @@
 -- Laws of fields and of the undivided round: an accepted field, a table of a reach by places in the field, and that every round leaves an
 -- accepted field again. Assumes nothing.
-use mathlib.Core.Path.{_≡_, refl, sym, ap, _∙_}
+use mathlib.Core.Path.{_≡_, refl, sym, _∙_}
 use mathlib.Core.Bool.{Bool, true, false, not}
 use mathlib.Core.List.{List, [], _∷_, map}
 use Prim.Native.Nat.{ℕ, zero, suc, _+_, _-_, _*_, _≤_, _<_}
@@ -21,7 +21,7 @@ use Rattle.depths.specs.DepthLaws.{length-four, four-same, value-same, value-fo
 use Rattle.mesh.specs.Walks.{Near}
 use Rattle.round_rule.specs.RuleLaws.{SmallOld, new-within, new-length}
 use Rattle.round.specs.Rounds.{bad14, Scheme, schemeOf, depthIn, oldsIn, newIn, round, undivided}
-use Rattle.round_rule.specs.Update.{oldsAt}
+use Rattle.round_update.specs.Update.{oldsAt}
 
 -- ---- an accepted field of n cells
 

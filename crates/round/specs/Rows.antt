@@ -5,7 +5,7 @@ use lib.ListN.{getD}
 use Rattle.vocabulary.specs.Bytes.{Bytes}
 use Rattle.depths.specs.Depths.{four}
 use Rattle.round_rule.specs.Rules.{newDepth}
-use Rattle.round_rule.specs.Update.{tableEntries, oldsAt, UpdateReady}
+use Rattle.round_update.specs.Update.{tableEntries, oldsAt, UpdateReady}
 
 -- the new depth of the cell at place j, from 0; its entries are those after `ends` at j, up to `ends` at j + 1
 unfoldable pub rowNew : ℕ → Bytes → Bytes → List ℕ → Bytes → ℕ → Bytes

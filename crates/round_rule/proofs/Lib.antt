@@ -1,8 +1,2 @@
 pub mod KindLaws
 pub mod Refusals
-pub mod Registers
-pub mod Places
-pub mod Sums
-pub mod Reaches
-pub mod Chosen
-pub mod Plain

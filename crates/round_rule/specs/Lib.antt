@@ -1,5 +1,4 @@
 pub mod Rules
 pub mod Kinds
+pub mod Code
 pub mod RuleLaws
-pub mod Update
-pub mod UpdateLaws

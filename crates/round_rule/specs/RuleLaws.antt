@@ -25,7 +25,7 @@ use Rattle.depths.specs.declared.Value.{Value}
 use Rattle.depths.specs.declared.Value.the-variants.{Depth, Gap}
 use Rattle.round_rule.specs.Rules.{Old, weightCount, tooHeavy, bad11, withoutGaps, readBy, weight, depthSum, weightSum, quotient, meanOf, ones, plainOld, plainMean, lesser, least}
 use Rattle.round_rule.specs.Rules.{leastOf, newDepth}
-use Rattle.round_rule.specs.Update.{dividedBy, lesserOf}
+use Rattle.round_rule.specs.Code.{dividedBy, lesserOf}
 
 -- ---- what is read
 

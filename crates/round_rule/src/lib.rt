@@ -1,6 +1,4 @@
-// Rules, and the new value of one cell. Here stands the test that takes any bytes; what supposes something is in `inner`.
-pub mod inner;
-
+// Rules: their kinds, and the test that takes any bytes.
 use layout::limits::MOST_WEIGHT;
 use layout::word_at;
 ghost use mathlib.Core.Path.{_≡_};

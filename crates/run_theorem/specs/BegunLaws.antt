@@ -30,7 +30,7 @@ use Rattle.part_state.specs.State.{LocalNear, validNear, partNumber, stepCount,
 use Rattle.part_state.specs.State.{reachEnd, reachCount, entryAt, exportAt, localReach, listsLength, rises, listsTests, dynamicTests, isState, roundAt, takenPlace}
 use Rattle.part_state.specs.State.{writtenPlace, stateLength, depthPlace}
 use Rattle.part_state.specs.StateLaws.{rises-intro, isStateAt, state-at}
-use Rattle.part_start.specs.Start.{ownedIn, reachOf, importEnds, exportEnds, reachEnds, exportWords, listsLong, Inputs, startNumber, startState}
+use Rattle.part_start_plan.specs.Start.{ownedIn, reachOf, importEnds, exportEnds, reachEnds, exportWords, listsLong, Inputs, startNumber, startState}
 use Rattle.run_theorem.specs.FormLaws.{front-length, part-back, steps-back, kind-back, first-back, cells-back, weights-back, import-back, export-back, owned-back, global-back}
 use Rattle.run_theorem.specs.FormLaws.{held-back, ends-back, count-back, entry-back, reach-back, export-word, exports-length}
 use Rattle.run_theorem.specs.PointFormLaws.{points-back, point-cells-back}

@@ -11,7 +11,7 @@ use Rattle.mesh.specs.Mesh.{cellCount}
 use Rattle.split.specs.Split.{Split, splitOf, exports, ownerAt, pointEnds}
 use Rattle.split.specs.Lists.{splitIn, sizeTests}
 use Rattle.split.specs.SplitLaws.{split-parted, split-fine, map-facts, split-reach, split-own, split-owner, order-length, local-held, export-total}
-use Rattle.part_start.specs.Start.{reachEnds, exportEnds, listsLong, stateSize, sizeNumber}
+use Rattle.part_start_plan.specs.Start.{reachEnds, exportEnds, listsLong, stateSize, sizeNumber}
 use Rattle.run_theorem.specs.Run.{StateBound}
 
 -- sixteen numbers export no more than the parts

@@ -22,7 +22,7 @@ use Rattle.round.specs.RoundLaws.{field-length, undivided-good}
 use Rattle.split.specs.Split.{pointsOf, pointsIn}
 use Rattle.split.specs.Lists.{splitIn}
 use Rattle.part_state.specs.State.{isState}
-use Rattle.part_start.specs.Start.{firstState, Inputs, schemeIn, startNumber, startState}
+use Rattle.part_start_plan.specs.Start.{firstState, Inputs, schemeIn, startNumber, startState}
 use Rattle.run_theorem.specs.Run.{PointDepths, begin, Run, endOf, collectsOf, pointsGivenBy, Right, Gathered, RightPoints, SameField, RunTheorem}
 use Rattle.run_theorem.specs.WorldLaws.{StateHolds, Inv, run-inv}
 use Rattle.run_theorem.specs.StartLaws.{Ready, started-facts, frontIn, start-is, begin-good, parted}

@@ -14,7 +14,7 @@ use Rattle.depths.specs.declared.Value.the-variants.{Gap}
 use Rattle.mesh.specs.Mesh.{cellCount}
 use Rattle.round.specs.Rounds.{bad14, schemeOf}
 use Rattle.round.specs.RoundLaws.{field-length, undivided-good}
-use Rattle.part_start.specs.Start.{Inputs}
+use Rattle.part_start_plan.specs.Start.{Inputs}
 use Rattle.run_theorem.specs.Run.{Run, collectsOf, Gathered, SameField, FieldEquality}
 use Rattle.run_theorem.specs.DemandLaws.{inputs, run-theorem}
 

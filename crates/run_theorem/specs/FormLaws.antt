@@ -24,7 +24,7 @@ use Rattle.split.specs.Split.{Split, imports, exports, localOf, globalOf, point
 use Rattle.part_state.specs.State.{LocalNear, importWord, exportWord, cellWord, reachWord, entryWord, exportsWord, weightsPlace}
 use Rattle.part_state.specs.State.{partNumber, stepCount, ruleKind, weights, firstOfMesh, cellsOfMesh, importEnd, ownedCount, heldCount, exportEnd, globalAt}
 use Rattle.part_state.specs.State.{reachEnd, reachCount, entryAt, exportAt, localReach, localExports, pointsFrom}
-use Rattle.part_start.specs.Start.{ownedIn, reachOf, importEnds, exportEnds, reachEnds, reachWords, exportWords, aroundWords, listsLong, listsRegions}
+use Rattle.part_start_plan.specs.Start.{ownedIn, reachOf, importEnds, exportEnds, reachEnds, reachWords, exportWords, aroundWords, listsLong, listsRegions}
 use Rattle.word_lists.proofs.RegionLaws.{lengths, joined-length, joined-at, region-at, table-at, rows-words, entry-word, row-back}
 
 -- ---- the words by their places

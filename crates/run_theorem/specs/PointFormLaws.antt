@@ -11,7 +11,7 @@ use Rattle.layout.specs.Words.{wordAt}
 use Rattle.layout.specs.Limits.{mostParts}
 use Rattle.split.specs.Split.{Split, pointsOf, pointsIn, pointEnds}
 use Rattle.part_state.specs.State.{heldCount, ownedCount, reachCount, exportCount, pointEndsWord, pointCellsWord, pointsFrom, pointCount, pointAt, pointEnd, pointCells, pointCellAt, localAround}
-use Rattle.part_start.specs.Start.{importEnds, aroundWords, listsRegions}
+use Rattle.part_start_plan.specs.Start.{importEnds, aroundWords, listsRegions}
 use Rattle.run_theorem.specs.FormLaws.{regions, front, atPoint, around-length, points-place}
 use Rattle.word_lists.proofs.RegionLaws.{region-at, table-at, entry-word, row-back}
 

@@ -23,7 +23,7 @@ use Rattle.split.specs.PointLaws.{split-around, point-at, point-some, point-hel
 use Rattle.part_state.specs.State.{Lists, listsIn, heldCount, pointCount, pointEnd, pointCells, pointCellAt, validPointCell, climbs}
 use Rattle.part_state.specs.StateLaws.{climbs-intro}
 use Rattle.part_calls.specs.Calls.{outside}
-use Rattle.part_start.specs.Start.{aroundWords, Inputs, schemeIn}
+use Rattle.part_start_plan.specs.Start.{aroundWords, Inputs, schemeIn}
 use Rattle.run_theorem.specs.FormLaws.{held-back, arounds-length}
 use Rattle.run_theorem.specs.PointFormLaws.{points-back, point-back, point-ends-back, point-cells-back, around-word, around-back}
 use Rattle.run_theorem.specs.PointLaws.{Pointed}

@@ -12,7 +12,7 @@ use Rattle.split.specs.Split.{Split, pointsIn, bad29}
 use Rattle.split.specs.Lists.{splitIn}
 use Rattle.part_state.specs.State.{listsIn, listsOf, dynamic, isState, bad20}
 use Rattle.part_calls.specs.Calls.{allTaken, outside, pointsTestsIn, pointsNumber}
-use Rattle.part_start.specs.Start.{Inputs, startState}
+use Rattle.part_start_plan.specs.Start.{Inputs, startState}
 use Rattle.run_theorem.specs.Run.{Call, write, take-in, advance, collect, points, World, step, run, begin, Run, endOf, PointNumbers}
 use Rattle.run_theorem.specs.RunLaws.{Part}
 use Rattle.run_theorem.specs.StepLaws.{put-has}

@@ -22,7 +22,7 @@ use Rattle.part_state.specs.State.{isState, listsOf, dynamic, roundAt}
 use Rattle.part_calls.specs.Calls.{writeNumber, sentMessage, message, writeState, writeOut, takeNumber, takeState, advanceNumber, advanceState, collectNumber, collectOut}
 use Rattle.part_calls.specs.Calls.{allTaken, pointsNumber, pointsOut}
 use Rattle.split.specs.Lists.{mapIn, SplitInput, splitIn}
-use Rattle.part_start.specs.Start.{Inputs, schemeIn, startNumber, startState, sizeNumber, stateSize}
+use Rattle.part_start_plan.specs.Start.{Inputs, schemeIn, startNumber, startState, sizeNumber, stateSize}
 
 -- "Each call is on one part, and gets that part's state". The first number is the part; a write is lent an output, a take is handed any bytes,
 -- a collect names a round and is lent a field, and a points call is lent an output.

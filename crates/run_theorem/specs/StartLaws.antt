@@ -33,7 +33,7 @@ use Rattle.split.specs.Lists.{sizeTests, splitIn}
 use Rattle.split.specs.SplitLaws.{split-parted, split-fine, sizes-parted, map-facts, split-reach, split-owner, SplitCell, order-length, own-is, own-has}
 use Rattle.split.specs.SplitLaws.{own-local, local-back, own-first, import-own, import-at, local-cases, reach-held, import-total, ownCells, own-count}
 use Rattle.part_state.specs.State.{LocalNear, Lists, listsIn, dynamic, roundAt, takenPlace, depthPlace, stateLength}
-use Rattle.part_start.specs.Start.{ownedIn, importEnds, listsRegions, stateSize, firstState, lastTests, startNumber, startState, Inputs, schemeIn}
+use Rattle.part_start_plan.specs.Start.{ownedIn, importEnds, listsRegions, stateSize, firstState, lastTests, startNumber, startState, Inputs, schemeIn}
 use Rattle.run_theorem.specs.FormLaws.{front, words-length, front-length, part-back, kind-back, first-back, cells-back, owned-back, held-back, global-back, import-back, reach-back}
 use Rattle.run_theorem.specs.FormLaws.{exports-back, weights-back}
 use Rattle.run_theorem.specs.Run.{ownerIn}

@@ -34,7 +34,7 @@ use Rattle.part_calls.specs.EffectLaws.{all-taken, advance-taken, collect-lengt
 use Rattle.run_theorem.specs.StepLaws.{put-has, put-both, more-all, on-states, write-part, written-is}
 use Rattle.run_theorem.specs.RunLaws.{Part, Parted, Undivided, Good, RightMessage, write-good, write-right, take-good, advance-good}
 use Rattle.run_theorem.specs.PointLaws.{Pointed, pointDepth, points-right}
-use Rattle.part_start.specs.Start.{Inputs, schemeIn}
+use Rattle.part_start_plan.specs.Start.{Inputs, schemeIn}
 
 -- the owner of a cell by its global number
 abbrev pub ownerOf : Inputs → ℕ → ℕ

@@ -22,11 +22,11 @@ use Rattle.split.specs.SplitLaws.{split-numbered, sizes-numbered}
 use Rattle.mesh.specs.Mesh.{cellCount}
 use Rattle.split_classes.specs.Classes.{Classed, Prepared, Appended}
 use Rattle.word_lists.specs.Putting.{givenNumber, givenAnswer, givenOut}
-use Rattle.split_lists.specs.Giving.{otherOf, rowOf, chosen}
+use Rattle.split_wanted.specs.Giving.{otherOf, rowOf, chosen}
 use Rattle.split.specs.declared.Wanted.{Wanted}
 use Rattle.split.specs.declared.Wanted.the-variants.{Interior, Halo, Locals, Imports, Exports, Private, Exposed, Shared, Copied}
 use Rattle.split_cells.proofs.AddLaws.{added-fits}
-use Rattle.split_lists.proofs.ChosenLaws.{chosen-is, list-few}
+use Rattle.split_wanted.proofs.ChosenLaws.{chosen-is, list-few}
 use Rattle.split_lists.proofs.GivingLaws.{given-answer, given-out}
 
 module _ (m : Bytes) (parts : ℕ) (owners : Bytes) (i : ℕ) (st : Bytes) (w : Wanted) where

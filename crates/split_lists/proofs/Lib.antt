@@ -1,4 +1,2 @@
-pub mod ChosenLaws
 pub mod GivingLaws
-pub mod ListedLaws
 pub mod CallLaws

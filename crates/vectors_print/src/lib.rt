@@ -138,6 +138,13 @@ pub fn five_cells() -> [u8; 74] {
     m
 }
 
+// The values of the five cells: each is two words of the text, the high one first.
+pub fn five_values(text: &[u8]) -> [u8; 20] {
+    let mut field = [0u8; 20];
+    put_words(&mut field, text);
+    field
+}
+
 // "Triangles 15 (points 1 2 3), 16 (2 3 4), 17 (1 5 6), edges 7 to 14"
 pub fn triangles() -> [u8; 182] {
     let mut m = [0u8; 182];

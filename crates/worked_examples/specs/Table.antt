@@ -1,11 +1,11 @@
 -- The worked examples of document 01 that it marks (P), as entries of one table under one theorem, all by computation over the definitions. Their run gives
 -- depths at the points too (F-1). Assumes nothing.
 use mathlib.Core.Path.{_≡_, refl, sym, subst}
-use mathlib.Core.List.{List, [], _∷_, _++_, map, List·Memᴰ, List·Memᴰ·head, List·Memᴰ·tail}
+use mathlib.Core.List.{List, [], _∷_, _++_, List·Memᴰ, List·Memᴰ·head, List·Memᴰ·tail}
 use Prim.Native.Nat.{ℕ, zero, suc, _*_, _<_, _≤_}
 use Prim.Native.String.{String}
 use native.Mathlib.Omega.{arith}
-use lib.IntN.{ℤ, pos, negsuc}
+use lib.IntN.{ℤ, negsuc}
 use lib.ListN.{length, take, replicate}
 use Rattle.vocabulary.specs.Bytes.{Bytes, over}
 use Rattle.vocabulary.specs.Lists.{isIn, placeOf, joined, repeats, someOf, everyOf, filtered}
@@ -19,7 +19,7 @@ use Rattle.mesh.specs.Mesh.{headed, bad4, badItem, badChain, bad5, leaves, uncl
 use Rattle.mesh.specs.Walks.{Near, incident, steps, validAt, bad10, stepTo, walked, stepsTo, layer, reach, bad13, cellsAt}
 use Rattle.round.specs.Rounds.{bad14, schemeOf, depthIn, oldsIn, newIn, round, undivided, roundNumber, roundAnswer, roundOut}
 use Rattle.round_rule.specs.Rules.{weightCount, tooHeavy, bad11, withoutGaps, weight, readBy, depthSum, weightSum, quotient, meanOf, least, leastOf, newDepth}
-use Rattle.round_rule.specs.Update.{tableEntries, oldsAt}
+use Rattle.round_update.specs.Update.{tableEntries, oldsAt}
 use Rattle.messages.specs.Messages.{encode, bad15, reading}
 use Rattle.split.specs.Lists.{bad8, bad9, bad12, splitTests, sizeTests, others, listOf, listWords, listNumber, listAnswer, listOut, splitInput}
 use Rattle.split.specs.declared.Wanted.{Wanted}
@@ -32,63 +32,22 @@ use Rattle.part_calls.specs.Calls.{writeNumber, message, writeAnswer, writeStat
 use Rattle.part_calls.specs.Calls.{takeState, advanceNumber, advanceAnswer, advanceState, collectNumber, collectAnswer, collectOut}
 use Rattle.part_calls.specs.Calls.{outside, pointsTestsIn, pointGiven, pointsNumber, pointsOut}
 use Rattle.part_state.specs.State.{weights, localReach, localExports, localAround, listsIn, listsOf, rises, climbs, listsTests, dynamicTests, isState, bad20}
-use Rattle.part_start.specs.Start.{importEnds, exportEnds, reachEnds, reachWords, exportWords, aroundWords, listsLong, listsRegions, stateSize, sizeNumber, sizeAnswer}
-use Rattle.part_start.specs.Start.{inputs, Inputs, schemeIn, firstState, startNumber, startAnswer, startState}
+use Rattle.part_start_plan.specs.Start.{importEnds, exportEnds, reachEnds, reachWords, exportWords, aroundWords, listsLong, listsRegions, stateSize, sizeNumber, sizeAnswer}
+use Rattle.part_start_plan.specs.Start.{inputs, schemeIn, firstState, startNumber, startAnswer, startState}
+use Rattle.example_inputs.specs.Inputs.{five, triangles, field, fiveInputs}
 use Rattle.run_theorem.specs.Run.{ownerIn, Gathered, collectsOf, Run, World, Collected, PointDepths, collect, points, advance, take-in, write, Call}
 use Rattle.run_theorem.specs.Run.{put, more, step, run, Fair, Honest, begin, StateBound}
 use Rattle.list_text.specs.Listing.{ascii, digits, decimal, spaced, line, lineUnlessEmpty, dimensionText, partText}
 use Rattle.list_text.specs.Listing.{splitText, meshPiece, mapPiece, partsPiece, ownersPiece, lastPiece, stencilPiece, listingNumber, listText}
 
--- ---- the inputs
-
--- "d = 1; counts 6, 5, 0, 0; R = 10. Heads: six zeros, then 1, 3, 5, 7, 9. Records: (1,2) (2,0) (2,4) (3,0) (3,6) (4,0) (4,8) (5,0) (5,10) (6,0)."
-unfoldable pub five : Bytes
-five =
-    bytesOf (
-    1 ∷ 6 ∷ 5 ∷ 0 ∷ 0 ∷ 10
-    ∷ 0 ∷ 0 ∷ 0 ∷ 0 ∷ 0 ∷ 0 ∷ 1 ∷ 3 ∷ 5 ∷ 7 ∷ 9
-    ∷ 1 ∷ 2 ∷ 2 ∷ 0 ∷ 2 ∷ 4 ∷ 3 ∷ 0 ∷ 3 ∷ 6 ∷ 4 ∷ 0 ∷ 4 ∷ 8 ∷ 5 ∷ 0 ∷ 5 ∷ 10 ∷ 6 ∷ 0
-    ∷ []
-    )
-
--- "Triangles 15 (points 1 2 3), 16 (2 3 4), 17 (1 5 6), edges 7 to 14"
-unfoldable pub triangles : Bytes
-triangles =
-    bytesOf (
-    2 ∷ 6 ∷ 8 ∷ 3 ∷ 0 ∷ 34
-    ∷ 0 ∷ 0 ∷ 0 ∷ 0 ∷ 0 ∷ 0 ∷ 1 ∷ 3 ∷ 5 ∷ 7 ∷ 9 ∷ 11 ∷ 13 ∷ 15 ∷ 17 ∷ 23 ∷ 29
-    ∷ 1 ∷ 2 ∷ 2 ∷ 0
-    ∷ 2 ∷ 4 ∷ 3 ∷ 0
-    ∷ 1 ∷ 6 ∷ 3 ∷ 0
-    ∷ 2 ∷ 8 ∷ 4 ∷ 0
-    ∷ 3 ∷ 10 ∷ 4 ∷ 0
-    ∷ 1 ∷ 12 ∷ 5 ∷ 0
-    ∷ 5 ∷ 14 ∷ 6 ∷ 0
-    ∷ 1 ∷ 16 ∷ 6 ∷ 0
-    ∷ 1 ∷ 18 ∷ 2 ∷ 19 ∷ 3 ∷ 20 ∷ 7 ∷ 21 ∷ 8 ∷ 22 ∷ 9 ∷ 0
-    ∷ 2 ∷ 24 ∷ 3 ∷ 25 ∷ 4 ∷ 26 ∷ 8 ∷ 27 ∷ 10 ∷ 28 ∷ 11 ∷ 0
-    ∷ 1 ∷ 30 ∷ 5 ∷ 31 ∷ 6 ∷ 32 ∷ 12 ∷ 33 ∷ 13 ∷ 34 ∷ 14 ∷ 0
-    ∷ []
-    )
+-- ---- short forms, and what the list program reads
 
 abbrev at : ℕ → ℕ → Near
 at c l = record { cell = c; layer = l }
 
--- the bytes of a field
-unfoldable pub field : List ℕ → Bytes
-field ds = joined (map (λ n. depthBytes (pos n)) ds)
-
 -- "P = 2, owners 1 1 1 2 2, stencil 1 0 1": what the list program reads
 unfoldable pub listInput : Bytes
 listInput = five ++ (2 ∷ 1 ∷ 1 ∷ 1 ∷ 2 ∷ 2 ∷ 3 ∷ 1 ∷ 0 ∷ 1 ∷ [])
-
--- "Mean, weights 2 1, from 100 200 300 400 500"
-unfoldable pub fiveInputs : Inputs
-fiveInputs = record {
-  split = splitInput five 2 (1 ∷ 1 ∷ 1 ∷ 2 ∷ 2 ∷ []) (1 ∷ 0 ∷ 1 ∷ []);
-  rule = record { kind = 1; weights = bytesOf (2 ∷ 1 ∷ []) };
-  field = field (100 ∷ 200 ∷ 300 ∷ 400 ∷ 500 ∷ []);
-}
 
 -- ---- a run of two rounds
 

@@ -7,7 +7,7 @@ use Rattle.vocabulary.specs.ListLaws.{zeros}
 use Rattle.layout.specs.Limits.{elementPlaces, mostElements, recordPlaces}
 use Rattle.mesh.proofs.AcceptedLaws.{cells-few}
 use Rattle.split_ranges.proofs.LowerLaws.{alone}
-use Rattle.split_lists.proofs.ListedLaws.{added-cells, added-range}
+use Rattle.split_wanted.proofs.ListedLaws.{added-cells, added-range}
 use Rattle.split_lists.proofs.CallLaws.{number-found, facts, refused-split, refused-sizes, give-fits, give-list}
 use borrow.Author.Needs.{needs}
 use Rattle.split_lists.proofs.lists.list.Statement.{statement}

@@ -1,0 +1,1 @@
+// No code: the inputs of the computed examples stand in specs/.
