@@ -1,5 +1,6 @@
 -- What the tests of a state's lists answer, by the tests that the code makes one after the other. Assumes nothing.
-use mathlib.Core.Path.{_≡_, refl, sym, ap, ap₂, _∙_}
+use mathlib.Core.Path.{_≡_, refl, sym, ap, ap₂, _∙_, subst}
+use mathlib.Core.Logic.{⊎-elim}
 use mathlib.Core.Bool.{Bool, true, false, not, _&&_}
 use mathlib.Core.List.{List, [], _∷_, _++_}
 use Prim.Native.Nat.{ℕ, zero, suc, _+_, _-_, _*_, _/_, _%_, _≤_, _<_}
@@ -9,7 +10,7 @@ use lib.Dec.{eqb, ltb, leb}
 use lib.ListN.{length, take, drop}
 use borrow.Author.Tests.{eqb-true, le-leb, lt-leb, lt-ltb, le-ltb, eq-eqb, ne-eqb, not-true, not-false}
 use Rattle.vocabulary.specs.Bytes.{Bytes}
-use Rattle.vocabulary.specs.ListLaws.{and-all, and-true, and-left, and-right, and-assoc}
+use Rattle.vocabulary.specs.ListLaws.{and-all, and-true, and-false, and-left, and-right, and-assoc}
 use Rattle.vocabulary.specs.Intervals.{isUpTo, every, some}
 use Rattle.vocabulary.specs.IntervalLaws.{every-stop, every-turn, someOf-listed}
 use Rattle.vocabulary.specs.ScanLaws.{some-stop-from, some-end-from, every-stop-from, every-turn-from, every-end-from}
@@ -255,6 +256,35 @@ module _ (b : Bytes) (z : Sizes) (C : Counts b z) (at : ℕ) (ae : at ≡ pointC
 
   pub point-turn : every 0 t (validPointCell b) ≡ true → l ≤ z .held → every 0 (t + 1) (validPointCell b) ≡ true
   point-turn i k = every-turn (validPointCell b) (z .around) t true i (sym (point-held ∙ le-leb _ _ k)) refl
+
+-- two of them, from word i on
+module _ (b : Bytes) (z : Sizes) (C : Counts b z) (at : ℕ) (ae : at ≡ pointCellStart z) (t i : ℕ) (ie : i ≡ at + t) (r : Bool)
+    (re : r ≡ leb (wordAt b i) (z .held) && leb (wordAt b (i + 1)) (z .held)) where
+  two-are : r ≡ validPointCell b t && validPointCell b (t + 1)
+  two-are =
+      let j : i + 1 ≡ at + (t + 1) = omega arith in
+      re ∙ ap₂ _&&_ (sym (point-held b z C at ae t (wordAt b i) (ap (wordAt b) ie))) (sym (point-held b z C at ae (t + 1) (wordAt b (i + 1)) (ap (wordAt b) j)))
+
+  pub two-stop : t + 1 < z .around → not r ≡ true → false ≡ every 0 (z .around) (validPointCell b)
+  two-stop h f =
+      ⊎-elim
+      (λ p. every-stop (validPointCell b) (z .around) t false (omega arith) (sym p) refl)
+      (λ p. every-stop (validPointCell b) (z .around) (t + 1) false h (sym p) refl)
+      (and-false (validPointCell b t) (validPointCell b (t + 1)) (sym two-are ∙ not-true r f))
+
+  pub two-turn : every 0 t (validPointCell b) ≡ true → not r ≡ false → (u : ℕ) → u ≡ t + 2 → every 0 u (validPointCell b) ≡ true
+  two-turn e f u ue =
+      let q = and-true (validPointCell b t) (validPointCell b (t + 1)) (sym two-are ∙ not-false r f) in
+      let w : t + 1 + 1 ≡ u = omega arith in
+      subst (λ n. every 0 n (validPointCell b) ≡ true) w
+      (every-turn (validPointCell b) (z .around) (t + 1) true (every-turn (validPointCell b) (z .around) t true e (sym (q .0)) refl) (sym (q .1)) refl)
+
+module _ (b : Bytes) (i n w : ℕ) (e : w ≡ wordAt b i) where
+  pub two-first : n < w → false ≡ leb (wordAt b i) n && leb (wordAt b (i + 1)) n
+  two-first h = simp (sym e, lt-leb _ _ h)
+
+  pub two-second : w ≤ n → (x : ℕ) → x ≡ wordAt b (i + 1) → leb x n ≡ leb (wordAt b i) n && leb (wordAt b (i + 1)) n
+  two-second h x f = simp (sym e, sym f, le-leb _ _ h)
 
 -- ---- the rule and the header
 

@@ -25,6 +25,7 @@ use round_rule::rule_of;
 ghost use mathlib.Core.Path.{_≡_};
 ghost use mathlib.Core.Bool.{true, not, _&&_};
 ghost use Prim.Native.Nat.{_+_, _-_, _*_, _<_, _≤_};
+ghost use lib.Dec.{leb};
 ghost use lib.ListN.{length, take, drop};
 ghost use Rattle.vocabulary.specs.Intervals.{isUpTo, every, some};
 ghost use Rattle.vocabulary.specs.Tests.{allOf};
@@ -225,13 +226,34 @@ fn valid_exports(lists: &[u8], sizes: Sizes) -> bool
     true
 }
 
-// Whether the cells at the points are held, but for those that are not to be read.
+// Whether words i and i + 1 are at most n.
+fn two_within(lists: &[u8], n: usize, i: usize) -> bool
+    requires { ⌜ 2 * (i + 1) + 1 < length (now lists) ⌝ }
+    ensures { λ r. ⌜ r ≡ leb (wordAt (now (lists .entry)) i) n && leb (wordAt (now (lists .entry)) (i + 1)) n ⌝ }
+{
+    if n < word_there(lists, i) {
+        return false;
+    }
+    word_there(lists, i + 1) <= n
+}
+
+// Whether the cells at the points are held, but for those that are not to be read. A state can have many, so they are tested four at a time, which takes fewer
+// instructions a cell, and then the up to three that are left.
 fn valid_point_cells(lists: &[u8], sizes: Sizes) -> bool
     requires { ⌜ Fitting (now lists) sizes ⌝ }
     ensures { λ r. ⌜ r ≡ every 0 (pointCells (now (lists .entry))) (validPointCell (now (lists .entry))) ⌝ }
 {
     let at = sizes.point_cells_word();
-    for t in 0..sizes.around {
+    let fours = sizes.around / 4;
+    for k in 0..fours {
+        if !two_within(lists, sizes.held, at + 4 * k) {
+            return false;
+        }
+        if !two_within(lists, sizes.held, at + 4 * k + 2) {
+            return false;
+        }
+    }
+    for t in 4 * fours..sizes.around {
         if sizes.held < word_there(lists, at + t) {
             return false;
         }
