@@ -116,12 +116,16 @@ fn put_digit(m: &mut [u8], i: usize, c: u8) -> usize {
     }
 }
 
-// Puts the words of a text, in decimal, into bytes that are all 0, as many as fit.
-pub fn put_words(m: &mut [u8], text: &[u8]) {
-    let mut i = 0;
+// Puts the words of a text, in decimal, into bytes that are all 0, from word `first` on, as many as fit.
+fn put_words_from(m: &mut [u8], first: usize, text: &[u8]) {
+    let mut i = first;
     for k in 0..text.len() {
         i = put_digit(m, i, text[k]);
     }
+}
+
+pub fn put_words(m: &mut [u8], text: &[u8]) {
+    put_words_from(m, 0, text);
 }
 
 // "d = 1; counts 6, 5, 0, 0; R = 10. Heads: six zeros, then 1, 3, 5, 7, 9. Records: (1,2) (2,0) .."
@@ -148,9 +152,15 @@ pub fn five_values(text: &[u8]) -> [u8; 20] {
 // "Triangles 15 (points 1 2 3), 16 (2 3 4), 17 (1 5 6), edges 7 to 14"
 pub fn triangles() -> [u8; 182] {
     let mut m = [0u8; 182];
+    // the heads and the edges' records, and then those of the triangles
     put_words(
         &mut m,
-        b"2 6 8 3 0 34 0 0 0 0 0 0 1 3 5 7 9 11 13 15 17 23 29 1 2 2 0 2 4 3 0 1 6 3 0 2 8 4 0 3 10 4 0 1 12 5 0 5 14 6 0 1 16 6 0 1 18 2 19 3 20 7 21 8 22 9 0 2 24 3 25 4 26 8 27 10 28 11 0 1 30 5 31 6 32 12 33 13 34 14 0",
+        b"2 6 8 3 0 34 0 0 0 0 0 0 1 3 5 7 9 11 13 15 17 23 29 1 2 2 0 2 4 3 0 1 6 3 0 2 8 4 0 3 10 4 0 1 12 5 0 5 14 6 0 1 16 6 0",
+    );
+    put_words_from(
+        &mut m,
+        55,
+        b"1 18 2 19 3 20 7 21 8 22 9 0 2 24 3 25 4 26 8 27 10 28 11 0 1 30 5 31 6 32 12 33 13 34 14 0",
     );
     m
 }
