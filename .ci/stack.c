@@ -76,6 +76,13 @@ static uint64_t points(void) { return jem_points(states[0], ROOM, out, ROOM); }
 static uint64_t advance(void) { return jem_advance(states[0], ROOM); }
 static uint64_t collect(void) { return jem_collect(states[0], ROOM, 1, field, sizeof field); }
 
+/* No word of a mesh is above 12,000, so all of it is searched. Nothing is refused. */
+static uint64_t place(void)
+{
+    uint32_t count;
+    return jem_place(mesh, mesh_len, 65535, &count) == 0 && count == mesh_len / 2 ? JEM_ACCEPTED : UINT64_MAX;
+}
+
 /* The calls in an order in which each is accepted; those on a state need two parts at least. */
 static const struct {
     const char *name;
@@ -101,6 +108,7 @@ static const struct {
     {"jem_points", points, JEM_STACK_STATE, 1},
     {"jem_advance", advance, JEM_STACK_STATE, 1},
     {"jem_collect", collect, JEM_STACK_STATE, 1},
+    {"jem_place", place, JEM_STACK_STATE, 0},
 };
 enum { CALLS = sizeof calls / sizeof calls[0] };
 
@@ -148,7 +156,7 @@ int main(void)
         {1, 80, 8, 1}, {1, 80, 8, 2},
     };
     size_t deepest[CALLS] = {0};
-    int failed = 0;
+    int made[CALLS] = {0}, failed = 0;
     for (size_t s = 0; s < sizeof splits / sizeof splits[0]; s++) {
         make_cells(splits[s].star, splits[s].cells, splits[s].steps, splits[s].parts);
         /* what part 2 sends to part 1 in round 0; part 1 has no other neighbour, as long as a star has two parts */
@@ -162,6 +170,7 @@ int main(void)
             if (calls[c].exchange && parts == 1)
                 continue;
             used = depth(calls[c].call);
+            made[c] = 1;
             if (jem_refusal(answer) != JEM_ACCEPTED)
                 fail(calls[c].name);
             used = used > own ? used - own : 0;
@@ -171,7 +180,8 @@ int main(void)
     }
     for (size_t c = 0; c < CALLS; c++) {
         printf("%-14s %6zu bytes of stack, at most %6zu\n", calls[c].name, deepest[c], calls[c].most);
-        if (deepest[c] == 0 || deepest[c] > calls[c].most) {
+        /* only jem_place keeps all that it needs in registers */
+        if (!made[c] || deepest[c] > calls[c].most || (deepest[c] == 0 && calls[c].call != place)) {
             fprintf(stderr, "stack: %s uses another depth than the header says\n", calls[c].name);
             failed = 1;
         }

@@ -8,7 +8,8 @@
  * receiver, a round) may be anything: a wrong one is refused.
  *
  * Every function answers in 64 bits: the refusal's number in the high half, 0 where the call was accepted, and a count
- * in the low half, 0 where it was refused. Take it apart with jem_refusal and jem_count.
+ * in the low half, 0 where it was refused. Take it apart with jem_refusal and jem_count. Only jem_place, which refuses
+ * nothing, answers a plain number.
  *
  * A refused call changes no byte. An accepted one changes no byte past its need, so buffers may be longer. A buffer
  * that is changed must not overlap another one of the same call, and nobody else may write to one during the call. Calls
@@ -39,7 +40,7 @@ extern "C" {
 #define JEM_STACK 118784       /* any call: the lists, jem_state_size and jem_start come near it */
 #define JEM_STACK_ROUND 118784 /* jem_round, which goes deepest */
 #define JEM_STACK_CHECK 40960  /* jem_check_mesh */
-#define JEM_STACK_STATE 10240  /* jem_write, jem_take, jem_advance, jem_collect, jem_points */
+#define JEM_STACK_STATE 10240  /* jem_write, jem_take, jem_advance, jem_collect, jem_points, jem_place */
 
 /* Refusals. A call tries them in this order: 1-15, 20-24, 29, 25-28, and JEM_OUTPUT last of all. */
 enum jem_refusal_number {
@@ -130,6 +131,17 @@ uint64_t jem_shared(const uint8_t *mesh, size_t mesh_len, uint32_t parts, const 
 uint64_t jem_copied(const uint8_t *mesh, size_t mesh_len, uint32_t parts, const uint8_t *owners, size_t owners_len,
                     uint32_t part, const uint8_t *stencil, size_t stencil_len, uint32_t dim, uint8_t *out,
                     size_t out_len);
+
+/* Where a cell stands in a list that rises, as all of the above do but jem_locals: its place, counted from 1, or 0 if the
+ * cell isn't in it. The search ends at the first number not below the cell's, and *read is set to how many numbers were read:
+ * all up to that one, or the whole list if there is none. In a list that does not rise, 0 says nothing of the numbers after
+ * that one. Lend the list alone, 2 * its count of bytes: words past it can match. Half a word at the end is no number, and
+ * the cell may be any number: nothing is refused. read is not null and not inside the list; what it held before does not
+ * matter, and it is never set to more than 2^32 - 1, which takes a list of 8 GiB.
+ *
+ * The cell at place p of the list that jem_imports gives part i for the other part j has its value at byte 8 + 4 * (p - 1) of
+ * every message from j to i. */
+uint64_t jem_place(const uint8_t *list, size_t list_len, uint32_t cell, uint32_t *read);
 
 /* ---- The undivided round ---- */
 

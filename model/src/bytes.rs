@@ -10,6 +10,11 @@ pub fn word(bytes: &[u8], i: usize) -> usize {
     bytes.get(2 * i..).and_then(|rest| rest.first_chunk()).map_or(0, |pair| usize::from(u16::from_be_bytes(*pair)))
 }
 
+/// The numbers of a list of words. Half a word at the end is no number.
+pub fn numbers(list: &[u8]) -> Vec<usize> {
+    (0..list.len() / 2).map(|i| word(list, i)).collect()
+}
+
 /// A number as a word. Every number that is written is within the limits, far below 65,536.
 fn word_bytes(number: usize) -> [u8; 2] {
     u16::try_from(number).expect("a written number fits a word").to_be_bytes()

@@ -6,7 +6,7 @@ use crate::compare::Compared;
 use crate::refusal::Answer;
 use crate::split::Range;
 use crate::tuned::Tuned;
-use crate::{mesh, parts, rounds, split};
+use crate::{mesh, parts, places, rounds, split};
 
 /// The inputs that name a part: those of its lists, of its state's size and of its start.
 #[derive(Clone, Copy)]
@@ -64,6 +64,9 @@ pub trait Calls {
     fn advance(&self, state: &mut [u8]) -> Answer;
     fn collect(&self, state: &[u8], round: u32, field: &mut [u8]) -> Answer;
     fn points(&self, state: &[u8], out: &mut [u8]) -> Answer;
+
+    /// The place of a cell in a list of words, from 1, and 0 for none; nothing is refused. Sets `read`.
+    fn place(&self, list: &[u8], cell: u32, read: &mut u32) -> u64;
 }
 
 /// This package's own calls.
@@ -112,6 +115,10 @@ impl Calls for Model {
 
     fn points(&self, state: &[u8], out: &mut [u8]) -> Answer {
         parts::points(state, out)
+    }
+
+    fn place(&self, list: &[u8], cell: u32, read: &mut u32) -> u64 {
+        places::place(list, cell, read)
     }
 }
 

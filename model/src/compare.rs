@@ -89,4 +89,18 @@ impl<F: Fn(&'static str, Answer, &[String])> Calls for Compared<'_, F> {
     fn points(&self, state: &[u8], out: &mut [u8]) -> Answer {
         self.compare("points", [out], |calls, [out]| calls.points(state, out))
     }
+
+    fn place(&self, list: &[u8], cell: u32, read: &mut u32) -> u64 {
+        // Both numbers are compared as bytes that were lent.
+        let (mut count, mut place) = (read.to_ne_bytes(), [0; 8]);
+        let answer = self.compare("place", [&mut count, &mut place], |calls, [count, place]| {
+            let mut read = u32::from_ne_bytes((&*count).try_into().expect("four bytes"));
+            place.copy_from_slice(&calls.place(list, cell, &mut read).to_ne_bytes());
+            count.copy_from_slice(&read.to_ne_bytes());
+            Ok(0)
+        });
+        assert_eq!(answer, Ok(0), "nothing is refused");
+        *read = u32::from_ne_bytes(count);
+        u64::from_ne_bytes(place)
+    }
 }

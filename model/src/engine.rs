@@ -75,6 +75,10 @@ impl Calls for Engine {
     fn points(&self, state: &[u8], out: &mut [u8]) -> Answer {
         answer(ffi::points(state, out))
     }
+
+    fn place(&self, list: &[u8], cell: u32, read: &mut u32) -> u64 {
+        ffi::place(list, cell, read)
+    }
 }
 
 /// The functions of include/jemlayos.h. Each slice goes as a pointer and a length.
@@ -135,6 +139,7 @@ mod ffi {
         fn jem_advance(state: Changed, state_len: usize) -> u64;
         fn jem_collect(state: Lent, state_len: usize, round: u32, field: Changed, field_len: usize) -> u64;
         fn jem_points(state: Lent, state_len: usize, out: Changed, out_len: usize) -> u64;
+        fn jem_place(list: Lent, list_len: usize, cell: u32, read: *mut u32) -> u64;
     }
 
     // SAFETY, for all calls below: each pointer comes with the length of its own slice, the slices are lent for the
@@ -219,5 +224,9 @@ mod ffi {
 
     pub fn points(state: &[u8], out: &mut [u8]) -> u64 {
         unsafe { jem_points(state.as_ptr(), state.len(), out.as_mut_ptr(), out.len()) }
+    }
+
+    pub fn place(list: &[u8], cell: u32, read: &mut u32) -> u64 {
+        unsafe { jem_place(list.as_ptr(), list.len(), cell, read) }
     }
 }

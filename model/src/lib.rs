@@ -5,7 +5,7 @@
 //! |---|---|
 //! | `bytes` | words, depths and gaps, high byte first |
 //! | `refusal` | the numbers of the refusals, in the specification's words |
-//! | `mesh`, `walks`, `rounds`, `split`, `messages`, `state`, `parts`, `listing` | the model, one module for each of the specification's subjects |
+//! | `mesh`, `walks`, `rounds`, `split`, `messages`, `state`, `parts`, `places`, `listing` | the model, one module for each of the specification's subjects |
 //! | `calls` | the public calls as a trait, and the model behind it |
 //! | `tuned` | the same calls once more, as fast as safe Rust makes them |
 //! | `engine` | the static library behind the same trait |
@@ -24,6 +24,7 @@ pub mod listing;
 pub mod mesh;
 pub mod messages;
 pub mod parts;
+pub mod places;
 pub mod refusal;
 pub mod rounds;
 mod rows;

@@ -1,4 +1,4 @@
--- Examples beside those of document 01, as entries of one table under one theorem, all by computation over the definitions. The examples of later
+-- Examples beside those of document 01, as entries of tables under a theorem each, all by computation over the definitions. The examples of later
 -- requests go here; the table of `worked_examples` stays document 01's. Assumes nothing.
 use mathlib.Core.Path.{_≡_, refl}
 use mathlib.Core.Bool.{Bool, true, false}
@@ -27,6 +27,7 @@ use Rattle.part_state.specs.State.{weights, localReach, localExports, localArou
 use Rattle.part_calls.specs.Calls.{importsFrom, outside, takeTestsIn, takenIn, allTaken, pointsTestsIn, pointGiven, takeNumber, takeState, pointsNumber, pointsOut}
 use Rattle.part_start_plan.specs.Start.{importEnds, exportEnds, reachEnds, reachWords, exportWords, aroundWords, listsLong, listsRegions, stateSize, sizeNumber}
 use Rattle.part_start_plan.specs.Start.{inputs, Inputs, firstState, startNumber, startState}
+use Rattle.place_search.specs.Places.{lowerBound, placeIn, readFor, wordsIn}
 use Rattle.example_inputs.specs.Inputs.{five, triangles, field, fiveInputs}
 
 -- ---- depths at the points (F-1)
@@ -97,6 +98,8 @@ pub data Example : Type 0 where
   sent : Bytes → Bool → Example
   -- a field of the five cells that 14 does not refuse
   sounded : List Value → Example
+  -- the bytes of a list, numbers sought, and for each its place, 0 for none, and how many numbers are read
+  searched : Bytes → List ℕ → List (List ℕ) → Example
 
 -- what an entry claims
 abbrev pub Holds : Example → Type 0
@@ -108,6 +111,7 @@ Holds (points-given b ps) = pointsOut b (replicate (6 * length ps) 0) ≡ joined
 Holds (filled kind v fs) = listed 1 (length fs) (undivided (schemeOf five (fiveInputs .split .stencil) kind v) (values withHoles)) ≡ map values fs
 Holds (sent x refused) = bad15 (messageOf x) ≡ refused
 Holds (sounded xs) = bad14 5 (values xs) ≡ false
+Holds (searched b xs rs) = map (λ x. placeIn x (wordsIn b) ∷ readFor x (wordsIn b) ∷ []) xs ≡ rs
 
 abbrev pub AllHold : List Example → Type 0
 AllHold [] = Unit {0}
@@ -184,3 +188,21 @@ unfolding over isIn placeOf joined repeats someOf everyOf isUpTo picked every so
     importsFrom outside takeTestsIn takenIn allTaken pointsTestsIn pointGiven takeNumber takeState pointsNumber pointsOut importEnds exportEnds reachEnds reachWords exportWords
     aroundWords listsLong listsRegions stateSize sizeNumber firstState startNumber startState five triangles field fiveInputs
 changed = (refl, (refl, (refl, (refl, (refl, (refl, (refl, (refl, (refl, (refl, (refl, (refl, (refl, (refl, (refl, (refl, (refl, (refl, (refl, (refl, (refl, (refl, (refl, tt)))))))))))))))))))))))
+
+-- ---- places (F-3)
+
+abbrev pub places : List Example
+places =
+    -- 3 5 9: "to end at the first number not below the one sought", "or the whole list if there is none"; what is sought may be too large for a word
+    searched (0x00 ∷ 0x03 ∷ 0x00 ∷ 0x05 ∷ 0x00 ∷ 0x09 ∷ []) (5 ∷ 3 ∷ 4 ∷ 1 ∷ 10 ∷ 65541 ∷ 70000 ∷ [])
+    ((2 ∷ 2 ∷ []) ∷ (1 ∷ 1 ∷ []) ∷ (0 ∷ 2 ∷ []) ∷ (0 ∷ 1 ∷ []) ∷ (0 ∷ 3 ∷ []) ∷ (0 ∷ 3 ∷ []) ∷ (0 ∷ 3 ∷ []) ∷ [])
+    -- 9 3 5 does not rise
+    ∷ searched (bytesOf (9 ∷ 3 ∷ 5 ∷ [])) (5 ∷ []) ((0 ∷ 1 ∷ []) ∷ [])
+    -- no numbers, and half a word at the end, which is none
+    ∷ searched [] (0 ∷ []) ((0 ∷ 0 ∷ []) ∷ [])
+    ∷ searched (0x00 ∷ 0x03 ∷ 0x00 ∷ 0x05 ∷ 0x00 ∷ []) (5 ∷ 6 ∷ []) ((2 ∷ 2 ∷ []) ∷ (0 ∷ 2 ∷ []) ∷ [])
+    ∷ []
+
+pub places-found : AllHold places
+unfolding listed word wordAt words bytesOf lowerBound placeIn readFor wordsIn
+places-found = (refl, (refl, (refl, (refl, tt))))

@@ -1,5 +1,5 @@
 // The calls under the names that C and Rust link: a slice is a pointer and a length, and each answers its refusal's number times 2^32 plus its
-// count.
+// count. `jem_place`, which refuses nothing, answers the place alone.
 use c_answer::pack;
 ghost use mathlib.Core.Path.{_≡_};
 ghost use Rattle.c_answer.specs.Packed.{packed};
@@ -9,6 +9,7 @@ ghost use Rattle.split.specs.Lists.{splitInput, listAnswer, listOut};
 ghost use Rattle.split.specs.declared.Wanted.the-variants.{Interior, Halo, Locals, Imports, Exports, Private, Exposed, Shared, Copied};
 ghost use Rattle.part_calls.specs.Calls.{writeAnswer, writeState, writeOut, takeAnswer, takeState, advanceAnswer, advanceState, collectAnswer, collectOut, pointsAnswer, pointsOut};
 ghost use Rattle.part_start_plan.specs.Start.{inputs, sizeAnswer, startAnswer, startState};
+ghost use Rattle.place_search.specs.Places.{placeIn, readFor, wordsIn, saturated};
 
 // How many cells the mesh has.
 #[no_mangle]
@@ -280,4 +281,12 @@ pub extern "C" fn jem_points(state: &[u8], out: &mut [u8]) -> u64
     ensures { λ r. ⌜ (r ≡ packed (pointsAnswer (now (state .entry)) (now (out .entry)))) × (now (out .exit) ≡ pointsOut (now (state .entry)) (now (out .entry))) ⌝ }
 {
     pack(part_points::points(state, out))
+}
+
+// The place of a cell in a list of words, from 1, and 0 for none. How many numbers were read goes to `read`.
+#[no_mangle]
+pub extern "C" fn jem_place(list: &[u8], cell: u32, read: &mut u32) -> u64
+    ensures { λ r. let ws = wordsIn (now (list .entry)) in ⌜ (r ≡ placeIn cell ws) × (now (read .exit) ≡ saturated (readFor cell ws)) ⌝ }
+{
+    place_search::place(list, cell, read)
 }

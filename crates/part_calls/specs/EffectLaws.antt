@@ -24,10 +24,11 @@ use Rattle.layout.specs.WordLaws.{word-same, word-in, word-left, word-back, len
 use Rattle.depths.specs.Depths.{four}
 use Rattle.depths.specs.DepthLaws.{length-valueBytes, length-four, four-same, four-whole, four-set, four-in, four-before, four-after, four-past, four-drop, fours-length, fours-at, joined-at}
 use Rattle.round_rule.specs.Rules.{plainMean}
-use Rattle.messages.specs.Messages.{depthStart, depthsOf, encode, fromIn, toIn, roundIn, countIn, headerSize}
+use Rattle.messages.specs.Messages.{depthStart, messageSize, depthsOf, encode, fromIn, toIn, roundIn, countIn, headerSize}
+use Rattle.messages.specs.MessageLaws.{encode-length}
 use Rattle.part_state.specs.State.{Lists, roundAt, takenPlace, depthPlace, depthsPlace}
 use Rattle.part_state.specs.StateLaws.{Frame}
-use Rattle.part_calls.specs.Calls.{importsFrom, depthAt, scatter, messageTo, takenIn, allTaken, advanceTestsIn, newAt, newDepths, advancedIn}
+use Rattle.part_calls.specs.Calls.{importsFrom, depthAt, scatter, sentMessageIn, messageTo, takenIn, allTaken, advanceTestsIn, newAt, newDepths, advancedIn}
 use Rattle.part_calls.specs.Calls.{collectedIn, writeNumber, writeState, writeOut, takeNumber, takeState, advanceNumber, advanceState, collectNumber, collectOut}
 use Rattle.part_calls.specs.Calls.{pointGiven, pointsGiven, pointsNumber, pointsOut}
 use Rattle.part_calls.specs.CallLaws.{Room, Taken, fours-long}
@@ -103,6 +104,11 @@ message-words L changes b j =
       wordAt-first ws (joined ds) 2 (omega arith),
       wordAt-first ws (joined ds) 3 (omega arith) ∙ length-map (L .exports j) (depthAt changes b),
     )
+
+pub message-length : (L : Lists) (changes : ℕ) (b : Bytes) (j : ℕ) → length (messageTo L changes b j) ≡ messageSize (length (L .exports j))
+unfolding messageTo
+message-length L changes b j =
+    encode-length (sentMessageIn L changes b j) (fours-long changes b (L .exports j)) ∙ ap (λ n. messageSize n) (length-map (L .exports j) (depthAt changes b))
 
 pub message-depth : (L : Lists) (changes : ℕ) (b : Bytes) (j t : ℕ) → t < length (L .exports j) → four (messageTo L changes b j) (depthStart t) ≡ depthAt changes b (getD (L .exports j) t 0)
 unfolding messageTo encode

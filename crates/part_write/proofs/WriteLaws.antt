@@ -2,10 +2,10 @@
 use mathlib.Core.Path.{_≡_, refl, sym, ap, ap₂, _∙_}
 use mathlib.Core.Bool.{Bool, true, false, not, _&&_, cond}
 use mathlib.Core.List.{[], _∷_, _++_, map}
-use Prim.Native.Nat.{ℕ, _+_, _-_, _*_, _≤_, _<_}
+use Prim.Native.Nat.{ℕ, _+_, _-_, _≤_, _<_}
 use native.Mathlib.Omega.{arith}
 use lib.Dec.{ltb}
-use lib.ListN.{length, set, take, drop, length-append, length-map}
+use lib.ListN.{length, set, take, drop, length-map}
 use borrow.Author.Tests.{lt-ltb, le-ltb, not-true, not-false}
 use Rattle.vocabulary.specs.Bytes.{Bytes, over}
 use Rattle.vocabulary.specs.ByteLaws.{over-more}
@@ -15,17 +15,17 @@ use Rattle.vocabulary.specs.IntervalLaws.{upTo-true, listed-length, joined-mapp
 use Rattle.layout.specs.Words.{word, wordAt, bytesOf}
 use Rattle.layout.specs.WordLaws.{length-bytesOf}
 use Rattle.depths.specs.Depths.{four}
-use Rattle.depths.specs.DepthLaws.{length-four, fours-store, joined-length}
+use Rattle.depths.specs.DepthLaws.{length-four, fours-store}
 use Rattle.layout.specs.AnswerLaws.{refuses, accepts}
 use Rattle.layout.specs.declared.Answer.{Answer}
 use Rattle.layout.specs.declared.Answer.the-variants.{Done, Refused}
 use Rattle.layout.specs.Limits.{mostParts}
 use Rattle.messages.specs.Messages.{headerSize, depthStart, messageSize, encode}
-use Rattle.part_state.specs.State.{Lists, listsIn, listsOf, dynamic, roundAt, exportEnd, exportCount, exportAt, localExports, heldCount, ownedCount, reachCount, depthPlace, writtenPlace, exportsWord}
+use Rattle.part_state.specs.State.{Lists, listsIn, listsOf, dynamic, exportEnd, exportCount, exportAt, localExports, heldCount, ownedCount, reachCount, depthPlace, writtenPlace, exportsWord}
 use Rattle.part_state.specs.State.{partNumber}
 use Rattle.part_state.specs.State.{exportWord}
 use Rattle.part_calls.specs.Calls.{exportsTo, depthAt, messageTo, writeTestsIn, writtenIn, writeNumber, message, writeAnswer, writeState, writeOut}
-use Rattle.part_calls.specs.CallLaws.{fours-long}
+use Rattle.part_calls.specs.EffectLaws.{message-length}
 use Rattle.part_state.specs.Checks.{exportStart, Counts, beforeExports}
 use Rattle.part_state.specs.declared.places.Sizes.{Sizes}
 use Rattle.part_calls.specs.Opened.{Opened, sentTo, sentAt}
@@ -175,14 +175,6 @@ module _ (b : Bytes) (j changes count : ℕ) where
       let w = part-there (take changes b) j count (sent-cut ce) some in (w .1, omega (arith, w .1, long (take changes b) changes b o))
 
 -- ---- the answer, test by test
-
-message-length : (L : Lists) (changes : ℕ) (b : Bytes) (j : ℕ) → length (messageTo L changes b j) ≡ messageSize (length (L .exports j))
-unfolding messageTo encode
-message-length L changes b j =
-    let ds = map (depthAt changes b) (L .exports j) in
-    length-append (bytesOf (L .part ∷ j ∷ roundAt b changes ∷ length (map (depthAt changes b) (L .exports j)) ∷ [])) (joined (map (depthAt changes b) (L .exports j)))
-    ∙ ap₂ _+_ (length-bytesOf (L .part ∷ j ∷ roundAt b changes ∷ length (map (depthAt changes b) (L .exports j)) ∷ [])) (joined-length _ (fours-long changes b (L .exports j))
-    ∙ ap (λ n. 4 * n) (length-map (L .exports j) (depthAt changes b)))
 
 module _ (b : Bytes) (j : ℕ) (out : Bytes) where
   abbrev pub Answered : Answer → Bytes → Bytes → Type 0

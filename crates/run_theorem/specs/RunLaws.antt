@@ -22,12 +22,13 @@ use Rattle.depths.specs.DepthLaws.{length-four, four-set, fours-at}
 use Rattle.mesh.specs.Walks.{Near}
 use Rattle.round_rule.specs.Rules.{Old}
 use Rattle.round.specs.Rounds.{Scheme, depthIn, oldsIn, newIn, round, undivided}
-use Rattle.messages.specs.Messages.{depthStart, fromIn, toIn, roundIn, countIn}
+use Rattle.messages.specs.Messages.{depthStart, messageSize, fromIn, toIn, roundIn, countIn}
 use Rattle.part_state.specs.State.{LocalNear, Lists, dynamic, roundAt, takenPlace, writtenPlace, depthPlace}
 use Rattle.part_state.specs.StateLaws.{Frame, frame-take, frame-dynamic}
 use Rattle.part_calls.specs.Calls.{depthAt, messageTo, writtenIn, takenIn, newAt, advancedIn}
 use Rattle.part_calls.specs.CallLaws.{Room, Taken}
-use Rattle.part_calls.specs.EffectLaws.{take-flag, take-frame, take-word, take-in, take-below, take-above, message-words, message-depth, advance-frame, advance-word, advance-flag, advance-owned}
+use Rattle.part_calls.specs.EffectLaws.{take-flag, take-frame, take-word, take-in, take-below, take-above}
+use Rattle.part_calls.specs.EffectLaws.{message-words, message-length, message-depth, advance-frame, advance-word, advance-flag, advance-owned}
 
 -- ---- what the lists of all parts must have
 
@@ -150,9 +151,12 @@ module _ (X : Scheme) (F : Bytes) (L : Lists) (lists : Bytes) (changes rd : ℕ)
 
 -- ---- messages
 
--- a message holds the undivided depths of its round, at the cells that its sender exports to its receiver
+-- a message holds the undivided depths of its round, at the cells that its sender exports to its receiver, one for each
 pub record RightMessage (X : Scheme) (F : Bytes) (parts : ℕ) (Ls : ℕ → Lists) (x : Bytes) : Type 0 where
   pub sender : Part parts (fromIn x)
+  pub receiver : Part mostParts (toIn x)
+  pub long : length x ≡ messageSize (countIn x)
+  pub count : countIn x ≡ length (Ls (fromIn x) .exports (toIn x))
   pub depths : (t : ℕ) → t < countIn x → four x (depthStart t) ≡ Undivided X F (roundIn x) (Ls (fromIn x) .global (getD (Ls (fromIn x) .exports (toIn x)) t 0))
 
 module _ (X : Scheme) (F : Bytes) (owner : ℕ → ℕ) (parts : ℕ) (Ls : ℕ → Lists) (S : Parted X owner parts Ls) (i : ℕ) (part : Part parts i) (lists : Bytes) (changes rd : ℕ) where
@@ -163,6 +167,9 @@ module _ (X : Scheme) (F : Bytes) (owner : ℕ → ℕ) (parts : ℕ) (Ls : ℕ 
       let me : fromIn (messageTo (Ls i) changes b j) ≡ i = v .0 ∙ S .part-is i part in
       record {
         sender = subst (Part parts) (sym me) part;
+        receiver = subst (Part mostParts) (sym (v .1)) (j-least, j-most);
+        long = message-length L changes b j ∙ ap (λ n. messageSize n) (sym (v .3));
+        count = v .3 ∙ sym (ap₂ (λ p n. length (Ls p .exports n)) me (v .1));
         depths = λ t h.
             let k : t < length (Ls i .exports j) = omega (arith, v .3) in
             let q = All-getD (λ l. (1 ≤ l) × (l ≤ Ls i .owned)) (Ls i .exports j) t 0 (S .exported i part j j-least j-most) k in

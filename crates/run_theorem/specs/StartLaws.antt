@@ -15,7 +15,7 @@ use Rattle.vocabulary.specs.ByteLaws.{over-front}
 use Rattle.vocabulary.specs.Lists.{All, joined}
 use Rattle.vocabulary.specs.ListLaws.{All-map, All-getD, map-cong, map-map, getD-map-any, At, All-of-map, map-id}
 use Rattle.vocabulary.specs.Intervals.{blocks, total}
-use Rattle.vocabulary.specs.IntervalLaws.{total-last, total-fit}
+use Rattle.vocabulary.specs.IntervalLaws.{total-last}
 use Rattle.vocabulary.specs.Tests.{Test, refuse}
 use Rattle.vocabulary.specs.TestLaws.{passed-by, passed-append}
 use Rattle.layout.specs.Words.{word, wordBytes}
@@ -31,7 +31,7 @@ use Rattle.round.specs.Rounds.{schemeOf, depthIn, undivided, bad14}
 use Rattle.split.specs.Split.{Split, splitOf, owned, imports, exports, locals, localOf, globalOf}
 use Rattle.split.specs.Lists.{sizeTests, splitIn}
 use Rattle.split.specs.SplitLaws.{split-parted, split-fine, sizes-parted, map-facts, split-reach, split-owner, SplitCell, order-length, own-is, own-has}
-use Rattle.split.specs.SplitLaws.{own-local, local-back, own-first, import-own, import-at, local-cases, reach-held, import-total, ownCells, own-count}
+use Rattle.split.specs.SplitLaws.{own-local, local-back, own-first, import-own, import-at, import-fits, local-cases, reach-held, import-total, ownCells, own-count}
 use Rattle.part_state.specs.State.{LocalNear, Lists, listsIn, dynamic, roundAt, takenPlace, depthPlace, stateLength}
 use Rattle.part_start_plan.specs.Start.{ownedIn, importEnds, listsRegions, stateSize, firstState, lastTests, startNumber, startState, Inputs, schemeIn}
 use Rattle.run_theorem.specs.FormLaws.{front, words-length, front-length, part-back, kind-back, first-back, cells-back, owned-back, held-back, global-back, import-back, reach-back}
@@ -108,16 +108,6 @@ module _ (I : Inputs) (R : Ready I) where
   unfolding importEnds
   order-full i =
       ap (λ n. ownedIn (splitIn (I .split)) i + n) (import-total (splitIn (I .split)) reach-inside owner-inside i split-few) ∙ sym (order-length (splitIn (I .split)) i)
-
-  import-fits : (i j t : ℕ) → 1 ≤ j → j ≤ splitIn (I .split) .parts → t < length (imports (splitIn (I .split)) i j)
-      → ownedIn (splitIn (I .split)) i + total 1 (j - 1) (λ k. length (imports (splitIn (I .split)) i k)) + 1 + t ≤ length (orderIn I i)
-  import-fits i j t h k q =
-      let p : 1 + (j - 1) ≡ j = omega arith in
-      let f : total 1 (j - 1) (λ k. length (imports (splitIn (I .split)) i k)) + length (imports (splitIn (I .split)) i (1 + (j - 1)))
-      ≤ total 1 (splitIn (I .split) .parts) (λ k. length (imports (splitIn (I .split)) i k)) =
-      total-fit 1 (λ k. length (imports (splitIn (I .split)) i k)) (splitIn (I .split) .parts) (j - 1) (omega arith) in
-      let s : length (imports (splitIn (I .split)) i (1 + (j - 1))) ≡ length (imports (splitIn (I .split)) i j) = ap (λ x. length (imports (splitIn (I .split)) i x)) p in
-      omega (arith, order-length (splitIn (I .split)) i)
 
   module _ (i : ℕ) where
     abbrev S : Split
@@ -230,7 +220,7 @@ module _ (I : Inputs) (R : Ready I) where
     unfolding exports
     lists-export-at j t h k l = ap (λ xs. getD xs t 0) (lists-exports j h k) ∙ getD-map-any (localOf order) (imports S j i) t 0 0 l
 
-    local-least : (c : ℕ) → 1 ≤ localOf order c
+    pub local-least : (c : ℕ) → 1 ≤ localOf order c
     unfolding localOf
     local-least c = omega arith
 
@@ -250,7 +240,7 @@ module _ (I : Inputs) (R : Ready I) where
         let e : L .before j + 1 + t ≡ ownedIn S i + total 1 (j - 1) (λ k. length (imports S i k)) + 1 + t = omega (arith, lists-before j h few) in
         let n : ℕ = ownedIn S i + total 1 (j - 1) (λ k. length (imports S i k)) + 1 + t in
         ap (L .global) e
-        ∙ lists-global n (omega arith) (import-fits i j t h k q)
+        ∙ lists-global n (omega arith) (import-fits S i j t h k q)
         ∙ import-at S i j t h k q
 
   pub parted : Parted (schemeIn I) (ownerOf I) (I .split .parts) (λ i. listsIn (frontIn I i))

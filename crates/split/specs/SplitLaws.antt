@@ -16,7 +16,8 @@ use Rattle.vocabulary.specs.Lists.{All, someOf, everyOf, placeOf, repeats}
 use Rattle.vocabulary.specs.ListLaws.{repeats-none, repeats-once, and-true, and-intro, and-left, and-right, or-false, everyOf-at, everyOf-true, All-map, All-append}
 use Rattle.vocabulary.specs.ListLaws.{All-getD, All-intro, At, at-left, at-right, placeOf-is, placeOf-left, not-both, same-test, someOf-has}
 use Rattle.vocabulary.specs.Intervals.{isUpTo, picked, blocks, total}
-use Rattle.vocabulary.specs.IntervalLaws.{picked-all, picked-in, picked-passes, picked-none, picked-cong, picked-rises, blocks-all, blocks-cases, blocks-at, blocks-have, blocks-length, upTo-true}
+use Rattle.vocabulary.specs.IntervalLaws.{picked-all, picked-in, picked-passes, picked-none, picked-cong, picked-rises}
+use Rattle.vocabulary.specs.IntervalLaws.{blocks-all, blocks-cases, blocks-at, blocks-have, blocks-length, upTo-true, total-fit}
 use Rattle.vocabulary.specs.CountLaws.{picked-halves, total-short, picked-shared}
 use Rattle.vocabulary.specs.Tests.{Test, firstOf}
 use Rattle.vocabulary.specs.TestLaws.{numbered, numbered-append, small, small-append, passed-by, passed-append, firstOf-after, firstOf-left}
@@ -260,6 +261,15 @@ module _ (S : Split) where
       ∙ getD-append-add (ownCells S i) bs (length (blocks 1 (j - 1) (imports S i)) + t) 0
       ∙ blocks-at 1 (imports S i) (S .parts) (j - 1) t 0 (omega arith) (subst (λ x. t < length (imports S i x)) (sym one) l)
       ∙ ap (λ x. getD (imports S i x) t 0) one
+
+  -- its number is in the local order
+  pub import-fits : (i j t : ℕ) → 1 ≤ j → j ≤ S .parts → t < length (imports S i j)
+      → length (owned S i) + total 1 (j - 1) (λ k. length (imports S i k)) + 1 + t ≤ length (locals S i)
+  import-fits i j t h k q =
+      let p : 1 + (j - 1) ≡ j = omega arith in
+      let f = total-fit 1 (λ k. length (imports S i k)) (S .parts) (j - 1) (omega arith) in
+      let s : length (imports S i (1 + (j - 1))) ≡ length (imports S i j) = ap (λ x. length (imports S i x)) p in
+      omega (arith, order-length i, f)
 
   -- a local number is an owned cell's or an imported one's
   pub local-cases : (i l : ℕ) → 1 ≤ l → l ≤ length (locals S i) → (l ≤ length (owned S i))

@@ -2,7 +2,8 @@
 //!
 //! `differential [seed [cases]]`; without a seed it takes one from the clock. Where JEMLAYOS_LIST names a list program,
 //! what that prints is compared too. Exits with 1 on a difference, or where a call was never accepted, never refused with one
-//! of the numbers that it tries, or never met one of the rules on gaps that it can meet.
+//! of the numbers that it tries, or never met one of the rules on gaps that it can meet, or where a search for a place never
+//! came to one of its ends.
 
 use std::cell::RefCell;
 use std::collections::BTreeMap;
@@ -11,6 +12,7 @@ use std::io::Write;
 use std::process::{Command, ExitCode, Stdio};
 use std::time::{Instant, SystemTime, UNIX_EPOCH};
 
+use jemlayos_model::bytes::{numbers, word, words};
 use jemlayos_model::calls::{others, Calls, List, PartInput, RuleInput};
 use jemlayos_model::compare::Compared;
 use jemlayos_model::gaps::{self, Meetings, Met};
@@ -67,6 +69,8 @@ fn main() -> ExitCode {
         try_listing(&list_program, random, &scenario);
         let forged = traffic::forged_state(random);
         try_state(&all, random, &forged);
+        let list = some_list(random);
+        try_places(&all, &list);
     }
     tally.into_inner().report(began.elapsed().as_secs_f64())
 }
@@ -85,6 +89,7 @@ fn tries(call: &str) -> &'static [u32] {
         "advance" => &[20, 24, 25, 26],
         "collect" => &[16, 20, 28],
         "points" => &[16, 20, 24, 29],
+        "place" => &[],
         // The lists of a part, and the list program, which has no buffer.
         "list program" => &[1, 2, 3, 4, 5, 6, 7, 8, 9, 10, 12, 13],
         _ => &[1, 2, 3, 4, 5, 6, 7, 8, 9, 10, 12, 13, 16],
@@ -98,6 +103,8 @@ struct Tally {
     answers: BTreeMap<&'static str, BTreeMap<u32, u64>>,
     /// How many calls met each rule on gaps.
     met: BTreeMap<(&'static str, Met), u64>,
+    /// How many searches for a place came to each end.
+    ends: BTreeMap<SearchEnd, u64>,
     /// How many runs there were of each kind of rule and each share of gaps.
     runs: BTreeMap<(u32, usize), u64>,
     differences: u64,
@@ -122,7 +129,8 @@ impl Tally {
         for (call, numbers) in &self.answers {
             let count = |number: &u32| numbers.get(number).copied().unwrap_or(0);
             let refused: Vec<String> = tries(call).iter().map(|n| format!("{n}: {}", count(n))).collect();
-            println!("{call}: accepted {}; refused {}", count(&0), refused.join(", "));
+            let refused = if refused.is_empty() { String::new() } else { format!("; refused {}", refused.join(", ")) };
+            println!("{call}: accepted {}{refused}", count(&0));
             calls += numbers.values().sum::<u64>();
             missing += [0].iter().chain(tries(call)).filter(|n| count(n) == 0).count();
         }
@@ -136,6 +144,9 @@ impl Tally {
             missing += counts.clone().filter(|&(_, count)| count == 0).count();
             println!("{call}, gaps: {}", joined(counts.map(|(met, count)| format!("{met} {count}"))));
         }
+        let counts = SearchEnd::ALL.map(|end| (end, self.ends.get(&end).copied().unwrap_or(0)));
+        missing += counts.iter().filter(|&&(_, count)| count == 0).count();
+        println!("place, ends: {}", joined(counts.iter().map(|(end, count)| format!("{end:?} {count}"))));
         for kind in 0..=2 {
             let counts = GAP_SHARES.map(|share| (share, self.runs.get(&(kind, share)).copied().unwrap_or(0)));
             missing += counts.iter().filter(|&&(_, count)| count == 0).count();
@@ -150,6 +161,47 @@ impl Tally {
             ExitCode::SUCCESS
         } else {
             ExitCode::FAILURE
+        }
+    }
+}
+
+/// How a search for a place ends.
+#[derive(Clone, Copy, Debug, PartialEq, Eq, PartialOrd, Ord)]
+enum SearchEnd {
+    /// At the number sought, in a rising list.
+    Found,
+    /// At a greater one, in a rising list.
+    Absent,
+    /// The same two in a list that does not rise.
+    FoundUnordered,
+    AbsentUnordered,
+    /// With the list, all of whose numbers are below the one sought.
+    WholeList,
+    /// At once: the list has no number.
+    NoNumbers,
+}
+
+impl SearchEnd {
+    const ALL: [SearchEnd; 6] = [
+        SearchEnd::Found,
+        SearchEnd::Absent,
+        SearchEnd::FoundUnordered,
+        SearchEnd::AbsentUnordered,
+        SearchEnd::WholeList,
+        SearchEnd::NoNumbers,
+    ];
+
+    fn of(list: &[u8], cell: u32, place: u64, read: u32) -> SearchEnd {
+        let numbers = numbers(list);
+        let rises = numbers.windows(2).all(|pair| pair[0] < pair[1]);
+        let ended = read > 0 && numbers[read as usize - 1] >= cell as usize;
+        match (place > 0, ended, rises) {
+            _ if numbers.is_empty() => SearchEnd::NoNumbers,
+            (_, false, _) => SearchEnd::WholeList,
+            (true, _, true) => SearchEnd::Found,
+            (false, _, true) => SearchEnd::Absent,
+            (true, _, false) => SearchEnd::FoundUnordered,
+            (false, _, false) => SearchEnd::AbsentUnordered,
         }
     }
 }
@@ -232,6 +284,12 @@ impl Calls for Watched<'_> {
         let answer = self.calls.points(state, out);
         self.count("points", answer, gaps::in_points(state, answer))
     }
+
+    fn place(&self, list: &[u8], cell: u32, read: &mut u32) -> u64 {
+        let place = self.calls.place(list, cell, read);
+        *self.tally.borrow_mut().ends.entry(SearchEnd::of(list, cell, place, *read)).or_default() += 1;
+        place
+    }
 }
 
 /// The list program, if one is named.
@@ -297,9 +355,37 @@ fn try_inputs(calls: &dyn Calls, random: &mut Random, scenario: &Scenario) {
         // How long a list is only its call says.
         let mut out = random.bytes(2 * scenario.mesh.len());
         if let Ok(count) = calls.list(input, list, &mut out) {
+            if let List::Imports(_) = list {
+                try_places(calls, &out[..2 * count as usize]);
+            }
             let mut out = buffer(random, 2 * count as usize);
             let _ = calls.list(input, list, &mut out);
         }
+    }
+}
+
+/// A list of words, most often rising, now and then with half a word more.
+fn some_list(random: &mut Random) -> Vec<u8> {
+    let most = *random.pick(&[9, 300, 65_535]);
+    let count = random.below(12);
+    let mut numbers: Vec<usize> = (0..count).map(|_| random.below(most + 1)).collect();
+    if !random.one_in(3) {
+        numbers.sort_unstable();
+        numbers.dedup();
+    }
+    let mut list = words(&numbers);
+    if random.one_in(4) {
+        list.push(random.byte());
+    }
+    list
+}
+
+/// Searches for each number of a list, for the numbers beside it, for one with the same low 16 bits, and for some that no word
+/// has. What was in `read` before does not matter.
+fn try_places(calls: &dyn Calls, list: &[u8]) {
+    let near = |number: usize| [number.saturating_sub(1), number, number + 1, number + 65_536].map(|cell| cell as u32);
+    for cell in numbers(list).into_iter().flat_map(near).chain([0, 65_535, 65_536, 65_537, u32::MAX]) {
+        let _ = calls.place(list, cell, &mut 0xeeee_eeee);
     }
 }
 
@@ -424,7 +510,6 @@ impl<'a> Run<'a> {
 
 /// The round in bytes that are perhaps a state.
 fn round_of(state: &[u8]) -> u32 {
-    use jemlayos_model::bytes::word;
     word(state, word(state, 0)) as u32
 }
 

@@ -76,4 +76,16 @@ impl Calls for Tuned {
     fn points(&self, state: &[u8], out: &mut [u8]) -> Answer {
         state::points(state, out)
     }
+
+    fn place(&self, list: &[u8], cell: u32, read: &mut u32) -> u64 {
+        for (before, pair) in list.chunks_exact(2).enumerate() {
+            let number = u32::from(u16::from_be_bytes([pair[0], pair[1]]));
+            if number >= cell {
+                *read = u32::try_from(before + 1).unwrap_or(u32::MAX);
+                return if number == cell { before as u64 + 1 } else { 0 };
+            }
+        }
+        *read = u32::try_from(list.len() / 2).unwrap_or(u32::MAX);
+        0
+    }
 }
