@@ -146,9 +146,10 @@ uint64_t jem_place(const uint8_t *list, size_t list_len, uint32_t cell, uint32_t
 /* ---- The undivided round ---- */
 
 /* The field that the rule makes of the given one, at every cell of the mesh, into out. The kind is 0 hold, 1 mean,
- * 2 shoalest; weights are words, for mean only. Hold keeps a gap. Mean and shoalest pass over gaps, a mean's divisor too,
- * and so fill one where they read a depth; with only gaps in the reach, or only depths of weight 0 left, the new value is a
- * gap. Tries 1-7, 10, 11, 13, 14, 16. Count: the values. */
+ * 2 shoalest; weights are words, for mean only. A mean is rounded to the greatest whole number not above the quotient, so
+ * that it is never deeper than the quotient itself: 7 over 4 gives 1, and -7 over 4 gives -2. Hold keeps a gap. Mean and
+ * shoalest pass over gaps, a mean's divisor too, and so fill one where they read a depth; with only gaps in the reach, or
+ * only depths of weight 0 left, the new value is a gap. Tries 1-7, 10, 11, 13, 14, 16. Count: the values. */
 uint64_t jem_round(const uint8_t *mesh, size_t mesh_len, const uint8_t *stencil, size_t stencil_len, uint32_t kind,
                    const uint8_t *weights, size_t weights_len, const uint8_t *field, size_t field_len, uint8_t *out,
                    size_t out_len);

@@ -10,7 +10,7 @@
 //! | `tuned` | the same calls once more, as fast as safe Rust makes them |
 //! | `engine` | the static library behind the same trait |
 //! | `compare` | each call on all of these at once |
-//! | `gaps` | which rules on gaps a call met |
+//! | `met` | which rules on gaps and on rounding a call met |
 //! | `generate` | random, extreme and damaged inputs |
 
 pub mod bytes;
@@ -18,11 +18,11 @@ pub mod calls;
 pub mod compare;
 #[cfg(engine)]
 pub mod engine;
-pub mod gaps;
 pub mod generate;
 pub mod listing;
 pub mod mesh;
 pub mod messages;
+pub mod met;
 pub mod parts;
 pub mod places;
 pub mod refusal;

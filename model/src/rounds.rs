@@ -43,9 +43,8 @@ impl Rule {
     }
 }
 
-/// The mean of values with their weights. Gaps are passed over, in the divisor too, and where no weight above 0 is left the
-/// mean is a gap. The fraction is dropped toward zero, as Rust's quotient does; a mean of depths is a depth.
-fn mean(weighed: impl Iterator<Item = (usize, Value)>) -> Value {
+/// The sum of values with their weights, and the sum of these weights. Gaps are passed over in both.
+pub fn sums(weighed: impl Iterator<Item = (usize, Value)>) -> (i64, i64) {
     let (mut sum, mut weight) = (0, 0);
     for (v, value) in weighed {
         if let Some(depth) = value {
@@ -53,7 +52,14 @@ fn mean(weighed: impl Iterator<Item = (usize, Value)>) -> Value {
             weight += v as i64;
         }
     }
-    (weight > 0).then(|| (sum / weight) as i32)
+    (sum, weight)
+}
+
+/// The mean of values with their weights, a gap where no weight above 0 is left. It is the greatest whole number not above
+/// the quotient (F-4); a mean of depths is a depth.
+fn mean(weighed: impl Iterator<Item = (usize, Value)>) -> Value {
+    let (sum, weight) = sums(weighed);
+    (weight > 0).then(|| sum.div_euclid(weight) as i32)
 }
 
 /// The mean with all weights 1, rounded like the rule.

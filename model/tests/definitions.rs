@@ -181,13 +181,14 @@ impl<'a> Paper<'a> {
     }
 }
 
-/// The mean of weighed depths: the number nearest to zero of those that are less than 1 from the quotient, or a gap where no
+/// The mean of weighed depths: of the whole numbers next to the quotient the greatest that is not above it, or a gap where no
 /// weight is left to divide by.
 fn mean(weighed: Vec<(usize, i32)>) -> Value {
     let weights: i64 = weighed.iter().map(|&(weight, _)| weight as i64).sum();
     let sum: i64 = weighed.iter().map(|&(weight, depth)| weight as i64 * i64::from(depth)).sum();
-    let quotient = (weights > 0).then(|| sum.abs().div_euclid(weights) * sum.signum())?;
-    Some(quotient.try_into().unwrap())
+    let next_to = (weights > 0).then(|| sum / weights - 1..=sum / weights + 1)?;
+    let mean = next_to.filter(|whole| whole * weights <= sum).max()?;
+    Some(mean.try_into().unwrap())
 }
 
 /// Random inputs over meshes of few cells: the definitions take long.

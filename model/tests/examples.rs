@@ -150,11 +150,12 @@ fn mean_of_two_rounds() {
     assert_eq!(round(MEAN, after_one), [155, 208, 300, 391, 444].map(Some));
 }
 
+/// The specification has -1, which request F-4 changed.
 #[test]
-fn the_fraction_is_dropped_toward_zero() {
+fn sum_minus_7_over_weights_4() {
     let weights = words(&[1, 3]);
     let rule = Rule::read(mean(&weights), 2).ok().unwrap();
-    assert_eq!(rule.new_value(Some(-1), [(0, Some(-1)), (2, Some(-2))].into_iter()), Some(-1));
+    assert_eq!(rule.new_value(Some(-1), [(0, Some(-1)), (2, Some(-2))].into_iter()), Some(-2));
 }
 
 #[test]

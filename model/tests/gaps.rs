@@ -110,9 +110,9 @@ fn gaps_alone_start_and_stay() {
 fn a_gap_is_neither_in_the_sum_nor_in_the_divisor() {
     let field = [Some(90), None, Some(-31), Some(60), Some(7)];
     // 180 / 2, 59 / 2, −2 / 3, 96 / 4 and 74 / 3. With a gap in the divisor the first two are 60 and 14.
-    assert_eq!(round(MEAN, field), [90, 29, 0, 24, 24].map(Some));
+    assert_eq!(round(MEAN, field), [90, 29, -1, 24, 24].map(Some));
     let field = [Some(90), None, Some(-31), None, Some(7)];
-    // −62 / 2, where −62 / 4 would be −15.
+    // −62 / 2, where −62 / 4 would be −16.
     assert_eq!(round(MEAN, field), [90, 29, -31, -12, 7].map(Some));
     let (most, least) = (Some(1_200_000), Some(-1_200_000));
     assert_eq!(round(MEAN, [most, None, most, None, least]), [most, most, most, Some(0), least]);
@@ -241,7 +241,7 @@ fn only_80_00_00_00_is_a_gap() {
     let field = [Some(128), None, Some(128), Some(0), Some(-1)];
     assert_eq!(round(HOLD, field), field);
     assert_eq!(round(SHOALEST, field), [128, 128, 0, -1, -1].map(Some));
-    assert_eq!(round(MEAN, field), [128, 128, 85, 31, 0].map(Some));
+    assert_eq!(round(MEAN, field), [128, 128, 85, 31, -1].map(Some));
 }
 
 /// "The equality of gathered fields counts a gap as equal to a gap alone": as values, and so of valid ones as bytes.

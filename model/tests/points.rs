@@ -83,15 +83,6 @@ fn both_boards_give_the_shared_point_alike_at_each_round() {
 }
 
 #[test]
-fn the_fraction_is_dropped_toward_zero() {
-    let mut boards = boards(MEAN, [-1, -2, 0, 0, 0].map(Some));
-    exchange(&mut boards);
-    let mut out = [0; 24];
-    under_test().points(&boards[0], &mut out).unwrap();
-    assert_eq!(out[6..12], [0, 2, 0xff, 0xff, 0xff, 0xff]);
-}
-
-#[test]
 fn exports_need_not_be_written_and_any_round_gives_points() {
     let mut state = board(1, MEAN, FIELD);
     under_test().take(&mut state, &MESSAGE).unwrap();

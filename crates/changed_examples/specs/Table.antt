@@ -1,5 +1,5 @@
 -- Examples beside those of document 01, as entries of tables under a theorem each, all by computation over the definitions. The examples of later
--- requests go here; the table of `worked_examples` stays document 01's. Assumes nothing.
+-- requests go here; the table of `worked_examples` stays document 01's but for the one answer that F-4 changed. Assumes nothing.
 use mathlib.Core.Path.{_≡_, refl}
 use mathlib.Core.Bool.{Bool, true, false}
 use mathlib.Core.List.{List, [], _∷_, _++_, map}
@@ -100,6 +100,10 @@ pub data Example : Type 0 where
   sounded : List Value → Example
   -- the bytes of a list, numbers sought, and for each its place, 0 for none, and how many numbers are read
   searched : Bytes → List ℕ → List (List ℕ) → Example
+  -- a sum, weights and their quotient
+  divided : ℤ → ℕ → ℤ → Example
+  -- depths of the five cells, and those after one round of mean 2 1
+  smoothed : List ℤ → List ℤ → Example
 
 -- what an entry claims
 abbrev pub Holds : Example → Type 0
@@ -112,6 +116,8 @@ Holds (filled kind v fs) = listed 1 (length fs) (undivided (schemeOf five (fiveI
 Holds (sent x refused) = bad15 (messageOf x) ≡ refused
 Holds (sounded xs) = bad14 5 (values xs) ≡ false
 Holds (searched b xs rs) = map (λ x. placeIn x (wordsIn b) ∷ readFor x (wordsIn b) ∷ []) xs ≡ rs
+Holds (divided s w q) = quotient s w ≡ q
+Holds (smoothed zs ys) = undivided (schemeOf five (fiveInputs .split .stencil) 1 (bytesOf (2 ∷ 1 ∷ []))) (joined (map depthBytes zs)) 1 ≡ joined (map depthBytes ys)
 
 abbrev pub AllHold : List Example → Type 0
 AllHold [] = Unit {0}
@@ -122,9 +128,9 @@ table =
     -- shoalest, which has no weights: the least depth of each reach, from 100 200 300 400 500
     rounds 2 [] 1 (100 ∷ 100 ∷ 200 ∷ 300 ∷ 400 ∷ [])
     ∷ rounds 2 [] 2 (100 ∷ 100 ∷ 100 ∷ 200 ∷ 300 ∷ [])
-    -- 701 over 3 and, above the water, −7 over 4: fraction dropped toward zero
+    -- 701 over 3 and, above the water, −7 over 4, which is −2 (F-4)
     ∷ plain (pos 100 ∷ pos 200 ∷ pos 401 ∷ []) (pos 233)
-    ∷ plain (negsuc 0 ∷ negsuc 1 ∷ negsuc 1 ∷ negsuc 1 ∷ []) (negsuc 0)
+    ∷ plain (negsuc 0 ∷ negsuc 1 ∷ negsuc 1 ∷ negsuc 1 ∷ []) (negsuc 1)
     -- F-1: the points of the two parts of the five cells
     ∷ point-words (started fiveInputs 1) 70 (4 ∷ 1 ∷ 2 ∷ 3 ∷ 4 ∷ 0 ∷ 1 ∷ 3 ∷ 5 ∷ 7 ∷ 1 ∷ 2 ∷ 1 ∷ 3 ∷ 2 ∷ 4 ∷ 3 ∷ [])
     ∷ point-words (started fiveInputs 2) 62 (3 ∷ 4 ∷ 5 ∷ 6 ∷ 0 ∷ 2 ∷ 4 ∷ 5 ∷ 2 ∷ 3 ∷ 1 ∷ 2 ∷ 1 ∷ [])
@@ -133,10 +139,10 @@ table =
     ∷ points-number tookIn 23 16
     -- 29 is about the reach of each owned cell: a part that has all cells is refused where the stencil has no steps
     ∷ points-number (started (fiveInOne (1 ∷ []) (fiveInputs .field)) 1) 36 29
-    -- a mean is rounded toward zero, −3 over 2 to −1
+    -- −3 over 2 is −2, and −2 over 2 is −1 (F-4)
     ∷ points-given (started (fiveInOne (1 ∷ 0 ∷ 1 ∷ []) (joined (map depthBytes (negsuc 0 ∷ negsuc 1 ∷ pos 0 ∷ pos 0 ∷ pos 0 ∷ [])))) 1) (
     (0x00 ∷ 0x01 ∷ 0xFF ∷ 0xFF ∷ 0xFF ∷ 0xFF ∷ [])
-    ∷ (0x00 ∷ 0x02 ∷ 0xFF ∷ 0xFF ∷ 0xFF ∷ 0xFF ∷ [])
+    ∷ (0x00 ∷ 0x02 ∷ 0xFF ∷ 0xFF ∷ 0xFF ∷ 0xFE ∷ [])
     ∷ (0x00 ∷ 0x03 ∷ 0xFF ∷ 0xFF ∷ 0xFF ∷ 0xFF ∷ [])
     ∷ at 4 0
     ∷ at 5 0
@@ -206,3 +212,27 @@ places =
 pub places-found : AllHold places
 unfolding listed word wordAt words bytesOf lowerBound placeIn readFor wordsIn
 places-found = (refl, (refl, (refl, (refl, tt))))
+
+-- ---- rounding to the shoal side (F-4)
+
+abbrev pub rounded : List Example
+rounded =
+    -- "sum −7 over weights 4 becomes −2"; 7 over 4, −8 over 4, −1 over 15 and 0 over 4
+    divided (negsuc 6) 4 (negsuc 1)
+    ∷ divided (pos 7) 4 (pos 1)
+    ∷ divided (negsuc 7) 4 (negsuc 1)
+    ∷ divided (negsuc 0) 15 (negsuc 0)
+    ∷ divided (pos 0) 4 (pos 0)
+    -- −100 to −500: −400 over 3 is −134, and −1400 over 3 is −467
+    ∷ smoothed
+    (negsuc 99 ∷ negsuc 199 ∷ negsuc 299 ∷ negsuc 399 ∷ negsuc 499 ∷ [])
+    (negsuc 133 ∷ negsuc 199 ∷ negsuc 299 ∷ negsuc 399 ∷ negsuc 466 ∷ [])
+    -- the mean of −1,200,000, the least depth, and −1,199,999 is −1,200,000, in range
+    ∷ plain (negsuc 1199999 ∷ negsuc 1199998 ∷ []) (negsuc 1199999)
+    ∷ []
+
+pub means-rounded : AllHold rounded
+unfolding over isIn placeOf joined someOf isUpTo picked some listed blocks word wordAt wordBytes bytesOf four numberFrom signed unsigned depthFrom numberBytes depthBytes valueFrom
+    valueBytes isDepth below dimension elementIn nextOf follow records chain incident steps stepTo walked stepsTo layer reach filtered withoutGaps weight readBy depthSum
+    weightSum quotient meanOf newDepth schemeOf depthIn oldsIn newIn round undivided five fiveInputs
+means-rounded = (refl, (refl, (refl, (refl, (refl, (refl, (refl, tt)))))))

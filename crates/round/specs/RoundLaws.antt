@@ -1,5 +1,5 @@
 -- Laws of fields and of the undivided round: an accepted field, a table of a reach by places in the field, and that every round leaves an
--- accepted field again. Assumes nothing.
+-- accepted field again, its means rounded to the shoal side. Assumes nothing.
 use mathlib.Core.Path.{_≡_, refl, sym, _∙_}
 use mathlib.Core.Bool.{Bool, true, false, not}
 use mathlib.Core.List.{List, [], _∷_, map}
@@ -19,8 +19,9 @@ use Rattle.layout.specs.Words.{word}
 use Rattle.depths.specs.Depths.{deepest, Within, Valid, four, numberFrom, signed, depthFrom, valueFrom, valueOf, rangedAt}
 use Rattle.depths.specs.DepthLaws.{length-four, four-same, value-same, value-four, fours-length, fours-at, within-valid, ranged-valid}
 use Rattle.mesh.specs.Walks.{Near}
-use Rattle.round_rule.specs.RuleLaws.{SmallOld, new-within, new-length}
-use Rattle.round.specs.Rounds.{bad14, Scheme, schemeOf, depthIn, oldsIn, newIn, round, undivided}
+use Rattle.round_rule.specs.Rules.{Old, readBy, depthSum, weightSum, ones, plainOld, newDepth}
+use Rattle.round_rule.specs.RuleLaws.{SmallOld, Floored, mean-floor, point-floor, new-within, new-length}
+use Rattle.round.specs.Rounds.{bad14, Scheme, schemeOf, depthIn, oldsIn, newIn, round, undivided, pointIn}
 use Rattle.round_update.specs.Update.{oldsAt}
 
 -- ---- an accepted field of n cells
@@ -110,3 +111,29 @@ pub undivided-good : (m st : Bytes) (kind : ℕ) (v f : Bytes) (k : ℕ) → bad
 unfolding undivided
 undivided-good m st kind v f zero e = e
 undivided-good m st kind v f (suc k) e = round-good m st kind v (undivided (schemeOf m st kind v) f k) (undivided-good m st kind v f k e)
+
+-- ---- "Every mean, at cells and points, takes the greatest whole number not above the quotient" (F-4): so it is of every accepted field
+
+module _ (m st v f : Bytes) (e : bad14 (schemeOf m st 1 v .cells) f ≡ false) where
+  -- what the mean of cell c reads
+  abbrev readAt : ℕ → List Old
+  readAt c = readBy v 1 (oldsIn (schemeOf m st 1 v) f (schemeOf m st 1 v .reach c))
+
+  pub cells-floored : (c : ℕ) → Floored (depthSum v (readAt c)) (weightSum v (readAt c)) (valueOf (newIn (schemeOf m st 1 v) f c))
+  unfolding newIn schemeOf newDepth
+  cells-floored c = mean-floor v deepest _ (omega arith) (olds-within m st 1 v f e _)
+
+module _ (m st : Bytes) (kind : ℕ) (v f : Bytes) (e : bad14 (schemeOf m st kind v .cells) f ≡ false) where
+  -- what the mean at point p reads, whatever the rule
+  abbrev readAround : ℕ → List Old
+  readAround p = readBy ones 1 (map plainOld (map (depthIn (schemeOf m st kind v) f) (schemeOf m st kind v .around p)))
+
+  values-within : (cs : List ℕ) → All (λ x. Within deepest (valueOf x)) (map (depthIn (schemeOf m st kind v) f) cs)
+  unfolding depthIn
+  values-within [] = tt
+  values-within (c ∷ cs) = (rw value-four (field-depth _ f e _), values-within cs)
+
+  pub points-floored : (p : ℕ) → Floored (depthSum ones (readAround p)) (weightSum ones (readAround p)) (valueOf (pointIn (schemeOf m st kind v) f p))
+  unfolding pointIn
+  points-floored p =
+      let cs : List ℕ = schemeOf m st kind v .around p in point-floor (map (depthIn (schemeOf m st kind v) f) cs) deepest (omega arith) (values-within cs)

@@ -1,16 +1,16 @@
--- Laws of the rules: what a rule reads, one more old value at the end, a plain mean in any order, values within a bound give a new value within it, when a new value is a
--- gap, a new value is four bytes, and what an accepted rule says of its weights. Assumes nothing.
+-- Laws of the rules: what a rule reads, one more old value at the end, a plain mean in any order, a mean is rounded to the shoal side, values within a bound give a new value
+-- within it, when a new value is a gap, a new value is four bytes, and what an accepted rule says of its weights. Assumes nothing.
 use mathlib.Core.Path.{_≡_, refl, sym, ap, ap₂, _∙_, subst}
 use mathlib.Core.Logic.{_↔_, _≢_}
 use mathlib.Core.Bool.{Bool, true, false, not, cond, _&&_, _||_, true≢false}
 use mathlib.Core.List.{List, [], _∷_, _++_, map, reverse, reverseAux}
 use Prim.Native.Nat.{ℕ, zero, suc, _+_, _-_, _*_, _/_, _<_, _≤_, zero-le}
-use native.Mathlib.Nat.{mul-le-mul-left, div-le-of-le-mul, zero-add, add-zero}
+use native.Mathlib.Nat.{mul-le-mul-left, mul-div-le, lt-mul-div-succ, div-le-of-le-mul, le-div-iff-mul-le, div-lt-iff-lt-mul, zero-add, add-zero}
 use native.Mathlib.Omega.{arith}
-use lib.Dec.{eqb, ltb}
-use lib.IntN.{ℤ, pos, negsuc, negℤ, natAbs, subℕ, _+ℤ_, _*ℤ_, +ℤ-idl, +ℤ-idr, +ℤ-assoc, +ℤ-comm, zero-*ℤ}
+use lib.Dec.{eqb, ltb, leb→le, le→leb, lt→ltb}
+use lib.IntN.{ℤ, pos, negsuc, negℤ, natAbs, subℕ, _+ℤ_, _*ℤ_, +ℤ-idl, +ℤ-idr, +ℤ-one, +ℤ-assoc, +ℤ-comm, zero-*ℤ}
 use lib.ListN.{length}
-use lib.Signed.{ltZ}
+use lib.Signed.{ltZ, _≤ℤ_, _<ℤ_}
 use borrow.Author.Tests.{ltb-true, ltb-false, eqb-true, ne-eqb, not-false}
 use Rattle.vocabulary.specs.Bytes.{Bytes}
 use Rattle.vocabulary.specs.Lists.{All, filtered}
@@ -23,7 +23,7 @@ use Rattle.depths.specs.Depths.{depthOf, gapBytes, isDepth, valueOf, valueBytes
 use Rattle.depths.specs.DepthLaws.{gap-alone, value-is, length-valueBytes, value-back, bytes-gap}
 use Rattle.depths.specs.declared.Value.{Value}
 use Rattle.depths.specs.declared.Value.the-variants.{Depth, Gap}
-use Rattle.round_rule.specs.Rules.{Old, weightCount, tooHeavy, bad11, withoutGaps, readBy, weight, depthSum, weightSum, quotient, meanOf, ones, plainOld, plainMean, lesser, least}
+use Rattle.round_rule.specs.Rules.{Old, weightCount, tooHeavy, bad11, withoutGaps, readBy, weight, depthSum, weightSum, quotient, meanOf, mean, ones, plainOld, plainMean, lesser, least}
 use Rattle.round_rule.specs.Rules.{leastOf, newDepth}
 use Rattle.round_rule.specs.Code.{dividedBy, lesserOf}
 
@@ -167,9 +167,64 @@ mean-reversed xs =
     ∙ ap₂ (λ s n. dividedBy s n) (sum-turned ones xs [] ∙ +ℤ-idr (depthsOf ones xs)) (weights-turned ones xs [] ∙ add-zero (weightsOf ones xs))
     ∙ sym (mean-by-sums ones (map plainOld xs)))
 
+-- ---- a mean is rounded to the shoal side: "the greatest whole number not above the quotient" (F-4)
+
+negative-below : (k n : ℕ) → n < k → negℤ (pos k) ≤ℤ negsuc n
+negative-below zero n h = let z : ⊥ = omega arith in absurd z
+negative-below (suc k) n h = record { le = le→leb n k (omega arith) }
+
+negative-above : (k n : ℕ) → k ≤ n → negsuc n <ℤ negℤ (pos k)
+negative-above zero n h = record { lt = tt }
+negative-above (suc k) n h = record { lt = lt→ltb k n h }
+
+negative-least : (k n : ℕ) → negℤ (pos k) ≤ℤ negsuc n → n < k
+negative-least zero n h = absurd (h .le)
+negative-least (suc k) n h = let l : n ≤ k = leb→le n k (h .le) in omega arith
+
+module _ (w : ℕ) (i : 1 ≤ w) where
+  -- "not above the quotient": times the weights, it is not above the sum
+  pub floor-below : (x : ℤ) → (pos w *ℤ quotient x w) ≤ℤ x
+  unfolding quotient
+  floor-below (pos n) = record { le = le→leb (w * (n / w)) n (mul-div-le n w) }
+  floor-below (negsuc n) = negative-below (w * suc (n / w)) n (omega (arith, lt-mul-div-succ n i))
+
+  -- one more is above the quotient
+  pub floor-next : (x : ℤ) → x <ℤ (pos w *ℤ (quotient x w +ℤ pos 1))
+  unfolding quotient
+  floor-next (pos n) = record { lt = lt→ltb n (w * (n / w + 1)) (lt-mul-div-succ n i) }
+  floor-next (negsuc n) = go (n / w) (mul-div-le n w)
+    where
+      go : (q : ℕ) → w * q ≤ n → negsuc n <ℤ (pos w *ℤ (negsuc q +ℤ pos 1))
+      go zero h = record { lt = tt }
+      go (suc q) h = rw (+ℤ-one (negsuc (suc q))) (negative-above (w * suc q) n h)
+
+  -- "the greatest" of all that are not above it
+  pub floor-greatest : (x z : ℤ) → (pos w *ℤ z) ≤ℤ x → z ≤ℤ quotient x w
+  unfolding quotient
+  floor-greatest (pos n) (pos a) h = let l : w * a ≤ n = leb→le (w * a) n (h .le) in record { le = le→leb a (n / w) (le-div-iff-mul-le i .1 (omega arith)) }
+  floor-greatest (pos n) (negsuc a) h = record { le = tt }
+  floor-greatest (negsuc n) (pos a) h = absurd (h .le)
+  floor-greatest (negsuc n) (negsuc a) h =
+      let l : n < w * suc a = negative-least (w * suc a) n h in
+      let k : n / w < suc a = div-lt-iff-lt-mul i .1 (omega arith) in record { le = le→leb (n / w) a (omega arith) }
+
+positive : (w : ℕ) → eqb w 0 ≡ false → 1 ≤ w
+positive zero e = absurd (true≢false e)
+positive (suc w) e = omega arith
+
+-- of a mean that is no gap: it is not deeper than its sum over its weights, and one more would be
+unfoldable pub Floored : ℤ → ℕ → Value → Type 0
+Floored sum weights (Depth z) = ((pos weights *ℤ z) ≤ℤ sum) × (sum <ℤ (pos weights *ℤ (z +ℤ pos 1)))
+Floored sum weights Gap = Unit {0}
+
+divided-floor : (sum : ℤ) (w : ℕ) → Floored sum w (dividedBy sum w)
+unfolding Floored
+divided-floor sum w =
+    cond-has (Floored sum w) (eqb w 0) Gap (Depth (quotient sum w)) (λ e. tt) (λ e. (floor-below w (positive w e) sum, floor-next w (positive w e) sum))
+
 -- ---- sizes of integers
 
-size-neg : (n : ℕ) → natAbs (negℤ (pos n)) ≡ n
+pub size-neg : (n : ℕ) → natAbs (negℤ (pos n)) ≡ n
 size-neg zero = refl
 size-neg (suc n) = refl
 
@@ -190,10 +245,11 @@ pub size-times : (w : ℕ) (x : ℤ) → natAbs (pos w *ℤ x) ≡ w * natAbs x
 size-times w (pos a) = refl
 size-times w (negsuc a) = size-neg (w * suc a)
 
-pub size-quotient : (x : ℤ) (w : ℕ) → natAbs (quotient x w) ≡ natAbs x / w
+-- if the size of a sum is at most w times m, that of its quotient by w is at most m
+pub size-floor : (x : ℤ) (w m : ℕ) → 1 ≤ w → natAbs x ≤ w * m → natAbs (quotient x w) ≤ m
 unfolding quotient
-size-quotient (pos a) w = refl
-size-quotient (negsuc a) w = size-neg (suc a / w)
+size-floor (pos n) w m i h = div-le-of-le-mul w h
+size-floor (negsuc n) w m i h = let k : n < m * w = omega arith in div-lt-iff-lt-mul i .1 k
 
 -- one more term keeps a sum's size below the weights' multiple
 pub size-more : (w : ℕ) (x s : ℤ) (a m : ℕ) → natAbs x ≤ m → natAbs s ≤ a * m → natAbs (s +ℤ pos w *ℤ x) ≤ (a + w) * m
@@ -226,7 +282,7 @@ module _ (m : ℕ) where
 pub divided-within : (sum : ℤ) (w m : ℕ) → natAbs sum ≤ w * m → Within m (dividedBy sum w)
 unfolding Within
 divided-within sum w m h =
-    cond-has (Within m) (eqb w 0) Gap (Depth (quotient sum w)) (λ e. tt) (λ e. subst (λ n. n ≤ m) (sym (size-quotient sum w)) (div-le-of-le-mul w h))
+    cond-has (Within m) (eqb w 0) Gap (Depth (quotient sum w)) (λ e. tt) (λ e. size-floor sum w m (positive w e) h)
 
 module _ (v : Bytes) (m : ℕ) where
   sum-within : (xs : List Old) → All (SmallDepth m) xs → natAbs (depthSum v xs) ≤ weightSum v xs * m
@@ -240,6 +296,15 @@ module _ (v : Bytes) (m : ℕ) where
   pub mean-within : (os : List Old) → All (SmallOld m) os → Within m (meanOf v (readBy v 1 os))
   mean-within os a =
       subst (Within m) (sym (mean-by-sums v os)) (divided-within (depthSum v (withoutGaps os)) (weightSum v (withoutGaps os)) m (sum-within (withoutGaps os) (depths-within m os a)))
+
+  -- "Every mean, at cells ..": "a smoothed depth deeper than its mean" is never given
+  pub mean-floor : (os : List Old) → m < 2147483648 → All (SmallOld m) os
+      → Floored (depthSum v (readBy v 1 os)) (weightSum v (readBy v 1 os)) (valueOf (mean v os))
+  unfolding readBy
+  mean-floor os l a =
+      let rs : List Old = heavy v (withoutGaps os) in
+      subst (Floored (depthSum v rs) (weightSum v rs)) (sym (value-back m l (meanOf v rs) (mean-within os a)))
+      (subst (Floored (depthSum v rs) (weightSum v rs)) (sym (mean-heavy v (withoutGaps os) rs refl)) (divided-floor (depthSum v rs) (weightSum v rs)))
 
   least-depth : (z : ℤ) (xs : List Old) → natAbs z ≤ m → All (SmallDepth m) xs → natAbs (least z xs) ≤ m
   unfolding least
@@ -340,6 +405,11 @@ unfolding newDepth valueBytes
 point-gap xs m l a =
     let g = gap-exactly 1 (omega arith) (omega arith) ones [] (map plainOld xs) m l (All-of-map (SmallOld m) plainOld xs a) in
     (λ e. none-read xs (g .0 e), λ b. g .1 (gaps-read xs b))
+
+-- ".. and points" (F-4)
+pub point-floor : (xs : List Bytes) (m : ℕ) → m < 2147483648 → All (λ x. Within m (valueOf x)) xs
+    → Floored (depthSum ones (read xs)) (weightSum ones (read xs)) (valueOf (plainMean xs))
+point-floor xs m l a = mean-floor ones m (map plainOld xs) l (All-of-map (SmallOld m) plainOld xs a)
 
 -- ---- an accepted rule
 

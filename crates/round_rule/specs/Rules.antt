@@ -5,9 +5,9 @@ use mathlib.Core.Bool.{Bool, _&&_, _||_, not, cond}
 use mathlib.Core.List.{List, [], _∷_, map}
 use Prim.Native.Nat.{ℕ, zero, suc, _+_, _*_, _/_}
 use lib.Dec.{eqb, ltb}
-use lib.IntN.{ℤ, pos, _+ℤ_, _*ℤ_}
+use lib.IntN.{ℤ, pos, negsuc, _+ℤ_, _*ℤ_}
 use lib.ListN.{length}
-use lib.Signed.{ltZ, quotZ}
+use lib.Signed.{ltZ}
 use Rattle.vocabulary.specs.Lists.{filtered}
 use Rattle.vocabulary.specs.Intervals.{some}
 use Rattle.vocabulary.specs.Bytes.{Bytes}
@@ -66,9 +66,11 @@ module _ (v : Bytes) where
   weightSum [] = 0
   weightSum (o ∷ os) = weight o + weightSum os
 
--- "divided by the sum of those weights, fraction dropped toward zero"
+-- "divided by the sum of those weights", rounded: "Every mean, at cells and points, takes the greatest whole number not above the quotient: sum −7 over weights 4 becomes
+-- −2." (F-4, for 01's "fraction dropped toward zero"). `negsuc n` is −(n + 1), and its quotient by w is −(n / w + 1).
 unfoldable pub quotient : ℤ → ℕ → ℤ
-quotient sum weights = quotZ sum (pos weights)
+quotient (pos n) weights = pos (n / weights)
+quotient (negsuc n) weights = negsuc (n / weights)
 
 -- of what is read: "The new depth is the sum of v(layer/2) × old depth over the reach, divided by the sum of those weights"; ".. with only gaps, or only zero weights
 -- left, the new value is a gap" (F-2)

@@ -7,6 +7,7 @@ ghost use mathlib.Core.Path.{_≡_};
 ghost use Prim.Native.Nat.{_+_, _*_, _/_, _<_, _≤_};
 ghost use lib.IntN.{pos, natAbs, _+ℤ_, _*ℤ_};
 ghost use lib.ListN.{length};
+ghost use lib.Signed.{quotZ};
 ghost use Rattle.vocabulary.specs.Intervals.{listed};
 ghost use Rattle.layout.specs.Words.{word, wordAt};
 ghost use Rattle.layout.specs.Limits.{mostSteps, mostWeight};
@@ -42,26 +43,36 @@ fn add_weighed(sum: i64, w: usize, d: i32) -> i64
     sum + ((w as i32) * d) as i64
 }
 
-// The mean of a sum that may have more than 32 bits.
-fn wide_quotient(sum: i64, w: usize) -> i32
+// The quotient with its fraction dropped, of a sum that may have more than 32 bits.
+fn wide_truncated(sum: i64, w: usize) -> i32
     requires { ⌜ (1 ≤ w) × (w ≤ 983025) × (natAbs sum ≤ w * deepest) ⌝ }
-    ensures { λ r. ⌜ r ≡ quotient sum w ⌝ }
+    ensures { λ r. ⌜ r ≡ quotZ sum (pos w) ⌝ }
 {
     (sum / (w as i64)) as i32
 }
 
-// The mean, "fraction dropped toward zero". Numbers of 32 bits are divided faster, and most sums fit.
+// The quotient with its fraction dropped. Numbers of 32 bits are divided faster, and most sums fit.
+fn truncated(sum: i64, w: usize) -> i32
+    requires { ⌜ (1 ≤ w) × (w ≤ 983025) × (natAbs sum ≤ w * deepest) ⌝ }
+    ensures { λ r. ⌜ r ≡ quotZ sum (pos w) ⌝ }
+{
+    if sum < -2000000000 {
+        return wide_truncated(sum, w);
+    }
+    if 2000000000 < sum {
+        return wide_truncated(sum, w);
+    }
+    (sum as i32) / (w as i32)
+}
+
+// The mean, "the greatest whole number not above the quotient" (F-4): one less, if the number without the fraction is above it.
 fn quotient(sum: i64, w: usize) -> i32
     requires { ⌜ (1 ≤ w) × (w ≤ 983025) × (natAbs sum ≤ w * deepest) ⌝ }
     ensures { λ r. ⌜ r ≡ quotient sum w ⌝ }
 {
-    if sum < -2000000000 {
-        return wide_quotient(sum, w);
-    }
-    if 2000000000 < sum {
-        return wide_quotient(sum, w);
-    }
-    (sum as i32) / (w as i32)
+    let q = truncated(sum, w);
+    let back = w as i64 * q as i64;
+    if sum < back { q - 1 } else { q }
 }
 
 // The mean by its two sums. A sum of weights of 0 says that nothing was read: only gaps, or only weights of 0.

@@ -1,4 +1,4 @@
-// Runs the examples of points (F-1, F-2) on the compiled calls. Each line names an example and prints what its call answered: the count and what it
+// Runs the examples of points (F-1, F-2, F-4) on the compiled calls. Each line names an example and prints what its call answered: the count and what it
 // gave, or the number of the refusal. The file `stdout` has these lines, to be read beside the requests.
 use vectors_print::Form;
 use vectors_print::OWNERS;
@@ -168,6 +168,16 @@ fn points_of_gaps() {
     );
 }
 
+// ---- rounding (F-4): -1,200,000 and one more, beside cells of 0
+
+fn least_depths() {
+    one_part(
+        b"five cells as one part, -1200000 -1199999 0 0 0",
+        &STENCIL,
+        b"65517 45184 65517 45185",
+    );
+}
+
 fn main() {
     short_points();
     reached_points();
@@ -175,4 +185,5 @@ fn main() {
     one_cell();
     no_point();
     points_of_gaps();
+    least_depths();
 }

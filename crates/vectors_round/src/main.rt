@@ -1,5 +1,5 @@
-// Runs the examples of the specification on the compiled undivided round. Each line names an example and prints what its call answered: the count and
-// what it gave, or the number of the refusal. The file `stdout` has these lines, to be read beside the specification.
+// Runs the examples of the specification and of the requests (F-2, F-4) on the compiled undivided round. Each line names an example and prints what its
+// call answered: the count and what it gave, or the number of the refusal. The file `stdout` has these lines, to be read beside them.
 use vectors_print::Form;
 use vectors_print::STENCIL;
 use vectors_print::WEIGHTS;
@@ -9,7 +9,7 @@ use vectors_print::print_values;
 use vectors_print::say_all;
 use vectors_print::triangles;
 
-// ---- rounds: 11, 14
+// ---- rounds
 
 // Makes a round of the five cells.
 fn round_of(name: &[u8], kind: u32, weights: &[u8], field: &[u8], out: &mut [u8]) {
@@ -45,15 +45,37 @@ fn rounds() {
     bare(b"shoalest", 2, b"0 155 0 208 0 300 0 391 0 444");
 }
 
-// -1 and -2: the sum of the first cell is -7, of weights 4.
-fn below_zero() {
-    one_round(
-        b"mean 1 3",
-        1,
-        b"\x00\x01\x00\x03",
-        b"65535 65535 65535 65534",
-    );
+// ---- rounding (F-4)
+
+// Weights 1 and 3, which are 4 at the first cell.
+fn mean_of_four(text: &[u8]) {
+    one_round(b"mean 1 3", 1, b"\x00\x01\x00\x03", text);
 }
+
+// The sum of the first cell is -7, 7, -8 and 0.
+fn sums_over_four() {
+    mean_of_four(b"65535 65535 65535 65534");
+    mean_of_four(b"0 1 0 2");
+    mean_of_four(b"65535 65534 65535 65534");
+    mean_of_four(b"0 3 65535 65535");
+}
+
+// The sum of the second cell is -1, of weights 15.
+fn least_sum() {
+    one_round(b"mean 13 1", 1, b"\x00\x0d\x00\x01", b"65535 65535");
+}
+
+// The five cells above the water, and the bytes of the first one.
+fn above_the_water() {
+    let field = five_values(b"65535 65436 65535 65336 65535 65236 65535 65136 65535 65036");
+    let mut out = [0u8; 20];
+    round_of(b"mean 2 1", 1, &WEIGHTS, &field, &mut out);
+    io::write_all(1, b"its first four bytes:");
+    print_values(Form::Bytes, &out, 4);
+    io::write_all(1, b"\n");
+}
+
+// ---- rules and depths: 11, 14
 
 // A rule on a field of zeros.
 fn rule(name: &[u8], kind: u32, weights: &[u8]) {
@@ -132,7 +154,9 @@ fn layers() {
 
 fn main() {
     rounds();
-    below_zero();
+    sums_over_four();
+    least_sum();
+    above_the_water();
     counts_of_weights();
     weights();
     depths();

@@ -1,5 +1,5 @@
 -- The worked examples of document 01 that it marks (P), as entries of one table under one theorem, all by computation over the definitions. Their run gives
--- depths at the points too (F-1). Assumes nothing.
+-- depths at the points too (F-1), and one answer is now document 02's (F-4). Assumes nothing.
 use mathlib.Core.Path.{_≡_, refl, sym, subst}
 use mathlib.Core.List.{List, [], _∷_, _++_, List·Memᴰ, List·Memᴰ·head, List·Memᴰ·tail}
 use Prim.Native.Nat.{ℕ, zero, suc, _*_, _<_, _≤_}
@@ -203,8 +203,8 @@ table =
     ∷ rounds 2 (155 ∷ 208 ∷ 300 ∷ 391 ∷ 444 ∷ [])
     -- "Part 2 to part 1, round 0, in hexadecimal: 00 02 00 01 00 00 00 01 00 00 01 90."
     ∷ first-message 2 1 (0x00 ∷ 0x02 ∷ 0x00 ∷ 0x01 ∷ 0x00 ∷ 0x00 ∷ 0x00 ∷ 0x01 ∷ 0x00 ∷ 0x00 ∷ 0x01 ∷ 0x90 ∷ [])
-    -- "Sum −7, weights 4: −1."
-    ∷ divided (negsuc 6) 4 (negsuc 0)
+    -- "Sum −7, weights 4: −1.", which document 02 changed: "sum −7 over weights 4 becomes −2" (F-4)
+    ∷ divided (negsuc 6) 4 (negsuc 1)
     -- "Triangles ..: reach of 15 is all, 17 at layer 4; 17 reaches 15 and itself only; 16 reaches 17."
     ∷ mesh triangles 0
     ∷ reached 15 (at 15 0 ∷ at 16 2 ∷ at 17 4 ∷ [])

@@ -2,8 +2,8 @@
 //!
 //! `differential [seed [cases]]`; without a seed it takes one from the clock. Where JEMLAYOS_LIST names a list program,
 //! what that prints is compared too. Exits with 1 on a difference, or where a call was never accepted, never refused with one
-//! of the numbers that it tries, or never met one of the rules on gaps that it can meet, or where a search for a place never
-//! came to one of its ends.
+//! of the numbers that it tries, or never met one of the rules on gaps and on rounding that it can meet, or where a search for
+//! a place never came to one of its ends.
 
 use std::cell::RefCell;
 use std::collections::BTreeMap;
@@ -15,13 +15,13 @@ use std::time::{Instant, SystemTime, UNIX_EPOCH};
 use jemlayos_model::bytes::{numbers, word, words};
 use jemlayos_model::calls::{others, Calls, List, PartInput, RuleInput};
 use jemlayos_model::compare::Compared;
-use jemlayos_model::gaps::{self, Meetings, Met};
 use jemlayos_model::generate::damage::{damaged_byte, damaged_bytes, damaged_mesh, long_meshes};
 use jemlayos_model::generate::random::Random;
 use jemlayos_model::generate::scenarios::{Scenario, GAP_SHARES};
 use jemlayos_model::generate::traffic;
 use jemlayos_model::listing;
 use jemlayos_model::mesh::MOST_ELEMENTS;
+use jemlayos_model::met::{self, Meetings, Met};
 use jemlayos_model::refusal::{Answer, Refusal};
 use jemlayos_model::split::Range;
 use jemlayos_model::state::{Sizes, LAST_ROUND};
@@ -101,7 +101,7 @@ struct Tally {
     case: u64,
     /// How often each call gave each number, 0 where it was accepted.
     answers: BTreeMap<&'static str, BTreeMap<u32, u64>>,
-    /// How many calls met each rule on gaps.
+    /// How many calls met each rule on gaps or on rounding.
     met: BTreeMap<(&'static str, Met), u64>,
     /// How many searches for a place came to each end.
     ends: BTreeMap<SearchEnd, u64>,
@@ -139,10 +139,10 @@ impl Tally {
             missing += usize::from(count == 0);
             println!("{count:>9} × {refusal}");
         }
-        for call in self.answers.keys().filter(|call| !gaps::meets(call).is_empty()) {
-            let counts = gaps::meets(call).iter().map(|&met| (met, self.met.get(&(call, met)).copied().unwrap_or(0)));
+        for call in self.answers.keys().filter(|call| !met::meets(call).is_empty()) {
+            let counts = met::meets(call).iter().map(|&met| (met, self.met.get(&(call, met)).copied().unwrap_or(0)));
             missing += counts.clone().filter(|&(_, count)| count == 0).count();
-            println!("{call}, gaps: {}", joined(counts.map(|(met, count)| format!("{met} {count}"))));
+            println!("{call}, met: {}", joined(counts.map(|(met, count)| format!("{met} {count}"))));
         }
         let counts = SearchEnd::ALL.map(|end| (end, self.ends.get(&end).copied().unwrap_or(0)));
         missing += counts.iter().filter(|&&(_, count)| count == 0).count();
@@ -210,7 +210,7 @@ fn joined(counts: impl Iterator<Item = String>) -> String {
     counts.collect::<Vec<_>>().join(", ")
 }
 
-/// Makes each call, and counts the rules on gaps that it met.
+/// Makes each call, and counts the rules on gaps and on rounding that it met.
 struct Watched<'a> {
     calls: &'a dyn Calls,
     tally: &'a RefCell<Tally>,
@@ -247,7 +247,7 @@ impl Calls for Watched<'_> {
 
     fn round(&self, mesh: &[u8], stencil: &[u8], rule: RuleInput, field: &[u8], out: &mut [u8]) -> Answer {
         let answer = self.calls.round(mesh, stencil, rule, field, out);
-        self.count("round", answer, gaps::in_round(mesh, stencil, rule, field, answer))
+        self.count("round", answer, met::in_round(mesh, stencil, rule, field, answer))
     }
 
     fn state_size(&self, input: PartInput) -> Answer {
@@ -256,33 +256,33 @@ impl Calls for Watched<'_> {
 
     fn start(&self, input: PartInput, rule: RuleInput, field: &[u8], state: &mut [u8]) -> Answer {
         let answer = self.calls.start(input, rule, field, state);
-        self.count("start", answer, gaps::in_start(input.mesh, field, answer))
+        self.count("start", answer, met::in_start(input.mesh, field, answer))
     }
 
     fn write(&self, state: &mut [u8], to: u32, out: &mut [u8]) -> Answer {
         let answer = self.calls.write(state, to, out);
-        self.count("write", answer, gaps::in_write(state, out, answer))
+        self.count("write", answer, met::in_write(state, out, answer))
     }
 
     fn take(&self, state: &mut [u8], message: &[u8]) -> Answer {
         let answer = self.calls.take(state, message);
-        self.count("take", answer, gaps::in_take(state, message, answer))
+        self.count("take", answer, met::in_take(state, message, answer))
     }
 
     fn advance(&self, state: &mut [u8]) -> Answer {
         let before = state.to_vec();
         let answer = self.calls.advance(state);
-        self.count("advance", answer, gaps::in_advance(&before, answer))
+        self.count("advance", answer, met::in_advance(&before, answer))
     }
 
     fn collect(&self, state: &[u8], round: u32, field: &mut [u8]) -> Answer {
         let answer = self.calls.collect(state, round, field);
-        self.count("collect", answer, gaps::in_collect(state, answer))
+        self.count("collect", answer, met::in_collect(state, answer))
     }
 
     fn points(&self, state: &[u8], out: &mut [u8]) -> Answer {
         let answer = self.calls.points(state, out);
-        self.count("points", answer, gaps::in_points(state, answer))
+        self.count("points", answer, met::in_points(state, answer))
     }
 
     fn place(&self, list: &[u8], cell: u32, read: &mut u32) -> u64 {

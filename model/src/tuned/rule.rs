@@ -53,14 +53,14 @@ impl Rule {
     }
 }
 
-/// The fraction is dropped toward zero. Numbers of 32 bits are divided faster, and most sums fit. A gap where nothing was
-/// weighed.
+/// The greatest whole number not above the quotient (F-4). Numbers of 32 bits are divided faster, and most sums fit. A gap
+/// where nothing was weighed.
 #[inline(always)]
 fn quotient(sum: i64, weight: i32) -> Value {
     if weight == 0 {
         return None;
     }
-    Some(i32::try_from(sum).map_or_else(|_| (sum / i64::from(weight)) as i32, |sum| sum / weight))
+    Some(i32::try_from(sum).map_or_else(|_| sum.div_euclid(weight.into()) as i32, |sum| sum.div_euclid(weight)))
 }
 
 /// The mean with all weights 1.

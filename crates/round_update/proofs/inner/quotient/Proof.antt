@@ -1,5 +1,5 @@
 -- `round_update::inner::quotient` meets its contract. Assumes nothing.
-use Rattle.round_update.proofs.Registers.{wide-gives, short-sum, short-fits, short-gives}
+use Rattle.round_update.proofs.Registers.{number-fits, times-fits, less-fits, lowered-gives, same-gives}
 use borrow.Author.Needs.{needs}
 use Rattle.round_update.proofs.inner.quotient.Statement.{statement}
 use Rattle.round_update.proofs.inner.quotient.Tie as tie
@@ -9,10 +9,9 @@ quotient-spec =
     tie.close
     (tie.spec
     (λ c κs. search needs)
-    (λ c. search wide-gives)
-    (λ c κs. search needs)
-    (λ c. search wide-gives)
-    (λ c. short-sum _ _ (c .before .before .fits .sum) (c .before .before .pre) (c .before .if1 .left) (c .if2 .left))
     (λ c. search needs)
-    (λ c. (search needs, search short-fits))
-    (λ c. search short-gives))
+    (λ c. search number-fits)
+    (λ c. search times-fits)
+    (λ c. search less-fits)
+    (λ c. search lowered-gives)
+    (λ c. search same-gives))

@@ -1,4 +1,4 @@
-//! Which rules on gaps (F-2) a call met, so that the driver can count them and none goes untried.
+//! Which rules on gaps (F-2) and on rounding (F-4) a call met, so that the driver can count them and none goes untried.
 
 use std::collections::BTreeSet;
 use std::fmt;
@@ -7,11 +7,11 @@ use crate::bytes::{is_valid, put_value, read_values, value, value_bytes, word, V
 use crate::calls::RuleInput;
 use crate::mesh::{Mesh, MOST_ELEMENTS};
 use crate::refusal::{Answer, Refusal};
-use crate::rounds::{read_field, Rule};
+use crate::rounds::{read_field, sums, Rule};
 use crate::state::{Local, Sizes, State};
 use crate::walks::{Reaches, Stencil};
 
-/// Something that gaps make of a value, or a value that is refused and is no gap.
+/// Something that gaps or rounding make of a value, or a value that is refused and is no gap.
 #[derive(Clone, Copy, Debug, PartialEq, Eq, PartialOrd, Ord)]
 pub enum Met {
     /// A gap is handed on.
@@ -31,6 +31,9 @@ pub enum Met {
     ShoalestOfGaps,
     PointPassed,
     PointOfGaps,
+    /// A mean below zero is no whole number, so that rounding shows.
+    MeanRounded,
+    PointRounded,
     /// Nothing but this value was wrong.
     Refused(i32),
 }
@@ -52,12 +55,13 @@ pub fn meets(call: &str) -> &'static [Met] {
             ShoalestPassed,
             ShoalestFilled,
             ShoalestOfGaps,
+            MeanRounded,
             AFTER,
             BEFORE,
         ],
         "advance" => meets("round"),
         "start" | "write" | "take" | "collect" => &[Gap, OnlyGaps, AFTER, BEFORE],
-        "points" => &[PointPassed, PointOfGaps, AFTER, BEFORE],
+        "points" => &[PointPassed, PointOfGaps, PointRounded, AFTER, BEFORE],
         _ => &[],
     }
 }
@@ -77,6 +81,8 @@ impl fmt::Display for Met {
             Met::ShoalestOfGaps => "shoalest of gaps",
             Met::PointPassed => "passed over at a point",
             Met::PointOfGaps => "a point with only gaps",
+            Met::MeanRounded => "a mean below zero rounded",
+            Met::PointRounded => "a point below zero rounded",
             &Met::Refused(number) => {
                 let [a, b, c, d] = value_bytes(Some(number));
                 return write!(f, "refused {a:02X} {b:02X} {c:02X} {d:02X}");
@@ -107,7 +113,7 @@ fn at_cells(mesh: &[u8], stencil: &[u8], rule: RuleInput, field: &[u8]) -> Answe
         let reach: Vec<_> = reaches.of(cell).iter().map(|entry| (entry.layer, old_of(entry.cell))).collect();
         at_cell(&rule, old_of(cell), &reach)
     };
-    Ok(mesh.cells().filter_map(at).collect())
+    Ok(mesh.cells().flat_map(at).collect())
 }
 
 fn cells_of(mesh: &[u8]) -> usize {
@@ -144,7 +150,7 @@ pub fn in_write(state: &[u8], out: &[u8], answer: Answer) -> Meetings {
 pub fn in_advance(state: &[u8], answer: Answer) -> Meetings {
     on_state(state, answer, |view| {
         let at = |local| at_cell(&view.rule, view.value(state, local), &view.olds(state, local).collect::<Vec<_>>());
-        view.owned().filter_map(at).collect()
+        view.owned().flat_map(at).collect()
     })
 }
 
@@ -161,13 +167,15 @@ pub fn in_points(state: &[u8], answer: Answer) -> Meetings {
     on_state(state, answer, |view| {
         let at = |k: usize| {
             let around: Vec<Value> = view.around(state, k).collect();
-            match around.iter().filter(|value| value.is_none()).count() {
+            let gaps = match around.iter().filter(|value| value.is_none()).count() {
                 0 => None,
                 gaps if gaps < around.len() => Some(Met::PointPassed),
                 _ => Some(Met::PointOfGaps),
-            }
+            };
+            let rounded = is_rounded(around.iter().map(|&value| (1, value))).then_some(Met::PointRounded);
+            gaps.into_iter().chain(rounded)
         };
-        (1..=view.sizes.points).filter_map(at).collect()
+        (1..=view.sizes.points).flat_map(at).collect()
     })
 }
 
@@ -178,8 +186,23 @@ fn on_state(state: &[u8], answer: Answer, accepted: impl Fn(&State) -> Meetings)
     }
 }
 
+/// What a rule met at a cell.
+fn at_cell(rule: &Rule, own: Value, reach: &[(usize, Value)]) -> impl Iterator<Item = Met> {
+    let rounded = match rule {
+        Rule::Mean(weights) => is_rounded(reach.iter().map(|&(layer, old)| (weights[layer / 2], old))),
+        _ => false,
+    };
+    gaps_at_cell(rule, own, reach).into_iter().chain(rounded.then_some(Met::MeanRounded))
+}
+
+/// Whether a mean is below zero and no whole number.
+fn is_rounded(weighed: impl Iterator<Item = (usize, Value)>) -> bool {
+    let (sum, weight) = sums(weighed);
+    sum < 0 && sum % weight != 0
+}
+
 /// What a rule met at a cell, if gaps played a part in it.
-fn at_cell(rule: &Rule, own: Value, reach: &[(usize, Value)]) -> Option<Met> {
+fn gaps_at_cell(rule: &Rule, own: Value, reach: &[(usize, Value)]) -> Option<Met> {
     let [of_gaps, filled, passed] = match rule {
         Rule::Hold => return own.is_none().then_some(Met::HoldKept),
         Rule::Mean(_) => [Met::MeanOfGaps, Met::MeanFilled, Met::MeanPassed],
