@@ -13,14 +13,14 @@ use mir.Val.{Fits, SFits, to_z, of_z}
 use mir.ValLaws.{to_z_pos, to_z-of_z}
 use borrow.Author.Tests.{lt-ltb, le-ltb, ltb-true, leb-true, leb-false, le-leb, lt-leb}
 use Rattle.vocabulary.specs.Bytes.{Bytes, over}
-use Rattle.vocabulary.specs.ByteLaws.{over_more}
+use Rattle.vocabulary.proofs.ByteLaws.{over_more}
 use Rattle.vocabulary.specs.Intervals.{every}
-use Rattle.vocabulary.specs.IntervalLaws.{every_more, every_fails, every_witness, at_last}
+use Rattle.vocabulary.proofs.IntervalLaws.{every_more, every_fails, every_witness, at_last}
 use Rattle.layout.specs.Words.{word_bytes}
 use Rattle.depths.specs.Depths.{number_from, number_bytes, signed, unsigned, depth_from, depth_bytes, in_range, gap_number, value_from, value_bytes, is_valid, ranged_at}
 use Rattle.depths.specs.declared.Value.{Value}
 use Rattle.depths.specs.declared.Value.TheVariants.{Depth, Gap}
-use Rattle.depths.specs.DepthLaws.{gap_is, value_gap, value_depth}
+use Rattle.depths.proofs.DepthLaws.{gap_is, value_gap, value_depth}
 
 pub number_stores : (b x y : Bytes) (o v : ℕ) → o + 3 < length b → x ≡ over b o (word_bytes (v / 65536)) → y ≡ over x (o + 2) (word_bytes (v % 65536)) → y ≡ over b o (number_bytes v)
 unfolding word_bytes number_bytes

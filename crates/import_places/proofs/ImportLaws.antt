@@ -8,29 +8,29 @@ use lib.ListN.{length, get_or, take, drop, length-map}
 use lib.Seq.{take_at}
 use borrow.Author.Tests.{eq-eqb}
 use Rattle.vocabulary.specs.Bytes.{Bytes, over}
-use Rattle.vocabulary.specs.ByteLaws.{over_front}
+use Rattle.vocabulary.proofs.ByteLaws.{over_front}
 use Rattle.vocabulary.specs.Lists.{is_in}
-use Rattle.vocabulary.specs.ListLaws.{is_in_at, not_both, mem_all, get_or_map_any}
+use Rattle.vocabulary.proofs.ListLaws.{is_in_at, not_both, mem_all, get_or_map_any}
 use Rattle.vocabulary.specs.Intervals.{total}
 use Rattle.vocabulary.specs.Tests.{first_of}
 use Rattle.layout.specs.Words.{words, bytes_of}
-use Rattle.layout.specs.WordLaws.{length_bytes_of, words_bytes_of}
+use Rattle.layout.proofs.WordLaws.{length_bytes_of, words_bytes_of}
 use Rattle.depths.specs.Depths.{four}
 use Rattle.round.specs.Rounds.{depth_in, undivided}
 use Rattle.messages.specs.Messages.{depth_start, from_in, to_in, round_in, count_in}
 use Rattle.split.specs.Split.{Split, owned, imports, exports, locals, local_of}
 use Rattle.split.specs.Lists.{SplitInput, split_in, split_number, list_words, list_number, list_out}
 use Rattle.split.specs.declared.Wanted.{Wanted}
-use Rattle.split.specs.SplitLaws.{SplitCell, import_facts, import_at, import_fits, own_has, own_local, order_length, map_facts, split_owner}
+use Rattle.split.proofs.SplitLaws.{SplitCell, import_facts, import_at, import_fits, own_has, own_local, order_length, map_facts, split_owner}
 use Rattle.split.proofs.PassedLaws.{twice, passed_facts}
 use Rattle.split.proofs.OrderLaws.{cells_rise, local_number}
 use Rattle.part_state.specs.State.{Lists, lists_in}
 use Rattle.part_start_plan.specs.Start.{Inputs, scheme_in, import_ends}
 use Rattle.run_theorem.specs.Run.{end_of}
-use Rattle.run_theorem.specs.RunLaws.{RightMessage}
-use Rattle.run_theorem.specs.WorldLaws.{lists_at}
-use Rattle.run_theorem.specs.StartLaws.{Ready, front_in, order_in, lists_exports, lists_global, local_least}
-use Rattle.run_theorem.specs.DemandLaws.{inputs, end_inv}
+use Rattle.run_theorem.proofs.RunLaws.{RightMessage}
+use Rattle.run_theorem.proofs.WorldLaws.{lists_at}
+use Rattle.run_theorem.proofs.StartLaws.{Ready, front_in, order_in, lists_exports, lists_global, local_least}
+use Rattle.run_theorem.proofs.DemandLaws.{inputs, end_inv}
 use Rattle.place_search.specs.Places.{place_in, words_in}
 use Rattle.place_search.proofs.PlaceLaws.{place_theorem}
 use Rattle.import_places.specs.ImportPlaces.{imported_by, ImportTheorem}

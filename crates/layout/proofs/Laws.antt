@@ -7,10 +7,10 @@ use native.Mathlib.Omega.{arith}
 use lib.ListN.{get_or-eq_default, length, get_or, set, take, drop, length-drop}
 use lib.Seq.{set_out, length-take-le, take-suc, get_or-drop}
 use Rattle.vocabulary.specs.Bytes.{Bytes, byte_at, over}
-use Rattle.vocabulary.specs.ByteLaws.{byte_past, over_none, over_one, over_byte}
+use Rattle.vocabulary.proofs.ByteLaws.{byte_past, over_none, over_one, over_byte}
 use Rattle.layout.specs.Words.{word, word_at, word_bytes}
-use Rattle.layout.specs.WordLaws.{word_at_none}
-use Rattle.vocabulary.specs.IntervalLaws.{at_last}
+use Rattle.layout.proofs.WordLaws.{word_at_none}
+use Rattle.vocabulary.proofs.IntervalLaws.{at_last}
 
 -- ---- words
 

@@ -12,7 +12,7 @@ use Rattle.vocabulary.specs.Bytes.{Bytes, byte_at}
 use Rattle.vocabulary.specs.Intervals.{blocks}
 use Rattle.vocabulary.specs.Lists.{joined}
 use Rattle.vocabulary.specs.Tests.{first_of}
-use Rattle.vocabulary.specs.TestLaws.{first_of_append}
+use Rattle.vocabulary.proofs.TestLaws.{first_of_append}
 use Rattle.layout.specs.Limits.{element_places, most_elements, most_parts, record_places, table_bytes}
 use Rattle.mesh.specs.Mesh.{elements, record_count, cell_count, mesh_length}
 use Rattle.walk_steps.specs.Walking.{Ground}
@@ -20,7 +20,7 @@ use Rattle.split.specs.Split.{split_of}
 use Rattle.split_classes.specs.Classes.{Prepared}
 use Rattle.split.specs.Lists.{split_tests, size_tests, split_number, sizes_number, split_input}
 use Rattle.split.proofs.PassedLaws.{tests_are}
-use Rattle.split.specs.SplitLaws.{split_numbered}
+use Rattle.split.proofs.SplitLaws.{split_numbered}
 use Rattle.list_text.specs.Listing.{ascii, line, split_text, mesh_piece, map_piece, parts_piece, owners_piece, last_piece, stencil_piece, listing_number, list_text}
 use Rattle.list_text.specs.Printing.{Printed}
 use Rattle.list_ranges.specs.Lines.{part_of}

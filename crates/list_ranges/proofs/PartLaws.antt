@@ -8,13 +8,12 @@ use native.Mathlib.Omega.{arith}
 use lib.ListN.{length, take}
 use Rattle.vocabulary.specs.Bytes.{Bytes}
 use Rattle.vocabulary.specs.Intervals.{blocks}
-use Rattle.vocabulary.specs.IntervalLaws.{blocks_turn, blocks_start, blocks_cong, at_last}
+use Rattle.vocabulary.proofs.IntervalLaws.{blocks_turn, blocks_start, blocks_cong, at_last}
 use Rattle.vocabulary.specs.Lists.{joined}
 use Rattle.layout.specs.Limits.{most_elements, most_parts}
 use Rattle.mesh.specs.Mesh.{top, counted, below, first_cell, cell_count}
 use Rattle.split.specs.Split.{Split, split_of, interior, halo, imports, exports, holds_lower, touches, another, is_copied, is_shared, is_exposed, is_private}
-use Rattle.split_classes.specs.Classes.{Appended}
-use Rattle.split_classes.specs.Classes.{Classed, Prepared, class_cells, part_cells}
+use Rattle.split_classes.specs.Classes.{Appended, Classed, Prepared, class_cells, part_cells}
 use Rattle.split_ranges.specs.Lowers.{Lowered, range_of, row_range}
 use Rattle.split_cells.proofs.AddLaws.{added_fits, added_take, class_few}
 use Rattle.split_cells.proofs.ClassLists.{row_cells, interior_is, halo_is, imports_are, part_imports}

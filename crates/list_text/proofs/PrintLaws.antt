@@ -10,9 +10,9 @@ use lib.Seq.{length-take-le, take-suc, take_all}
 use lib.Dec.{ltb}
 use borrow.Author.Tests.{ltb-true, ltb-false, lt-ltb, le-ltb}
 use Rattle.vocabulary.specs.Bytes.{Bytes, over}
-use Rattle.vocabulary.specs.ByteLaws.{over_none, over_one, over_more}
+use Rattle.vocabulary.proofs.ByteLaws.{over_none, over_one, over_more}
 use Rattle.vocabulary.specs.Lists.{joined}
-use Rattle.vocabulary.specs.ListLaws.{map_append, joined_last}
+use Rattle.vocabulary.proofs.ListLaws.{map_append, joined_last}
 use Rattle.list_text.specs.Listing.{ascii, digits, decimal, spaced, line}
 use Rattle.list_text.specs.Printing.{fitting, Printed, numbers}
 

@@ -9,13 +9,12 @@ use lib.ListN.{length}
 use borrow.Author.Tests.{ltb-false, leb-true, eqb-true, not-false}
 use Rattle.vocabulary.specs.Bytes.{Bytes}
 use Rattle.vocabulary.specs.Intervals.{is_up_to, some}
-use Rattle.vocabulary.specs.IntervalLaws.{some_at, some_witness, blocks_each, blocks_all}
+use Rattle.vocabulary.proofs.IntervalLaws.{some_at, some_witness, blocks_each, blocks_all}
 use Rattle.vocabulary.specs.Lists.{is_in, repeats, some_of, All}
-use Rattle.vocabulary.specs.ListLaws.{or_false, and_true, All_map, All_split, All_both, All_get_or, some_of_false, is_in_at, once_few, repeats_parts}
-use Rattle.vocabulary.specs.TestLaws.{holds_of, passed_by}
+use Rattle.vocabulary.proofs.ListLaws.{or_false, and_true, All_map, All_split, All_both, All_get_or, some_of_false, is_in_at, once_few, repeats_parts}
+use Rattle.vocabulary.proofs.TestLaws.{holds_of, passed_by}
 use Rattle.layout.specs.Limits.{most_elements}
-use Rattle.mesh.specs.Mesh.{top, counted, below, elements, record_count, first_cell, cell_count, dimension, head_of, element_in, follow, records, chain, all_records, headed}
-use Rattle.mesh.specs.Mesh.{bad_item, bad_chain, leaves, unclosed, bare, bad1, bad2, bad3, bad4, bad5, bad6, bad7, mesh_length, mesh_tests, mesh_number}
+use Rattle.mesh.specs.Mesh.{top, counted, below, elements, record_count, first_cell, cell_count, dimension, head_of, element_in, follow, records, chain, all_records, headed, bad_item, bad_chain, leaves, unclosed, bare, bad1, bad2, bad3, bad4, bad5, bad6, bad7, mesh_length, mesh_tests, mesh_number}
 use Rattle.mesh.specs.Meet.{Sizes}
 use Rattle.mesh.specs.Accepted.{Element, Cell, Accepted}
 use Rattle.mesh.proofs.MeetLaws.{outside}

@@ -10,8 +10,8 @@ use lib.ListN.{length, length-append}
 use borrow.Author.Tests.{ltb-true, ltb-false, lt-ltb, le-ltb, le-leb, lt-leb, eqb-true, eqb-false}
 use Rattle.vocabulary.specs.Bytes.{Bytes}
 use Rattle.vocabulary.specs.Intervals.{is_up_to, picked}
-use Rattle.vocabulary.specs.IntervalLaws.{picked_length_le}
-use Rattle.mesh.specs.WalkLaws.{below_grows}
+use Rattle.vocabulary.proofs.IntervalLaws.{picked_length_le}
+use Rattle.mesh.proofs.WalkLaws.{below_grows}
 use Rattle.mesh.specs.Mesh.{top, counted, below, elements, dimension, bad_item}
 use Rattle.mesh.proofs.MeetLaws.{outside}
 

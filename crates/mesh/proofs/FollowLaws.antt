@@ -9,7 +9,7 @@ use borrow.Author.Tests.{lt-ltb, eq-eqb, ne_eqb, eqb-false}
 use Rattle.vocabulary.specs.Bytes.{Bytes}
 use Rattle.vocabulary.specs.Intervals.{some}
 use Rattle.vocabulary.specs.Lists.{All}
-use Rattle.vocabulary.specs.ScanLaws.{some_stop_from, some_turn_from}
+use Rattle.vocabulary.proofs.ScanLaws.{some_stop_from, some_turn_from}
 use Rattle.mesh.specs.Mesh.{next_of, head_of, follow, headed}
 
 -- ---- points with heads

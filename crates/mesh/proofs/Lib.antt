@@ -6,3 +6,5 @@ pub mod NumberLaws
 pub mod AcceptedLaws
 pub mod ReaderType
 pub mod ReaderWalks
+pub mod MeshLaws
+pub mod WalkLaws

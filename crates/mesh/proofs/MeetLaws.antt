@@ -10,7 +10,7 @@ use lib.Seq.{get_or-set_same, get_or-set_other}
 use borrow.Author.Tests.{leb-true, eqb-true, eqb-false, eq-eqb, ne_eqb}
 use Rattle.vocabulary.specs.Intervals.{is_up_to}
 use Rattle.vocabulary.specs.Lists.{is_in, repeats, some_of}
-use Rattle.vocabulary.specs.ListLaws.{eqb_swap, and_true, or_right, zeros}
+use Rattle.vocabulary.proofs.ListLaws.{eqb_swap, and_true, or_right, zeros}
 use Rattle.layout.specs.Limits.{element_places}
 use Rattle.mesh.specs.Meet.{Met, met, meet, Under}
 

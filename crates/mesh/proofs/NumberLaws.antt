@@ -6,10 +6,10 @@ use native.Mathlib.Omega.{arith}
 use lib.Dec.{eqb, ltb}
 use lib.ListN.{length}
 use Rattle.vocabulary.specs.Intervals.{some}
-use Rattle.vocabulary.specs.IntervalLaws.{some_at}
+use Rattle.vocabulary.proofs.IntervalLaws.{some_at}
 use borrow.Author.Tests.{ltb-false, le-leb, lt-leb, eqb-false, ne_eqb}
 use Rattle.vocabulary.specs.Bytes.{Bytes}
-use Rattle.vocabulary.specs.ListLaws.{or_false}
+use Rattle.vocabulary.proofs.ListLaws.{or_false}
 use Rattle.layout.specs.Answers.{answer}
 use Rattle.layout.specs.declared.Answer.TheVariants.{Done, Refused}
 use Rattle.layout.specs.Limits.{most_elements, most_records}

@@ -2,5 +2,3 @@ pub mod Mesh
 pub mod Walks
 pub mod Meet
 pub mod Accepted
-pub mod WalkLaws
-pub mod MeshLaws

@@ -9,14 +9,14 @@ use lib.ListN.{length-set, length, get_or, set, replicate, length-replicate}
 use lib.Seq.{get_or-set_same, get_or-set_other, set_out}
 use borrow.Author.Tests.{ltb-true, ltb-false, eqb-true, eqb-false}
 use Rattle.vocabulary.specs.Intervals.{is_up_to, some}
-use Rattle.vocabulary.specs.IntervalLaws.{some_in, some_at, some_none, some_witness}
-use Rattle.vocabulary.specs.ScanLaws.{some_stop_from, some_turn_from, some_end_from}
+use Rattle.vocabulary.proofs.IntervalLaws.{some_in, some_at, some_none, some_witness}
+use Rattle.vocabulary.proofs.ScanLaws.{some_stop_from, some_turn_from, some_end_from}
 use Rattle.vocabulary.specs.Lists.{repeats, some_of}
-use Rattle.vocabulary.specs.ListLaws.{some_of_cong, All_intro, zeros_at}
+use Rattle.vocabulary.proofs.ListLaws.{some_of_cong, All_intro, zeros_at}
 use Rattle.layout.specs.Limits.{most_elements}
 use Rattle.mesh.specs.Mesh.{top, counted, elements, below, dimension, chain, bad_item, bad_chain, bad5}
 use Rattle.mesh.specs.Meet.{Met, met, meet}
-use Rattle.mesh.specs.WalkLaws.{below_grows}
+use Rattle.mesh.proofs.WalkLaws.{below_grows}
 use Rattle.mesh.proofs.MeetLaws.{outside, marks, fresh_tells}
 use Rattle.mesh.proofs.DimensionLaws.{below_next, lower_right, after_below, below_after, dimension_le}
 use Rattle.mesh.proofs.AcceptedLaws.{bare_point}

@@ -10,9 +10,9 @@ use lib.Seq.{sets, sets-eq, length-sets, take_at, get_or-set_same, get_or-set_ot
 use borrow.Author.Tests.{le-leb, lt-leb, eq-eqb, ne_eqb, eqb-true, eqb-false}
 use Rattle.vocabulary.specs.Bytes.{Bytes}
 use Rattle.vocabulary.specs.Intervals.{is_up_to, some, blocks}
-use Rattle.vocabulary.specs.IntervalLaws.{blocks_turn, blocks_split, blocks_length, total_cong}
+use Rattle.vocabulary.proofs.IntervalLaws.{blocks_turn, blocks_split, blocks_length, total_cong}
 use Rattle.vocabulary.specs.Lists.{repeats, some_of}
-use Rattle.vocabulary.specs.ListLaws.{and_right, not_both}
+use Rattle.vocabulary.proofs.ListLaws.{and_right, not_both}
 use Rattle.layout.specs.Limits.{most_records}
 use Rattle.mesh.specs.Mesh.{counted, below, elements, next_of, head_of, element_in, record_count, follow, records, chain, all_records, headed}
 use Rattle.mesh.specs.Meet.{Met, met, meet, Sizes}

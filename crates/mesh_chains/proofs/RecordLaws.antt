@@ -9,9 +9,9 @@ use lib.ListN.{length}
 use borrow.Author.Tests.{le-leb, lt-leb, ltb-true, ltb-false}
 use Rattle.vocabulary.specs.Bytes.{Bytes}
 use Rattle.vocabulary.specs.Intervals.{is_up_to, some, blocks}
-use Rattle.vocabulary.specs.IntervalLaws.{blocks_all}
+use Rattle.vocabulary.proofs.IntervalLaws.{blocks_all}
 use Rattle.vocabulary.specs.Lists.{repeats, some_of, All}
-use Rattle.vocabulary.specs.ListLaws.{or_false, some_of_cong, some_of_false, All_map, All_both, once_few}
+use Rattle.vocabulary.proofs.ListLaws.{or_false, some_of_cong, some_of_false, All_map, All_both, once_few}
 use Rattle.mesh.specs.Mesh.{counted, record_count, records, all_records, headed, bad4}
 use Rattle.mesh.specs.Meet.{met, meet}
 use Rattle.mesh.proofs.FollowLaws.{follow_positive}

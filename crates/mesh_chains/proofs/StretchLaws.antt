@@ -9,8 +9,8 @@ use lib.ListN.{length, get_or, set, take, drop, length-append, take-append-drop}
 use lib.Seq.{drop-cons, drop-append_seam, take-append_seam}
 use borrow.Author.Tests.{le-leb, lt-leb, eq-eqb, ne_eqb}
 use Rattle.vocabulary.specs.Intervals.{is_up_to, blocks}
-use Rattle.vocabulary.specs.IntervalLaws.{blocks_split, blocks_inner}
-use Rattle.vocabulary.specs.ListLaws.{and_right}
+use Rattle.vocabulary.proofs.IntervalLaws.{blocks_split, blocks_inner}
+use Rattle.vocabulary.proofs.ListLaws.{and_right}
 use Rattle.mesh.specs.Mesh.{elements, chain}
 use Rattle.mesh.specs.Meet.{Met, met, meet}
 use Rattle.mesh_chains.specs.Written.{stretch, chains, Written}

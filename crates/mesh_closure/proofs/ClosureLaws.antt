@@ -9,14 +9,14 @@ use lib.ListN.{length, get_or, set, length-set}
 use lib.Seq.{get_or-set_same, get_or-set_other, get_or-take}
 use borrow.Author.Tests.{eqb-true, eqb-false, eq-eqb, ne_eqb, ltb-true, ltb-false}
 use Rattle.vocabulary.specs.Intervals.{some, blocks}
-use Rattle.vocabulary.specs.IntervalLaws.{some_none, blocks_all, blocks_inner, is_in_blocks}
-use Rattle.vocabulary.specs.ScanLaws.{some_stop_from, some_turn_from, some_end_from}
+use Rattle.vocabulary.proofs.IntervalLaws.{some_none, blocks_all, blocks_inner, is_in_blocks}
+use Rattle.vocabulary.proofs.ScanLaws.{some_stop_from, some_turn_from, some_end_from}
 use Rattle.vocabulary.specs.Lists.{is_in, some_of, All}
-use Rattle.vocabulary.specs.ListLaws.{or_nothing, some_of_cong, some_of_none, All_map, All_intro, All_get_or}
+use Rattle.vocabulary.proofs.ListLaws.{or_nothing, some_of_cong, some_of_none, All_map, All_intro, All_get_or}
 use Rattle.layout.specs.Limits.{most_elements}
 use Rattle.mesh.specs.Mesh.{top, counted, elements, below, first_cell, cell_count, dimension, chain, leaves, unclosed, bare, bad5, bad6, bad7}
 use Rattle.mesh.specs.Meet.{stamp, unlike}
-use Rattle.mesh.specs.WalkLaws.{below_grows}
+use Rattle.mesh.proofs.WalkLaws.{below_grows}
 use Rattle.mesh.proofs.DimensionLaws.{below_next, below_after, dimension_le}
 use Rattle.mesh.proofs.AcceptedLaws.{bare_point, lower_chain}
 use Rattle.mesh_chains.specs.Written.{stretch, chains, MarksBelow, Written}

@@ -8,10 +8,10 @@ use borrow.Author.Tests.{le-leb, lt-leb, lt-ltb, le-ltb}
 use Rattle.vocabulary.specs.Bytes.{Bytes}
 use Rattle.vocabulary.specs.Intervals.{some}
 use Rattle.vocabulary.specs.Tests.{first_of}
-use Rattle.vocabulary.specs.TestLaws.{passed}
+use Rattle.vocabulary.proofs.TestLaws.{passed}
 use Rattle.layout.specs.Limits.{most_elements, most_records}
 use Rattle.mesh.specs.Mesh.{top, counted, elements, record_count, mesh_length, bad_count, bad1, bad2, bad3}
-use Rattle.mesh.specs.MeshLaws.{sizes_tests}
+use Rattle.mesh.proofs.MeshLaws.{sizes_tests}
 use Rattle.mesh.specs.Meet.{Sizes}
 use Rattle.mesh.proofs.NumberLaws.{sized}
 

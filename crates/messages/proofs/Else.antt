@@ -9,7 +9,7 @@ use denote.Enum.Declared.{tag_of}
 use Rattle.vocabulary.specs.Bytes.{Bytes}
 use Rattle.messages.specs.Messages.{bad15, reading}
 use Rattle.messages.specs.Readings.{reading_number, meant_reading}
-use Rattle.messages.specs.ReadingLaws.{refusal_told}
+use Rattle.messages.proofs.ReadingLaws.{refusal_told}
 use Rattle.messages.specs.declared.Reading.{Reading}
 use Rattle.messages.specs.declared.Reading.TheVariants.{Message, Refused}
 use Rattle.messages.specs.contracts.Reading as K

@@ -8,7 +8,7 @@ use lib.ListN.{length}
 use borrow.Author.Tests.{lt-ltb, le-ltb, eq-eqb, ne_eqb}
 use Rattle.vocabulary.specs.Bytes.{Bytes, over}
 use Rattle.vocabulary.specs.Intervals.{every}
-use Rattle.vocabulary.specs.ByteLaws.{over_more}
+use Rattle.vocabulary.proofs.ByteLaws.{over_more}
 use Rattle.layout.specs.Words.{word_bytes, bytes_of}
 use Rattle.depths.specs.Depths.{ranged_at}
 use Rattle.messages.specs.Messages.{header_size, message_size, bad15, reading, count_in, from_in, to_in, round_in}

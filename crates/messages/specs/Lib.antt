@@ -1,4 +1,2 @@
 pub mod Messages
 pub mod Readings
-pub mod MessageLaws
-pub mod ReadingLaws

@@ -8,12 +8,12 @@ use lib.ListN.{length, take, drop, replicate}
 use lib.Seq.{length-take-le, take_at}
 use borrow.Author.Tests.{le-leb, lt-leb, not-true, not-false}
 use Rattle.vocabulary.specs.Bytes.{Bytes, over}
-use Rattle.vocabulary.specs.ByteLaws.{over_length, over_more, over_front}
+use Rattle.vocabulary.proofs.ByteLaws.{over_length, over_more, over_front}
 use Rattle.vocabulary.specs.Intervals.{blocks}
 use Rattle.layout.specs.Words.{word, word_bytes}
-use Rattle.layout.specs.WordLaws.{length_word_bytes}
-use Rattle.depths.specs.DepthLaws.{fours_length}
-use Rattle.layout.specs.AnswerLaws.{refuses, accepts}
+use Rattle.layout.proofs.WordLaws.{length_word_bytes}
+use Rattle.depths.proofs.DepthLaws.{fours_length}
+use Rattle.layout.proofs.AnswerLaws.{refuses, accepts}
 use Rattle.layout.specs.declared.Answer.{Answer}
 use Rattle.layout.specs.declared.Answer.TheVariants.{Done, Refused}
 use Rattle.part_state.specs.State.{Lists, lists_in, lists_of, dynamic, owned_count, state_length, depths_place}

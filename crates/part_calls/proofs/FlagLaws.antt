@@ -4,8 +4,8 @@ use Prim.Native.Nat.{ℕ, ◌+◌, ◌≤◌, ◌<◌}
 use native.Mathlib.Omega.{arith}
 use lib.ListN.{length, set, replicate, length-replicate, replicate-append-replicate}
 use Rattle.vocabulary.specs.Bytes.{Bytes, over}
-use Rattle.vocabulary.specs.ByteLaws.{over_none, over_byte}
-use Rattle.vocabulary.specs.IntervalLaws.{at_last}
+use Rattle.vocabulary.proofs.ByteLaws.{over_none, over_byte}
+use Rattle.vocabulary.proofs.IntervalLaws.{at_last}
 
 module _ (b : Bytes) (at n : ℕ) where
   pub clear_start : b ≡ over b at (replicate 0 0)

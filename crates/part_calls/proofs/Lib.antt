@@ -1,3 +1,5 @@
 pub mod OpenedLaws
 pub mod FlagLaws
 pub mod SettledLaws
+pub mod CallLaws
+pub mod EffectLaws

@@ -8,16 +8,16 @@ use lib.ListN.{length, take, drop}
 use borrow.Author.Tests.{not-false}
 use Rattle.vocabulary.specs.Bytes.{Bytes}
 use Rattle.vocabulary.specs.Intervals.{is_up_to, blocks}
-use Rattle.vocabulary.specs.IntervalLaws.{up_to_true}
+use Rattle.vocabulary.proofs.IntervalLaws.{up_to_true}
 use Rattle.layout.specs.Words.{word_at}
 use Rattle.layout.specs.Answers.{answer}
-use Rattle.layout.specs.AnswerLaws.{refuses}
+use Rattle.layout.proofs.AnswerLaws.{refuses}
 use Rattle.layout.specs.declared.Answer.TheVariants.{Refused}
 use Rattle.layout.specs.Limits.{most_parts}
 use Rattle.depths.specs.Depths.{four}
-use Rattle.depths.specs.DepthLaws.{fours_of}
-use Rattle.part_state.specs.State.{lists_in, lists_of, held_count, owned_count, is_state, bad20, state_length}
-use Rattle.part_state.specs.StateLaws.{Whole, is_state_at, state_at, whole_is}
+use Rattle.depths.proofs.DepthLaws.{fours_of}
+use Rattle.part_state.specs.State.{lists_in, lists_of, held_count, owned_count, is_state, bad20, state_length, is_state_at}
+use Rattle.part_state.proofs.StateLaws.{Whole, state_at, whole_is}
 use Rattle.part_calls.specs.Opened.{Opened}
 
 module _ (lists : Bytes) (changes : ℕ) (b : Bytes) (o : Opened lists changes b) where

@@ -8,7 +8,7 @@ use lib.ListN.{length}
 use borrow.Author.Tests.{lt-ltb, le-ltb}
 use Rattle.vocabulary.specs.Bytes.{Bytes, byte_at}
 use Rattle.vocabulary.specs.Intervals.{is_up_to, every}
-use Rattle.vocabulary.specs.IntervalLaws.{every_cong, up_to_intro, listed_length}
+use Rattle.vocabulary.proofs.IntervalLaws.{every_cong, up_to_intro, listed_length}
 use Rattle.layout.specs.Words.{word_at}
 use Rattle.layout.specs.Limits.{most_parts}
 use Rattle.part_state.specs.State.{lists_in, export_end, export_at, local_exports}

@@ -1,4 +1,2 @@
 pub mod Calls
 pub mod Opened
-pub mod CallLaws
-pub mod EffectLaws

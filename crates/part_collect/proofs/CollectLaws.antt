@@ -9,14 +9,14 @@ use borrow.Author.Tests.{eq-eqb, ne_eqb, lt-ltb, le-ltb}
 use Rattle.vocabulary.specs.Bytes.{Bytes, over}
 use Rattle.layout.specs.Words.{word}
 use Rattle.depths.specs.Depths.{four}
-use Rattle.layout.specs.AnswerLaws.{refuses, accepts}
+use Rattle.layout.proofs.AnswerLaws.{refuses, accepts}
 use Rattle.layout.specs.declared.Answer.{Answer}
 use Rattle.layout.specs.declared.Answer.TheVariants.{Done, Refused}
 use Rattle.part_state.specs.State.{Lists, lists_in, lists_of, dynamic, round_at, first_of_mesh, cells_of_mesh, global_at, owned_count, depth_place}
 use Rattle.part_calls.specs.Calls.{scatter, collected_in, collect_tests_in, collect_number, collect_answer, collect_out}
 use Rattle.part_calls.specs.Opened.{Opened}
 use Rattle.part_calls.proofs.OpenedLaws.{lists_is, whole, own_few, long, good_state, four_cut}
-use Rattle.vocabulary.specs.IntervalLaws.{at_last}
+use Rattle.vocabulary.proofs.IntervalLaws.{at_last}
 
 -- ---- the loop
 

@@ -10,30 +10,29 @@ use lib.ListN.{length}
 use lib.Seq.{length-take-le}
 use borrow.Author.Tests.{eqb-false, eq-eqb, ne_eqb, lt-ltb, le-ltb, ltb-true, ltb-false, not-true, not-false}
 use Rattle.vocabulary.specs.Bytes.{Bytes, over}
-use Rattle.vocabulary.specs.ByteLaws.{over_more}
+use Rattle.vocabulary.proofs.ByteLaws.{over_more}
 use Rattle.vocabulary.specs.Lists.{some_of}
-use Rattle.vocabulary.specs.ListLaws.{or_nothing, or_assoc}
+use Rattle.vocabulary.proofs.ListLaws.{or_nothing, or_assoc}
 use Rattle.vocabulary.specs.Intervals.{some, listed, blocks}
-use Rattle.vocabulary.specs.IntervalLaws.{some_cong, some_at, some_stop, some_turn, some_of_listed, listed_map, listed_moved, rows_length, blocks_turn}
+use Rattle.vocabulary.proofs.IntervalLaws.{some_cong, some_at, some_stop, some_turn, some_of_listed, listed_map, listed_moved, rows_length, blocks_turn}
 use Rattle.vocabulary.specs.Tests.{refuse}
-use Rattle.vocabulary.specs.TestLaws.{passed_by}
+use Rattle.vocabulary.proofs.TestLaws.{passed_by}
 use Rattle.layout.specs.Words.{word, word_at, word_bytes}
-use Rattle.layout.specs.WordLaws.{length_word_bytes}
-use Rattle.layout.specs.AnswerLaws.{refuses, accepts}
+use Rattle.layout.proofs.WordLaws.{length_word_bytes}
+use Rattle.layout.proofs.AnswerLaws.{refuses, accepts}
 use Rattle.layout.specs.declared.Answer.{Answer}
 use Rattle.layout.specs.declared.Answer.TheVariants.{Done, Refused}
 use Rattle.depths.specs.Depths.{Valid, value_bytes}
-use Rattle.depths.specs.DepthLaws.{ranged_valid}
+use Rattle.depths.proofs.DepthLaws.{ranged_valid}
 use Rattle.depths.specs.declared.Value.{Value}
 use Rattle.round_rule.specs.Rules.{plain_mean}
 use Rattle.round_update.specs.Update.{placed_at, PlacesThere}
-use Rattle.part_state.specs.State.{Lists, lists_in, lists_of, dynamic, held_count, owned_count, reach_count, export_count, point_count, point_at, point_end, point_cells, point_cell_at, local_around}
-use Rattle.part_state.specs.State.{points_from, point_ends_word, point_cells_word, depth_place, depths_place}
-use Rattle.part_state.specs.StateLaws.{Whole}
+use Rattle.part_state.specs.State.{Lists, lists_in, lists_of, dynamic, held_count, owned_count, reach_count, export_count, point_count, point_at, point_end, point_cells, point_cell_at, local_around, points_from, point_ends_word, point_cells_word, depth_place, depths_place}
+use Rattle.part_state.proofs.StateLaws.{Whole}
 use Rattle.part_state.specs.Checks.{Counts, Fitting, point_start, point_end_start, point_cell_start, depth_base}
 use Rattle.part_state.specs.declared.places.Sizes.{Sizes}
 use Rattle.part_calls.specs.Calls.{outside, depth_at, all_taken, point_given, points_given, points_tests_in, points_number, points_answer, points_out}
-use Rattle.part_calls.specs.EffectLaws.{given_six}
+use Rattle.part_calls.proofs.EffectLaws.{given_six}
 use Rattle.part_calls.specs.Opened.{Opened, unread_at, points_rest}
 use Rattle.part_calls.proofs.OpenedLaws.{whole, long, lists_is, good_state}
 

@@ -11,9 +11,9 @@ use lib.Seq.{get_or-set_same, get_or-set_other, ext_get_or}
 use borrow.Author.Tests.{eqb-true, eqb-false, eq-eqb, ne_eqb, ltb-true, ltb-false}
 use Rattle.vocabulary.specs.Bytes.{Bytes, byte_at}
 use Rattle.layout.proofs.Laws.{number_past}
-use Rattle.vocabulary.specs.ListLaws.{zeros_at, and_left, and_right}
+use Rattle.vocabulary.proofs.ListLaws.{zeros_at, and_left, and_right}
 use Rattle.vocabulary.specs.Intervals.{some, blocks, total}
-use Rattle.vocabulary.specs.IntervalLaws.{at_last, blocks_empty, blocks_length, blocks_start, blocks_turn, blocks_cong, some_none, total_cong, total_start, total_turn, total_grows}
+use Rattle.vocabulary.proofs.IntervalLaws.{at_last, blocks_empty, blocks_length, blocks_start, blocks_turn, blocks_cong, some_none, total_cong, total_start, total_turn, total_grows}
 use Rattle.split.specs.Split.{owner_at}
 use Rattle.split.specs.Numbering.{numbering}
 use Rattle.split.specs.Owners.{owns_at}

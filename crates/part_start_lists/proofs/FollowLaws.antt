@@ -12,9 +12,9 @@ use lib.Seq.{get_or-set_same, get_or-set_other}
 use borrow.Author.Tests.{eqb-true, eqb-false}
 use Rattle.vocabulary.specs.Bytes.{Bytes, byte_at}
 use Rattle.vocabulary.specs.Lists.{some_of, All}
-use Rattle.vocabulary.specs.ListLaws.{some_of_append, or_nothing}
+use Rattle.vocabulary.proofs.ListLaws.{some_of_append, or_nothing}
 use Rattle.vocabulary.specs.Intervals.{picked, some, blocks}
-use Rattle.vocabulary.specs.IntervalLaws.{some_start, some_next}
+use Rattle.vocabulary.proofs.IntervalLaws.{some_start, some_next}
 use Rattle.layout.specs.Words.{word_at}
 use Rattle.layout.specs.Limits.{most_elements}
 use Rattle.split.specs.Owners.{owns_at}

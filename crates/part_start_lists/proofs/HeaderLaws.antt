@@ -6,7 +6,7 @@ use native.Mathlib.Omega.{arith}
 use lib.ListN.{length}
 use Rattle.vocabulary.specs.Bytes.{Bytes}
 use Rattle.vocabulary.specs.Intervals.{listed}
-use Rattle.vocabulary.specs.IntervalLaws.{listed_length}
+use Rattle.vocabulary.proofs.IntervalLaws.{listed_length}
 use Rattle.layout.specs.Words.{word_at}
 use Rattle.part_state.specs.State.{import_word}
 use Rattle.word_lists.specs.Putting.{Put}

@@ -6,11 +6,11 @@ use native.Mathlib.Numerals.{add-one}
 use native.Mathlib.Omega.{arith}
 use lib.ListN.{length, get_or, take, length-map}
 use lib.Seq.{take-suc, length-take-le}
-use Rattle.vocabulary.specs.ListLaws.{map_append}
+use Rattle.vocabulary.proofs.ListLaws.{map_append}
 use Rattle.vocabulary.specs.Bytes.{Bytes}
 use Rattle.vocabulary.specs.Intervals.{blocks}
-use Rattle.vocabulary.specs.IntervalLaws.{total_start, total_turn, total_grows, blocks_turn, blocks_sized, rows_length, at_last}
-use Rattle.vocabulary.specs.CountLaws.{total_double}
+use Rattle.vocabulary.proofs.IntervalLaws.{total_start, total_turn, total_grows, blocks_turn, blocks_sized, rows_length, at_last}
+use Rattle.vocabulary.proofs.CountLaws.{total_double}
 use Rattle.layout.specs.Words.{word_at}
 use Rattle.layout.specs.Limits.{most_parts}
 use Rattle.split.specs.Split.{global_of}

@@ -7,22 +7,21 @@ use native.Mathlib.Omega.{arith}
 use lib.ListN.{length, get_or, take, drop, length-append}
 use lib.Seq.{length-take-le, take-append_seam}
 use Rattle.vocabulary.specs.Bytes.{Bytes, over}
-use Rattle.vocabulary.specs.ByteLaws.{over_front}
+use Rattle.vocabulary.proofs.ByteLaws.{over_front}
 use Rattle.vocabulary.specs.Intervals.{listed, blocks, total}
-use Rattle.vocabulary.specs.IntervalLaws.{listed_cong, listed_length, blocks_cong, blocks_length, total_agree}
+use Rattle.vocabulary.proofs.IntervalLaws.{listed_cong, listed_length, blocks_cong, blocks_length, total_agree}
 use Rattle.layout.specs.Words.{word_at}
 use Rattle.layout.specs.Limits.{most_elements, most_parts, most_records}
 use Rattle.split_classes.specs.Classes.{Classed, class_cells, part_cells, class_order, Appended}
 use Rattle.split_cells.proofs.ClassLists.{row_cells}
 use Rattle.split_cells.proofs.AddLaws.{added_fits, added_take, class_count_lem}
 use Rattle.depths.specs.Depths.{four}
-use Rattle.depths.specs.DepthLaws.{length_four, fours_store}
+use Rattle.depths.proofs.DepthLaws.{length_four, fours_store}
 use Rattle.part_state.specs.State.{import_word, reach_word, exports_word}
 use Rattle.part_state.specs.Checks.{Small, point_start, word_count}
 use Rattle.part_state.specs.declared.places.Sizes.{Sizes}
 use Rattle.word_lists.specs.Putting.{Put}
-use Rattle.part_start_lists.specs.Starting.{local_in, numbers_of, start_words, got_ends, sent_ends, sent_list, sent_words, row_ends, row_words, numbered_words, start_depth, FieldCells}
-use Rattle.part_start_lists.specs.Starting.{got_from, sent_from, count_at, ends_by, Tallied, Got, Sent, Fit, TablesFit, Drawn, part_order, part_owned}
+use Rattle.part_start_lists.specs.Starting.{local_in, numbers_of, start_words, got_ends, sent_ends, sent_list, sent_words, row_ends, row_words, numbered_words, start_depth, FieldCells, got_from, sent_from, count_at, ends_by, Tallied, Got, Sent, Fit, TablesFit, Drawn, part_order, part_owned}
 use Rattle.part_calls.proofs.OpenedLaws.{four_cut}
 use Rattle.word_lists.proofs.PutLaws.{put_as, put_both}
 use Rattle.word_lists.proofs.RegionLaws.{joined_length, joined_append, regions_two, regions_three, regions_four}

@@ -6,8 +6,7 @@ ghost use Rattle.layout.specs.Words.{word_at};
 ghost use Rattle.layout.specs.Limits.{element_places, most_elements, most_parts, most_records};
 ghost use Rattle.part_state.specs.State.{import_word, reach_word};
 ghost use Rattle.word_lists.specs.Putting.{Put};
-ghost use Rattle.part_start_lists.specs.Starting.{local_in, numbers_of, row_size, ends_by, Got, entry_words, row_ends, row_words, ReachRow, ReachRows, start_depth, FieldCells};
-ghost use Rattle.part_start_lists.specs.Starting.{TablesFit, Drawn};
+ghost use Rattle.part_start_lists.specs.Starting.{local_in, numbers_of, row_size, ends_by, Got, entry_words, row_ends, row_words, ReachRow, ReachRows, start_depth, FieldCells, TablesFit, Drawn};
 
 use crate::counts::count_classes;
 pub use crate::counts::count_exports;

@@ -9,25 +9,25 @@ use lib.ListN.{length, take, drop, replicate, length-append, length-map, length-
 use lib.Seq.{length-take-le, take-take, drop_at, take-append-le}
 use borrow.Author.Tests.{lt-ltb, le-ltb}
 use Rattle.vocabulary.specs.Bytes.{Bytes, byte_at, over}
-use Rattle.vocabulary.specs.ByteLaws.{over_length, over_more}
+use Rattle.vocabulary.proofs.ByteLaws.{over_length, over_more}
 use Rattle.vocabulary.specs.Intervals.{listed, blocks}
-use Rattle.vocabulary.specs.IntervalLaws.{listed_at, listed_length, blocks_cong, blocks_length, total_cong}
+use Rattle.vocabulary.proofs.IntervalLaws.{listed_at, listed_length, blocks_cong, blocks_length, total_cong}
 use Rattle.vocabulary.specs.Tests.{Test, refuse, first_of}
 use Rattle.layout.specs.Words.{word_at, word_bytes, bytes_of}
-use Rattle.layout.specs.WordLaws.{length_bytes_of, bytes_of_append}
+use Rattle.layout.proofs.WordLaws.{length_bytes_of, bytes_of_append}
 use Rattle.depths.specs.Depths.{four}
 use Rattle.layout.specs.Answers.{answer}
-use Rattle.layout.specs.AnswerLaws.{answer_done, answer_refused, refuses, accepts}
+use Rattle.layout.proofs.AnswerLaws.{answer_done, answer_refused, refuses, accepts}
 use Rattle.layout.specs.declared.Answer.{Answer}
 use Rattle.layout.specs.declared.Answer.TheVariants.{Done, Refused}
 use Rattle.layout.specs.Limits.{most_elements, most_parts, most_records}
-use Rattle.split.specs.PointLaws.{points_few, point_cells_few}
+use Rattle.split.proofs.PointLaws.{points_few, point_cells_few}
 use Rattle.mesh.specs.Mesh.{first_cell, cell_count, counted}
 use Rattle.mesh.specs.Walks.{steps, bad13}
 use Rattle.round_rule.specs.Rules.{bad11}
 use Rattle.round.specs.Rounds.{scheme_of, depth_in, bad14}
 use Rattle.split.specs.Split.{split_of, interior, halo, locals, global_of, points_of, points_in, around_of, point_ends, bad29}
-use Rattle.split.specs.SplitLaws.{own_count, split_then, split_refuses, sizes_fine, sizes_then, sizes_refuse, map_facts}
+use Rattle.split.proofs.SplitLaws.{own_count, split_then, split_refuses, sizes_fine, sizes_then, sizes_refuse, map_facts}
 use Rattle.split.specs.Lists.{bad12, size_tests, split_number, sizes_number, split_input}
 use Rattle.split.specs.Owners.{owns_at}
 use Rattle.split_classes.specs.Classes.{holder_count, class_at, Classed, Prepared, Appended}
@@ -38,8 +38,7 @@ use Rattle.part_start_plan.specs.Start.{owned_in, export_ends, lists_long, state
 use Rattle.word_lists.specs.Putting.{Put}
 use Rattle.word_lists.proofs.PutLaws.{put_as}
 use Rattle.part_state.specs.State.{exports_word, depths_place, state_length}
-use Rattle.part_start_lists.specs.Starting.{local_in, numbers_of, row_ends, row_words, sent_ends, sent_list, ends_by, numbered_words, start_words, start_depth}
-use Rattle.part_start_lists.specs.Starting.{Got, Sent, Fit, FieldCells, exported_at, export_tally, part_order, part_owned, TablesFit, Drawn}
+use Rattle.part_start_lists.specs.Starting.{local_in, numbers_of, row_ends, row_words, sent_ends, sent_list, ends_by, numbered_words, start_words, start_depth, Got, Sent, Fit, FieldCells, exported_at, export_tally, part_order, part_owned, TablesFit, Drawn}
 use Rattle.part_start_lists.specs.declared.inner.Plan.{Plan}
 use Rattle.part_start_points.specs.Points.{points_on, size_ends, point_words, word_count, cell_words, part_words}
 use Rattle.part_start_points.specs.Outside.{some_outside}

@@ -10,7 +10,7 @@ use Rattle.layout.specs.Limits.{element_places, most_elements, most_parts}
 use Rattle.mesh.specs.Mesh.{first_cell, cell_count}
 use Rattle.mesh.specs.Walks.{bad13}
 use Rattle.round.specs.Rounds.{bad14}
-use Rattle.round.specs.RoundLaws.{field_length}
+use Rattle.round.proofs.RoundLaws.{field_length}
 use Rattle.split.specs.Split.{split_of, locals}
 use Rattle.split.specs.Lists.{bad12}
 use Rattle.split_classes.specs.Classes.{Prepared}

@@ -11,29 +11,27 @@ use lib.Seq.{get_or-take}
 use borrow.Author.Tests.{ltb-true, ltb-false}
 use Rattle.vocabulary.specs.Bytes.{Bytes}
 use Rattle.vocabulary.specs.Lists.{All, joined}
-use Rattle.vocabulary.specs.ListLaws.{At, All_get_or, All_map, All_reversed, map_cong}
+use Rattle.vocabulary.proofs.ListLaws.{At, All_get_or, All_map, All_reversed, map_cong}
 use Rattle.vocabulary.specs.Intervals.{picked, listed, blocks, total}
-use Rattle.vocabulary.specs.IntervalLaws.{listed_cong, listed_back, blocks_moved, blocks_cong, blocks_length, joined_mapped, total_cong, total_agree, total_grows, total_has, total_mono}
-use Rattle.vocabulary.specs.CountLaws.{total_add}
+use Rattle.vocabulary.proofs.IntervalLaws.{listed_cong, listed_back, blocks_moved, blocks_cong, blocks_length, joined_mapped, total_cong, total_agree, total_grows, total_has, total_mono}
+use Rattle.vocabulary.proofs.CountLaws.{total_add}
 use Rattle.layout.specs.Words.{word_at}
 use Rattle.layout.specs.Limits.{element_places, most_elements, most_held, most_parts, most_reached}
 use Rattle.mesh.specs.Mesh.{first_cell, cell_count}
 use Rattle.mesh.specs.Walks.{Near, reach, layer, steps, bad13}
-use Rattle.mesh.specs.WalkLaws.{reach_in}
+use Rattle.mesh.proofs.WalkLaws.{reach_in}
 use Rattle.walk_reach_table.specs.Tables.{entry_count}
 use Rattle.walk_reach_table.proofs.EntryLaws.{count_more}
 use Rattle.split.specs.Split.{Split, split_of, owns, held, inside, imports, exports, interior, halo, locals, local_of, global_of, points_of, points_in, around_of, point_ends, bad29}
-use Rattle.split.specs.SplitLaws.{map_facts, SplitCell, own_cells, split_reach, split_own, split_owner, own_is, own_local, local_back, import_own, reach_held}
-use Rattle.split.specs.PointLaws.{point_at, point_held, split_around}
-use Rattle.split.specs.SplitLaws.{order_cells, order_length, own_count, own_first, held_length, imports_none, import_total, export_total}
+use Rattle.split.proofs.SplitLaws.{map_facts, SplitCell, own_cells, split_reach, split_own, split_owner, own_is, own_local, local_back, import_own, reach_held, order_cells, order_length, own_count, own_first, held_length, imports_none, import_total, export_total}
+use Rattle.split.proofs.PointLaws.{point_at, point_held, split_around}
 use Rattle.split.specs.Numbering.{numbering}
 use Rattle.split.proofs.UnitLaws.{numbered}
 use Rattle.split.specs.Lists.{bad12}
 use Rattle.split_classes.specs.Classes.{part_cells, Prepared}
 use Rattle.split_cells.proofs.ClassLists.{part_imports, locals_few}
 use Rattle.part_state.specs.State.{exports_word}
-use Rattle.part_start_plan.specs.Start.{owned_in, reach_of, import_ends, export_ends, reach_ends, reach_words, export_words, lists_long, lists_regions}
-use Rattle.part_start_plan.specs.Start.{around_words}
+use Rattle.part_start_plan.specs.Start.{owned_in, reach_of, import_ends, export_ends, reach_ends, reach_words, export_words, lists_long, lists_regions, around_words}
 use Rattle.word_lists.proofs.RegionLaws.{joined_append, regions_three}
 use Rattle.part_start_points.specs.Points.{cell_words, part_words}
 use Rattle.part_start_lists.specs.Starting.{local_in, numbers_of, got_ends, sent_ends, sent_words, place_at, row_size, row_ends, entry_words, row_words, numbered_words, start_words}

@@ -10,7 +10,7 @@ use lib.Seq.{take-suc-set, take-length, length-take-le, get_or-take}
 use borrow.Author.Tests.{not-true, not-false}
 use Rattle.vocabulary.specs.Bytes.{Bytes}
 use Rattle.vocabulary.specs.Intervals.{picked, listed, blocks}
-use Rattle.vocabulary.specs.IntervalLaws.{picked_start, picked_yes, picked_no, total_start, total_turn, total_grows, total_cong, listed_cong, blocks_cong, blocks_sized, at_last}
+use Rattle.vocabulary.proofs.IntervalLaws.{picked_start, picked_yes, picked_no, total_start, total_turn, total_grows, total_cong, listed_cong, blocks_cong, blocks_sized, at_last}
 use Rattle.layout.specs.Limits.{record_places}
 use Rattle.walk_incidence.specs.Links.{trail}
 use Rattle.word_lists.specs.Putting.{Put}

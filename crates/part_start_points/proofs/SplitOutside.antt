@@ -9,9 +9,9 @@ use lib.ListN.{get_or}
 use borrow.Author.Tests.{le-leb, leb-true, lt-ltb}
 use Rattle.vocabulary.specs.Bytes.{Bytes}
 use Rattle.vocabulary.specs.Lists.{is_in, some_of, All}
-use Rattle.vocabulary.specs.ListLaws.{and_true, and_intro, or_left, or_nothing, same_test, at_is_in, is_in_at, All_map, All_get_or, some_of_has, some_of_witness, some_of_cong}
+use Rattle.vocabulary.proofs.ListLaws.{and_true, and_intro, or_left, or_nothing, same_test, at_is_in, is_in_at, All_map, All_get_or, some_of_has, some_of_witness, some_of_cong}
 use Rattle.vocabulary.specs.Intervals.{picked, some}
-use Rattle.vocabulary.specs.IntervalLaws.{picked_all, picked_in, picked_passes, some_cong}
+use Rattle.vocabulary.proofs.IntervalLaws.{picked_all, picked_in, picked_passes, some_cong}
 use Rattle.layout.specs.Limits.{most_elements}
 use Rattle.mesh.specs.Mesh.{counted, first_cell, cell_count, chain}
 use Rattle.mesh.specs.Walks.{incident, cells_at}

@@ -9,9 +9,9 @@ use lib.ListN.{length, get_or, replicate, length-reverse}
 use lib.Seq.{take-length}
 use Rattle.vocabulary.specs.Bytes.{Bytes, byte_at}
 use Rattle.vocabulary.specs.Lists.{some_of}
-use Rattle.vocabulary.specs.ListLaws.{All_get_or, or_swap, or_nothing, some_of_append}
+use Rattle.vocabulary.proofs.ListLaws.{All_get_or, or_swap, or_nothing, some_of_append}
 use Rattle.vocabulary.specs.Intervals.{picked}
-use Rattle.vocabulary.specs.IntervalLaws.{picked_all, picked_cong, total_cong, listed_cong, blocks_cong}
+use Rattle.vocabulary.proofs.IntervalLaws.{picked_all, picked_cong, total_cong, listed_cong, blocks_cong}
 use Rattle.layout.specs.Limits.{record_places, most_elements}
 use Rattle.mesh.specs.Mesh.{counted, first_cell}
 use Rattle.mesh.specs.Walks.{cells_at}

@@ -8,11 +8,11 @@ use lib.Dec.{eqb, leb, ltb}
 use lib.ListN.{get_or}
 use borrow.Author.Tests.{eq-eqb, ne_eqb, le-leb, lt-leb, ltb-true, ltb-false}
 use Rattle.vocabulary.specs.Bytes.{Bytes, byte_at}
-use Rattle.vocabulary.specs.ByteLaws.{byte_past}
+use Rattle.vocabulary.proofs.ByteLaws.{byte_past}
 use Rattle.vocabulary.specs.Lists.{some_of}
-use Rattle.vocabulary.specs.ListLaws.{All_intro, some_of_cong}
+use Rattle.vocabulary.proofs.ListLaws.{All_intro, some_of_cong}
 use Rattle.vocabulary.specs.Intervals.{some}
-use Rattle.vocabulary.specs.ScanLaws.{some_start_from, some_turn_from, some_stop_from, some_end_from}
+use Rattle.vocabulary.proofs.ScanLaws.{some_start_from, some_turn_from, some_stop_from, some_end_from}
 use Rattle.layout.specs.Limits.{most_elements, record_places}
 use Rattle.mesh.specs.Mesh.{record_count, head_of, element_in, next_of, follow, records, chain}
 use Rattle.mesh.proofs.FollowLaws.{chain_ended, chain_spent, chain_more}

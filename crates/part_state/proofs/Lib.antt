@@ -1,2 +1,3 @@
 pub mod ListChecks
 pub mod StateChecks
+pub mod StateLaws

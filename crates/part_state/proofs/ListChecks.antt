@@ -10,12 +10,12 @@ use lib.Dec.{eqb, ltb, leb}
 use lib.ListN.{length, take, drop}
 use borrow.Author.Tests.{eqb-true, le-leb, lt-leb, lt-ltb, le-ltb, eq-eqb, ne_eqb, not-true, not-false}
 use Rattle.vocabulary.specs.Bytes.{Bytes}
-use Rattle.vocabulary.specs.ListLaws.{and_all, and_true, and_false, and_left, and_right, and_assoc}
+use Rattle.vocabulary.proofs.ListLaws.{and_all, and_true, and_false, and_left, and_right, and_assoc}
 use Rattle.vocabulary.specs.Intervals.{is_up_to, every, some}
-use Rattle.vocabulary.specs.IntervalLaws.{every_stop, every_turn, some_of_listed}
-use Rattle.vocabulary.specs.ScanLaws.{some_stop_from, some_end_from, every_stop_from, every_turn_from, every_end_from}
+use Rattle.vocabulary.proofs.IntervalLaws.{every_stop, every_turn, some_of_listed}
+use Rattle.vocabulary.proofs.ScanLaws.{some_stop_from, some_end_from, every_stop_from, every_turn_from, every_end_from}
 use Rattle.vocabulary.specs.Tests.{all_of}
-use Rattle.vocabulary.specs.TestLaws.{all_of_true}
+use Rattle.vocabulary.proofs.TestLaws.{all_of_true}
 use Rattle.layout.specs.Words.{word_at}
 use Rattle.layout.specs.Limits.{most_elements, most_parts, most_steps}
 use Rattle.round_rule.specs.Rules.{weight_count, bad11}
@@ -26,13 +26,10 @@ use Rattle.round_rule.specs.declared.Rule.{Rule}
 use Rattle.round_rule.specs.declared.Rule.TheVariants.{Known, Unknown}
 use Rattle.round_rule.proofs.KindLaws.{known_number}
 use Rattle.round_rule.proofs.Refusals.{unknown_rule}
-use Rattle.part_state.specs.State.{LocalNear, part_number, step_count, rule_kind, weights, owned_count, held_count, reach_end, reach_count, rises, entry_at, first_of_mesh, cells_of_mesh}
-use Rattle.part_state.specs.State.{weights_place, export_count, climbs, point_count, point_end, point_cells, point_cell_at, valid_point_cell, point_ends_word, point_cells_word}
-use Rattle.part_state.specs.State.{export_at, local_reach, global_at, valid_global, valid_entry, own_found, valid_export, lists_tests, exports_word, entry_word, reach_word}
-use Rattle.part_state.specs.StateLaws.{rises_grow}
+use Rattle.part_state.specs.State.{LocalNear, part_number, step_count, rule_kind, weights, owned_count, held_count, reach_end, reach_count, rises, entry_at, first_of_mesh, cells_of_mesh, weights_place, export_count, climbs, point_count, point_end, point_cells, point_cell_at, valid_point_cell, point_ends_word, point_cells_word, export_at, local_reach, global_at, valid_global, valid_entry, own_found, valid_export, lists_tests, exports_word, entry_word, reach_word}
+use Rattle.part_state.proofs.StateLaws.{rises_grow}
 use Rattle.part_state.specs.declared.places.Sizes.{Sizes}
-use Rattle.part_state.specs.Checks.{reach_start, entry_start, export_start, point_end_start, point_cell_start, Counts, Fitting, Tested, rise_at, climb_at, own_entry}
-use Rattle.part_state.specs.Checks.{valid_row, header_tests, end_tests, entry_tests, point_tests}
+use Rattle.part_state.specs.Checks.{reach_start, entry_start, export_start, point_end_start, point_cell_start, Counts, Fitting, Tested, rise_at, climb_at, own_entry, valid_row, header_tests, end_tests, entry_tests, point_tests}
 
 -- ---- a test of a range, asked with the count that stands in the lists
 

@@ -7,16 +7,15 @@ use lib.Dec.{eqb, leb}
 use lib.ListN.{length, take, drop}
 use borrow.Author.Tests.{le-leb, lt-leb, eq-eqb, ne_eqb, not-true, not-false}
 use Rattle.vocabulary.specs.Bytes.{Bytes, byte_at}
-use Rattle.vocabulary.specs.ListLaws.{and_right, and_all}
+use Rattle.vocabulary.proofs.ListLaws.{and_right, and_all}
 use Rattle.vocabulary.specs.Intervals.{every}
 use Rattle.vocabulary.specs.Tests.{all_of}
 use Rattle.layout.specs.Words.{word, word_at}
 use Rattle.layout.specs.Limits.{last_round, most_parts}
 use Rattle.depths.specs.Depths.{ranged_at}
-use Rattle.part_state.specs.State.{owned_count, held_count, export_count, lists_length, lists_tests, dynamic_tests, valid_flags, is_state, state_length}
-use Rattle.part_state.specs.State.{written_place, taken_place, depths_place, reach_word, reach_count, points_from, point_count, point_cells}
+use Rattle.part_state.specs.State.{owned_count, held_count, export_count, lists_length, lists_tests, dynamic_tests, valid_flags, is_state, state_length, written_place, taken_place, depths_place, reach_word, reach_count, points_from, point_count, point_cells, is_state_at}
 use Rattle.part_state.specs.declared.places.Sizes.{Sizes}
-use Rattle.part_state.specs.StateLaws.{is_state_at, state_at}
+use Rattle.part_state.proofs.StateLaws.{state_at}
 use Rattle.part_state.specs.Checks.{point_start, word_count, Counts, Fitting}
 
 -- ---- flags

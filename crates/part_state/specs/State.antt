@@ -300,3 +300,7 @@ is_state b =
 
 unfoldable pub bad20 : Bytes → Bool
 bad20 b = not (is_state b)
+
+-- the test of a state, by the lists `lists` and the place `changes` where they end
+abbrev pub is_state_at : Bytes → ℕ → Bytes → Bool
+is_state_at lists changes b = eqb changes (lists_length lists) && all_of (lists_tests lists) && all_of (dynamic_tests b changes (held_count lists))

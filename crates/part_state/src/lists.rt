@@ -6,8 +6,7 @@ ghost use Rattle.layout.specs.Words.{word_at};
 ghost use Rattle.layout.specs.Limits.{most_steps};
 ghost use Rattle.round_rule.specs.Rules.{weight_count, bad11};
 ghost use Rattle.round_rule.specs.Kinds.{kind_number};
-ghost use Rattle.part_state.specs.State.{weights_place, export_count, point_cells, global_at, valid_global, valid_entry, valid_export, valid_point_cell, lists_tests};
-ghost use Rattle.part_state.specs.State.{reach_word};
+ghost use Rattle.part_state.specs.State.{weights_place, export_count, point_cells, global_at, valid_global, valid_entry, valid_export, valid_point_cell, lists_tests, reach_word};
 ghost use Rattle.part_state.specs.Checks.{Fitting, Tested, rise_at, climb_at, own_entry, valid_row, header_tests, end_tests, entry_tests, point_tests};
 
 use crate::places::{

@@ -3,8 +3,7 @@ ghost use Rattle.std.specs.Prelude.{◌≡◌, ◌+◌, ◌*◌, ◌<◌, length
 ghost use Rattle.vocabulary.specs.Intervals.{every};
 ghost use Rattle.vocabulary.specs.Tests.{all_of};
 ghost use Rattle.layout.specs.Limits.{most_parts};
-ghost use Rattle.part_state.specs.State.{valid_flags, dynamic_tests, is_state};
-ghost use Rattle.part_state.specs.StateLaws.{is_state_at};
+ghost use Rattle.part_state.specs.State.{valid_flags, dynamic_tests, is_state, is_state_at};
 
 use crate::lists::valid_lists;
 use crate::places::{DEPTHS, LENGTH, TAKEN, WRITTEN, sizes_of};

@@ -9,12 +9,12 @@ use lib.ListN.{length, set, take, drop, length-drop}
 use lib.Seq.{take_all}
 use borrow.Author.Tests.{eq-eqb, ne_eqb, lt-ltb, le-ltb, not-true, not-false}
 use Rattle.vocabulary.specs.Bytes.{Bytes, byte_at, over}
-use Rattle.vocabulary.specs.ListLaws.{and_true, or_false}
+use Rattle.vocabulary.proofs.ListLaws.{and_true, or_false}
 use Rattle.vocabulary.specs.Tests.{first_of}
 use Rattle.vocabulary.specs.Intervals.{is_up_to}
-use Rattle.vocabulary.specs.IntervalLaws.{up_to_true}
+use Rattle.vocabulary.proofs.IntervalLaws.{up_to_true}
 use Rattle.layout.specs.Words.{word, word_at}
-use Rattle.layout.specs.AnswerLaws.{refuses, accepts}
+use Rattle.layout.proofs.AnswerLaws.{refuses, accepts}
 use Rattle.layout.specs.declared.Answer.{Answer}
 use Rattle.layout.specs.declared.Answer.TheVariants.{Done, Refused}
 use Rattle.layout.specs.Limits.{most_parts}
@@ -22,7 +22,7 @@ use types.Run.{OneOf}
 use denote.Enum.Declared.{tag_of}
 use Rattle.messages.specs.Messages.{depths_of, message_size, bad15, from_in, to_in, round_in, count_in, reading}
 use Rattle.messages.specs.Readings.{reading_number, meant_reading}
-use Rattle.messages.specs.ReadingLaws.{message_told}
+use Rattle.messages.proofs.ReadingLaws.{message_told}
 use Rattle.messages.specs.declared.Header.{Header}
 use Rattle.messages.specs.declared.Reading.{Reading}
 use Rattle.messages.specs.declared.Reading.TheVariants.{Message}
@@ -31,7 +31,7 @@ use Rattle.messages.proofs.Else.{else_bad, else_number}
 use Rattle.messages.specs.contracts.Reading as K
 use Rattle.part_state.specs.State.{Lists, lists_in, lists_of, dynamic, held_count, is_state, depth_place, state_length, taken_place, import_word, part_number}
 use Rattle.part_calls.specs.Calls.{imports_from, take_tests_in, taken_in, take_number, take_answer, take_state}
-use Rattle.part_calls.specs.CallLaws.{Room, room_of, Taken, taken_facts}
+use Rattle.part_calls.proofs.CallLaws.{Room, room_of, Taken, taken_facts}
 use Rattle.part_calls.specs.Opened.{Opened, bad_sender, take_rest}
 use Rattle.part_calls.proofs.OpenedLaws.{whole, long, good_state, not_state, cut, lists_is, part_few}
 use Rattle.part_state.specs.Checks.{before_imports}

@@ -9,13 +9,13 @@ use lib.ListN.{length, take, drop}
 use lib.Seq.{length-take-le}
 use Rattle.vocabulary.specs.Bytes.{Bytes, over}
 use Rattle.vocabulary.specs.Intervals.{listed, blocks}
-use Rattle.vocabulary.specs.IntervalLaws.{listed_map, listed_moved}
+use Rattle.vocabulary.proofs.IntervalLaws.{listed_map, listed_moved}
 use Rattle.layout.specs.Words.{word, word_at}
 use Rattle.depths.specs.Depths.{Valid, four, value_bytes}
-use Rattle.depths.specs.DepthLaws.{length_four, fours_store, ranged_valid}
+use Rattle.depths.proofs.DepthLaws.{length_four, fours_store, ranged_valid}
 use Rattle.depths.specs.declared.Value.{Value}
 use Rattle.round_rule.specs.Rules.{Old, new_depth, bad11, weight_count}
-use Rattle.round_rule.specs.RuleLaws.{rule_known, new_length}
+use Rattle.round_rule.proofs.RuleLaws.{rule_known, new_length}
 use Rattle.round_rule.specs.Kinds.{kind_number, rule_of}
 use Rattle.round_rule.specs.declared.Kind.{Kind}
 use Rattle.round_rule.specs.declared.Rule.{Rule}
@@ -23,13 +23,12 @@ use Rattle.round_rule.specs.declared.Rule.TheVariants.{Known, Unknown}
 use Rattle.round_rule.proofs.KindLaws.{known_number, unknown_number}
 use Rattle.round_update.specs.Update.{table_entries, olds_at, UpdateReady}
 use Rattle.round_update.specs.Update as update
-use Rattle.round_update.specs.UpdateLaws.{weighed_from}
-use Rattle.part_state.specs.State.{LocalNear, lists_in, rule_kind, step_count, weights, held_count, owned_count, reach_end, weights_place}
-use Rattle.part_state.specs.State.{reach_count, entry_at, local_reach, depth_place, depths_place, entry_word, reach_word}
+use Rattle.round_update.proofs.UpdateLaws.{weighed_from}
+use Rattle.part_state.specs.State.{LocalNear, lists_in, rule_kind, step_count, weights, held_count, owned_count, reach_end, weights_place, reach_count, entry_at, local_reach, depth_place, depths_place, entry_word, reach_word}
 use Rattle.part_state.specs.Checks.{reach_start, entry_start, Counts, depth_base}
 use Rattle.part_state.specs.declared.places.Sizes.{Sizes}
 use Rattle.part_calls.specs.Calls.{depth_at, new_at}
-use Rattle.part_state.specs.StateLaws.{Whole}
+use Rattle.part_state.proofs.StateLaws.{Whole}
 use Rattle.part_calls.specs.Opened.{Opened}
 use Rattle.part_calls.proofs.OpenedLaws.{whole, own_few, long}
 

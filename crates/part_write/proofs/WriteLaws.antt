@@ -8,24 +8,22 @@ use lib.Dec.{ltb}
 use lib.ListN.{length, set, take, drop, length-map}
 use borrow.Author.Tests.{lt-ltb, le-ltb, not-true, not-false}
 use Rattle.vocabulary.specs.Bytes.{Bytes, over}
-use Rattle.vocabulary.specs.ByteLaws.{over_more}
+use Rattle.vocabulary.proofs.ByteLaws.{over_more}
 use Rattle.vocabulary.specs.Lists.{joined}
 use Rattle.vocabulary.specs.Intervals.{is_up_to, blocks}
-use Rattle.vocabulary.specs.IntervalLaws.{up_to_true, listed_length, joined_mapped}
+use Rattle.vocabulary.proofs.IntervalLaws.{up_to_true, listed_length, joined_mapped}
 use Rattle.layout.specs.Words.{word, word_at, bytes_of}
-use Rattle.layout.specs.WordLaws.{length_bytes_of}
+use Rattle.layout.proofs.WordLaws.{length_bytes_of}
 use Rattle.depths.specs.Depths.{four}
-use Rattle.depths.specs.DepthLaws.{length_four, fours_store}
-use Rattle.layout.specs.AnswerLaws.{refuses, accepts}
+use Rattle.depths.proofs.DepthLaws.{length_four, fours_store}
+use Rattle.layout.proofs.AnswerLaws.{refuses, accepts}
 use Rattle.layout.specs.declared.Answer.{Answer}
 use Rattle.layout.specs.declared.Answer.TheVariants.{Done, Refused}
 use Rattle.layout.specs.Limits.{most_parts}
 use Rattle.messages.specs.Messages.{header_size, depth_start, message_size, encode}
-use Rattle.part_state.specs.State.{Lists, lists_in, lists_of, dynamic, export_end, export_count, export_at, local_exports, held_count, owned_count, reach_count, depth_place, written_place, exports_word}
-use Rattle.part_state.specs.State.{part_number}
-use Rattle.part_state.specs.State.{export_word}
+use Rattle.part_state.specs.State.{Lists, lists_in, lists_of, dynamic, export_end, export_count, export_at, local_exports, held_count, owned_count, reach_count, depth_place, written_place, exports_word, part_number, export_word}
 use Rattle.part_calls.specs.Calls.{exports_to, depth_at, message_to, write_tests_in, written_in, write_number, message, write_answer, write_state, write_out}
-use Rattle.part_calls.specs.EffectLaws.{message_length}
+use Rattle.part_calls.proofs.EffectLaws.{message_length}
 use Rattle.part_state.specs.Checks.{export_start, Counts, before_exports}
 use Rattle.part_state.specs.declared.places.Sizes.{Sizes}
 use Rattle.part_calls.specs.Opened.{Opened, sent_to, sent_at}

@@ -11,10 +11,9 @@ use lib.ListN.{length, get_or, take}
 use lib.Seq.{length-take-le, take_all, take-take, get_or-take}
 use borrow.Author.Tests.{ltb-true, ltb-false, lt-ltb, le-ltb, eqb-true, eqb-false, eq-eqb, ne_eqb}
 use Rattle.vocabulary.specs.Bytes.{Bytes}
-use Rattle.vocabulary.specs.Lists.{is_in}
-use Rattle.vocabulary.specs.ListLaws.{At as Stands, is_in_not, not_is_in}
-use Rattle.vocabulary.specs.IntervalLaws.{Rises}
-use Rattle.layout.specs.WordLaws.{length_words}
+use Rattle.vocabulary.specs.Lists.{is_in, Rises}
+use Rattle.vocabulary.proofs.ListLaws.{At as Stands, is_in_not, not_is_in}
+use Rattle.layout.proofs.WordLaws.{length_words}
 use Rattle.place_search.specs.declared.Found.TheVariants.{At, Nothing}
 use Rattle.place_search.specs.Places.{lower_bound, place_in, read_for, words_in, place_number, found_at, saturated, PlaceTheorem}
 

@@ -7,7 +7,7 @@ use lib.ListN.{length, get_or}
 use borrow.Author.Tests.{lt-ltb, le-ltb, ne_eqb}
 use Rattle.vocabulary.specs.Bytes.{Bytes}
 use Rattle.layout.specs.Words.{word, word_at}
-use Rattle.layout.specs.WordLaws.{length_words, words_at}
+use Rattle.layout.proofs.WordLaws.{length_words, words_at}
 use Rattle.place_search.specs.declared.Found.{Found}
 use Rattle.place_search.specs.declared.Found.TheVariants.{At, Nothing}
 use Rattle.place_search.specs.Places.{lower_bound, place_in, read_for, words_in, place_number, found_at, saturated}

@@ -3,8 +3,7 @@
 -- "finding a cell's place in an import list is to end at the first number not below the one sought, as lists rise."
 use Rattle.std.specs.Prelude.{◌≡◌, ◌↔◌, false, ◌&&◌, cond, List, [], ◌∷◌, ℕ, suc, ◌+◌, ◌/◌, ◌<◌, ◌≤◌, eqb, ltb, length, get_or, take}
 use Rattle.vocabulary.specs.Bytes.{Bytes}
-use Rattle.vocabulary.specs.Lists.{is_in}
-use Rattle.vocabulary.specs.IntervalLaws.{Rises}
+use Rattle.vocabulary.specs.Lists.{is_in, Rises}
 use Rattle.layout.specs.Words.{words}
 use Rattle.place_search.specs.declared.Found.{Found}
 use Rattle.place_search.specs.declared.Found.TheVariants.{At, Nothing}

@@ -6,13 +6,13 @@ use mathlib.Core.List.{List}
 use Prim.Native.Nat.{ℕ, zero, suc, ◌*◌}
 use lib.ListN.{length}
 use Rattle.vocabulary.specs.Bytes.{Bytes, over}
-use Rattle.vocabulary.specs.ByteLaws.{over_whole}
+use Rattle.vocabulary.proofs.ByteLaws.{over_whole}
 use Rattle.vocabulary.specs.Tests.{Test, first_of}
-use Rattle.vocabulary.specs.TestLaws.{holds_of, passed_by, none_holds}
+use Rattle.vocabulary.proofs.TestLaws.{holds_of, passed_by, none_holds}
 use Rattle.mesh.specs.Mesh.{cell_count, mesh_number}
-use Rattle.mesh.specs.MeshLaws.{mesh_parted, mesh_then}
+use Rattle.mesh.proofs.MeshLaws.{mesh_parted, mesh_then}
 use Rattle.round.specs.Rounds.{scheme_of, round, undivided, bad14, later_tests, round_number, round_out, round_input}
-use Rattle.round.specs.RoundLaws.{undivided_good, field_length}
+use Rattle.round.proofs.RoundLaws.{undivided_good, field_length}
 
 -- the fields that k calls with the buffer `out` leave
 unfoldable pub calls : Bytes → Bytes → ℕ → Bytes → Bytes → Bytes → ℕ → Bytes

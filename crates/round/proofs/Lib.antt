@@ -1,3 +1,4 @@
 pub mod FieldLaws
 pub mod UndividedLaws
 pub mod CallLaws
+pub mod RoundLaws

@@ -10,20 +10,20 @@ use lib.Dec.{ltb}
 use lib.ListN.{length, get_or, length-map}
 use borrow.Author.Tests.{lt-ltb, le-ltb}
 use Rattle.vocabulary.specs.Bytes.{Bytes, over}
-use Rattle.vocabulary.specs.ListLaws.{All_get_or, get_or_map_any}
+use Rattle.vocabulary.proofs.ListLaws.{All_get_or, get_or_map_any}
 use Rattle.vocabulary.specs.Intervals.{listed, blocks}
-use Rattle.vocabulary.specs.IntervalLaws.{listed_back, blocks_moved}
+use Rattle.vocabulary.proofs.IntervalLaws.{listed_back, blocks_moved}
 use Rattle.depths.specs.Depths.{four, value_bytes}
-use Rattle.depths.specs.DepthLaws.{length_four, fours_store}
+use Rattle.depths.proofs.DepthLaws.{length_four, fours_store}
 use Rattle.depths.specs.declared.Value.{Value}
-use Rattle.layout.specs.AnswerLaws.{refuses, accepts}
+use Rattle.layout.proofs.AnswerLaws.{refuses, accepts}
 use Rattle.layout.specs.declared.Answer.{Answer}
 use Rattle.layout.specs.declared.Answer.TheVariants.{Done, Refused}
 use Rattle.layout.specs.Limits.{most_reached, table_bytes}
 use Rattle.mesh.specs.Mesh.{top, first_cell, cell_count, mesh_number}
-use Rattle.mesh.specs.MeshLaws.{mesh_then, mesh_refuses}
+use Rattle.mesh.proofs.MeshLaws.{mesh_then, mesh_refuses}
 use Rattle.mesh.specs.Walks.{Near, reach, steps, bad10, bad13}
-use Rattle.mesh.specs.WalkLaws.{steps_few, reach_in, reach_layers}
+use Rattle.mesh.proofs.WalkLaws.{steps_few, reach_in, reach_layers}
 use Rattle.walk_reach_table.specs.Tables.{Tabled}
 use Rattle.walk_reach_table.proofs.SizeLaws.{table_refused}
 use Rattle.walk_reach_table.proofs.EntryLaws.{row_fits, row_size, row_cell, row_layer, table_length}
@@ -34,11 +34,11 @@ use Rattle.round_rule.specs.declared.Rule.{Rule}
 use Rattle.round_rule.specs.declared.Rule.TheVariants.{Known, Unknown}
 use Rattle.round_rule.proofs.KindLaws.{known_number}
 use Rattle.round_rule.proofs.Refusals.{known_rule, unknown_rule}
-use Rattle.round_rule.specs.RuleLaws.{new_length}
+use Rattle.round_rule.proofs.RuleLaws.{new_length}
 use Rattle.round.specs.Rounds.{RoundInput, Scheme, scheme_of, depth_in, new_in, round, bad14, round_number, round_answer, round_out, round_input}
-use Rattle.round.specs.RoundLaws.{field_length, field_ranged, placed, olds_placed}
+use Rattle.round.proofs.RoundLaws.{field_length, field_ranged, placed, olds_placed}
 use Rattle.round_update.specs.Update.{table_entry, table_entries, olds_at, UpdateReady}
-use Rattle.round_update.specs.UpdateLaws.{ready_from}
+use Rattle.round_update.proofs.UpdateLaws.{ready_from}
 use Rattle.round.specs.Rows.{row_new, Row, Rows}
 
 -- ---- one row

@@ -8,7 +8,7 @@ use lib.ListN.{length}
 use borrow.Author.Tests.{lt-ltb, le-ltb, eq-eqb, ne_eqb}
 use Rattle.vocabulary.specs.Bytes.{Bytes}
 use Rattle.vocabulary.specs.Intervals.{some}
-use Rattle.vocabulary.specs.IntervalLaws.{some_stop, some_turn}
+use Rattle.vocabulary.proofs.IntervalLaws.{some_stop, some_turn}
 use Rattle.layout.specs.Words.{word_at}
 use Rattle.layout.specs.Limits.{most_weight}
 use Rattle.round_rule.specs.Rules.{weight_count, too_heavy, bad11}

@@ -1,4 +1,3 @@
 pub mod Rules
 pub mod Kinds
 pub mod Code
-pub mod RuleLaws

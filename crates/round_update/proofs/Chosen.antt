@@ -8,15 +8,15 @@ use mir.Val.{Fits}
 use Rattle.vocabulary.specs.Bytes.{Bytes, byte_at}
 use Rattle.vocabulary.specs.Lists.{All}
 use Rattle.depths.specs.Depths.{deepest, four, value_from, value_bytes, Within}
-use Rattle.depths.specs.DepthLaws.{value_bytes_lem}
+use Rattle.depths.proofs.DepthLaws.{value_bytes_lem}
 use Rattle.depths.specs.declared.Value.{Value}
 use Rattle.round_rule.specs.Rules.{Old, without_gaps, read_by, mean_of, least_of, new_depth}
 use Rattle.round_rule.specs.Kinds.{kind_number}
 use Rattle.round_rule.specs.declared.Kind.{Kind}
 use Rattle.round_rule.specs.declared.Kind.TheVariants.{Hold, Mean, Shoalest}
-use Rattle.round_rule.specs.RuleLaws.{SmallOld, mean_within, least_within}
+use Rattle.round_rule.proofs.RuleLaws.{SmallOld, mean_within, least_within}
 use Rattle.round_update.specs.Update.{table_entries, olds_at, Weighed, UpdateReady}
-use Rattle.round_update.specs.UpdateLaws.{olds_small}
+use Rattle.round_update.proofs.UpdateLaws.{olds_small}
 
 pub mean_weighed : (kind : Kind) (v b : Bytes) (at n : ℕ) (f : Bytes) (base own : ℕ) → UpdateReady (kind_number kind) v b at n f base own → kind ≡ Mean → Weighed v b at n
 unfolding kind_number

@@ -4,3 +4,4 @@ pub mod Sums
 pub mod Reaches
 pub mod Chosen
 pub mod Plain
+pub mod UpdateLaws

@@ -11,7 +11,7 @@ use mir.ValLaws.{to_z-of_z}
 use Rattle.vocabulary.specs.Bytes.{Bytes}
 use Rattle.layout.specs.Words.{word}
 use Rattle.depths.specs.Depths.{deepest, Within, four, value_from, value_of}
-use Rattle.depths.specs.DepthLaws.{value_four}
+use Rattle.depths.proofs.DepthLaws.{value_four}
 use Rattle.depths.specs.declared.Value.{Value}
 use Rattle.depths.specs.declared.Value.TheVariants.{Depth}
 use Rattle.round_update.specs.Update.{PlacesThere}

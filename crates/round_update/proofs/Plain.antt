@@ -8,16 +8,16 @@ use lib.IntN.{ℤ, pos, nat_abs, ◌+ℤ◌, ◌*ℤ◌}
 use mir.Syntax.{w32, w64}
 use mir.Val.{SFits, to_z, of_z}
 use Rattle.vocabulary.specs.Bytes.{Bytes}
-use Rattle.vocabulary.specs.ListLaws.{map_append}
+use Rattle.vocabulary.proofs.ListLaws.{map_append}
 use Rattle.vocabulary.specs.Intervals.{listed}
-use Rattle.vocabulary.specs.IntervalLaws.{listed_turn}
+use Rattle.vocabulary.proofs.IntervalLaws.{listed_turn}
 use Rattle.layout.specs.Words.{word, word_at, word_bytes, bytes_of}
 use Rattle.depths.specs.Depths.{deepest, Within, value_from, value_bytes}
 use Rattle.depths.specs.declared.Value.{Value}
 use Rattle.depths.specs.declared.Value.TheVariants.{Depth, Gap}
 use Rattle.round_rule.specs.Rules.{Old, weight, ones, plain_old, plain_mean}
 use Rattle.round_rule.specs.Code.{divided_by}
-use Rattle.round_rule.specs.RuleLaws.{divided_within}
+use Rattle.round_rule.proofs.RuleLaws.{divided_within}
 use Rattle.round_update.specs.Update.{placed_at, PlacesThere}
 use Rattle.round_update.proofs.Places.{place_within}
 use Rattle.round_update.proofs.Sums.{Summed, summed_none, summed_gap, summed_depth, summed_mean}

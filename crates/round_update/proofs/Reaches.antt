@@ -11,18 +11,18 @@ use mir.Val.{Fits, SFits, to_z, of_z}
 use mir.ValLaws.{to_z-of_z}
 use Rattle.vocabulary.specs.Bytes.{Bytes, byte_at}
 use Rattle.vocabulary.specs.Lists.{filtered}
-use Rattle.vocabulary.specs.IntervalLaws.{at_last}
+use Rattle.vocabulary.proofs.IntervalLaws.{at_last}
 use Rattle.layout.specs.Words.{word, word_at}
 use Rattle.layout.specs.Limits.{most_steps, most_weight}
 use Rattle.depths.specs.Depths.{deepest, four, value_from, value_of}
-use Rattle.depths.specs.DepthLaws.{value_is}
+use Rattle.depths.proofs.DepthLaws.{value_is}
 use Rattle.depths.specs.declared.Value.{Value}
 use Rattle.depths.specs.declared.Value.TheVariants.{Depth, Gap}
 use Rattle.round_rule.specs.Rules.{Old, without_gaps, read_by, weight, mean_of, least_of}
-use Rattle.round_rule.specs.RuleLaws.{pass_gap, take_depth, least_snoc}
+use Rattle.round_rule.proofs.RuleLaws.{pass_gap, take_depth, least_snoc}
 use Rattle.round_rule.specs.Code.{divided_by, lesser_of}
 use Rattle.round_update.specs.Update.{table_entry, table_entries, old_at, olds_at, PlacesThere, Weighed}
-use Rattle.round_update.specs.UpdateLaws.{olds_start, olds_turn}
+use Rattle.round_update.proofs.UpdateLaws.{olds_start, olds_turn}
 use Rattle.round_update.proofs.Places.{value_read, place_within}
 use Rattle.round_update.proofs.Sums.{Summed, summed_none, summed_gap, summed_depth, summed_mean}
 

@@ -17,7 +17,7 @@ use Rattle.depths.specs.declared.Value.{Value}
 use Rattle.depths.specs.declared.Value.TheVariants.{Depth, Gap}
 use Rattle.round_rule.specs.Rules.{quotient}
 use Rattle.round_rule.specs.Code.{divided_by, lesser_of}
-use Rattle.round_rule.specs.RuleLaws.{size_neg, size_add, size_times}
+use Rattle.round_rule.proofs.RuleLaws.{size_neg, size_add, size_times}
 
 -- ---- small numbers fit
 

@@ -11,11 +11,11 @@ use Rattle.vocabulary.specs.Bytes.{Bytes}
 use Rattle.vocabulary.specs.Lists.{filtered}
 use Rattle.layout.specs.Limits.{most_weight}
 use Rattle.depths.specs.Depths.{deepest, Within, four, value_from, value_of}
-use Rattle.depths.specs.DepthLaws.{value_is}
+use Rattle.depths.proofs.DepthLaws.{value_is}
 use Rattle.depths.specs.declared.Value.{Value}
 use Rattle.depths.specs.declared.Value.TheVariants.{Depth, Gap}
 use Rattle.round_rule.specs.Rules.{Old, without_gaps, read_by, weight, depth_sum, weight_sum, mean_of}
-use Rattle.round_rule.specs.RuleLaws.{size_more, depth_sum_snoc, weight_sum_snoc, pass_gap, take_depth, mean_by_sums}
+use Rattle.round_rule.proofs.RuleLaws.{size_more, depth_sum_snoc, weight_sum_snoc, pass_gap, take_depth, mean_by_sums}
 use Rattle.round_rule.specs.Code.{divided_by}
 use Rattle.round_update.proofs.Registers.{fits_long}
 use Rattle.round_update.proofs.Places.{depth_within, value_read}

@@ -1,1 +1,15 @@
 pub mod MessageTheoremLaws
+pub mod BegunLaws
+pub mod BoundLaws
+pub mod DemandLaws
+pub mod FieldLaws
+pub mod FormLaws
+pub mod KeptLaws
+pub mod PointFormLaws
+pub mod PointLaws
+pub mod PointStartLaws
+pub mod RefusalLaws
+pub mod RunLaws
+pub mod StartLaws
+pub mod StepLaws
+pub mod WorldLaws

@@ -6,19 +6,19 @@ use native.Mathlib.Omega.{arith}
 use lib.ListN.{take}
 use Rattle.vocabulary.specs.Bytes.{Bytes}
 use Rattle.vocabulary.specs.Lists.{All}
-use Rattle.vocabulary.specs.ListLaws.{All_map, All_of_map}
-use Rattle.vocabulary.specs.IntervalLaws.{listed_all}
+use Rattle.vocabulary.proofs.ListLaws.{All_map, All_of_map}
+use Rattle.vocabulary.proofs.IntervalLaws.{listed_all}
 use Rattle.layout.specs.Limits.{most_parts}
 use Rattle.depths.specs.Depths.{value_of}
-use Rattle.depths.specs.DepthLaws.{length_four, within_valid}
+use Rattle.depths.proofs.DepthLaws.{length_four, within_valid}
 use Rattle.messages.specs.Messages.{encode, reading}
-use Rattle.messages.specs.MessageLaws.{Sound, read_back, read_once}
+use Rattle.messages.proofs.MessageLaws.{Sound, read_back, read_once}
 use Rattle.part_state.specs.State.{lists_in, lists_of, dynamic, is_state, local_exports, export_end, export_at, held_count, depth_place}
-use Rattle.part_state.specs.StateLaws.{state_at, Whole, whole_is}
+use Rattle.part_state.proofs.StateLaws.{state_at, Whole, whole_is}
 use Rattle.part_calls.specs.Calls.{depth_at, sent_message, message_to, message}
 use Rattle.run_theorem.specs.Run.{MessageTheorem}
-use Rattle.run_theorem.specs.StepLaws.{on_states, write_part, written_is}
-use Rattle.run_theorem.specs.KeptLaws.{ranged_local}
+use Rattle.run_theorem.proofs.StepLaws.{on_states, write_part, written_is}
+use Rattle.run_theorem.proofs.KeptLaws.{ranged_local}
 
 message_is : (b : Bytes) (j : ℕ) → message b j ≡ encode (sent_message b j)
 unfolding message message_to

@@ -1,15 +1,1 @@
 pub mod Run
-pub mod FormLaws
-pub mod PointFormLaws
-pub mod RunLaws
-pub mod PointLaws
-pub mod StepLaws
-pub mod WorldLaws
-pub mod StartLaws
-pub mod PointStartLaws
-pub mod DemandLaws
-pub mod FieldLaws
-pub mod BoundLaws
-pub mod KeptLaws
-pub mod BegunLaws
-pub mod RefusalLaws

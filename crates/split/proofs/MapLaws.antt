@@ -11,13 +11,13 @@ use lib.Seq.{get_or-set_same, get_or-set_other}
 use borrow.Author.Tests.{le-leb, lt-leb, eq-eqb, ne_eqb, eqb-true, eqb-false, not-true, not-false}
 use Rattle.vocabulary.specs.Bytes.{Bytes, byte_at}
 use Rattle.vocabulary.specs.Intervals.{is_up_to, every, some, picked}
-use Rattle.vocabulary.specs.IntervalLaws.{every_at, every_intro, some_start, some_next, some_has, some_witness, some_at, some_more, picked_none, picked_at, every_stop, every_turn, at_last}
+use Rattle.vocabulary.proofs.IntervalLaws.{every_at, every_intro, some_start, some_next, some_has, some_witness, some_at, some_more, picked_none, picked_at, every_stop, every_turn, at_last}
 use Rattle.vocabulary.specs.Lists.{every_of}
-use Rattle.vocabulary.specs.ListLaws.{every_of_at, every_of_fails, every_of_intro, All_intro, same_test, or_right, or_nothing, zeros_at}
+use Rattle.vocabulary.proofs.ListLaws.{every_of_at, every_of_fails, every_of_intro, All_intro, same_test, or_right, or_nothing, zeros_at}
 use Rattle.vocabulary.specs.Tests.{first_of}
 use Rattle.layout.specs.Limits.{most_parts}
 use Rattle.mesh.specs.Mesh.{top, first_cell, cell_count, mesh_number}
-use Rattle.mesh.specs.MeshLaws.{mesh_then, mesh_refuses}
+use Rattle.mesh.proofs.MeshLaws.{mesh_then, mesh_refuses}
 use Rattle.mesh.specs.Walks.{bad10}
 use Rattle.split.specs.Split.{split_of, owner_at, owns, owned}
 use Rattle.split.specs.Lists.{bad8, bad9, map_tests, split_tests, split_number, split_input}

@@ -10,13 +10,13 @@ use lib.Dec.{ltb}
 use lib.ListN.{length, get_or}
 use borrow.Author.Tests.{eq-eqb}
 use Rattle.vocabulary.specs.Bytes.{Bytes}
-use Rattle.vocabulary.specs.Lists.{repeats}
-use Rattle.vocabulary.specs.ListLaws.{At, repeats_none, repeats_once, cond_has}
+use Rattle.vocabulary.specs.Lists.{repeats, Rises}
+use Rattle.vocabulary.proofs.ListLaws.{At, repeats_none, repeats_once, cond_has}
 use Rattle.vocabulary.specs.Intervals.{picked, total}
-use Rattle.vocabulary.specs.IntervalLaws.{Rises, picked_rises, rises_once}
+use Rattle.vocabulary.proofs.IntervalLaws.{picked_rises, rises_once}
 use Rattle.mesh.specs.Mesh.{top, counted, below}
 use Rattle.split.specs.Split.{Split, owns, owned, reaches, holds, held, imports, exports, interior, halo, locals, local_of, global_of, range}
-use Rattle.split.specs.SplitLaws.{SplitCell, own_is, own_number, local_back, local_cases, import_facts, import_at, own_held}
+use Rattle.split.proofs.SplitLaws.{SplitCell, own_is, own_number, local_back, local_cases, import_facts, import_at, own_held}
 
 -- ---- rising lists
 

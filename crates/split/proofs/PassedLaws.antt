@@ -8,7 +8,7 @@ use lib.Dec.{eqb}
 use lib.ListN.{length}
 use Rattle.vocabulary.specs.Bytes.{Bytes}
 use Rattle.vocabulary.specs.Intervals.{is_up_to}
-use Rattle.vocabulary.specs.IntervalLaws.{up_to_intro, up_to_true}
+use Rattle.vocabulary.proofs.IntervalLaws.{up_to_intro, up_to_true}
 use Rattle.vocabulary.specs.Lists.{every_of}
 use Rattle.vocabulary.specs.Tests.{refuse}
 use Rattle.layout.specs.Limits.{most_parts}
@@ -17,7 +17,7 @@ use Rattle.mesh.specs.Walks.{bad10}
 use Rattle.mesh.specs.Accepted.{Accepted}
 use Rattle.mesh.proofs.AcceptedLaws.{accepted_mesh}
 use Rattle.split.specs.Split.{split_of}
-use Rattle.split.specs.SplitLaws.{split_fine, map_facts}
+use Rattle.split.proofs.SplitLaws.{split_fine, map_facts}
 use Rattle.split.specs.Lists.{bad8, bad9, split_tests, split_number, split_input}
 
 -- to name a part twice is to name it once

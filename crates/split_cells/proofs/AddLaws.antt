@@ -9,10 +9,10 @@ use lib.Dec.{eqb}
 use lib.ListN.{length, get_or, set, length-append, length-set, take, drop}
 use borrow.Author.Tests.{eq-eqb, ne_eqb}
 use Rattle.vocabulary.specs.Bytes.{Bytes, byte_at, over}
-use Rattle.vocabulary.specs.ByteLaws.{over_none, over_more, over_one, over_front}
+use Rattle.vocabulary.proofs.ByteLaws.{over_none, over_more, over_one, over_front}
 use Rattle.vocabulary.specs.Intervals.{blocks}
-use Rattle.vocabulary.specs.ListLaws.{map_append}
-use Rattle.vocabulary.specs.IntervalLaws.{blocks_turn, blocks_start, at_last, blocks_length, total_bound, total_start, total_turn, total_cong}
+use Rattle.vocabulary.proofs.ListLaws.{map_append}
+use Rattle.vocabulary.proofs.IntervalLaws.{blocks_turn, blocks_start, at_last, blocks_length, total_bound, total_start, total_turn, total_cong}
 use Rattle.layout.specs.Limits.{most_elements, most_parts}
 use Rattle.split_classes.specs.Classes.{of_class, class_cells, place_count, class_count, class_order, Appended}
 use Rattle.split_classes.specs.Groups.{group, Grouped, group_cells, group_order, Linked}

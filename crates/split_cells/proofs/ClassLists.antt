@@ -9,11 +9,11 @@ use lib.ListN.{length}
 use borrow.Author.Tests.{eqb-true, eqb-false, eq-eqb, ne_eqb}
 use Rattle.vocabulary.specs.Bytes.{Bytes, byte_at}
 use Rattle.vocabulary.specs.Intervals.{picked, blocks}
-use Rattle.vocabulary.specs.IntervalLaws.{picked_length_le, blocks_cong, blocks_picked}
+use Rattle.vocabulary.proofs.IntervalLaws.{picked_length_le, blocks_cong, blocks_picked}
 use Rattle.layout.specs.Limits.{most_elements, most_parts}
 use Rattle.mesh.specs.Mesh.{first_cell, cell_count}
 use Rattle.split.specs.Split.{Split, split_of, owner_at, owns, holds, held, inside, imports, interior, halo, locals}
-use Rattle.split.specs.SplitLaws.{map_facts, local_held, split_reach, split_own, split_owner}
+use Rattle.split.proofs.SplitLaws.{map_facts, local_held, split_reach, split_own, split_owner}
 use Rattle.split_classes.specs.Classes.{class_in, class_at, Classed, Prepared, of_class, class_cells, part_cells, class_order}
 use Rattle.mesh.proofs.AcceptedLaws.{cells_few}
 

@@ -13,13 +13,12 @@ use borrow.Author.Tests.{eqb-true, eqb-false, eq-eqb, ne_eqb, lt-ltb, le-ltb, lt
 use Rattle.split.specs.Split.{owner_at}
 use Rattle.vocabulary.specs.Bytes.{Bytes, byte_at}
 use Rattle.vocabulary.specs.Intervals.{every, some}
-use Rattle.vocabulary.specs.IntervalLaws.{last_or, some_next, at_last}
-use Rattle.vocabulary.specs.ListLaws.{and_left, and_right, or_nothing, not_both}
+use Rattle.vocabulary.proofs.IntervalLaws.{last_or, some_next, at_last}
+use Rattle.vocabulary.proofs.ListLaws.{and_left, and_right, or_nothing, not_both}
 use Rattle.layout.specs.Words.{word_at}
 use Rattle.layout.specs.Limits.{most_elements}
 use Rattle.split.specs.Owners.{owns_at}
-use Rattle.split_classes.specs.Classes.{entry_owned, inside_at}
-use Rattle.split_classes.specs.Classes.{has_entry, reach_has, entry_is, reached_at, class_at, Classed, RowCleared, OwnersMarked}
+use Rattle.split_classes.specs.Classes.{entry_owned, inside_at, has_entry, reach_has, entry_is, reached_at, class_at, Classed, RowCleared, OwnersMarked}
 
 -- ---- a cleared row
 

@@ -11,9 +11,9 @@ use lib.Seq.{get_or-set_same, get_or-set_other}
 use borrow.Author.Tests.{eqb-true, eqb-false, ne_eqb, ltb-true, ltb-false}
 use Rattle.vocabulary.specs.Bytes.{Bytes, byte_at}
 use Rattle.vocabulary.specs.Intervals.{picked, some, blocks}
-use Rattle.vocabulary.specs.IntervalLaws.{picked_all, blocks_cong}
+use Rattle.vocabulary.proofs.IntervalLaws.{picked_all, blocks_cong}
 use Rattle.vocabulary.specs.Lists.{some_of, All}
-use Rattle.vocabulary.specs.ListLaws.{zeros_at, All_split, or_nothing, some_of_append, map_append}
+use Rattle.vocabulary.proofs.ListLaws.{zeros_at, All_split, or_nothing, some_of_append, map_append}
 use Rattle.layout.proofs.Laws.{number_past}
 use Rattle.layout.specs.Limits.{most_elements, most_parts}
 use Rattle.split_classes.specs.Classes.{of_class, class_cells, class_order}

@@ -11,24 +11,23 @@ use lib.ListN.{length, get_or, length-map}
 use borrow.Author.Tests.{eqb-true, eq-eqb, ne_eqb, lt-ltb}
 use Rattle.vocabulary.specs.Bytes.{Bytes, byte_at}
 use Rattle.vocabulary.specs.Intervals.{picked, some, total}
-use Rattle.vocabulary.specs.IntervalLaws.{some_cong, some_has, some_in, some_witness, total_cong, picked_all, picked_in, picked_passes}
-use Rattle.vocabulary.specs.CountLaws.{total_add, total_zero, total_single, total_swap, picked_count}
+use Rattle.vocabulary.proofs.IntervalLaws.{some_cong, some_has, some_in, some_witness, total_cong, picked_all, picked_in, picked_passes}
+use Rattle.vocabulary.proofs.CountLaws.{total_add, total_zero, total_single, total_swap, picked_count}
 use Rattle.vocabulary.specs.Lists.{All, some_of}
-use Rattle.vocabulary.specs.ListLaws.{and_left, and_right, and_true, and_intro, not_both, same_test, All_get_or, All_of_map, some_of_has, some_of_witness, get_or_map_any}
+use Rattle.vocabulary.proofs.ListLaws.{and_left, and_right, and_true, and_intro, not_both, same_test, All_get_or, All_of_map, some_of_has, some_of_witness, get_or_map_any}
 use Rattle.layout.specs.Words.{word_at}
 use Rattle.layout.specs.Limits.{most_held}
 use Rattle.mesh.specs.Mesh.{first_cell, cell_count}
 use Rattle.mesh.specs.Walks.{Near, layer, steps_to, reach}
-use Rattle.mesh.specs.WalkLaws.{reach_in}
+use Rattle.mesh.proofs.WalkLaws.{reach_in}
 use Rattle.walk_reach_table.specs.Tables.{entry_count, EndTable}
 use Rattle.walk_reach_table.proofs.EntryLaws.{count_more}
 use Rattle.walk_part_reach.specs.Rows.{walked_to, row_cells, row_reach_count}
 use Rattle.split.specs.Split.{Split, split_of, owner_at, owns, owned, reaches, holds, held, imports, exports, inside}
-use Rattle.split.specs.SplitLaws.{SplitCell, map_facts, own_held, split_own}
+use Rattle.split.proofs.SplitLaws.{SplitCell, map_facts, own_held, split_own}
 use Rattle.split.specs.Lists.{bad8, bad12}
 use Rattle.split.specs.Owners.{owns_at}
-use Rattle.split_classes.specs.Classes.{inside_at}
-use Rattle.split_classes.specs.Classes.{class_in, holder_count, has_entry, reach_has, reached_at, class_at, held_by, part_held, Holders}
+use Rattle.split_classes.specs.Classes.{inside_at, class_in, holder_count, has_entry, reach_has, reached_at, class_at, held_by, part_held, Holders}
 
 -- some of the numbers whose places pass, and some of a list
 some_list : {A : Type 0} (a : ℕ) (p : ℕ → Bool) (xs : List A) (d : A) (r : A → Bool) → ((t : ℕ) → t < length xs → p (a + t) ≡ r (get_or xs t d)) → some a (length xs) p ≡ some_of xs r

@@ -12,10 +12,10 @@ use lib.Seq.{get_or-set_same, get_or-set_other}
 use borrow.Author.Tests.{eqb-true, eqb-false, eq-eqb, ne_eqb, ltb-true, ltb-false}
 use Rattle.vocabulary.specs.Bytes.{Bytes, byte_at}
 use Rattle.vocabulary.specs.Intervals.{some, total}
-use Rattle.vocabulary.specs.IntervalLaws.{at_last, some_next, some_start, total_start, total_turn, total_cong}
-use Rattle.vocabulary.specs.CountLaws.{total_swap}
+use Rattle.vocabulary.proofs.IntervalLaws.{at_last, some_next, some_start, total_start, total_turn, total_cong}
+use Rattle.vocabulary.proofs.CountLaws.{total_swap}
 use Rattle.vocabulary.specs.Lists.{some_of}
-use Rattle.vocabulary.specs.ListLaws.{and_left, and_right, or_nothing, some_of_append}
+use Rattle.vocabulary.proofs.ListLaws.{and_left, and_right, or_nothing, some_of_append}
 use Rattle.layout.specs.Words.{word_at}
 use Rattle.layout.proofs.Laws.{number_past}
 use Rattle.layout.specs.Limits.{most_elements, most_parts}

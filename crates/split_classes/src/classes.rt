@@ -1,8 +1,7 @@
 // The classes of the cells for one part, in a row of one byte a cell, from the owners and the table of the reaches.
 ghost use Rattle.std.specs.Prelude.{◌≡◌, ◌&&◌, cond, ◌+◌, ◌≤◌, ◌<◌, length};
 ghost use Rattle.layout.specs.Limits.{most_elements};
-ghost use Rattle.split_classes.specs.Classes.{entry_owned, inside_at};
-ghost use Rattle.split_classes.specs.Classes.{entry_is, reach_has, Classed, RowCleared, OwnersMarked};
+ghost use Rattle.split_classes.specs.Classes.{entry_owned, inside_at, entry_is, reach_has, Classed, RowCleared, OwnersMarked};
 
 use layout::limits::MOST_ELEMENTS;
 use layout::{number_at, word_at};

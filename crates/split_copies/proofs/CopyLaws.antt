@@ -10,19 +10,18 @@ use lib.ListN.{length, get_or, length-map}
 use borrow.Author.Tests.{eqb-true, eq-eqb, ltb-true, lt-ltb}
 use Rattle.vocabulary.specs.Bytes.{Bytes}
 use Rattle.vocabulary.specs.Lists.{is_in}
-use Rattle.vocabulary.specs.ListLaws.{is_in_at, at_is_in, and_true, and_intro, same_test, All_get_or, get_or_map_any, some_of_has, some_of_witness}
+use Rattle.vocabulary.proofs.ListLaws.{is_in_at, at_is_in, and_true, and_intro, same_test, All_get_or, get_or_map_any, some_of_has, some_of_witness}
 use Rattle.vocabulary.specs.Intervals.{picked}
-use Rattle.vocabulary.specs.IntervalLaws.{picked_in, picked_passes}
+use Rattle.vocabulary.proofs.IntervalLaws.{picked_in, picked_passes}
 use Rattle.vocabulary.specs.Tests.{first_of}
 use Rattle.mesh.specs.Mesh.{top, counted, below, first_cell, cell_count}
 use Rattle.mesh.specs.Accepted.{Accepted}
 use Rattle.mesh.specs.Walks.{Near, incident, reach, layer, steps_to, steps, walked, bad10, cells_at}
-use Rattle.split.specs.Split.{Split, split_of, owns, owned, reaches, holds, held, imports, locals, local_of, global_of}
-use Rattle.split.specs.Split.{holds_lower, touches, another, is_copied, is_shared, is_exposed, is_private, range}
+use Rattle.split.specs.Split.{Split, split_of, owns, owned, reaches, holds, held, imports, locals, local_of, global_of, holds_lower, touches, another, is_copied, is_shared, is_exposed, is_private, range}
 use Rattle.split.specs.Lists.{split_number, list_of}
 use Rattle.split.specs.declared.Wanted.TheVariants.{Private, Exposed, Shared, Copied}
-use Rattle.split.specs.SplitLaws as Laws
-use Rattle.split.specs.SplitLaws.{SplitCell, import_facts, import_has, order_cells, local_back, own_held, held_has, map_facts, split_reach, split_own, split_owner}
+use Rattle.split.proofs.SplitLaws as Laws
+use Rattle.split.proofs.SplitLaws.{SplitCell, import_facts, import_has, order_cells, local_back, own_held, held_has, map_facts, split_reach, split_own, split_owner}
 use Rattle.split.proofs.PassedLaws.{twice, passed_facts}
 use Rattle.split.proofs.OrderLaws.{local_number, order_held}
 use Rattle.split_copies.specs.Copies.{is_of, is_cell, Walk, Reached, lists_with, CopyTheorem}

@@ -11,13 +11,13 @@ use lib.Seq.{get_or-append-add}
 use borrow.Author.Tests.{eqb-true, eqb-false, eq-eqb, ltb-true, ltb-false}
 use Rattle.vocabulary.specs.Bytes.{Bytes, byte_at}
 use Rattle.vocabulary.specs.Lists.{is_in, some_of}
-use Rattle.vocabulary.specs.ListLaws.{and_true, and_intro, or_left, or_nothing, is_in_at, at_is_in, some_of_has, some_of_witness}
+use Rattle.vocabulary.proofs.ListLaws.{and_true, and_intro, or_left, or_nothing, is_in_at, at_is_in, some_of_has, some_of_witness}
 use Rattle.vocabulary.specs.Intervals.{is_up_to}
-use Rattle.vocabulary.specs.IntervalLaws.{up_to_true, up_to_intro, last_or, picked_in, picked_passes}
+use Rattle.vocabulary.proofs.IntervalLaws.{up_to_true, up_to_intro, last_or, picked_in, picked_passes}
 use Rattle.mesh.specs.Mesh.{top, counted, below, elements, dimension}
 use Rattle.mesh.specs.Accepted.{Accepted}
 use Rattle.mesh.specs.Walks.{incident, steps, step_to, walked, bad10}
-use Rattle.mesh.specs.WalkLaws.{below_grows, within, stencil_odd, stencil_even}
+use Rattle.mesh.proofs.WalkLaws.{below_grows, within, stencil_odd, stencil_even}
 use Rattle.mesh.proofs.DimensionLaws.{below_more, dimension_le, after_below, below_after}
 use Rattle.split_copies.specs.Copies.{is_of, is_cell, Walk}
 

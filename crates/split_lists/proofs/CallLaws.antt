@@ -9,16 +9,16 @@ use lib.ListN.{length, take}
 use borrow.Author.Tests.{eq-eqb, ne_eqb}
 use Rattle.vocabulary.specs.Bytes.{Bytes, over}
 use Rattle.vocabulary.specs.Tests.{refuse, first_of}
-use Rattle.vocabulary.specs.TestLaws.{first_of_append}
+use Rattle.vocabulary.proofs.TestLaws.{first_of_append}
 use Rattle.layout.specs.Words.{bytes_of}
 use Rattle.layout.specs.Answers.{answer}
-use Rattle.layout.specs.AnswerLaws.{refuses}
+use Rattle.layout.proofs.AnswerLaws.{refuses}
 use Rattle.layout.specs.declared.Answer.{Answer}
 use Rattle.layout.specs.declared.Answer.TheVariants.{Refused}
 use Rattle.layout.specs.Limits.{most_elements}
 use Rattle.split.specs.Lists.{SplitInput, split_tests, size_tests, split_number, sizes_number, others, list_words, list_number, list_answer, list_out, split_input}
 use Rattle.split.proofs.PassedLaws.{Passed, twice, passed_facts}
-use Rattle.split.specs.SplitLaws.{split_numbered, sizes_numbered}
+use Rattle.split.proofs.SplitLaws.{split_numbered, sizes_numbered}
 use Rattle.mesh.specs.Mesh.{cell_count}
 use Rattle.split_classes.specs.Classes.{Classed, Prepared, Appended}
 use Rattle.word_lists.specs.Putting.{given_number, given_answer, given_out}

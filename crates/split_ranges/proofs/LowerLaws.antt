@@ -8,27 +8,26 @@ use lib.Dec.{eqb, leb, ltb}
 use lib.ListN.{get_or, length, set, length-set}
 use lib.Seq.{get_or-set_same, get_or-set_other}
 use mathlib.Core.Logic.{⊎_elim}
-use Rattle.vocabulary.specs.CountLaws.{total_add, total_single, picked_count}
+use Rattle.vocabulary.proofs.CountLaws.{total_add, total_single, picked_count}
 use borrow.Author.Tests.{eq-eqb, lt-leb, lt-ltb, le-ltb, eqb-true, eqb-false, ne_eqb, not-true, ltb-true}
 use Rattle.vocabulary.specs.Bytes.{Bytes, byte_at}
 use Rattle.vocabulary.specs.Intervals.{picked, every, blocks, some, total}
-use Rattle.vocabulary.specs.IntervalLaws.{at_last, picked_cong, some_cong, some_swap, picked_some, last_or, total_cong, blocks_cong, picked_all, picked_length_le, some_in, some_witness, blocks_picked}
+use Rattle.vocabulary.proofs.IntervalLaws.{at_last, picked_cong, some_cong, some_swap, picked_some, last_or, total_cong, blocks_cong, picked_all, picked_length_le, some_in, some_witness, blocks_picked}
 use Rattle.vocabulary.specs.Lists.{is_in, some_of, All}
-use Rattle.vocabulary.specs.ListLaws.{or_nothing, and_true, and_intro, same_test, All_map, All_get_or, some_of_has, some_of_witness, some_of_cong, some_of_and, cond_has}
+use Rattle.vocabulary.proofs.ListLaws.{or_nothing, and_true, and_intro, same_test, All_map, All_get_or, some_of_has, some_of_witness, some_of_cong, some_of_and, cond_has}
 use Rattle.layout.specs.Limits.{most_elements, most_parts, record_places}
 use Rattle.mesh.specs.Mesh.{top, counted, below, first_cell, cell_count}
 use Rattle.mesh.specs.Walks.{incident, valid_at, bad10, step_to, cells_at}
 use Rattle.mesh.specs.Accepted.{Accepted}
-use Rattle.mesh.specs.WalkLaws.{below_grows}
+use Rattle.mesh.proofs.WalkLaws.{below_grows}
 use Rattle.walk_incidence.specs.Links.{trail}
 use Rattle.walk_frontier.specs.Visits.{up}
 use Rattle.walk_steps.specs.Walking.{Ground, stepped}
 use Rattle.walk_steps.proofs.StepLaws.{some_of_like, up_told}
 use Rattle.mesh.proofs.DimensionLaws.{below_next}
 use Rattle.split.specs.Split.{range, Split, split_of, owner_at, owns, holds, held, inside, holds_lower, touches, another}
-use Rattle.split.specs.SplitLaws.{map_facts}
-use Rattle.split_classes.specs.Classes.{class_in, holder_count, held_one, Classed, Prepared, of_class, class_cells}
-use Rattle.split_classes.specs.Classes.{Appended}
+use Rattle.split.proofs.SplitLaws.{map_facts}
+use Rattle.split_classes.specs.Classes.{class_in, holder_count, held_one, Classed, Prepared, of_class, class_cells, Appended}
 use Rattle.split_classes.proofs.HoldLaws.{class_zero}
 use Rattle.split_cells.proofs.AddLaws.{add_none}
 use Rattle.split_cells.proofs.ClassLists.{class_at_lem}

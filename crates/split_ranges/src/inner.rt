@@ -5,8 +5,7 @@ ghost use Rattle.mesh.specs.Mesh.{top};
 ghost use Rattle.mesh.specs.Accepted.{Accepted};
 ghost use Rattle.walk_incidence.specs.Links.{trail};
 ghost use Rattle.walk_steps.specs.Walking.{Ground};
-ghost use Rattle.split_classes.specs.Classes.{held_one};
-ghost use Rattle.split_classes.specs.Classes.{Appended};
+ghost use Rattle.split_classes.specs.Classes.{held_one, Appended};
 ghost use Rattle.split_ranges.specs.Lowers.{side_at, some_side, trail_class, Lowered, row_range};
 
 use layout::limits::RECORD_PLACES;

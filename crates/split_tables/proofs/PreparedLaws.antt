@@ -9,9 +9,9 @@ use lib.ListN.{length, get_or, replicate}
 use borrow.Author.Tests.{lt-ltb, le-ltb}
 use Rattle.vocabulary.specs.Bytes.{Bytes, over}
 use Rattle.vocabulary.specs.Intervals.{every, total}
-use Rattle.vocabulary.specs.IntervalLaws.{every_at, every_intro}
+use Rattle.vocabulary.proofs.IntervalLaws.{every_at, every_intro}
 use Rattle.vocabulary.specs.Lists.{every_of}
-use Rattle.vocabulary.specs.ListLaws.{same_test, every_of_at, every_of_intro, All_intro}
+use Rattle.vocabulary.proofs.ListLaws.{same_test, every_of_at, every_of_intro, All_intro}
 use Rattle.layout.specs.Words.{word_at, bytes_of}
 use Rattle.layout.specs.Limits.{element_places, most_held, most_reached, record_places}
 use Rattle.mesh.specs.Mesh.{top, first_cell, cell_count}

@@ -1,10 +1,4 @@
 pub mod Intervals
 pub mod Lists
 pub mod Tests
-pub mod TestLaws
 pub mod Bytes
-pub mod ListLaws
-pub mod IntervalLaws
-pub mod ScanLaws
-pub mod ByteLaws
-pub mod CountLaws

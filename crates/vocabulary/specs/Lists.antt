@@ -1,5 +1,5 @@
 -- Words over a list: membership, the first place of a number, a repeat, tests of the elements, and those that pass. Assumes nothing.
-use Rattle.std.specs.Prelude.{◌≡◌, Bool, true, false, ◌&&◌, ◌||◌, cond, List, [], ◌∷◌, ◌++◌, ℕ, zero, suc, eqb, length, get_or}
+use Rattle.std.specs.Prelude.{◌≡◌, Bool, true, false, ◌&&◌, ◌||◌, cond, List, [], ◌∷◌, ◌++◌, ℕ, zero, suc, ◌<◌, eqb, length, get_or}
 
 -- x stands in the list
 unfoldable pub is_in : ℕ → List ℕ → Bool
@@ -44,3 +44,7 @@ All P (x ∷ xs) = P x × All P xs
 pub record Zeros (n : ℕ) (xs : List ℕ) : Type 0 where
   pub size : length xs ≡ n
   pub each : (i : ℕ) → get_or xs i 0 ≡ 0
+
+-- rising: each number is below every later one
+abbrev pub Rises : List ℕ → Type 0
+Rises xs = (i j : ℕ) → i < j → j < length xs → get_or xs i 0 < get_or xs j 0

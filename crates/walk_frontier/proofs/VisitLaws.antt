@@ -11,10 +11,10 @@ use lib.ListN.{length, get_or, set, take, length-set, length-take, length-append
 use lib.Seq.{get_or-set_same, get_or-set_other, get_or-take, take-suc, take-suc-set, take-set-le, take-take}
 use borrow.Author.Tests.{eqb-true, eqb-false, eq-eqb, ne_eqb, lt-ltb, le-ltb, le-leb, lt-leb}
 use Rattle.vocabulary.specs.Lists.{is_in, All}
-use Rattle.vocabulary.specs.ListLaws.{or_nothing, or_always, or_assoc, and_right, once_few, All_append, All_get_or, is_in_append, repeats_snoc}
+use Rattle.vocabulary.proofs.ListLaws.{or_nothing, or_always, or_assoc, and_right, once_few, All_append, All_get_or, is_in_append, repeats_snoc}
 use Rattle.vocabulary.specs.Bytes.{Bytes}
 use Rattle.vocabulary.specs.Intervals.{blocks}
-use Rattle.vocabulary.specs.IntervalLaws.{blocks_turn, at_last}
+use Rattle.vocabulary.proofs.IntervalLaws.{blocks_turn, at_last}
 use Rattle.layout.specs.Limits.{most_elements, record_places}
 use Rattle.mesh.specs.Mesh.{record_count, head_of, element_in, next_of, follow, records, chain}
 use Rattle.mesh.proofs.FollowLaws.{chain_ended, chain_spent, chain_more}

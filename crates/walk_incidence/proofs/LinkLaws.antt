@@ -6,7 +6,7 @@ use native.Mathlib.Omega.{arith}
 use lib.ListN.{length, get_or, set, length-append, length-map}
 use Rattle.vocabulary.specs.Bytes.{Bytes}
 use Rattle.vocabulary.specs.Intervals.{blocks}
-use Rattle.vocabulary.specs.IntervalLaws.{blocks_turn, blocks_length, blocks_inner, total_cong, at_last}
+use Rattle.vocabulary.proofs.IntervalLaws.{blocks_turn, blocks_length, blocks_inner, total_cong, at_last}
 use Rattle.layout.specs.Limits.{most_records}
 use Rattle.mesh.specs.Mesh.{elements, record_count, first_cell, cell_count, head_of, element_in, next_of, follow, records, chain, all_records}
 use Rattle.mesh.specs.Accepted.{Accepted}

@@ -11,7 +11,7 @@ use borrow.Author.Tests.{eqb-true, eqb-false, ne_eqb}
 use Rattle.vocabulary.specs.Bytes.{Bytes}
 use Rattle.vocabulary.specs.Intervals.{picked, some, blocks}
 use Rattle.vocabulary.specs.Lists.{is_in, repeats, All}
-use Rattle.vocabulary.specs.ListLaws.{or_swap, or_nothing, or_false, not_both, zeros_at}
+use Rattle.vocabulary.proofs.ListLaws.{or_swap, or_nothing, or_false, not_both, zeros_at}
 use Rattle.layout.specs.Limits.{element_places, most_elements, most_records, record_places}
 use Rattle.mesh.specs.Mesh.{chain}
 use Rattle.walk_incidence.specs.Links.{Links, links, link, link_all, link_cells, trail, picked_down, cells_with}

@@ -10,9 +10,9 @@ use lib.ListN.{length, get_or, set, take, length-set, length-append}
 use lib.Seq.{get_or-set_same, get_or-set_other, get_or-take, take-suc-set}
 use borrow.Author.Tests.{eqb-true, eqb-false, eq-eqb, ne_eqb, ltb-true, ltb-false}
 use Rattle.vocabulary.specs.Intervals.{some}
-use Rattle.vocabulary.specs.IntervalLaws.{some_next, some_has, some_witness, at_last}
+use Rattle.vocabulary.proofs.IntervalLaws.{some_next, some_has, some_witness, at_last}
 use Rattle.vocabulary.specs.Lists.{is_in, repeats, All}
-use Rattle.vocabulary.specs.ListLaws.{and_true, not_both, same_test, or_nothing, or_always, once_few, All_append, is_in_append, repeats_snoc}
+use Rattle.vocabulary.proofs.ListLaws.{and_true, not_both, same_test, or_nothing, or_always, once_few, All_append, is_in_append, repeats_snoc}
 use Rattle.layout.specs.Limits.{element_places, most_elements}
 use Rattle.walk_frontier.specs.Visits.{Grown}
 use Rattle.walk_frontier.proofs.VisitLaws.{grown_none, grown_new, grown_both}

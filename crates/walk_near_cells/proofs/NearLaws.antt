@@ -11,13 +11,13 @@ use lib.Seq.{get_or-take}
 use borrow.Author.Tests.{eqb-true, eqb-false, eq-eqb, ne_eqb, ltb-true, ltb-false}
 use Rattle.vocabulary.specs.Bytes.{Bytes, byte_at}
 use Rattle.vocabulary.specs.Intervals.{picked, some}
-use Rattle.vocabulary.specs.IntervalLaws.{picked_some, some_in, some_witness}
+use Rattle.vocabulary.proofs.IntervalLaws.{picked_some, some_in, some_witness}
 use Rattle.vocabulary.specs.Lists.{is_in, repeats, All, Zeros}
-use Rattle.vocabulary.specs.ListLaws.{and_true, and_intro, not_both, same_test, eqb_swap, is_in_at, at_is_in, at_all, All_intro}
+use Rattle.vocabulary.proofs.ListLaws.{and_true, and_intro, not_both, same_test, eqb_swap, is_in_at, at_is_in, at_all, All_intro}
 use Rattle.layout.specs.Limits.{element_places, most_elements}
 use Rattle.mesh.specs.Mesh.{top, first_cell, cell_count}
 use Rattle.mesh.specs.Walks.{step_to}
-use Rattle.mesh.specs.WalkLaws.{stencil_parts, stencil_even}
+use Rattle.mesh.proofs.WalkLaws.{stencil_parts, stencil_even}
 use Rattle.mesh.specs.Accepted.{Accepted, Cell}
 use Rattle.walk_steps.specs.Walking.{walked_from, first_mark, layer_mark, noted, Within, Widened}
 use Rattle.walk_steps.proofs.StepLaws.{step_from, step_to_lem}

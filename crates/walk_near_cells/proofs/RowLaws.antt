@@ -12,14 +12,14 @@ use lib.Seq.{get_or-take, get_or-drop}
 use borrow.Author.Tests.{eqb-true, eqb-false, eq-eqb, ne_eqb, ltb-true, ltb-false, not-false}
 use Rattle.vocabulary.specs.Bytes.{Bytes, byte_at}
 use Rattle.vocabulary.specs.Intervals.{some}
-use Rattle.vocabulary.specs.IntervalLaws.{some_in, some_has, some_witness}
+use Rattle.vocabulary.proofs.IntervalLaws.{some_in, some_has, some_witness}
 use Rattle.vocabulary.specs.Lists.{is_in, Zeros}
-use Rattle.vocabulary.specs.ListLaws.{At, and_true, and_intro, not_both, or_true, or_right, or_nothing, same_test, is_in_at, at_is_in, at_all, All_intro}
+use Rattle.vocabulary.proofs.ListLaws.{At, and_true, and_intro, not_both, or_true, or_right, or_nothing, same_test, is_in_at, at_is_in, at_all, All_intro}
 use Rattle.layout.specs.Limits.{element_places, most_elements}
 use Rattle.mesh.specs.Meet.{Under}
 use Rattle.mesh.specs.Mesh.{top, first_cell, cell_count}
 use Rattle.mesh.specs.Walks.{step_to}
-use Rattle.mesh.specs.WalkLaws.{below_grows, stencil_odd}
+use Rattle.mesh.proofs.WalkLaws.{below_grows, stencil_odd}
 use Rattle.mesh.specs.Accepted.{Accepted, Cell}
 use Rattle.mesh.proofs.DimensionLaws.{below_next}
 use Rattle.walk_frontier.specs.Visits.{Frontier, Toward, with, Added}

@@ -12,9 +12,9 @@ use lib.Seq.{take-suc-set}
 use borrow.Author.Tests.{eq-eqb, ne_eqb}
 use Rattle.vocabulary.specs.Bytes.{Bytes, byte_at}
 use Rattle.vocabulary.specs.Intervals.{picked, total}
-use Rattle.vocabulary.specs.IntervalLaws.{some_cong, picked_all, picked_yes, picked_no, picked_some, some_swap, at_last, total_start, total_turn, total_cong}
+use Rattle.vocabulary.proofs.IntervalLaws.{some_cong, picked_all, picked_yes, picked_no, picked_some, some_swap, at_last, total_start, total_turn, total_cong}
 use Rattle.vocabulary.specs.Lists.{is_in, some_of, All, Zeros}
-use Rattle.vocabulary.specs.ListLaws.{same_test, All_intro, some_of_has, some_of_witness, some_of_cong, is_in_some}
+use Rattle.vocabulary.proofs.ListLaws.{same_test, All_intro, some_of_has, some_of_witness, some_of_cong, is_in_some}
 use Rattle.layout.specs.Limits.{element_places, most_elements, most_steps}
 use Rattle.mesh.specs.Mesh.{first_cell, cell_count}
 use Rattle.mesh.specs.Walks.{step_to, steps_to, walked}

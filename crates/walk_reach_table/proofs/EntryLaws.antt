@@ -6,13 +6,13 @@ use native.Mathlib.Numerals.{add-one}
 use native.Mathlib.Omega.{arith}
 use lib.ListN.{length, get_or, drop}
 use Rattle.vocabulary.specs.Bytes.{Bytes, over}
-use Rattle.vocabulary.specs.ByteLaws.{over_front, over_length}
+use Rattle.vocabulary.proofs.ByteLaws.{over_front, over_length}
 use Rattle.vocabulary.specs.Intervals.{total}
-use Rattle.vocabulary.specs.IntervalLaws.{blocks_length, blocks_at, total_fit}
-use Rattle.vocabulary.specs.CountLaws.{total_double}
-use Rattle.vocabulary.specs.ListLaws.{pairs_length, pairs_at}
+use Rattle.vocabulary.proofs.IntervalLaws.{blocks_length, blocks_at, total_fit}
+use Rattle.vocabulary.proofs.CountLaws.{total_double}
+use Rattle.vocabulary.proofs.ListLaws.{pairs_length, pairs_at}
 use Rattle.layout.specs.Words.{word, word_at, bytes_of}
-use Rattle.layout.specs.WordLaws.{length_bytes_of, word_at_first}
+use Rattle.layout.proofs.WordLaws.{length_bytes_of, word_at_first}
 use Rattle.layout.specs.Limits.{most_reached, table_bytes}
 use Rattle.mesh.specs.Mesh.{first_cell, cell_count}
 use Rattle.mesh.specs.Walks.{Near, reach}

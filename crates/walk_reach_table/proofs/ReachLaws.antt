@@ -11,9 +11,9 @@ use lib.Seq.{get_or-set_same, get_or-set_other}
 use lib.ListN.{length, get_or, set, length-append}
 use Rattle.vocabulary.specs.Bytes.{Bytes, byte_at}
 use Rattle.vocabulary.specs.Intervals.{picked, blocks, total}
-use Rattle.vocabulary.specs.IntervalLaws.{blocks_turn, total_grows, picked_cong, blocks_part}
+use Rattle.vocabulary.proofs.IntervalLaws.{blocks_turn, total_grows, picked_cong, blocks_part}
 use Rattle.vocabulary.specs.Lists.{is_in, joined, Zeros}
-use Rattle.vocabulary.specs.ListLaws.{map_append}
+use Rattle.vocabulary.proofs.ListLaws.{map_append}
 use Rattle.layout.specs.Limits.{element_places, most_reached, table_bytes}
 use Rattle.mesh.specs.Meet.{Under}
 use Rattle.mesh.specs.Mesh.{first_cell, cell_count}

@@ -9,11 +9,11 @@ use lib.ListN.{length, get_or, set, length-append, length-set}
 use lib.Seq.{get_or-set_same, get_or-set_other}
 use borrow.Author.Tests.{eqb-true, eqb-false, eq-eqb, ne_eqb, le-leb, lt-leb, leb-true, leb-false, ltb-true, ltb-false}
 use Rattle.vocabulary.specs.Bytes.{Bytes, over}
-use Rattle.vocabulary.specs.ByteLaws.{over_none, over_more, over_length}
+use Rattle.vocabulary.proofs.ByteLaws.{over_none, over_more, over_length}
 use Rattle.vocabulary.specs.Intervals.{blocks}
-use Rattle.vocabulary.specs.IntervalLaws.{blocks_turn, at_last}
+use Rattle.vocabulary.proofs.IntervalLaws.{blocks_turn, at_last}
 use Rattle.layout.specs.Words.{word_bytes, bytes_of}
-use Rattle.layout.specs.WordLaws.{length_bytes_of, bytes_of_append}
+use Rattle.layout.proofs.WordLaws.{length_bytes_of, bytes_of_append}
 use Rattle.layout.specs.Limits.{element_places, most_reached, table_bytes}
 use Rattle.walk_reach_table.specs.Tables.{capped, row, Cleared, Emitted}
 

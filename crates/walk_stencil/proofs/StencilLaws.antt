@@ -11,7 +11,7 @@ use Rattle.vocabulary.specs.Intervals.{every}
 use Rattle.layout.specs.Limits.{stencil_bytes}
 use Rattle.mesh.specs.Mesh.{top}
 use Rattle.mesh.specs.Walks.{valid_at, bad10}
-use Rattle.mesh.specs.WalkLaws.{stencil_parts}
+use Rattle.mesh.proofs.WalkLaws.{stencil_parts}
 
 pub right_even : (d a k : ℕ) (st : Bytes) → a ≡ byte_at st k → k % 2 ≡ 0 → eqb a d ≡ valid_at d st k
 unfolding valid_at

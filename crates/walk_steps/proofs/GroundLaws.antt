@@ -9,15 +9,15 @@ use lib.ListN.{length, get_or}
 use borrow.Author.Tests.{eqb-true, eq-eqb, le-leb, lt-ltb, leb-true, ltb-true}
 use Rattle.vocabulary.specs.Bytes.{Bytes}
 use Rattle.vocabulary.specs.Intervals.{some, blocks, total}
-use Rattle.vocabulary.specs.IntervalLaws.{some_witness, some_in, picked_cong, blocks_length}
+use Rattle.vocabulary.proofs.IntervalLaws.{some_witness, some_in, picked_cong, blocks_length}
 use Rattle.vocabulary.specs.Lists.{is_in, All}
-use Rattle.vocabulary.specs.ListLaws.{and_true, and_intro, same_test, All_map}
+use Rattle.vocabulary.proofs.ListLaws.{and_true, and_intro, same_test, All_map}
 use Rattle.layout.specs.Limits.{most_elements, most_records, record_places}
 use Rattle.mesh.specs.Mesh.{top, counted, below, first_cell, cell_count, dimension, chain}
 use Rattle.mesh.specs.Walks.{incident, cells_at, bad10, steps}
 use Rattle.mesh.specs.Accepted.{Accepted, Element}
 use Rattle.mesh.proofs.DimensionLaws.{dimension_le}
-use Rattle.mesh.specs.WalkLaws.{below_grows, chains_few, point_incident}
+use Rattle.mesh.proofs.WalkLaws.{below_grows, chains_few, point_incident}
 use Rattle.walk_incidence.specs.Links.{links, link_cells, trail, cells_with}
 use Rattle.walk_steps.specs.Walking.{is_cell_number, Ground}
 use Rattle.walk_incidence.proofs.TrailLaws.{Linked, LinkedAs, empty, linked_cells, cells_with_lem, trail_same, count_cells, picked_down_lem}

@@ -13,14 +13,14 @@ use Rattle.mesh.specs.Meet.{Under}
 use Rattle.vocabulary.specs.Bytes.{Bytes}
 use Rattle.vocabulary.specs.Intervals.{blocks}
 use Rattle.vocabulary.specs.Lists.{is_in, repeats, All}
-use Rattle.vocabulary.specs.ListLaws.{or_nothing, eqb_swap, is_in_append, All_get_or}
+use Rattle.vocabulary.proofs.ListLaws.{or_nothing, eqb_swap, is_in_append, All_get_or}
 use Rattle.mesh.specs.Mesh.{top, below}
 use Rattle.mesh.specs.Accepted.{Accepted}
 use Rattle.walk_frontier.specs.Visits.{Frontier, Toward, with, down, up, Upward}
 use Rattle.walk_steps.specs.Walking.{Ground, AllCells, Lowers, stepped, starts_among, or_among, noted, Noted, among_first}
 use Rattle.walk_steps.proofs.StepLaws.{down_told, up_told, upward}
-use Rattle.mesh.specs.WalkLaws.{below_grows}
-use Rattle.vocabulary.specs.IntervalLaws.{at_last}
+use Rattle.mesh.proofs.WalkLaws.{below_grows}
+use Rattle.vocabulary.proofs.IntervalLaws.{at_last}
 use Rattle.layout.specs.Limits.{element_places, most_elements}
 
 -- nothing gathered yet

@@ -10,15 +10,15 @@ use lib.Seq.{get_or-take}
 use borrow.Author.Tests.{eqb-true, lt-ltb, le-leb, ltb-true, leb-true}
 use Rattle.vocabulary.specs.Bytes.{Bytes}
 use Rattle.vocabulary.specs.Intervals.{picked, some, blocks}
-use Rattle.vocabulary.specs.IntervalLaws.{some_none, some_has, some_witness, some_cong, picked_in, picked_passes, is_in_blocks}
+use Rattle.vocabulary.proofs.IntervalLaws.{some_none, some_has, some_witness, some_cong, picked_in, picked_passes, is_in_blocks}
 use Rattle.vocabulary.specs.Lists.{is_in, some_of}
-use Rattle.vocabulary.specs.ListLaws.{or_nothing, All_intro, is_in_at, at_is_in, not_is_in, and_true, and_intro, same_test, some_of_cong, some_of_has, some_of_witness, All_map, All_get_or}
+use Rattle.vocabulary.proofs.ListLaws.{or_nothing, All_intro, is_in_at, at_is_in, not_is_in, and_true, and_intro, same_test, some_of_cong, some_of_has, some_of_witness, All_map, All_get_or}
 use Rattle.layout.specs.Limits.{most_elements, record_places}
 use Rattle.mesh.specs.Mesh.{top, counted, below, first_cell, cell_count, dimension, chain}
 use Rattle.mesh.specs.Walks.{incident, step_to}
 use Rattle.mesh.specs.Accepted.{Accepted, Cell}
 use Rattle.mesh.proofs.DimensionLaws.{below_next, dimension_le}
-use Rattle.mesh.specs.WalkLaws.{below_grows}
+use Rattle.mesh.proofs.WalkLaws.{below_grows}
 use Rattle.walk_incidence.specs.Links.{trail}
 use Rattle.walk_frontier.specs.Visits.{between, down, up, Upward}
 use Rattle.walk_steps.specs.Walking.{is_cell_number, Ground, AllCells, Lowers, stepped}

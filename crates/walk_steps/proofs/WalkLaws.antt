@@ -13,23 +13,19 @@ use borrow.Author.Tests.{eqb-true, eqb-false, eq-eqb, ne_eqb, lt-ltb, ltb-true, 
 use Rattle.mesh.specs.Meet.{Under}
 use Rattle.vocabulary.specs.Bytes.{Bytes, byte_at}
 use Rattle.vocabulary.specs.Intervals.{picked, some}
-use Rattle.vocabulary.specs.IntervalLaws.{picked_cong, picked_some, some_in, some_witness, every_at, at_last}
+use Rattle.vocabulary.proofs.IntervalLaws.{picked_cong, picked_some, some_in, some_witness, every_at, at_last}
 use Rattle.vocabulary.specs.Lists.{is_in, repeats, All, Zeros}
-use Rattle.vocabulary.specs.ListLaws.{or_nothing, and_true, and_intro, and_right, and_all, not_both, same_test, is_in_append}
-use Rattle.vocabulary.specs.ListLaws.{repeats_once, All_map, All_append, All_split, is_in_at, at_is_in, at_all, All_intro}
+use Rattle.vocabulary.proofs.ListLaws.{or_nothing, and_true, and_intro, and_right, and_all, not_both, same_test, is_in_append, repeats_once, All_map, All_append, All_split, is_in_at, at_is_in, at_all, All_intro}
 use Rattle.layout.specs.Limits.{element_places, most_elements, most_steps}
 use Rattle.mesh.specs.Mesh.{top, elements, counted, below, first_cell, cell_count}
 use Rattle.mesh.specs.Walks.{bad10, incident, step_to}
-use Rattle.mesh.specs.WalkLaws.{stencil_parts, stencil_odd, stencil_even}
+use Rattle.mesh.proofs.WalkLaws.{stencil_parts, stencil_odd, stencil_even, below_grows}
 use Rattle.mesh.specs.Accepted.{Accepted, Cell}
 use Rattle.mesh.proofs.DimensionLaws.{below_more}
-use Rattle.mesh.specs.WalkLaws.{below_grows}
 use Rattle.walk_steps.proofs.StepLaws.{some_of_like, step_from, step_to_lem}
 use Rattle.walk_steps.proofs.NoteLaws.{begin}
 use Rattle.walk_frontier.specs.Visits.{Frontier, Toward, Added}
-use Rattle.walk_steps.specs.Walking.{Ground, AllCells, Lowers, Sided, stepped, alike, through_one, met_before, newly}
-use Rattle.walk_steps.specs.Walking.{mark_at, starts_among, or_among, first_mark, layer_mark, noted, Noted, among_first, cells_among, walked_from}
-use Rattle.walk_steps.specs.Walking.{WalkDone, Within, Widened, Departed, Arrived}
+use Rattle.walk_steps.specs.Walking.{Ground, AllCells, Lowers, Sided, stepped, alike, through_one, met_before, newly, mark_at, starts_among, or_among, first_mark, layer_mark, noted, Noted, among_first, cells_among, walked_from, WalkDone, Within, Widened, Departed, Arrived}
 
 -- ---- the copy
 

@@ -8,11 +8,11 @@ use native.Mathlib.Omega.{arith}
 use lib.ListN.{length, get_or, take, length-append}
 use lib.Seq.{take-suc, length-take-le}
 use Rattle.vocabulary.specs.Bytes.{Bytes, over}
-use Rattle.vocabulary.specs.ByteLaws.{over_none, over_length, over_more}
+use Rattle.vocabulary.proofs.ByteLaws.{over_none, over_length, over_more}
 use Rattle.vocabulary.specs.Intervals.{listed, blocks}
-use Rattle.vocabulary.specs.IntervalLaws.{listed_turn, listed_length, blocks_start, blocks_turn, blocks_fit, at_last}
+use Rattle.vocabulary.proofs.IntervalLaws.{listed_turn, listed_length, blocks_start, blocks_turn, blocks_fit, at_last}
 use Rattle.layout.specs.Words.{word_bytes, bytes_of}
-use Rattle.layout.specs.WordLaws.{length_bytes_of, bytes_of_append}
+use Rattle.layout.proofs.WordLaws.{length_bytes_of, bytes_of_append}
 use Rattle.word_lists.specs.Putting.{Put}
 
 pub put_none : (b : Bytes) (s : ℕ) → Put b b s s []

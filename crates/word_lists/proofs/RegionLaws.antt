@@ -9,9 +9,9 @@ use lib.Seq.{get_or-append-add}
 use Rattle.vocabulary.specs.Bytes.{Bytes}
 use Rattle.vocabulary.specs.Lists.{joined}
 use Rattle.vocabulary.specs.Intervals.{listed, blocks, total}
-use Rattle.vocabulary.specs.IntervalLaws.{listed_length, listed_at, listed_back, blocks_at, blocks_fit, blocks_sized, total_last}
+use Rattle.vocabulary.proofs.IntervalLaws.{listed_length, listed_at, listed_back, blocks_at, blocks_fit, blocks_sized, total_last}
 use Rattle.layout.specs.Words.{word_at, bytes_of}
-use Rattle.layout.specs.WordLaws.{word_any}
+use Rattle.layout.proofs.WordLaws.{word_any}
 
 -- how long lists are together: those before region k are its place
 abbrev pub lengths : {A : Type 0} → List (List A) → ℕ

@@ -1,5 +1,5 @@
 -- `mesh_valid::mesh_number` meets its contract. Assumes nothing.
-use Rattle.mesh.specs.MeshLaws.{sizes_refuse, sizes_pass}
+use Rattle.mesh.proofs.MeshLaws.{sizes_refuse, sizes_pass}
 use Rattle.mesh_valid.proofs.SizeLaws.{head_sizes}
 use borrow.Author.Rules.{rules}
 use Rattle.mesh_valid.proofs.mesh_number.Statement.{statement}

@@ -4,7 +4,7 @@ use Prim.Native.Nat.{◌+◌, ◌-◌, ◌≤◌}
 use lib.ListN.{length}
 use Rattle.vocabulary.specs.Bytes.{over}
 use Rattle.vocabulary.specs.Intervals.{blocks}
-use Rattle.vocabulary.specs.IntervalLaws.{stored_start}
+use Rattle.vocabulary.proofs.IntervalLaws.{stored_start}
 use Rattle.part_state.specs.State.{lists_in}
 use Rattle.part_calls.specs.Calls.{point_given}
 use Rattle.part_points.proofs.PointLaws.{points_turn, points_end}

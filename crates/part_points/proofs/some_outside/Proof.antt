@@ -3,7 +3,7 @@ use mathlib.Core.Path.{◌≡◌}
 use mathlib.Core.Bool.{false}
 use Prim.Native.Nat.{◌-◌, ◌≤◌}
 use Rattle.vocabulary.specs.Intervals.{some}
-use Rattle.vocabulary.specs.IntervalLaws.{some_start}
+use Rattle.vocabulary.proofs.IntervalLaws.{some_start}
 use Rattle.part_state.specs.State.{point_cells}
 use Rattle.part_calls.specs.Opened.{unread_at}
 use Rattle.part_points.proofs.PointLaws.{unread_stop, unread_turn, unread_end}

@@ -3,7 +3,7 @@ use mathlib.Core.Path.{refl, sym, ◌∙◌}
 use Prim.Native.Nat.{ℕ}
 use native.Mathlib.Omega.{arith}
 use lib.ListN.{length-replicate}
-use Rattle.vocabulary.specs.ListLaws.{zeros}
+use Rattle.vocabulary.proofs.ListLaws.{zeros}
 use Rattle.layout.specs.Limits.{element_places, record_places}
 use Rattle.split.proofs.PassedLaws.{passed_facts}
 use Rattle.part_start_plan.proofs.PlanLaws.{size_split, size_sizes, size_done}

@@ -3,11 +3,11 @@ use mathlib.Core.Path.{refl, sym, ◌∙◌}
 use Prim.Native.Nat.{ℕ}
 use native.Mathlib.Omega.{arith}
 use lib.ListN.{length-replicate}
-use Rattle.vocabulary.specs.ListLaws.{zeros}
+use Rattle.vocabulary.proofs.ListLaws.{zeros}
 use Rattle.layout.specs.Limits.{element_places, most_parts, record_places}
 use Rattle.split.proofs.PassedLaws.{passed_facts}
-use Rattle.round_rule.specs.RuleLaws.{rule_known}
-use Rattle.mesh.specs.WalkLaws.{stencil_parts}
+use Rattle.round_rule.proofs.RuleLaws.{rule_known}
+use Rattle.mesh.proofs.WalkLaws.{stencil_parts}
 use Rattle.round.proofs.UndividedLaws.{rule_good}
 use Rattle.part_start_lists.proofs.StartLists.{got_is, sent_is, front_count}
 use Rattle.part_start_points.proofs.SplitPoints.{points_low}

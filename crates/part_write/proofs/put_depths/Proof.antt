@@ -5,7 +5,7 @@ use lib.ListN.{length}
 use Rattle.messages.specs.Messages.{header_size}
 use Rattle.vocabulary.specs.Bytes.{over}
 use Rattle.vocabulary.specs.Intervals.{blocks}
-use Rattle.vocabulary.specs.IntervalLaws.{stored_start, stored_end}
+use Rattle.vocabulary.proofs.IntervalLaws.{stored_start, stored_end}
 use Rattle.part_calls.specs.Opened.{sent_at}
 use Rattle.part_write.proofs.WriteLaws.{put_room, put_turn}
 use borrow.Author.Rules.{rules}

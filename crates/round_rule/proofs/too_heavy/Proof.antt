@@ -3,7 +3,7 @@ use mathlib.Core.Path.{◌≡◌}
 use mathlib.Core.Bool.{false}
 use Prim.Native.Nat.{◌-◌, ◌≤◌}
 use Rattle.vocabulary.specs.Intervals.{some}
-use Rattle.vocabulary.specs.IntervalLaws.{some_start, some_end}
+use Rattle.vocabulary.proofs.IntervalLaws.{some_start, some_end}
 use Rattle.round_rule.specs.Rules.{too_heavy}
 use Rattle.round_rule.proofs.Refusals.{heavy_found, heavy_turn}
 use borrow.Author.Rules.{rules}

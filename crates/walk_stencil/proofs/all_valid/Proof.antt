@@ -4,7 +4,7 @@ use mathlib.Core.Bool.{true}
 use Prim.Native.Nat.{◌-◌, ◌≤◌}
 use lib.ListN.{length}
 use Rattle.vocabulary.specs.Intervals.{every}
-use Rattle.vocabulary.specs.IntervalLaws.{every_none, every_stop, every_turn, every_end}
+use Rattle.vocabulary.proofs.IntervalLaws.{every_none, every_stop, every_turn, every_end}
 use Rattle.mesh.specs.Walks.{valid_at}
 use borrow.Author.Rules.{rules}
 use Rattle.walk_stencil.proofs.all_valid.Statement.{statement}

@@ -3,7 +3,7 @@ use mathlib.Core.Path.{◌≡◌, sym, ◌∙◌}
 use mathlib.Core.Logic.{⊎_elim}
 use Prim.Native.Nat.{◌-◌, ◌≤◌}
 use Rattle.vocabulary.specs.Intervals.{every}
-use Rattle.vocabulary.specs.IntervalLaws.{every_none}
+use Rattle.vocabulary.proofs.IntervalLaws.{every_none}
 use Rattle.depths.specs.Depths.{ranged_at}
 use Rattle.depths.proofs.SignedLaws.{depth_told, gap_told, fine_turn, wrong_turn, valid_end}
 use borrow.Author.Rules.{rules}

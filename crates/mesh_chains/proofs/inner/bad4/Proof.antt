@@ -1,7 +1,7 @@
 -- `mesh_chains::inner::bad4` meets its contract. Assumes nothing.
 use mathlib.Core.Path.{refl}
 use mathlib.Core.Bool.{true}
-use Rattle.vocabulary.specs.ListLaws.{not_both}
+use Rattle.vocabulary.proofs.ListLaws.{not_both}
 use Rattle.mesh_chains.proofs.RecordLaws.{point_told, records_told}
 use Rattle.mesh_chains.proofs.NoteLaws.{written}
 use borrow.Author.Rules.{rules}

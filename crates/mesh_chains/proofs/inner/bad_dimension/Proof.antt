@@ -4,7 +4,7 @@ use mathlib.Core.Bool.{false}
 use Prim.Native.Nat.{◌+◌, ◌-◌, ◌≤◌, ◌<◌}
 use lib.ListN.{length}
 use Rattle.vocabulary.specs.Intervals.{some}
-use Rattle.vocabulary.specs.ScanLaws.{some_start_from}
+use Rattle.vocabulary.proofs.ScanLaws.{some_start_from}
 use Rattle.layout.specs.Limits.{most_elements}
 use Rattle.mesh.specs.Mesh.{elements, bad_chain}
 use Rattle.mesh_chains.specs.Written.{MarksBelow}

@@ -3,7 +3,7 @@ use mathlib.Core.Path.{◌≡◌}
 use mathlib.Core.Bool.{false}
 use Prim.Native.Nat.{◌+◌, ◌-◌, ◌≤◌}
 use Rattle.vocabulary.specs.Intervals.{some}
-use Rattle.vocabulary.specs.ScanLaws.{some_start_from, some_end_from}
+use Rattle.vocabulary.proofs.ScanLaws.{some_start_from, some_end_from}
 use Rattle.mesh.specs.Mesh.{headed}
 use Rattle.mesh.proofs.FollowLaws.{head_found, head_turn}
 use borrow.Author.Rules.{rules}

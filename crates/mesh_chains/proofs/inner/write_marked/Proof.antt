@@ -3,7 +3,7 @@ use mathlib.Core.Path.{◌≡◌, refl}
 use mathlib.Core.Bool.{true}
 use Prim.Native.Nat.{◌+◌, ◌-◌, ◌≤◌}
 use lib.ListN.{length}
-use Rattle.vocabulary.specs.ListLaws.{not_both}
+use Rattle.vocabulary.proofs.ListLaws.{not_both}
 use Rattle.mesh_chains.proofs.NoteLaws.{Noting, noting_start, noting_room, noting_found, noting_fits, noting_turn, noting_end, noting_wrote}
 use borrow.Author.Rules.{rules}
 use Rattle.mesh_chains.proofs.inner.write_marked.Statement.{statement}

@@ -4,7 +4,7 @@ use mathlib.Core.Bool.{true, false}
 use Prim.Native.Nat.{◌+◌, ◌-◌, ◌≤◌, ◌<◌}
 use lib.ListN.{length}
 use Rattle.vocabulary.specs.Intervals.{some}
-use Rattle.vocabulary.specs.ListLaws.{not_both}
+use Rattle.vocabulary.proofs.ListLaws.{not_both}
 use Rattle.layout.specs.Limits.{most_elements}
 use Rattle.mesh.specs.Mesh.{unclosed}
 use Rattle.mesh_chains.specs.Written.{MarksBelow}

@@ -1,5 +1,5 @@
 -- `mesh_valid::chains::chain_number` meets its contract. Assumes nothing.
-use Rattle.vocabulary.specs.TestLaws.{told_here}
+use Rattle.vocabulary.proofs.TestLaws.{told_here}
 use borrow.Author.Rules.{rules}
 use Rattle.mesh_valid.proofs.chains.chain_number.Statement.{statement}
 use Rattle.mesh_valid.proofs.chains.chain_number.Tie as tie

@@ -1,6 +1,6 @@
 -- `mesh_valid::chains::marked_number` meets its contract. Assumes nothing.
 use mathlib.Core.Path.{sym, ◌∙◌}
-use Rattle.vocabulary.specs.TestLaws.{told_here, told_later}
+use Rattle.vocabulary.proofs.TestLaws.{told_here, told_later}
 use Rattle.mesh_valid.proofs.ChainLaws.{past_four, marks_left}
 use borrow.Author.Rules.{rules}
 use Rattle.mesh_valid.proofs.chains.marked_number.Statement.{statement}

@@ -1,5 +1,5 @@
 -- `mesh_valid::inner::mesh_number_in` meets its contract. Assumes nothing.
-use Rattle.mesh.specs.MeshLaws.{sizes_refuse, sizes_pass}
+use Rattle.mesh.proofs.MeshLaws.{sizes_refuse, sizes_pass}
 use Rattle.mesh_valid.proofs.SizeLaws.{head_sizes}
 use Rattle.mesh_valid.proofs.ChainLaws.{lent_places}
 use borrow.Author.Rules.{rules}

@@ -3,7 +3,7 @@ use mathlib.Core.Path.{◌≡◌}
 use mathlib.Core.Bool.{false}
 use Prim.Native.Nat.{◌-◌, ◌≤◌}
 use Rattle.vocabulary.specs.Intervals.{some}
-use Rattle.vocabulary.specs.IntervalLaws.{some_start, some_stop, some_turn, some_end}
+use Rattle.vocabulary.proofs.IntervalLaws.{some_start, some_stop, some_turn, some_end}
 use Rattle.mesh.specs.Mesh.{bad_count}
 use borrow.Author.Rules.{rules}
 use Rattle.mesh_valid.proofs.sizes.bad_counts.Statement.{statement}

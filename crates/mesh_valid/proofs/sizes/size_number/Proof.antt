@@ -1,5 +1,5 @@
 -- `mesh_valid::sizes::size_number` meets its contract. Assumes nothing.
-use Rattle.vocabulary.specs.TestLaws.{told_here, told_later}
+use Rattle.vocabulary.proofs.TestLaws.{told_here, told_later}
 use borrow.Author.Rules.{rules}
 use Rattle.mesh_valid.proofs.sizes.size_number.Statement.{statement}
 use Rattle.mesh_valid.proofs.sizes.size_number.Tie as tie

@@ -4,7 +4,7 @@ use Prim.Native.Nat.{◌+◌, ◌-◌, ◌≤◌}
 use lib.ListN.{length}
 use Rattle.vocabulary.specs.Bytes.{over}
 use Rattle.vocabulary.specs.Intervals.{blocks}
-use Rattle.vocabulary.specs.IntervalLaws.{stored_start, stored_up}
+use Rattle.vocabulary.proofs.IntervalLaws.{stored_start, stored_up}
 use Rattle.part_start_lists.specs.Starting.{start_depth}
 use Rattle.part_start_lists.proofs.StartLists.{held_low, held_room, held_turn}
 use borrow.Author.Rules.{rules}

@@ -4,7 +4,7 @@ use mathlib.Core.Bool.{true}
 use Prim.Native.Nat.{◌+◌, ◌-◌, ◌≤◌}
 use Rattle.layout.specs.Words.{word_at}
 use Rattle.vocabulary.specs.Intervals.{every}
-use Rattle.vocabulary.specs.IntervalLaws.{every_none, every_end}
+use Rattle.vocabulary.proofs.IntervalLaws.{every_none, every_end}
 use Rattle.part_state.specs.Checks.{rise_at}
 use Rattle.part_state.proofs.ListChecks.{ends_start, ends_fall, ends_turn}
 use borrow.Author.Rules.{rules}

@@ -1,5 +1,5 @@
 -- `part_state::lists::valid_ends` meets its contract. Assumes nothing.
-use Rattle.vocabulary.specs.TestLaws.{fails_here, passes_here}
+use Rattle.vocabulary.proofs.TestLaws.{fails_here, passes_here}
 use Rattle.part_state.specs.State.{rises}
 use Rattle.part_state.specs.Checks.{rise_at}
 use Rattle.part_state.proofs.ListChecks.{first_wrong, first_right, reach_wrong, reach_right}

@@ -1,5 +1,5 @@
 -- `part_state::lists::valid_entries` meets its contract. Assumes nothing.
-use Rattle.vocabulary.specs.TestLaws.{fails_here, passes_here}
+use Rattle.vocabulary.proofs.TestLaws.{fails_here, passes_here}
 use Rattle.part_state.proofs.ListChecks.{counted_by, rows_last}
 use borrow.Author.Rules.{rules}
 use Rattle.part_state.proofs.lists.valid_entries.Statement.{statement}

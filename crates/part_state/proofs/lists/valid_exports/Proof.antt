@@ -3,7 +3,7 @@ use mathlib.Core.Path.{◌≡◌, refl}
 use mathlib.Core.Bool.{true}
 use Prim.Native.Nat.{◌-◌, ◌≤◌}
 use Rattle.vocabulary.specs.Intervals.{every}
-use Rattle.vocabulary.specs.IntervalLaws.{every_none, every_stop, every_turn, every_end}
+use Rattle.vocabulary.proofs.IntervalLaws.{every_none, every_stop, every_turn, every_end}
 use Rattle.part_state.specs.State.{valid_export}
 use Rattle.part_state.proofs.ListChecks.{counted_by, export_told}
 use borrow.Author.Rules.{rules}

@@ -4,7 +4,7 @@ use mathlib.Core.Path.{refl}
 use mathlib.Core.Bool.{true}
 use Prim.Native.Nat.{◌+◌, ◌-◌, ◌≤◌}
 use Rattle.vocabulary.specs.Intervals.{every}
-use Rattle.vocabulary.specs.ScanLaws.{every_start_from, every_stop_from, every_turn_from, every_end_from}
+use Rattle.vocabulary.proofs.ScanLaws.{every_start_from, every_stop_from, every_turn_from, every_end_from}
 use Rattle.part_state.specs.State.{valid_global}
 use Rattle.part_state.proofs.ListChecks.{global_told}
 use borrow.Author.Rules.{rules}

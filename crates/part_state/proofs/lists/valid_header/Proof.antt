@@ -1,5 +1,5 @@
 -- `part_state::lists::valid_header` meets its contract. Assumes nothing.
-use Rattle.vocabulary.specs.TestLaws.{fails_here, passes_here}
+use Rattle.vocabulary.proofs.TestLaws.{fails_here, passes_here}
 use Rattle.part_state.proofs.ListChecks.{header_part, steps_odd, steps_many, steps_fine, header_rule, header_held}
 use borrow.Author.Rules.{rules}
 use Rattle.part_state.proofs.lists.valid_header.Statement.{statement}

@@ -4,7 +4,7 @@ use mathlib.Core.Bool.{true}
 use Prim.Native.Nat.{◌+◌, ◌-◌, ◌*◌, ◌≤◌}
 use native.Mathlib.Omega.{arith}
 use Rattle.vocabulary.specs.Intervals.{every}
-use Rattle.vocabulary.specs.IntervalLaws.{every_none, every_end, at_last}
+use Rattle.vocabulary.proofs.IntervalLaws.{every_none, every_end, at_last}
 use Rattle.part_state.specs.State.{valid_point_cell}
 use Rattle.part_state.proofs.ListChecks.{counted_by, point_unheld, point_turn, two_stop, two_turn}
 use borrow.Author.Rules.{rules}

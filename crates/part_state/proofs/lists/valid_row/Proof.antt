@@ -3,7 +3,7 @@ use mathlib.Core.Path.{◌≡◌}
 use mathlib.Core.Bool.{true, false}
 use Prim.Native.Nat.{◌-◌, ◌≤◌}
 use Rattle.vocabulary.specs.Intervals.{every, some}
-use Rattle.vocabulary.specs.ScanLaws.{every_start_from, every_turn_from, some_start_from, some_turn_from}
+use Rattle.vocabulary.proofs.ScanLaws.{every_start_from, every_turn_from, some_start_from, some_turn_from}
 use Rattle.part_state.specs.State.{valid_entry}
 use Rattle.part_state.specs.Checks.{own_entry}
 use Rattle.part_state.proofs.ListChecks.{row_wrong, row_found, row_end}

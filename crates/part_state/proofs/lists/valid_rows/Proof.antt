@@ -3,7 +3,7 @@ use mathlib.Core.Path.{◌≡◌, refl}
 use mathlib.Core.Bool.{true}
 use Prim.Native.Nat.{◌+◌, ◌-◌, ◌≤◌}
 use Rattle.vocabulary.specs.Intervals.{every}
-use Rattle.vocabulary.specs.ScanLaws.{every_start_from, every_stop_from, every_turn_from, every_end_from}
+use Rattle.vocabulary.proofs.ScanLaws.{every_start_from, every_stop_from, every_turn_from, every_end_from}
 use Rattle.part_state.specs.State.{reach_end}
 use Rattle.part_state.specs.Checks.{valid_row}
 use Rattle.part_state.proofs.ListChecks.{rows_start, rows_next, row_above, row_tested, row_rises, row_room, row_told}

@@ -3,7 +3,7 @@ use mathlib.Core.Path.{◌≡◌}
 use mathlib.Core.Bool.{true}
 use Prim.Native.Nat.{◌+◌, ◌-◌, ◌≤◌}
 use Rattle.vocabulary.specs.Intervals.{every}
-use Rattle.vocabulary.specs.ScanLaws.{every_start_from, every_stop_from, every_turn_from, every_end_from}
+use Rattle.vocabulary.proofs.ScanLaws.{every_start_from, every_stop_from, every_turn_from, every_end_from}
 use Rattle.layout.specs.Limits.{most_parts}
 use Rattle.part_state.specs.State.{valid_flags}
 use borrow.Author.Rules.{rules}

@@ -5,7 +5,7 @@ use native.Mathlib.Omega.{arith}
 use lib.ListN.{length}
 use Rattle.vocabulary.specs.Bytes.{over}
 use Rattle.vocabulary.specs.Intervals.{blocks}
-use Rattle.vocabulary.specs.IntervalLaws.{stored_start, stored_up}
+use Rattle.vocabulary.proofs.IntervalLaws.{stored_start, stored_up}
 use Rattle.part_state.specs.State.{lists_in}
 use Rattle.part_calls.specs.Calls.{new_at}
 use Rattle.part_update.proofs.RenewLaws.{renew_turn}

@@ -4,7 +4,7 @@ use Prim.Native.Nat.{◌-◌, ◌≤◌}
 use lib.ListN.{length}
 use Rattle.vocabulary.specs.Bytes.{over}
 use Rattle.vocabulary.specs.Intervals.{blocks}
-use Rattle.vocabulary.specs.IntervalLaws.{stored_start, stored_end}
+use Rattle.vocabulary.proofs.IntervalLaws.{stored_start, stored_end}
 use Rattle.round_rule.specs.Kinds.{kind_number}
 use Rattle.round.specs.Rows.{row_new}
 use Rattle.round.proofs.UndividedLaws.{renew_turn, row_each}

@@ -3,7 +3,7 @@ use mathlib.Core.Path.{sym, ◌∙◌}
 use Prim.Native.Nat.{ℕ}
 use native.Mathlib.Omega.{arith}
 use lib.ListN.{length-replicate}
-use Rattle.vocabulary.specs.ListLaws.{zeros}
+use Rattle.vocabulary.proofs.ListLaws.{zeros}
 use Rattle.layout.specs.Limits.{element_places, record_places}
 use Rattle.walk_stencil.proofs.StencilLaws.{accepted_stencil, stencil_some}
 use Rattle.round.proofs.UndividedLaws.{rule_good, told_mesh, told_10, told_unknown, told_11, told_kind}

@@ -3,7 +3,7 @@ use mathlib.Core.Path.{◌≡◌}
 use mathlib.Core.Bool.{false}
 use Prim.Native.Nat.{◌-◌, ◌≤◌}
 use Rattle.vocabulary.specs.Intervals.{some}
-use Rattle.vocabulary.specs.IntervalLaws.{some_start}
+use Rattle.vocabulary.proofs.IntervalLaws.{some_start}
 use Rattle.split.proofs.MapLaws.{owns_none, share_missing, share_turn, share_end}
 use borrow.Author.Rules.{rules}
 use Rattle.split.proofs.maps.bad_shares.Statement.{statement}

@@ -4,7 +4,7 @@ use mathlib.Core.Bool.{true}
 use Prim.Native.Nat.{◌-◌, ◌≤◌}
 use lib.ListN.{length}
 use Rattle.vocabulary.specs.Intervals.{every}
-use Rattle.vocabulary.specs.IntervalLaws.{every_none, every_end}
+use Rattle.vocabulary.proofs.IntervalLaws.{every_none, every_end}
 use Rattle.split.specs.Owners.{valid_owner}
 use Rattle.split.proofs.MapLaws.{owner_wrong, owner_turn}
 use borrow.Author.Rules.{rules}

@@ -3,8 +3,7 @@ use mathlib.Core.Path.{◌≡◌, refl}
 use Prim.Native.Nat.{◌+◌, ◌-◌, ◌≤◌}
 use lib.ListN.{length}
 use Rattle.vocabulary.specs.Intervals.{blocks}
-use Rattle.split_classes.specs.Classes.{of_class}
-use Rattle.split_classes.specs.Classes.{Appended}
+use Rattle.split_classes.specs.Classes.{of_class, Appended}
 use Rattle.split_cells.proofs.AddLaws.{add_start, add_turn, class_end}
 use borrow.Author.Rules.{rules}
 use Rattle.split_cells.proofs.inner.add_class.Statement.{statement}

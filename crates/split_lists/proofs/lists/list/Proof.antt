@@ -3,7 +3,7 @@ use mathlib.Core.Path.{refl, sym, ◌∙◌}
 use Prim.Native.Nat.{ℕ}
 use native.Mathlib.Omega.{arith}
 use lib.ListN.{length-replicate}
-use Rattle.vocabulary.specs.ListLaws.{zeros}
+use Rattle.vocabulary.proofs.ListLaws.{zeros}
 use Rattle.layout.specs.Limits.{element_places, most_elements, record_places}
 use Rattle.mesh.proofs.AcceptedLaws.{cells_few}
 use Rattle.split_ranges.proofs.LowerLaws.{alone}

@@ -1,7 +1,7 @@
 -- `split_tables::preparing::overflow_number` meets its contract. Assumes nothing.
 use native.Mathlib.Omega.{arith}
 use mathlib.Core.List.{[]}
-use Rattle.split.specs.SplitLaws.{map_facts}
+use Rattle.split.proofs.SplitLaws.{map_facts}
 use Rattle.split_tables.proofs.PreparedLaws.{overflow_twelve, overflow_thirteen}
 use borrow.Author.Rules.{rules}
 use Rattle.split_tables.proofs.preparing.overflow_number.Statement.{statement}

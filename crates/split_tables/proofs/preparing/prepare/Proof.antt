@@ -2,11 +2,11 @@
 use mathlib.Core.Path.{refl}
 use native.Mathlib.Omega.{arith}
 use mathlib.Core.List.{[]}
-use Rattle.vocabulary.specs.ListLaws.{zeros}
+use Rattle.vocabulary.proofs.ListLaws.{zeros}
 use Rattle.layout.specs.Limits.{element_places}
 use Rattle.mesh.proofs.AcceptedLaws.{cells_few}
 use Rattle.mesh.proofs.MeetLaws.{under_none}
-use Rattle.split.specs.SplitLaws.{map_facts}
+use Rattle.split.proofs.SplitLaws.{map_facts}
 use Rattle.split_tables.proofs.PreparedLaws.{table_over, tables_held, tables_passed, tables_prepared}
 use borrow.Author.Rules.{rules}
 use Rattle.split_tables.proofs.preparing.prepare.Statement.{statement}

@@ -4,7 +4,7 @@ use mathlib.Core.Bool.{false}
 use Prim.Native.Nat.{◌+◌, ◌-◌, ◌*◌, ◌≤◌}
 use native.Mathlib.Omega.{arith}
 use lib.ListN.{length}
-use Rattle.vocabulary.specs.ListLaws.{not_both}
+use Rattle.vocabulary.proofs.ListLaws.{not_both}
 use Rattle.mesh.specs.Meet.{Under}
 use Rattle.mesh.proofs.AcceptedLaws.{cells_few}
 use Rattle.walk_near_cells.specs.NearCells.{Filled}

@@ -2,7 +2,7 @@
 use mathlib.Core.Path.{sym, ◌∙◌}
 use Prim.Native.Nat.{◌-◌, ◌≤◌}
 use native.Mathlib.Omega.{arith}
-use Rattle.mesh.specs.WalkLaws.{stencil_parts}
+use Rattle.mesh.proofs.WalkLaws.{stencil_parts}
 use Rattle.walk_part_reach.specs.Rows.{ReachCounted}
 use Rattle.walk_part_reach.proofs.RowLaws.{space_start, counted_start, counted_turn, counted_end}
 use borrow.Author.Rules.{rules}

@@ -4,7 +4,7 @@ use Prim.Native.Nat.{◌+◌, ◌-◌, ◌*◌, ◌≤◌}
 use native.Mathlib.Omega.{arith}
 use lib.ListN.{length}
 use Rattle.layout.specs.Limits.{element_places, most_reached, table_bytes}
-use Rattle.mesh.specs.WalkLaws.{stencil_parts}
+use Rattle.mesh.proofs.WalkLaws.{stencil_parts}
 use Rattle.mesh.proofs.AcceptedLaws.{cells_few}
 use Rattle.walk_near_cells.specs.NearCells.{WalksReady}
 use Rattle.walk_reach_table.specs.Tables.{table_words, Emitted, EndTable}

@@ -2,7 +2,7 @@
 use mathlib.Core.Path.{refl}
 use Prim.Native.Nat.{ℕ}
 use lib.ListN.{length-replicate}
-use Rattle.vocabulary.specs.ListLaws.{zeros}
+use Rattle.vocabulary.proofs.ListLaws.{zeros}
 use Rattle.layout.specs.Limits.{element_places, record_places}
 use Rattle.mesh.proofs.MeetLaws.{under_none}
 use Rattle.walk_steps.proofs.GroundLaws.{grounded}

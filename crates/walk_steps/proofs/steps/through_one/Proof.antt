@@ -4,7 +4,7 @@ use mathlib.Core.Bool.{true}
 use Prim.Native.Nat.{◌-◌, ◌/◌, ◌≤◌}
 use lib.ListN.{length}
 use Rattle.vocabulary.specs.Intervals.{every}
-use Rattle.vocabulary.specs.IntervalLaws.{every_none, every_stop, every_turn, every_end}
+use Rattle.vocabulary.proofs.IntervalLaws.{every_none, every_stop, every_turn, every_end}
 use Rattle.walk_steps.specs.Walking.{alike, through_one}
 use borrow.Author.Rules.{rules}
 use Rattle.walk_steps.proofs.steps.through_one.Statement.{statement}

@@ -1,0 +1,6 @@
+pub mod ByteLaws
+pub mod CountLaws
+pub mod IntervalLaws
+pub mod ListLaws
+pub mod ScanLaws
+pub mod TestLaws
