@@ -1,4 +1,6 @@
 // An answer as one number, which crosses every language's border.
+#![tactic(auto)]
+
 ghost use Rattle.std.specs.Prelude.{◌≡◌};
 ghost use Rattle.c_answer.specs.Packed.{packed};
 

@@ -1,1 +1,2 @@
 // No code: examples beside those of document 01, computed from the definitions, stand in specs/.
+#![tactic(auto)]

@@ -1,11 +1,13 @@
 // Depths and gaps in bytes. Here stands what takes any number; what supposes its bytes to be there is in `inner`.
+#![tactic(auto)]
+
 pub mod inner;
 
 ghost use Rattle.std.specs.Prelude.{◌≡◌};
 ghost use Rattle.depths.specs.Depths.{in_range};
 
 // "Reading a depth gives either a depth or a gap, and whoever reads one must handle both." (F-2)
-#[derive(Drop)]
+#[derive(Clone, Copy)]
 pub enum Value {
     Depth(i32),
     Gap,

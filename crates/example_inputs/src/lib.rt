@@ -1,1 +1,2 @@
 // No code: the inputs of the computed examples stand in specs/.
+#![tactic(auto)]

@@ -1,5 +1,7 @@
 // The calls under the names that C and Rust link: a slice is a pointer and a length, and each answers its refusal's number times 2^32 plus its
 // count. `jem_place`, which refuses nothing, answers the place alone.
+#![tactic(auto)]
+
 ghost use Rattle.std.specs.Prelude.{◌≡◌};
 ghost use Rattle.c_answer.specs.Packed.{packed};
 ghost use Rattle.mesh.specs.Mesh.{check_answer};

@@ -1,5 +1,7 @@
 // The layout of words and answers. Here stand the functions that take any bytes; those that
 // suppose their bytes to be there are in `inner`.
+#![tactic(auto)]
+
 pub mod inner;
 pub mod limits;
 
@@ -10,7 +12,7 @@ ghost use Rattle.layout.specs.Words.{word_at};
 use crate::inner::word_in;
 
 // What every call answers: how many words, bytes or cells it gave, or the number of its refusal.
-#[derive(Drop)]
+#[derive(Clone, Copy)]
 pub enum Answer {
     Done(u32),
     Refused(u32),

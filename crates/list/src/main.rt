@@ -1,5 +1,7 @@
 // The list program: reads a mesh, a byte P, the owners, a byte stencil length and the stencil from standard input, and prints the lists of the
 // parts, the number of the refusal, or that the input is too long. The text is that of `list_input`; here stand only reading and printing.
+#![tactic(auto)]
+
 ghost use Rattle.std.specs.Prelude.{◌≤◌, length};
 ghost use Rattle.list_input.specs.Pieces.{text_room};
 

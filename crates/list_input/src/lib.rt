@@ -1,4 +1,6 @@
 // The list program's text, put into a lent buffer.
+#![tactic(auto)]
+
 mod accepted;
 mod pieces;
 

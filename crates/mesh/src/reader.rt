@@ -22,7 +22,7 @@ fn next_of(m: &[u8], n: usize, i: usize) -> usize
 }
 
 // Stands at one record of a chain. Index 0 is the chain's end.
-#[derive(Drop)]
+#[derive(Clone, Copy)]
 pub struct ChainReader<'a> {
     pub mesh: &'a [u8],
     pub index: usize,
@@ -80,7 +80,7 @@ fn moved_on<'a>(c: ChainReader<'a>, n: usize) -> ChainReader<'a>
 }
 
 // A record: an element, and the index of the next record of the chain.
-#[derive(Drop)]
+#[derive(Clone, Copy)]
 pub struct Record {
     pub element: usize,
     pub next: usize,

@@ -29,7 +29,7 @@ fn point_headed(m: &[u8], points: usize) -> bool
 }
 
 // What following a chain tells: whether something is amiss, and the place after its last element.
-#[derive(Drop)]
+#[derive(Clone, Copy)]
 struct Followed {
     amiss: bool,
     end: usize,

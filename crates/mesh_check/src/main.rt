@@ -1,4 +1,6 @@
 // Reads a mesh from standard input and says how many cells it has, or the number of its refusal. No accepted mesh is longer than 52,012 bytes.
+#![tactic(auto)]
+
 use layout::Answer;
 
 fn main() {

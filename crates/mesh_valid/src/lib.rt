@@ -1,4 +1,6 @@
 // Whether bytes are a mesh: the tests 1 to 7.
+#![tactic(auto)]
+
 mod chains;
 pub mod inner;
 mod sizes;

@@ -1,4 +1,6 @@
 // Messages. Here stands the reader, which takes any bytes; what supposes room for a message is in `inner`.
+#![tactic(auto)]
+
 pub mod inner;
 
 ghost use Rattle.std.specs.Prelude.{◌≡◌};
@@ -12,7 +14,7 @@ use layout::word_at;
 pub const HEADER_SIZE: usize = 8;
 
 // The words of a message. Its depths stay where they are, `count` of them behind the words.
-#[derive(Drop)]
+#[derive(Clone, Copy)]
 pub struct Header {
     pub from: usize,
     pub to: usize,
@@ -21,7 +23,7 @@ pub struct Header {
 }
 
 // What reading gives: the message, or the number of its refusal.
-#[derive(Drop)]
+#[derive(Clone, Copy)]
 pub enum Reading {
     Message(Header),
     Refused(u32),

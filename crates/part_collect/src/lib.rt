@@ -1,4 +1,6 @@
 // Collect: the owned depths put into a field.
+#![tactic(auto)]
+
 ghost use Rattle.std.specs.Prelude.{◌≡◌, ◌*◌, ◌<◌, ◌≤◌, length};
 ghost use Rattle.part_state.specs.State.{lists_in, first_of_mesh, cells_of_mesh, owned_count};
 ghost use Rattle.part_calls.specs.Opened.{Opened};

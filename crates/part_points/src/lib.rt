@@ -1,4 +1,6 @@
 // Points: the values at the points that touch the owned cells (F-1, F-2).
+#![tactic(auto)]
+
 ghost use Rattle.std.specs.Prelude.{◌≡◌, false, map, ◌-◌, ◌*◌, ◌≤◌, length};
 ghost use Rattle.vocabulary.specs.Bytes.{over};
 ghost use Rattle.vocabulary.specs.Intervals.{some};

@@ -1,4 +1,6 @@
 // The size of a part's state.
+#![tactic(auto)]
+
 ghost use Rattle.std.specs.Prelude.{◌≡◌};
 ghost use Rattle.part_start_plan.specs.Start.{size_answer};
 ghost use Rattle.split.specs.Lists.{split_input};

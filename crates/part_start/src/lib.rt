@@ -1,4 +1,6 @@
 // Start, which makes a part's state.
+#![tactic(auto)]
+
 ghost use Rattle.std.specs.Prelude.{◌≡◌};
 ghost use Rattle.part_start_plan.specs.Start.{inputs, start_answer, start_state};
 

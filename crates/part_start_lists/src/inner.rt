@@ -24,7 +24,7 @@ use walk_steps::inner::clear;
 use word_lists::inner::{put_list, put_one, put_words};
 
 // Whose lists are made: the part, how many parts there are, the mesh's cells, how many points touch the part, and how many cells stand at these together.
-#[derive(Drop)]
+#[derive(Clone, Copy)]
 pub struct Asked {
     pub part: usize,
     pub parts: usize,
@@ -35,7 +35,7 @@ pub struct Asked {
 }
 
 // What its lists are made by: that, how many cells it holds, owns and exports, at which word its points begin, and how many words the lists have.
-#[derive(Drop)]
+#[derive(Clone, Copy)]
 pub struct Plan {
     pub part: usize,
     pub parts: usize,

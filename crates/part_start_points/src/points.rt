@@ -11,7 +11,7 @@ use layout::{number_at, put_number_at};
 use word_lists::inner::{put_list, put_one};
 
 // Whose points are sought: the part, the mesh's first cell, and how many points the mesh has.
-#[derive(Drop)]
+#[derive(Clone, Copy)]
 pub struct Sought {
     pub part: usize,
     pub first: usize,
@@ -19,7 +19,7 @@ pub struct Sought {
 }
 
 // How many points touch a part, and how many cells there are at them together.
-#[derive(Drop)]
+#[derive(Clone, Copy)]
 pub struct PointCounts {
     pub points: usize,
     pub cells: usize,

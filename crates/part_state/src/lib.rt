@@ -1,4 +1,6 @@
 // The form of a part's state. Here stands its test, which takes any bytes; what supposes something is in `inner`.
+#![tactic(auto)]
+
 pub mod inner;
 mod lists;
 mod places;

@@ -55,7 +55,7 @@ pub const DEPTHS: usize = 34;
 pub const DEPTH: usize = 30;
 
 // How many cells a state holds and owns, how many entries its reaches and its exports have, and how many points it gives, with how many cells at them.
-#[derive(Drop)]
+#[derive(Clone, Copy)]
 pub struct Sizes {
     pub held: usize,
     pub owned: usize,

@@ -1,4 +1,6 @@
 // Write: the message to one importer.
+#![tactic(auto)]
+
 ghost use Rattle.std.specs.Prelude.{◌≡◌, ◌+◌, ◌*◌, ◌<◌, ◌≤◌, length, take};
 ghost use Rattle.messages.specs.Messages.{header_size, message_size};
 ghost use Rattle.vocabulary.specs.Bytes.{over};

@@ -1,18 +1,20 @@
 // Where a number stands in a list of words. The search ends at the first number not below the one sought, and tells how many numbers it read.
+#![tactic(auto)]
+
 ghost use Rattle.std.specs.Prelude.{◌≡◌};
 ghost use Rattle.place_search.specs.Places.{place_in, read_for, words_in, found_at, saturated};
 
 use layout::inner::word_in;
 
 // The place of a number in a list, from 1, or none.
-#[derive(Drop)]
+#[derive(Clone, Copy)]
 pub enum Found {
     At(usize),
     Nothing,
 }
 
 // What a search answers: the place, and how many numbers it read.
-#[derive(Drop)]
+#[derive(Clone, Copy)]
 pub struct Search {
     pub found: Found,
     pub read: usize,

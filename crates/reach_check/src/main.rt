@@ -1,5 +1,7 @@
 // Reads a byte stencil length, the stencil and a mesh from standard input, and prints for each cell the cells of its reach, each with its layer,
 // or the number of the refusal. No accepted mesh is longer than 52,012 bytes.
+#![tactic(auto)]
+
 ghost use Rattle.std.specs.Prelude.{◌≡◌, ◌<◌, false};
 ghost use Rattle.mesh.specs.Accepted.{Accepted};
 ghost use Rattle.mesh.specs.Mesh.{top};

@@ -1,4 +1,6 @@
 // Fields and the undivided round.
+#![tactic(auto)]
+
 mod undivided;
 
 ghost use Rattle.std.specs.Prelude.{◌≡◌};

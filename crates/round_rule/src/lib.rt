@@ -1,4 +1,6 @@
 // Rules: their kinds, and the test that takes any bytes.
+#![tactic(auto)]
+
 ghost use Rattle.std.specs.Prelude.{◌≡◌};
 ghost use Rattle.vocabulary.specs.Intervals.{some};
 ghost use Rattle.round_rule.specs.Rules.{too_heavy, bad11};
@@ -8,7 +10,7 @@ use layout::limits::MOST_WEIGHT;
 use layout::word_at;
 
 // "The rule kind is 0 hold, 1 mean, 2 shoalest": each chooses another update of a value.
-#[derive(Drop)]
+#[derive(Clone, Copy)]
 pub enum Kind {
     Hold,
     Mean,
@@ -16,7 +18,7 @@ pub enum Kind {
 }
 
 // What the number of a rule stands for.
-#[derive(Drop)]
+#[derive(Clone, Copy)]
 pub enum Rule {
     Known(Kind),
     Unknown,

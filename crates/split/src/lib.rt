@@ -1,4 +1,6 @@
 // Part maps. Here stand the tests that take any bytes and numbers; what works in lent space, or on the list of a part, is in `inner`.
+#![tactic(auto)]
+
 pub mod inner;
 mod maps;
 mod owners;
@@ -8,7 +10,7 @@ mod units;
 pub use maps::{bad_map, bad_shares, is_part};
 
 // The lists of a part that can be asked for: an import or export list names the other part, a range its dimension.
-#[derive(Drop)]
+#[derive(Clone, Copy)]
 pub enum Wanted {
     Interior,
     Halo,

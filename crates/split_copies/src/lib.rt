@@ -1,1 +1,2 @@
 // No code: what a part copies, told by walks, stands in specs/ with the theorem, and its laws in proofs/.
+#![tactic(auto)]

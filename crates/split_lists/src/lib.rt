@@ -1,4 +1,6 @@
 // The lists of the parts. Each call takes any bytes and numbers.
+#![tactic(auto)]
+
 mod calls;
 mod lists;
 

@@ -28,7 +28,7 @@ pub const COPIED: u8 = 4;
 const OWNED: u8 = INTERIOR;
 
 // What is asked of a cell at an element: whether the part owns it, another part does, the part holds it, another part does.
-#[derive(Drop)]
+#[derive(Clone, Copy)]
 enum Side {
     Mine,
     Anothers,

@@ -1,5 +1,7 @@
 // Runs the examples of the specification on the compiled list calls, and their refusals 8 to 10. Each line names an example and prints what its call
 // answered: the count and what it gave, or the number of the refusal. The file `stdout` has these lines, to be read beside the specification.
+#![tactic(auto)]
+
 use vectors_print::{Form, OWNERS, STENCIL, five_cells, say, say_all, triangles};
 
 fn interior_of(i: u32) {

@@ -1,5 +1,7 @@
 // Runs the examples of the specification on the compiled call check mesh, and its refusals 1 to 7. Each line names an example and prints what its
 // call answered: the count and what it gave, or the number of the refusal. The file `stdout` has these lines, to be read beside the specification.
+#![tactic(auto)]
+
 use vectors_print::{five_cells, put_five, say, set_word, triangles};
 
 fn check_cut(name: &[u8], m: &mut [u8]) {

@@ -1,5 +1,7 @@
 // Runs the examples of a cell's place in a list (F-3) on the compiled call. Each line names a list and the number sought, and prints what the call gave:
 // the place, from 1, or none, and how many numbers were read. The file `stdout` has these lines, to be read beside the request.
+#![tactic(auto)]
+
 const RISING: [u8; 6] = [0, 3, 0, 5, 0, 9];
 
 const UNSORTED: [u8; 6] = [0, 9, 0, 3, 0, 5];

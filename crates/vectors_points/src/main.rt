@@ -1,5 +1,7 @@
 // Runs the examples of points (F-1, F-2, F-4) on the compiled calls. Each line names an example and prints what its call answered: the count and what it
 // gave, or the number of the refusal. The file `stdout` has these lines, to be read beside the requests.
+#![tactic(auto)]
+
 use vectors_print::{
     Form, OWNERS, STENCIL, WEIGHTS, five_cells, five_values, put_words, say, say_all, triangles,
 };

@@ -1,5 +1,7 @@
 // What the programs that run the examples share: how an answer is printed, and the inputs. No part of the engine: nothing is
 // promised of these functions but that they end without a fault.
+#![tactic(auto)]
+
 ghost use Rattle.std.specs.Prelude.{◌<◌};
 
 use layout::{Answer, byte_at, word_at};
@@ -13,7 +15,7 @@ pub const WEIGHTS: [u8; 4] = [0, 2, 0, 1];
 // ---- printing
 
 // How what a call gave is printed: a message byte by byte in hexadecimal, all else in decimal, a point as its number and its depth. A gap is printed as such.
-#[derive(Drop)]
+#[derive(Clone, Copy)]
 pub enum Form {
     Words,
     Depths,

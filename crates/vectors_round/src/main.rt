@@ -1,5 +1,7 @@
 // Runs the examples of the specification and of the requests (F-2, F-4) on the compiled undivided round. Each line names an example and prints what its
 // call answered: the count and what it gave, or the number of the refusal. The file `stdout` has these lines, to be read beside them.
+#![tactic(auto)]
+
 use vectors_print::{
     Form, STENCIL, WEIGHTS, five_cells, five_values, print_values, say_all, triangles,
 };

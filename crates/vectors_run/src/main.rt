@@ -1,6 +1,8 @@
 // Runs the examples of the specification on the compiled calls on states: a run of two parts, the last rounds, wrong calls, and a gap that is taken.
 // Each line names an example and prints what its call answered: the count and what it gave, or the number of the refusal. The file `stdout` has these
 // lines, to be read beside the specification.
+#![tactic(auto)]
+
 use layout::word_at;
 use vectors_print::{
     Form, OWNERS, STENCIL, WEIGHTS, five_cells, five_values, print_answer, print_values, put_words,

@@ -1,1 +1,2 @@
 // No code: the words in which every definition of the engine is said, and their laws, stand in specs/.
+#![tactic(auto)]

@@ -1,4 +1,6 @@
 // The test 10.
+#![tactic(auto)]
+
 ghost use Rattle.std.specs.Prelude.{◌≡◌, length};
 ghost use Rattle.vocabulary.specs.Intervals.{every};
 ghost use Rattle.mesh.specs.Walks.{valid_at, bad10};

@@ -14,7 +14,7 @@ use mesh::inner::{below_of, cell_count, elements_of, first_cell, record_count};
 use walk_frontier::inner::{index_at, step_down, step_up, visit_all};
 
 // The sizes of a mesh: how many elements, records and cells it has, and its first cell.
-#[derive(Drop)]
+#[derive(Clone, Copy)]
 pub struct MeshSizes {
     pub elements: usize,
     pub records: usize,
@@ -161,7 +161,7 @@ pub fn clear(list: &mut [u16])
 
 // Where walks end: how many elements those are; the bounds of all cells met on the way, from `low` up to but without `high`; and how many elements
 // were met in all, if the stencil goes through one dimension.
-#[derive(Drop)]
+#[derive(Clone, Copy)]
 pub struct Ends {
     pub count: usize,
     pub low: usize,
