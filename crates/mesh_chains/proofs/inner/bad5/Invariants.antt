@@ -1,0 +1,17 @@
+-- `mesh_chains::inner::bad5` meets its contract. The invariant: no chain of a lower dimension is wrong, and every mark is at most low. Assumes nothing.
+use mathlib.Core.Path.{◌≡◌}
+use mathlib.Core.Bool.{false}
+use Prim.Native.Nat.{◌+◌, ◌-◌, ◌≤◌}
+use lib.ListN.{length}
+use Rattle.vocabulary.specs.Intervals.{some}
+use Rattle.layout.specs.Limits.{most_elements}
+use Rattle.mesh.specs.Mesh.{elements, below, bad_chain}
+use Rattle.mesh_chains.specs.Written.{MarksBelow}
+use Rattle.mesh_chains.proofs.inner.bad5.Given as goal
+
+abbrev pub invariant-loop-k : goal.invariant-loop-k
+invariant-loop-k l = (1 ≤ l.k) × (l.k ≤ 1 + l.d) × (l.k-end ≡ 1 + l.d) × (l.low ≡ below l.m l.k) × (l.low ≤ most_elements) × (length l.marks ≡ length l.initial.marks)
+    × MarksBelow (elements l.m) (l.low + 1) l.marks × (some 1 l.low (bad_chain l.m) ≡ false)
+
+abbrev pub decreases-loop-k : goal.decreases-loop-k
+decreases-loop-k l = l.k-end - l.k

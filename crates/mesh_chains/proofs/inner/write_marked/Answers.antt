@@ -1,0 +1,36 @@
+-- `mesh_chains::inner::write_marked` meets its contract. The invariant: the chains so far are written down, with nothing amiss. Assumes nothing.
+use mathlib.Core.Path.{refl}
+use mathlib.Core.Bool.{true}
+use Prim.Native.Nat.{◌-◌}
+use Rattle.vocabulary.proofs.ListLaws.{not_both}
+use Rattle.mesh_chains.proofs.NoteLaws.{noting_start, noting_room, noting_found, noting_fits, noting_turn, noting_end, noting_wrote}
+use borrow.Author.Rules.{rules}
+use Rattle.mesh_chains.proofs.inner.write_marked.Goals as goal
+
+pub loop-e-init : goal.loop-e-init
+loop-e-init c = (search rules, search rules, refl, refl, refl, refl, search noting_start)
+
+pub write_chain-chain-requires : goal.write_chain-chain-requires
+write_chain-chain-requires c = search (noting_room, rules)
+
+pub returns-then-chain : goal.returns-then-chain
+returns-then-chain c = (search noting_found, λ q. absurd (not_both true refl q))
+
+pub overflow_cast-ends : goal.overflow_cast-ends
+overflow_cast-ends c = search noting_fits
+
+pub loop-e-preserved : goal.loop-e-preserved
+loop-e-preserved c =
+    (
+      search rules,
+      search rules,
+      search rules,
+      search rules,
+      search rules,
+      search rules,
+      noting_turn _ _ _ _ c.requires.0 _ c.requires.2 _ c.loop-e.invariant.0 _ _ _ _ c.loop-e.invariant.6 _ c.head_of-h.ensures.0
+          _ _ _ _ c.write_chain-chain.ensures c.if-chain.false (search rules),
+    )
+
+pub returns : goal.returns
+returns c = (search noting_end, λ q. search noting_wrote)

@@ -1,0 +1,9 @@
+-- `part_advance::advance` meets its contract. Assumes nothing.
+use Rattle.part_calls.proofs.OpenedLaws.{opened_here, told_20}
+use Rattle.part_advance.proofs.advance.Goals as goal
+
+pub returns-then-not-is_state : goal.returns-then-not-is_state
+returns-then-not-is_state c = told_20 _ _ _ _ _ _ c.is_state.ensures c.if-not-is_state.true
+
+pub advance_in-requires : goal.advance_in-requires
+advance_in-requires c = opened_here _ _ _ c.is_state.ensures c.if-not-is_state.false c.word_at-changes.ensures.0 c.word_at-changes.ensures.1

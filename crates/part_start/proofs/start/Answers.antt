@@ -1,0 +1,237 @@
+-- `part_start::start` meets its contract. Assumes nothing.
+use mathlib.Core.Path.{refl, sym, ◌∙◌}
+use Prim.Native.Nat.{ℕ}
+use native.Mathlib.Omega.{arith}
+use lib.ListN.{length-replicate}
+use Rattle.vocabulary.proofs.ListLaws.{zeros}
+use Rattle.layout.specs.Limits.{element_places, most_parts, record_places}
+use Rattle.split.proofs.PassedLaws.{passed_facts}
+use Rattle.round_rule.proofs.RuleLaws.{rule_known}
+use Rattle.mesh.proofs.WalkLaws.{stencil_parts}
+use Rattle.round.proofs.UndividedLaws.{rule_good}
+use Rattle.part_start_lists.proofs.StartLists.{got_is, sent_is, front_count}
+use Rattle.part_start_points.proofs.SplitPoints.{points_low}
+use Rattle.part_start_plan.proofs.PlanLaws.{outside_is, point_room, start_split, start_11, start_sizes, start_14, start_16, start_cells, start_written}
+use borrow.Author.Rules.{rules}
+use Rattle.part_start.proofs.start.Goals as goal
+
+pub split_number-number-requires : goal.split_number-number-requires
+split_number-number-requires c =
+    (omega (arith, length-replicate {A = ℕ} record_places 0), zeros element_places)
+
+pub returns-then-number-ne0 : goal.returns-then-number-ne0
+returns-then-number-ne0 c =
+    start_split _ _ _ _ _ _ _ _ _ _ c.split_number-number.ensures c.if-number-ne0.true
+
+pub overflow_sub-stencil : goal.overflow_sub-stencil
+overflow_sub-stencil c =
+    omega (arith, (stencil_parts _ _ (passed_facts _ _ _ _ _ _ (sym c.split_number-number.ensures ∙ c.if-number-ne0.false)).stencil).0)
+
+pub returns-then-bad_rule : goal.returns-then-bad_rule
+returns-then-bad_rule c =
+    start_11 _ _ _ _ _ _ _ _ _ (sym c.split_number-number.ensures ∙ c.if-number-ne0.false) _ c.bad_rule.ensures c.if-bad_rule.true
+
+pub prepare-number-requires : goal.prepare-number-requires
+prepare-number-requires c =
+    let sn = sym c.split_number-number.ensures ∙ c.if-number-ne0.false in
+    let f = passed_facts _ _ _ _ _ _ sn in
+    (f.mesh, f.map, f.stencil, search rules, refl, refl, refl, search rules, refl, refl)
+
+pub returns-then-number-ne0-2 : goal.returns-then-number-ne0-2
+returns-then-number-ne0-2 c =
+    let sn = sym c.split_number-number.ensures ∙ c.if-number-ne0.false in
+    let eleven = rule_good _ c.args.stencil.now _ _ c.bad_rule.ensures c.if-bad_rule.false in
+    start_sizes _ _ _ _ _ _ _ _ _ sn eleven _ c.prepare-number.ensures.0 c.if-number-ne0-2.true
+
+pub returns-then-bad_field : goal.returns-then-bad_field
+returns-then-bad_field c =
+    let sn = sym c.split_number-number.ensures ∙ c.if-number-ne0.false in
+    let prepared = c.prepare-number.ensures in
+    let zero = c.if-number-ne0-2.false in
+    let zn = sym prepared.0 ∙ zero in
+    let eleven = rule_good _ c.args.stencil.now _ _ c.bad_rule.ensures c.if-bad_rule.false in
+    start_14 _ _ _ _ _ _ _ _ c.args.b.now sn eleven zn _ c.cell_count.ensures.0 _ c.bad_field.ensures c.if-bad_field.true
+
+pub some_outside-outside-requires : goal.some_outside-outside-requires
+some_outside-outside-requires c =
+    let sn = sym c.split_number-number.ensures ∙ c.if-number-ne0.false in
+    let sizes = c.sizes_of.ensures in
+    ((passed_facts _ _ _ _ _ _ sn).mesh, sizes, c.sought_of-sought.ensures.1 ∙ sym sizes.first_is, omega (arith, c.class-2-1.given))
+
+pub slice_bounds-draw_plan-end-5 : goal.slice_bounds-draw_plan-end-5
+slice_bounds-draw_plan-end-5 c =
+    omega (arith, c.cell-4-1.given, c.cell-2-1.given)
+
+pub slice_bounds-draw_plan-end-6 : goal.slice_bounds-draw_plan-end-6
+slice_bounds-draw_plan-end-6 c =
+    omega (arith, c.prev-2-1.given)
+
+pub slice_bounds-draw_plan-end-7 : goal.slice_bounds-draw_plan-end-7
+slice_bounds-draw_plan-end-7 c =
+    omega (arith, c.last-2-1.given)
+
+pub draw_plan-p-requires : goal.draw_plan-p-requires
+draw_plan-p-requires c =
+    let sn = sym c.split_number-number.ensures ∙ c.if-number-ne0.false in
+    let prepared = c.prepare-number.ensures in
+    let zero = c.if-number-ne0-2.false in
+    let zn = sym prepared.0 ∙ zero in
+    (sn, zn, prepared.1 zero, prepared.2, omega (arith, c.class-4-1.given, c.class-2-1.given), omega (arith, c.prev-2-1.given), refl)
+
+pub returns-then-b-size : goal.returns-then-b-size
+returns-then-b-size c =
+    let sn = sym c.split_number-number.ensures ∙ c.if-number-ne0.false in
+    let prepared = c.prepare-number.ensures in
+    let zero = c.if-number-ne0-2.false in
+    let zn = sym prepared.0 ∙ zero in
+    let eleven = rule_good _ c.args.stencil.now _ _ c.bad_rule.ensures c.if-bad_rule.false in
+    let plan = c.draw_plan-p.ensures in
+    start_16 _ _ _ _ _ _ _ _ c.args.b.now sn eleven zn _ c.cell_count.ensures.0 _ c.bad_field.ensures c.if-bad_field.false _ _ _ (prepared.1 zero)
+    _ _ _ plan c.if-b-size.true
+
+pub slice_bounds-find_sent-end : goal.slice_bounds-find_sent-end
+slice_bounds-find_sent-end c =
+    omega (arith, c.table-2-1.given)
+
+pub slice_bounds-find_sent-end-2 : goal.slice_bounds-find_sent-end-2
+slice_bounds-find_sent-end-2 c =
+    omega (arith, c.ends-4-1.given, c.ends-2-1.given)
+
+pub slice_bounds-find_sent-end-4 : goal.slice_bounds-find_sent-end-4
+slice_bounds-find_sent-end-4 c =
+    omega (arith, c.last-2-1.given)
+
+pub slice_bounds-find_sent-end-5 : goal.slice_bounds-find_sent-end-5
+slice_bounds-find_sent-end-5 c =
+    omega (arith, c.cell-4-1.given, c.cell-2-1.given)
+
+pub find_sent-requires : goal.find_sent-requires
+find_sent-requires c =
+    let plan = c.draw_plan-p.ensures in (
+      plan.part_low,
+      plan.fit.part_few,
+      plan.fit.cells_fit,
+      plan.fit.cells_few,
+      plan.parts_few,
+      plan.owners_few,
+      omega (arith, c.class-6-1.given, c.class-4-1.given, c.class-2-1.given),
+      omega (arith, c.last-2-1.given),
+      refl,
+      plan.sent_is,
+    )
+
+pub overflow_sub-stencil-2 : goal.overflow_sub-stencil-2
+overflow_sub-stencil-2 c =
+    let sn = sym c.split_number-number.ensures ∙ c.if-number-ne0.false in
+    omega (arith, (stencil_parts _ _ (passed_facts _ _ _ _ _ _ sn).stencil).0)
+
+pub put_front-s-requires : goal.put_front-s-requires
+put_front-s-requires c =
+    let sn = sym c.split_number-number.ensures ∙ c.if-number-ne0.false in
+    let eleven = rule_good _ c.args.stencil.now _ _ c.bad_rule.ensures c.if-bad_rule.false in
+    let plan = c.draw_plan-p.ensures in
+    let p = c.draw_plan-p.result in (
+      omega (arith, c.if-b-size.false, plan.front_is, plan.long_is),
+      omega (arith, plan.long_few),
+      plan.fit.part,
+      omega (arith, (stencil_parts _ _ (passed_facts _ _ _ _ _ _ sn).stencil).1),
+      omega (arith, rule_known _ _ _ eleven),
+      plan.fit.first_small,
+      omega (arith, plan.fit.cells_few),
+      omega (arith, got_is _ _ _ _ p.first _ _ plan.got_are p.owned most_parts (omega arith), plan.fit.got),
+      omega (arith, sent_is _ _ _ _ p.first _ _ c.find_sent.ensures.1 most_parts (omega arith), plan.fit.long),
+    )
+
+pub slice_bounds-put_entries-end : goal.slice_bounds-put_entries-end
+slice_bounds-put_entries-end c =
+    omega (arith, c.table-2-1.given)
+
+pub slice_bounds-put_entries-end-2 : goal.slice_bounds-put_entries-end-2
+slice_bounds-put_entries-end-2 c =
+    omega (arith, c.ends-4-1.given, c.ends-2-1.given)
+
+pub put_entries-requires : goal.put_entries-requires
+put_entries-requires c =
+    let plan = c.draw_plan-p.ensures in
+    let s = front_count _ _ _ _ _ _ _ _ _ _ _ _ _ c.put_front-s.ensures in (
+      omega (arith, c.if-b-size.false, plan.front_is, plan.long_is, plan.sent_is, s, c.b-1.given),
+      omega (arith, plan.fit.long, plan.sent_is, s),
+      plan.fit.order_there,
+      plan.fit.near,
+      omega (arith, plan.sent_few, c.cell-8-1.given, c.cell-4-1.given, c.cell-2-1.given),
+    )
+
+pub slice_bounds-put_rest-end : goal.slice_bounds-put_rest-end
+slice_bounds-put_rest-end c =
+    omega (arith, c.prev-5-1.given, c.prev-2-1.given)
+
+pub put_rest-requires : goal.put_rest-requires
+put_rest-requires c =
+    let sn = sym c.split_number-number.ensures ∙ c.if-number-ne0.false in
+    let prepared = c.prepare-number.ensures in
+    let zero = c.if-number-ne0-2.false in
+    let zn = sym prepared.0 ∙ zero in
+    let eleven = rule_good _ c.args.stencil.now _ _ c.bad_rule.ensures c.if-bad_rule.false in
+    let plan = c.draw_plan-p.ensures in (
+      omega (arith, c.if-b-size.false, c.b-2-1.given, c.b-1.given),
+      omega (arith, plan.long_few),
+      plan.fit.order_few,
+      start_cells _ _ _ _ _ _ _ _ c.args.b.now sn eleven zn _ c.cell_count.ensures.0 _ c.bad_field.ensures c.if-bad_field.false
+          _ _ _ (prepared.1 zero) _ _ _ plan,
+    )
+
+pub slice_bounds-add_points-end-2 : goal.slice_bounds-add_points-end-2
+slice_bounds-add_points-end-2 c =
+    omega (arith, c.cell-8-1.given, c.cell-4-1.given, c.cell-2-1.given)
+
+pub slice_bounds-add_points-end-3 : goal.slice_bounds-add_points-end-3
+slice_bounds-add_points-end-3 c =
+    omega (arith, c.prev-5-1.given, c.prev-2-1.given)
+
+pub slice_bounds-add_points-end-4 : goal.slice_bounds-add_points-end-4
+slice_bounds-add_points-end-4 c =
+    omega (arith, c.ends-4-1.given, c.ends-2-1.given)
+
+pub add_points-requires : goal.add_points-requires
+add_points-requires c =
+    let sn = sym c.split_number-number.ensures ∙ c.if-number-ne0.false in
+    let plan = c.draw_plan-p.ensures in
+    let f = passed_facts _ _ _ _ _ _ sn in
+    let sought = c.sought_of-sought.ensures in (
+      f.mesh,
+      f.stencil,
+      omega (arith, c.cell-8-1.given, c.cell-4-1.given, c.cell-2-1.given),
+      omega (arith, c.prev-5-1.given, c.prev-2-1.given),
+      omega (arith, c.ends-4-1.given, c.ends-2-1.given),
+      points_low _ f.mesh _ sought.2,
+      point_room _ c.args.parts _ _ _ _ _ _ sought.0 sought.1 sought.2 _ _ _ plan.long_is plan.long_few
+          (omega (arith, c.if-b-size.false, c.b-3-1.given, c.b-2-1.given, c.b-1.given)),
+    )
+
+pub overflow_cast-result : goal.overflow_cast-result
+overflow_cast-result c =
+    let plan = c.draw_plan-p.ensures in
+    omega (arith, plan.long_few, plan.fit.order_few)
+
+pub shape_of-b : goal.shape_of-b
+shape_of-b c =
+    omega (arith, c.b-4-1.given, c.b-3-1.given, c.b-2-1.given, c.b-1.given)
+
+pub returns : goal.returns
+returns c =
+    let sn = sym c.split_number-number.ensures ∙ c.if-number-ne0.false in
+    let prepared = c.prepare-number.ensures in
+    let zero = c.if-number-ne0-2.false in
+    let zn = sym prepared.0 ∙ zero in
+    let eleven = rule_good _ c.args.stencil.now _ _ c.bad_rule.ensures c.if-bad_rule.false in
+    let plan = c.draw_plan-p.ensures in
+    let sought = c.sought_of-sought.ensures in
+    let found = c.find_sent.ensures in
+    let added = c.add_points.ensures in
+    let outside =
+    outside_is _ _ _ _ _ _ _ (prepared.1 zero) _ _ _ prepared.2 _ _ _ _ _ _ c.some_outside-outside.ensures
+    sought.0 sought.1 sought.2 c.sizes_of.ensures.cells_is in
+    start_written _ _ _ _ _ _ _ _ c.args.b.now sn eleven zn _ c.cell_count.ensures.0 _ c.bad_field.ensures c.if-bad_field.false
+    _ _ _ (prepared.1 zero) _ _ _ plan _ _ _ _ _ _ _ _ _ _ _ _ _ _ _ _ _ _ _ found.1 found.0 (omega (arith, plan.sent_few, c.cell-4-1.given))
+    c.put_front-s.ensures c.put_entries.ensures
+    c.number_order.ensures c.put_rest.ensures added.0 added.1 sought.0 sought.1 sought.2 outside c.if-b-size.false

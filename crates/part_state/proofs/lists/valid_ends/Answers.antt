@@ -1,0 +1,19 @@
+-- `part_state::lists::valid_ends` meets its contract. Assumes nothing.
+use Rattle.vocabulary.proofs.TestLaws.{fails_here, passes_here}
+use Rattle.part_state.proofs.ListChecks.{first_wrong, first_right, reach_wrong, reach_right}
+use Rattle.part_state.proofs.lists.valid_ends.Goals as goal
+
+pub returns-then-not-ends_rise : goal.returns-then-not-ends_rise
+returns-then-not-ends_rise c = search fails_here
+
+pub returns-then-word_there-ne0 : goal.returns-then-word_there-ne0
+returns-then-word_there-ne0 c = search (passes_here, first_wrong)
+
+pub returns-then-not-ends_rise-2 : goal.returns-then-not-ends_rise-2
+returns-then-not-ends_rise-2 c = search (passes_here, first_right, fails_here)
+
+pub returns-then-word_there-ne0-2 : goal.returns-then-word_there-ne0-2
+returns-then-word_there-ne0-2 c = search (passes_here, first_right, reach_wrong) depth 8 fits 4000
+
+pub returns : goal.returns
+returns c = search (passes_here, first_right, reach_right) depth 8 fits 4000

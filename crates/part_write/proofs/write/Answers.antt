@@ -1,0 +1,17 @@
+-- `part_write::write` meets its contract. Assumes nothing.
+use Rattle.part_calls.proofs.OpenedLaws.{opened_here, told_20}
+use Rattle.part_write.proofs.write.Goals as goal
+
+pub returns-then-not-is_state : goal.returns-then-not-is_state
+returns-then-not-is_state c =
+    (
+      (told_20 _ _ _ [] [] _ c.is_state.ensures c.if-not-is_state.true).0,
+      (told_20 _ _ 0 _ _ _ c.is_state.ensures c.if-not-is_state.true).1,
+      (told_20 _ _ 0 _ _ _
+          c.is_state.ensures c.if-not-is_state.true).1,
+    )
+
+pub write_in-requires : goal.write_in-requires
+write_in-requires c =
+    opened_here _ _ _ c.is_state.ensures c.if-not-is_state.false c.word_at-changes.ensures.0
+    c.word_at-changes.ensures.1

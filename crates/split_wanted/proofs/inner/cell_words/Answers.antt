@@ -1,0 +1,51 @@
+-- `split_wanted::inner::cell_words` meets its contract. Assumes nothing.
+use native.Mathlib.Omega.{arith}
+use Rattle.split_wanted.proofs.ListedLaws.{chose_none, chose_cells, chose_order, other_few}
+use Rattle.mesh.proofs.AcceptedLaws.{cells_few, cells_fit}
+use borrow.Author.Rules.{rules}
+use Rattle.split_wanted.proofs.inner.cell_words.Goals as goal
+
+pub add_class-requires : goal.add_class-requires
+add_class-requires c = (search cells_fit, search rules)
+
+pub add_class-requires-in-Halo : goal.add_class-requires-in-Halo
+add_class-requires-in-Halo c = (search cells_fit, search rules)
+
+pub add_order-requires : goal.add_order-requires
+add_order-requires c = (search cells_fit, search cells_few, search rules)
+
+pub overflow_cast-j : goal.overflow_cast-j
+overflow_cast-j c = record { fits = omega (arith, other_few c.args.wanted c.args.i _ c.requires.3 c.wanted-1.given.1) }
+
+pub add_class-requires-in-Imports : goal.add_class-requires-in-Imports
+add_class-requires-in-Imports c = (search cells_fit, search rules)
+
+pub add_class-requires-in-Exports : goal.add_class-requires-in-Exports
+add_class-requires-in-Exports c = (search cells_fit, search rules)
+
+pub returns-in-Interior : goal.returns-in-Interior
+returns-in-Interior c = search chose_cells
+
+pub returns-in-Halo : goal.returns-in-Halo
+returns-in-Halo c = search chose_cells
+
+pub returns-in-Locals : goal.returns-in-Locals
+returns-in-Locals c = search chose_order
+
+pub returns-in-Imports : goal.returns-in-Imports
+returns-in-Imports c = search chose_cells
+
+pub returns-in-Exports : goal.returns-in-Exports
+returns-in-Exports c = search chose_cells
+
+pub returns-in-Private : goal.returns-in-Private
+returns-in-Private c = search chose_none
+
+pub returns-in-Exposed : goal.returns-in-Exposed
+returns-in-Exposed c = search chose_none
+
+pub returns-in-Shared : goal.returns-in-Shared
+returns-in-Shared c = search chose_none
+
+pub returns-in-Copied : goal.returns-in-Copied
+returns-in-Copied c = search chose_none
