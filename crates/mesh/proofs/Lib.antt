@@ -4,7 +4,5 @@ pub mod MeetLaws
 pub mod DimensionLaws
 pub mod NumberLaws
 pub mod AcceptedLaws
-pub mod ReaderType
-pub mod ReaderWalks
 pub mod MeshLaws
 pub mod WalkLaws

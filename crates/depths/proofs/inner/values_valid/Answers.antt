@@ -7,23 +7,23 @@ use Rattle.depths.specs.Depths.{ranged_at}
 use Rattle.depths.proofs.SignedLaws.{depth_told, gap_told, fine_turn, wrong_turn, valid_end}
 use borrow.Author.Rules.{rules}
 use Rattle.depths.proofs.inner.values_valid.Goals as goal
+use Rattle.depths.proofs.inner.values_valid.Goals.{in-Depth, in-Gap, then-fine, else-fine}
 
 pub loop-k-init : goal.loop-k-init
 loop-k-init c = (search rules, sym (every_none _ _))
 
 pub loop-k-preserved : goal.loop-k-preserved
 loop-k-preserved c =
-    let args = c.args in
-    let told : c.match-value_in.fine ≡ ranged_at args.b.now args.at c.loop-k.k =
-    ⊎_elim
-    (λ p. p.4 ∙ depth_told _ _ _ _ c.value_in.ensures _ _ p.1.given.1 (search rules) p.3.ensures)
-    (λ p. search gap_told)
-    c.match-value_in.branch in (
+    let told : c.match-value_in.fine ≡ ranged_at c.args.b.now c.args.at c.loop-k.k =
+    elim c.match-value_in.branch [
+      | in-Depth w ↦ w.fine-is ∙ depth_told _ _ _ _ c.value_in.ensures _ _ w.in-Depth.is (search rules) w.in_range-fine.ensures
+      | in-Gap w ↦ search gap_told
+    ] in (
       search rules,
-      ⊎_elim
-          (λ p. fine_turn _ _ _ _ _ c.loop-k.invariant.1 _ told p.0.taken p.1)
-          (λ p. wrong_turn _ _ _ _ _ c.loop-k.invariant.1 _ told p.0.left p.1)
-          c.if-fine.branch,
+      elim c.if-fine.branch [
+        | then-fine w ↦ fine_turn _ _ _ _ _ c.loop-k.invariant.1 _ told w.if-fine.true w.valid-is
+        | else-fine w ↦ wrong_turn _ _ _ _ _ c.loop-k.invariant.1 _ told w.if-fine.false w.valid-is
+      ],
     )
 
 pub returns : goal.returns

@@ -7,13 +7,13 @@ use borrow.Author.Rules.{rules}
 use Rattle.walk_steps.proofs.steps.through_one.Goals as goal
 
 -- the loop's own answer is the definition's
-returns : tie.Need-returns invariant_loop decreases_loop
+pub returns-then-not-is_alike : goal.returns-then-not-is_alike
 unfolding through_one
-returns c = search every_stop
+returns-then-not-is_alike c = search every_stop
 
-returns_2 : tie.Need-returns-2 invariant_loop decreases_loop
+pub returns : goal.returns
 unfolding through_one
-returns_2 c = search every_end
+returns c = search every_end
 
 pub loop-j-init : goal.loop-j-init
 loop-j-init c = (refl, search rules, search every_none)
