@@ -7,8 +7,8 @@ use Rattle.layout.specs.Limits.{element_places, most_elements, record_places, ta
 use Rattle.mesh.proofs.AcceptedLaws.{cells_few, cells_fit}
 use Rattle.split.proofs.PassedLaws.{passed_facts}
 use Rattle.split_ranges.proofs.LowerLaws.{alone}
-use Rattle.list_ranges.proofs.PartLaws.{part_told, texts_start, texts_turn}
-use Rattle.list_input.proofs.PieceLaws.{refused_sizes}
+use Rattle.list_ranges.proofs.PartLaws.{part_told, texts_start, texts_turn, texts_end}
+use Rattle.list_input.proofs.PieceLaws.{refused_sizes, passed_all, split_told}
 use borrow.Author.Rules.{rules}
 use Rattle.list_input.proofs.accepted.list_accepted.Goals as goal
 
@@ -27,11 +27,11 @@ prepare-number-requires c =
       refl {a = most_elements},
     )
 
-pub first_cell-first-requires : goal.first_cell-first-requires
-first_cell-first-requires c = refused_sizes _ _ _ _ _ _ _ c.requires _ c.prepare-number.ensures.0 c.if-number-ne0.true c.put_line.ensures
+pub returns-then-number-ne0 : goal.returns-then-number-ne0
+returns-then-number-ne0 c = refused_sizes _ _ _ _ _ _ _ c.requires _ c.prepare-number.ensures.0 c.if-number-ne0.true c.put_line.ensures
 
-pub slice_bounds-classify-end-in-loop-i : goal.slice_bounds-classify-end-in-loop-i
-slice_bounds-classify-end-in-loop-i c =
+pub loop-i-init : goal.loop-i-init
+loop-i-init c =
     (
       record {
         prepared = c.prepare-number.ensures.1 c.if-number-ne0.false;
@@ -52,82 +52,82 @@ slice_bounds-classify-end-in-loop-i c =
       search texts_start,
     )
 
+pub slice_bounds-classify-end : goal.slice_bounds-classify-end
+slice_bounds-classify-end c = sym c.loop-i.invariant.0.table_bytes_is
+
+pub slice_bounds-classify-end-in-loop-i : goal.slice_bounds-classify-end-in-loop-i
+slice_bounds-classify-end-in-loop-i c = sym c.loop-i.invariant.0.end_places
+
 pub overflow_add-i : goal.overflow_add-i
-overflow_add-i c = sym c.loop-i.invariant.0.table_bytes_is
+overflow_add-i c = omega (arith, c.loop-i-test.true, c.loop-i.invariant.0.few)
 
 pub slice_bounds-classify-end-in-loop-i-2 : goal.slice_bounds-classify-end-in-loop-i-2
-slice_bounds-classify-end-in-loop-i-2 c = sym c.loop-i.invariant.0.end_places
+slice_bounds-classify-end-in-loop-i-2 c = sym c.loop-i.invariant.4
 
 pub classify-requires : goal.classify-requires
-classify-requires c = omega (arith, c.loop-i-test.true, c.loop-i.invariant.0.few)
-
-pub slice_bounds-put_own-end : goal.slice_bounds-put_own-end
-slice_bounds-put_own-end c = sym c.loop-i.invariant.4
-
-pub overflow_add-i-in-loop-i : goal.overflow_add-i-in-loop-i
-overflow_add-i-in-loop-i c =
+classify-requires c =
     let v = c.loop-i.invariant in
     (cells_few _ _ v.0.prepared.mesh v.2, v.4)
 
+pub slice_bounds-put_own-end : goal.slice_bounds-put_own-end
+slice_bounds-put_own-end c = sym c.classify.ensures.room
+
+pub overflow_add-i-in-loop-i : goal.overflow_add-i-in-loop-i
+overflow_add-i-in-loop-i c = omega (arith, c.loop-i-test.true, c.loop-i.invariant.0.few)
+
 pub put_own-u-requires : goal.put_own-u-requires
-put_own-u-requires c = sym c.classify.ensures.room
+put_own-u-requires c =
+    let v = c.loop-i.invariant in
+    (cells_fit _ _ _ v.0.prepared.mesh v.1 v.2, cells_few _ _ v.0.prepared.mesh v.2)
 
 pub slice_bounds-put_imports-end : goal.slice_bounds-put_imports-end
-slice_bounds-put_imports-end c = omega (arith, c.loop-i-test.true, c.loop-i.invariant.0.few)
+slice_bounds-put_imports-end c = sym c.classify.ensures.room
 
 pub put_imports-v-requires : goal.put_imports-v-requires
 put_imports-v-requires c =
     let v = c.loop-i.invariant in
-    (cells_fit _ _ _ v.0.prepared.mesh v.1 v.2, cells_few _ _ v.0.prepared.mesh v.2)
-
-pub slice_bounds-put_exports-end : goal.slice_bounds-put_exports-end
-slice_bounds-put_exports-end c = sym c.classify.ensures.room
-
-pub slice_bounds-put_exports-end-in-loop-i : goal.slice_bounds-put_exports-end-in-loop-i
-slice_bounds-put_exports-end-in-loop-i c =
-    let v = c.loop-i.invariant in
     (cells_fit _ _ _ v.0.prepared.mesh v.1 v.2, cells_few _ _ v.0.prepared.mesh v.2, v.0.few)
 
+pub slice_bounds-put_exports-end : goal.slice_bounds-put_exports-end
+slice_bounds-put_exports-end c = sym c.loop-i.invariant.0.table_bytes_is
+
+pub slice_bounds-put_exports-end-in-loop-i : goal.slice_bounds-put_exports-end-in-loop-i
+slice_bounds-put_exports-end-in-loop-i c = sym c.loop-i.invariant.0.end_places
+
 pub overflow_add-i-in-loop-i-2 : goal.overflow_add-i-in-loop-i-2
-overflow_add-i-in-loop-i-2 c = sym c.loop-i.invariant.0.table_bytes_is
+overflow_add-i-in-loop-i-2 c = omega (arith, c.loop-i-test.true, c.loop-i.invariant.0.few)
 
 pub put_exports-w-requires : goal.put_exports-w-requires
-put_exports-w-requires c = sym c.loop-i.invariant.0.end_places
-
-pub slice_bounds-put_dimensions-end : goal.slice_bounds-put_dimensions-end
-slice_bounds-put_dimensions-end c = omega (arith, c.loop-i-test.true, c.loop-i.invariant.0.few)
-
-pub slice_bounds-put_dimensions-end-in-loop-i : goal.slice_bounds-put_dimensions-end-in-loop-i
-slice_bounds-put_dimensions-end-in-loop-i c =
+put_exports-w-requires c =
     let v = c.loop-i.invariant in
     (v.0.prepared.mesh, omega (arith, c.loop-i-test.true, v.0.few), v.0.few)
 
+pub slice_bounds-put_dimensions-end : goal.slice_bounds-put_dimensions-end
+slice_bounds-put_dimensions-end c = sym c.loop-i.invariant.0.cell_places
+
+pub slice_bounds-put_dimensions-end-in-loop-i : goal.slice_bounds-put_dimensions-end-in-loop-i
+slice_bounds-put_dimensions-end-in-loop-i c = sym c.loop-i.invariant.0.prev_places
+
 pub slice_bounds-put_dimensions-end-in-loop-i-2 : goal.slice_bounds-put_dimensions-end-in-loop-i-2
-slice_bounds-put_dimensions-end-in-loop-i-2 c = sym c.loop-i.invariant.0.cell_places
+slice_bounds-put_dimensions-end-in-loop-i-2 c = sym c.loop-i.invariant.0.last_places
 
 pub slice_bounds-put_dimensions-end-in-loop-i-3 : goal.slice_bounds-put_dimensions-end-in-loop-i-3
-slice_bounds-put_dimensions-end-in-loop-i-3 c = sym c.loop-i.invariant.0.prev_places
+slice_bounds-put_dimensions-end-in-loop-i-3 c = sym c.classify.ensures.room
 
 pub slice_bounds-put_dimensions-end-in-loop-i-4 : goal.slice_bounds-put_dimensions-end-in-loop-i-4
-slice_bounds-put_dimensions-end-in-loop-i-4 c = sym c.loop-i.invariant.0.last_places
+slice_bounds-put_dimensions-end-in-loop-i-4 c = sym c.loop-i.invariant.0.holder_places
 
 pub put_dimensions-t-requires : goal.put_dimensions-t-requires
-put_dimensions-t-requires c = sym c.classify.ensures.room
+put_dimensions-t-requires c = alone _ _ _ _ _ c.loop-i.invariant.0.ground
 
 pub overflow_step-i : goal.overflow_step-i
-overflow_step-i c = sym c.loop-i.invariant.0.holder_places
+overflow_step-i c = omega (arith, c.loop-i-test.true, c.loop-i.invariant.0.few)
 
 pub loop-i-smaller : goal.loop-i-smaller
-loop-i-smaller c = alone _ _ _ _ _ c.loop-i.invariant.0.ground
+loop-i-smaller c = omega (arith, c.loop-i-test.true)
 
 pub loop-i-preserved : goal.loop-i-preserved
-loop-i-preserved c = omega (arith, c.loop-i-test.true, c.loop-i.invariant.0.few)
-
-pub shape_of-out : goal.shape_of-out
-shape_of-out c = omega (arith, c.loop-i-test.true)
-
-pub returns : goal.returns
-returns c =
+loop-i-preserved c =
     let v = c.loop-i.invariant in
     let part = part_told _ _ _ _ _ _ _ v.0.prepared _ (omega arith) (omega (arith, c.loop-i-test.true)) v.0.few _ _ v.1 v.2 _ c.classify.ensures
     _ _ _ _ _ _ _ _ _ _ c.put_own-u.ensures c.put_imports-v.ensures c.put_exports-w.ensures c.put_dimensions-t.ensures in
@@ -140,3 +140,11 @@ returns c =
       omega (arith, v.5, c.out-in-loop-i-1.given, c.out-in-loop-i-2-1.given, c.out-in-loop-i-3-1.given, c.out-in-loop-i-4-1.given),
       turn,
     )
+
+pub shape_of-out : goal.shape_of-out
+shape_of-out c = omega (arith, c.loop-i.invariant.5, c.out-2-1.given)
+
+pub returns : goal.returns
+returns c =
+    passed_all _ _ _ _ _ _ _ c.requires _ c.prepare-number.ensures.0 c.if-number-ne0.false
+    (split_told _ _ _ _ _ _ _ _ _ c.put_line-t.ensures (texts_end _ _ _ _ _ _ _ _ c.loop-i.invariant.3 c.loop-i-test.false c.loop-i.invariant.6))

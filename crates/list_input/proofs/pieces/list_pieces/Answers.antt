@@ -2,5 +2,5 @@
 use Rattle.list_input.proofs.PieceLaws.{refused_split}
 use Rattle.list_input.proofs.pieces.list_pieces.Goals as goal
 
-pub list_accepted-requires : goal.list_accepted-requires
-list_accepted-requires c = search refused_split
+pub returns-then-number-ne0 : goal.returns-then-number-ne0
+returns-then-number-ne0 c = search refused_split

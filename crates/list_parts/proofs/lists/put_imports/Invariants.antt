@@ -8,7 +8,7 @@ use Rattle.list_ranges.specs.Lines.{import_line}
 use Rattle.list_parts.proofs.lists.put_imports.Given as goal
 
 abbrev pub invariant-loop-j : goal.invariant-loop-j
-invariant-loop-j l = (j ≤ l.parts) × (length l.t ≡ length l.initial.out) × Printed l.initial.out l.t l.at l.j (blocks 1 j (import_line l.class l.first l.cells))
+invariant-loop-j l = (l.j ≤ l.parts) × (length l.out ≡ length l.initial.out) × Printed l.initial.out l.out l.at l.t (blocks 1 l.j (import_line l.class l.first l.cells))
 
 abbrev pub decreases-loop-j : goal.decreases-loop-j
-decreases-loop-j l = l.parts - j
+decreases-loop-j l = l.parts - l.j
