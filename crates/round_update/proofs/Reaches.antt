@@ -80,7 +80,7 @@ module _ (v b : Bytes) (at : ℕ) (f : Bytes) (base : ℕ) where
     module _ (p : ℕ) (e : p ≡ base + 4 * word b (at + 4 * t)) (x : Value) (r : x ≡ value_from f p) (sum weights sum' y : ℕ)
         (S : Summed v (olds_at f base (table_entries b at t)) t (to_z w64 sum) weights) where
       pub sum_depth : (z s : ℤ) (w : ℕ) → x ≡ Depth z → SFits w32 z → Weighed v b at n → w ≡ word_at v (word b (at + 4 * t + 2) / 2)
-          → s ≡ to_z w64 sum +ℤ pos w *ℤ to_z w32 (of_z w32 z) → sum' ≡ of_z w64 s → y ≡ w
+          → s ≡ to_z w64 sum +ℤ pos w *ℤ to_z w32 (of_z w32 z) → to_z w64 sum' ≡ to_z w64 (of_z w64 s) → y ≡ w
           → Summed v (olds_at f base (table_entries b at (t + 1))) (t + 1) (to_z w64 sum') (weights + y)
       unfolding weight
       sum_depth z s w g h W i k a c =
@@ -88,7 +88,7 @@ module _ (v b : Bytes) (at : ℕ) (f : Bytes) (base : ℕ) where
           (summed_depth v (olds t) (olds (t + 1)) (old_at f base (table_entry b at t)) (olds_turn b at f base t) f p (base + 4 * word b (at + 4 * t)) refl e x r t sum weights S
           z s w g h (place_within 4 b at n f base R t lt p e x r) i (is_light w W i) (omega (arith, R.few)) k)
 
-      pub sum_gap : x ≡ Gap → sum' ≡ sum → y ≡ 0 → Summed v (olds_at f base (table_entries b at (t + 1))) (t + 1) (to_z w64 sum') (weights + y)
+      pub sum_gap : x ≡ Gap → to_z w64 sum' ≡ to_z w64 sum → y ≡ 0 → Summed v (olds_at f base (table_entries b at (t + 1))) (t + 1) (to_z w64 sum') (weights + y)
       sum_gap g a c =
           rw (a, c, add-zero weights)
           (summed_gap v (olds t) (olds (t + 1)) (old_at f base (table_entry b at t)) (olds_turn b at f base t) f p (base + 4 * word b (at + 4 * t)) refl e x r t sum weights S g)

@@ -1,4 +1,5 @@
 -- `part_write::write` meets its contract. Assumes nothing.
+use mathlib.Core.List.{[]}
 use Rattle.part_calls.specs.Calls.{write_tests_in}
 use Rattle.part_calls.specs.Calls.{write_number}
 use Rattle.part_calls.specs.Calls.{write_answer}

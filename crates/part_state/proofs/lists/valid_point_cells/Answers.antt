@@ -1,6 +1,6 @@
 -- `part_state::lists::valid_point_cells` meets its contract. The invariants: the cells so far are held, first four at a time. Assumes nothing.
-use mathlib.Core.Path.{◌≡◌, refl}
-use mathlib.Core.Bool.{true}
+use mathlib.Core.Path.{◌≡◌, refl, ap}
+use mathlib.Core.Bool.{true, not}
 use Prim.Native.Nat.{◌+◌, ◌-◌, ◌*◌}
 use native.Mathlib.Omega.{arith}
 use Rattle.vocabulary.specs.Intervals.{every}
@@ -18,7 +18,7 @@ returns-then-not-two_within c =
     let k = c.loop-k.k in
     let stop =
     two_stop _ _ c.requires.counts _ c.point_cells_word-at.ensures (4 * k) _ refl _ c.two_within.ensures
-    (omega (arith, c.loop-k.invariant.0, c.loop-k-test.true)) c.if-not-two_within.true in
+    (omega (arith, c.loop-k.invariant.0, c.loop-k-test.true)) (ap not c.if-not-two_within.true) in
     search (counted_by, stop)
 
 pub returns-then-not-two_within-2 : goal.returns-then-not-two_within-2
@@ -26,7 +26,7 @@ returns-then-not-two_within-2 c =
     let k = c.loop-k.k in
     let stop =
     two_stop _ _ c.requires.counts _ c.point_cells_word-at.ensures (4 * k + 2) _ (omega arith) _ c.two_within-in-loop-k.ensures
-    (omega (arith, c.loop-k.invariant.0, c.loop-k-test.true)) c.if-not-two_within-2.true in
+    (omega (arith, c.loop-k.invariant.0, c.loop-k-test.true)) (ap not c.if-not-two_within-2.true) in
     search (counted_by, stop)
 
 pub loop-k-preserved : goal.loop-k-preserved
@@ -37,7 +37,7 @@ loop-k-preserved c =
       search rules,
       search rules,
       two_turn _ _ counts _ place (4 * k + 2) _ (omega arith) _ c.two_within-in-loop-k.ensures
-          (two_turn _ _ counts _ place (4 * k) _ refl _ c.two_within.ensures c.loop-k.invariant.2 c.if-not-two_within.false (4 * k + 2) refl) c.if-not-two_within-2.false (4 * (k + 1)) (omega arith),
+          (two_turn _ _ counts _ place (4 * k) _ refl _ c.two_within.ensures c.loop-k.invariant.2 (ap not c.if-not-two_within.false) (4 * k + 2) refl) (ap not c.if-not-two_within-2.false) (4 * (k + 1)) (omega arith),
     )
 
 pub loop-t-init : goal.loop-t-init

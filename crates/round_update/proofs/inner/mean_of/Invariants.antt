@@ -7,7 +7,7 @@ use Rattle.round_update.proofs.Sums.{Summed}
 use Rattle.round_update.proofs.inner.mean_of.Given as goal
 
 abbrev pub invariant-loop-t : goal.invariant-loop-t
-invariant-loop-t l = (l.t ≤ l.n) × Summed l.weights (olds_at l.f l.base (table_entries l.b l.at l.t)) l.t (to_z w64 l.sum) l.weight_sum
+invariant-loop-t l = (l.t ≤ l.n) × Summed l.weights (olds_at l.f l.base (table_entries l.b l.at l.t)) l.t l.sum l.weight_sum
 
 abbrev pub decreases-loop-t : goal.decreases-loop-t
 decreases-loop-t l = l.n - l.t

@@ -1,11 +1,11 @@
 -- `round_update::inner::plain_mean` meets its contract. The invariant: the sum and the count of the depths so far. Assumes nothing.
-use mathlib.Core.Logic.{⊎_elim}
 use Prim.Native.Nat.{◌-◌, ◌<◌}
 use Rattle.round_update.proofs.Sums.{weights_fit}
 use Rattle.round_update.proofs.Places.{place_listed, place_fits, place_there, place_small}
 use Rattle.round_update.proofs.Plain.{plain_start, plain_depth, plain_gap, plain_few, plain_large, plain_end, plain_within}
 use borrow.Author.Rules.{rules}
 use Rattle.round_update.proofs.inner.plain_mean.Goals as goal
+use Rattle.round_update.proofs.inner.plain_mean.Goals.{in-Depth, in-Gap}
 
 pub loop-t-init : goal.loop-t-init
 loop-t-init c = (search rules, search plain_start)
@@ -21,11 +21,12 @@ add_weighed-sum-requires c = (search rules, search rules, search place_small)
 
 pub overflow_add-count : goal.overflow_add-count
 overflow_add-count c =
-    let share : c.match-value_in.count < 65536 = ⊎_elim (λ p. rw p.5 (search rules)) (λ p. rw p.3 (search rules)) c.match-value_in.branch in
+    let share : c.match-value_in.count < 65536 =
+    elim c.match-value_in.branch [ in-Depth w ↦ rw w.count-is (search rules) | in-Gap w ↦ rw w.count-is (search rules) ] in
     weights_fit _ _ _ _ _ _ _ c.loop-t.invariant.1 c.loop-t-test.true c.requires.few share
 
 pub loop-t-preserved : goal.loop-t-preserved
-loop-t-preserved c = (search rules, ⊎_elim (λ p. search plain_depth) (λ p. search plain_gap) c.match-value_in.branch)
+loop-t-preserved c = (search rules, elim c.match-value_in.branch [ in-Depth w ↦ search plain_depth | in-Gap w ↦ search plain_gap ])
 
 pub mean_by-requires : goal.mean_by-requires
 mean_by-requires c = (search plain_few, search plain_large)

@@ -8,7 +8,7 @@ use Rattle.round_update.proofs.Plain.{plain_olds}
 use Rattle.round_update.proofs.inner.plain_mean.Given as goal
 
 abbrev pub invariant-loop-t : goal.invariant-loop-t
-invariant-loop-t l = (l.t ≤ l.n) × Summed ones (plain_olds l.b l.at l.f l.base l.t) l.t (to_z w64 l.sum) l.count
+invariant-loop-t l = (l.t ≤ l.n) × Summed ones (plain_olds l.b l.at l.f l.base l.t) l.t l.sum l.count
 
 abbrev pub decreases-loop-t : goal.decreases-loop-t
 decreases-loop-t l = l.n - l.t

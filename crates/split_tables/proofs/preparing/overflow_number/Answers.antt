@@ -1,4 +1,5 @@
 -- `split_tables::preparing::overflow_number` meets its contract. Assumes nothing.
+use mathlib.Core.List.{[]}
 use native.Mathlib.Omega.{arith}
 use Rattle.split.proofs.SplitLaws.{map_facts}
 use Rattle.split_tables.proofs.PreparedLaws.{overflow_twelve, overflow_thirteen}

@@ -1,4 +1,5 @@
 -- `split_tables::preparing::prepare` meets its contract. Assumes nothing.
+use mathlib.Core.List.{[]}
 use mathlib.Core.Path.{refl}
 use native.Mathlib.Omega.{arith}
 use Rattle.vocabulary.proofs.ListLaws.{zeros}

@@ -1,4 +1,5 @@
 -- `walk_frontier::inner::step_down` meets its contract. The invariant: the elements from the first j cells were gathered. Assumes nothing.
+use mathlib.Core.List.{[]}
 use mathlib.Core.Path.{◌≡◌}
 use Prim.Native.Nat.{◌-◌, ◌≤◌}
 use lib.ListN.{length}

@@ -1,4 +1,5 @@
 -- `walk_frontier::inner::step_up` meets its contract. The invariant: the cells of the first j elements were gathered. Assumes nothing.
+use mathlib.Core.List.{[]}
 use mathlib.Core.Path.{◌≡◌}
 use Prim.Native.Nat.{◌-◌, ◌≤◌}
 use lib.ListN.{length}

@@ -1,4 +1,5 @@
 -- `walk_frontier::inner::visit_all` meets its contract. The invariant: the first j numbers were gathered. Assumes nothing.
+use mathlib.Core.List.{[]}
 use mathlib.Core.Path.{◌≡◌}
 use Prim.Native.Nat.{◌-◌, ◌≤◌}
 use lib.ListN.{length, take}
