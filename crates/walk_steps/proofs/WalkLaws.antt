@@ -265,6 +265,11 @@ met_layer m st cell prev last cs j z G C h c e = not-true _ (
 
 -- ---- no step, and one step more
 
+-- a cell is among the first s of a list as it stands in them
+among_is : (from : List ℕ) (s z : ℕ) → is_in z (take s from) ≡ among_first from s z
+unfolding among_first
+among_is from s z = refl
+
 walk_none : (m st : Bytes) (single : Bool) (s k v met : ℕ) (marks from found layers layers' : List ℕ) → k ≡ 0 → AllCells m from s → length from ≡ element_places → Zeros element_places layers
     → Frontier v marks found met × Toward found met [] (starts_among single from s) → Noted 0 layers layers' (among_first from s)
     → WalkDone m st single (take s from) k v marks from found layers' s met
@@ -283,12 +288,9 @@ walk_none m st single s k v met marks from found layers layers' z C r K T N = su
     mark true = unfold mark_at in refl
     mark false = unfold mark_at in add-zero v
 
-    here : (z : ℕ) → is_in z (take s from) ≡ among_first from s z
-    here z = unfold among_first in refl
-
     first : (z : ℕ) (b : Bool) → among_first from s z ≡ b → noted 0 b 0 ≡ layer_mark m st (take s from) 0 z
-    first z true q = unfold noted layer_mark first_mark picked walked_from in sym (ap (λ b. first_mark (cond b (0 ∷ []) [])) (here z ∙ q))
-    first z false q = unfold noted layer_mark first_mark picked walked_from in sym (ap (λ b. first_mark (cond b (0 ∷ []) [])) (here z ∙ q))
+    first z true q = unfold noted layer_mark first_mark picked walked_from in sym (ap (λ b. first_mark (cond b (0 ∷ []) [])) (among_is from s z ∙ q))
+    first z false q = unfold noted layer_mark first_mark picked walked_from in sym (ap (λ b. first_mark (cond b (0 ∷ []) [])) (among_is from s z ∙ q))
 
 pub step_like : (m : Bytes) (a : ℕ) (xs ys : List ℕ) → ((z : ℕ) → is_in z xs ≡ is_in z ys) → step_to m a xs ≡ step_to m a ys
 unfolding step_to

@@ -8,7 +8,7 @@ pub word_in-round-requires : goal.word_in-round-requires
 word_in-round-requires c = search round_there
 
 pub put_round-requires : goal.put_round-requires
-put_round-requires c = (search rules, search round_small, search rules, search owned_room, omega (arith, c.new-1.given))
+put_round-requires c = (search rules, search round_small, search rules, search owned_room, omega arith)
 
 pub returns : goal.returns
 returns c = search next_put

@@ -1,4 +1,6 @@
 -- `part_points::points_rest` meets its contract. Assumes nothing.
+use mathlib.Core.Path.{ap}
+use mathlib.Core.Bool.{not}
 use Rattle.part_points.proofs.PointLaws.{fitting, rest_24, rest_29, rest_16, rest_none}
 use Rattle.part_points.proofs.points_rest.Goals as goal
 
@@ -17,9 +19,9 @@ returns-then-some_outside c = search rest_29
 pub returns-then-room-sizes : goal.returns-then-room-sizes
 returns-then-room-sizes c =
     let pre = c.requires in
-    rest_16 _ _ _ pre.0 _ c.all_taken.ensures _ c.if-not-all_taken.false _ c.some_outside.ensures c.if-some_outside.false _ pre.1 c.if-room-sizes.true
+    rest_16 _ _ _ pre.0 _ c.all_taken.ensures _ (ap not c.if-not-all_taken.false) _ c.some_outside.ensures c.if-some_outside.false _ pre.1 c.if-room-sizes.true
 
 pub returns : goal.returns
 returns c =
     let pre = c.requires in
-    rest_none _ _ _ pre.0 _ c.all_taken.ensures _ c.if-not-all_taken.false _ c.some_outside.ensures c.if-some_outside.false _ pre.1 c.if-room-sizes.false
+    rest_none _ _ _ pre.0 _ c.all_taken.ensures _ (ap not c.if-not-all_taken.false) _ c.some_outside.ensures c.if-some_outside.false _ pre.1 c.if-room-sizes.false

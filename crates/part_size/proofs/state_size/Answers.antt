@@ -32,7 +32,7 @@ draw_plan-p-requires c =
     let sn = sym c.split_number-number.ensures ∙ c.if-number-ne0.false in
     let prepared = c.prepare-number.ensures in
     let zero = c.if-number-ne0-2.false in
-    (sn, sym prepared.0 ∙ zero, prepared.1 zero, prepared.2, omega (arith, c.class-2-1.given), omega (arith, c.prev-2-1.given), refl)
+    (sn, sym prepared.0 ∙ zero, prepared.1 zero, prepared.2, omega arith, omega arith, refl)
 
 pub returns : goal.returns
 returns c =

@@ -56,19 +56,19 @@ pub some_outside-outside-requires : goal.some_outside-outside-requires
 some_outside-outside-requires c =
     let sn = sym c.split_number-number.ensures ∙ c.if-number-ne0.false in
     let sizes = c.sizes_of.ensures in
-    ((passed_facts _ _ _ _ _ _ sn).mesh, sizes, c.sought_of-sought.ensures.1 ∙ sym sizes.first_is, omega (arith, c.class-2-1.given))
+    ((passed_facts _ _ _ _ _ _ sn).mesh, sizes, c.sought_of-sought.ensures.1 ∙ sym sizes.first_is, omega arith)
 
 pub slice_bounds-draw_plan-end-5 : goal.slice_bounds-draw_plan-end-5
 slice_bounds-draw_plan-end-5 c =
-    omega (arith, c.cell-4-1.given, c.cell-2-1.given)
+    omega arith
 
 pub slice_bounds-draw_plan-end-6 : goal.slice_bounds-draw_plan-end-6
 slice_bounds-draw_plan-end-6 c =
-    omega (arith, c.prev-2-1.given)
+    omega arith
 
 pub slice_bounds-draw_plan-end-7 : goal.slice_bounds-draw_plan-end-7
 slice_bounds-draw_plan-end-7 c =
-    omega (arith, c.last-2-1.given)
+    omega arith
 
 pub draw_plan-p-requires : goal.draw_plan-p-requires
 draw_plan-p-requires c =
@@ -76,7 +76,7 @@ draw_plan-p-requires c =
     let prepared = c.prepare-number.ensures in
     let zero = c.if-number-ne0-2.false in
     let zn = sym prepared.0 ∙ zero in
-    (sn, zn, prepared.1 zero, prepared.2, omega (arith, c.class-4-1.given, c.class-2-1.given), omega (arith, c.prev-2-1.given), refl)
+    (sn, zn, prepared.1 zero, prepared.2, omega arith, omega arith, refl)
 
 pub returns-then-b-size : goal.returns-then-b-size
 returns-then-b-size c =
@@ -91,19 +91,19 @@ returns-then-b-size c =
 
 pub slice_bounds-find_sent-end : goal.slice_bounds-find_sent-end
 slice_bounds-find_sent-end c =
-    omega (arith, c.table-2-1.given)
+    omega arith
 
 pub slice_bounds-find_sent-end-2 : goal.slice_bounds-find_sent-end-2
 slice_bounds-find_sent-end-2 c =
-    omega (arith, c.ends-4-1.given, c.ends-2-1.given)
+    omega arith
 
 pub slice_bounds-find_sent-end-4 : goal.slice_bounds-find_sent-end-4
 slice_bounds-find_sent-end-4 c =
-    omega (arith, c.last-2-1.given)
+    omega arith
 
 pub slice_bounds-find_sent-end-5 : goal.slice_bounds-find_sent-end-5
 slice_bounds-find_sent-end-5 c =
-    omega (arith, c.cell-4-1.given, c.cell-2-1.given)
+    omega arith
 
 pub find_sent-requires : goal.find_sent-requires
 find_sent-requires c =
@@ -114,8 +114,8 @@ find_sent-requires c =
       plan.fit.cells_few,
       plan.parts_few,
       plan.owners_few,
-      omega (arith, c.class-6-1.given, c.class-4-1.given, c.class-2-1.given),
-      omega (arith, c.last-2-1.given),
+      omega arith,
+      omega arith,
       refl,
       plan.sent_is,
     )
@@ -144,26 +144,26 @@ put_front-s-requires c =
 
 pub slice_bounds-put_entries-end : goal.slice_bounds-put_entries-end
 slice_bounds-put_entries-end c =
-    omega (arith, c.table-2-1.given)
+    omega arith
 
 pub slice_bounds-put_entries-end-2 : goal.slice_bounds-put_entries-end-2
 slice_bounds-put_entries-end-2 c =
-    omega (arith, c.ends-4-1.given, c.ends-2-1.given)
+    omega arith
 
 pub put_entries-requires : goal.put_entries-requires
 put_entries-requires c =
     let plan = c.draw_plan-p.ensures in
     let s = front_count _ _ _ _ _ _ _ _ _ _ _ _ _ c.put_front-s.ensures in (
-      omega (arith, c.if-b-size.false, plan.front_is, plan.long_is, plan.sent_is, s, c.b-1.given),
+      omega (arith, c.if-b-size.false, plan.front_is, plan.long_is, plan.sent_is, s),
       omega (arith, plan.fit.long, plan.sent_is, s),
       plan.fit.order_there,
       plan.fit.near,
-      omega (arith, plan.sent_few, c.cell-8-1.given, c.cell-4-1.given, c.cell-2-1.given),
+      omega (arith, plan.sent_few),
     )
 
 pub slice_bounds-put_rest-end : goal.slice_bounds-put_rest-end
 slice_bounds-put_rest-end c =
-    omega (arith, c.prev-5-1.given, c.prev-2-1.given)
+    omega arith
 
 pub put_rest-requires : goal.put_rest-requires
 put_rest-requires c =
@@ -173,7 +173,7 @@ put_rest-requires c =
     let zn = sym prepared.0 ∙ zero in
     let eleven = rule_good _ c.args.stencil.now _ _ c.bad_rule.ensures c.if-bad_rule.false in
     let plan = c.draw_plan-p.ensures in (
-      omega (arith, c.if-b-size.false, c.b-2-1.given, c.b-1.given),
+      omega (arith, c.if-b-size.false),
       omega (arith, plan.long_few),
       plan.fit.order_few,
       start_cells _ _ _ _ _ _ _ _ c.args.b.now sn eleven zn _ c.cell_count.ensures.0 _ c.bad_field.ensures c.if-bad_field.false
@@ -182,15 +182,15 @@ put_rest-requires c =
 
 pub slice_bounds-add_points-end-2 : goal.slice_bounds-add_points-end-2
 slice_bounds-add_points-end-2 c =
-    omega (arith, c.cell-8-1.given, c.cell-4-1.given, c.cell-2-1.given)
+    omega arith
 
 pub slice_bounds-add_points-end-3 : goal.slice_bounds-add_points-end-3
 slice_bounds-add_points-end-3 c =
-    omega (arith, c.prev-5-1.given, c.prev-2-1.given)
+    omega arith
 
 pub slice_bounds-add_points-end-4 : goal.slice_bounds-add_points-end-4
 slice_bounds-add_points-end-4 c =
-    omega (arith, c.ends-4-1.given, c.ends-2-1.given)
+    omega arith
 
 pub add_points-requires : goal.add_points-requires
 add_points-requires c =
@@ -200,12 +200,12 @@ add_points-requires c =
     let sought = c.sought_of-sought.ensures in (
       f.mesh,
       f.stencil,
-      omega (arith, c.cell-8-1.given, c.cell-4-1.given, c.cell-2-1.given),
-      omega (arith, c.prev-5-1.given, c.prev-2-1.given),
-      omega (arith, c.ends-4-1.given, c.ends-2-1.given),
+      omega arith,
+      omega arith,
+      omega arith,
       points_low _ f.mesh _ sought.2,
       point_room _ c.args.parts _ _ _ _ _ _ sought.0 sought.1 sought.2 _ _ _ plan.long_is plan.long_few
-          (omega (arith, c.if-b-size.false, c.b-3-1.given, c.b-2-1.given, c.b-1.given)),
+          (omega (arith, c.if-b-size.false)),
     )
 
 pub overflow_cast-result : goal.overflow_cast-result
@@ -215,7 +215,7 @@ overflow_cast-result c =
 
 pub shape_of-b : goal.shape_of-b
 shape_of-b c =
-    omega (arith, c.b-4-1.given, c.b-3-1.given, c.b-2-1.given, c.b-1.given)
+    omega arith
 
 pub returns : goal.returns
 returns c =
@@ -232,6 +232,6 @@ returns c =
     outside_is _ _ _ _ _ _ _ (prepared.1 zero) _ _ _ prepared.2 _ _ _ _ _ _ c.some_outside-outside.ensures
     sought.0 sought.1 sought.2 c.sizes_of.ensures.cells_is in
     start_written _ _ _ _ _ _ _ _ c.args.b.now sn eleven zn _ c.cell_count.ensures.0 _ c.bad_field.ensures c.if-bad_field.false
-    _ _ _ (prepared.1 zero) _ _ _ plan _ _ _ _ _ _ _ _ _ _ _ _ _ _ _ _ _ _ _ found.1 found.0 (omega (arith, plan.sent_few, c.cell-4-1.given))
+    _ _ _ (prepared.1 zero) _ _ _ plan _ _ _ _ _ _ _ _ _ _ _ _ _ _ _ _ _ _ _ found.1 found.0 (omega (arith, plan.sent_few))
     c.put_front-s.ensures c.put_entries.ensures
     c.number_order.ensures c.put_rest.ensures added.0 added.1 sought.0 sought.1 sought.2 outside c.if-b-size.false

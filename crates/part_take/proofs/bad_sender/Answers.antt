@@ -1,4 +1,6 @@
 -- `part_take::bad_sender` meets its contract. Assumes nothing.
+use mathlib.Core.Path.{ap}
+use mathlib.Core.Bool.{not}
 use native.Mathlib.Omega.{arith}
 use Rattle.part_calls.proofs.OpenedLaws.{part_few}
 use Rattle.part_take.proofs.TakeLaws.{sender_1, sender_2, sender_3, sender_4}
@@ -11,10 +13,10 @@ pub returns-then-not-up_to : goal.returns-then-not-up_to
 returns-then-not-up_to c = search sender_2
 
 pub overflow_add-from : goal.overflow_add-from
-overflow_add-from c = omega (arith, (part_few _ _ c.up_to.ensures c.if-not-up_to.false).1)
+overflow_add-from c = omega (arith, (part_few _ _ c.up_to.ensures (ap not c.if-not-up_to.false)).1)
 
 pub count_between-n-requires : goal.count_between-n-requires
-count_between-n-requires c = omega (arith, (part_few _ _ c.up_to.ensures c.if-not-up_to.false).1)
+count_between-n-requires c = omega (arith, (part_few _ _ c.up_to.ensures (ap not c.if-not-up_to.false)).1)
 
 pub returns-then-n-lt1 : goal.returns-then-n-lt1
 returns-then-n-lt1 c = search sender_3

@@ -37,12 +37,12 @@ loop-i-init c =
         prepared = c.prepare-number.ensures.1 c.if-number-ne0.false;
         ground = c.prepare-number.ensures.2;
         few = (passed_facts _ _ _ _ _ _ c.requires).few;
-        cell_places = c.cell-2-1.given;
-        prev_places = c.prev-2-1.given;
-        last_places = c.last-2-1.given;
-        table_bytes_is = c.table-2-1.given;
-        end_places = c.ends-2-1.given;
-        holder_places = c.holders-2-1.given;
+        cell_places = omega arith;
+        prev_places = omega arith;
+        last_places = omega arith;
+        table_bytes_is = omega arith;
+        end_places = omega arith;
+        holder_places = omega arith;
       },
       c.first_cell-first.ensures,
       c.cell_count-cells.ensures.0,
@@ -137,12 +137,12 @@ loop-i-preserved c =
       v.2,
       omega (arith, c.loop-i-test.true),
       c.classify.ensures.room,
-      omega (arith, v.5, c.out-in-loop-i-1.given, c.out-in-loop-i-2-1.given, c.out-in-loop-i-3-1.given, c.out-in-loop-i-4-1.given),
+      omega (arith, v.5),
       turn,
     )
 
 pub shape_of-out : goal.shape_of-out
-shape_of-out c = omega (arith, c.loop-i.invariant.5, c.out-2-1.given)
+shape_of-out c = omega (arith, c.loop-i.invariant.5)
 
 pub returns : goal.returns
 returns c =

@@ -7,7 +7,7 @@ pub put_ends-requires : goal.put_ends-requires
 put_ends-requires c =
     let pre = c.requires in
     let t = words_count _ _ _ _ _ _ c.put_ends-t.ensures in
-    (omega (arith, pre.0, t, c.b-1.given), omega (arith, pre.1, t), pre.3)
+    (omega (arith, pre.0, t), omega (arith, pre.1, t), pre.3)
 
 pub returns : goal.returns
 returns c =

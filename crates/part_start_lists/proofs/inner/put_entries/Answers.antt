@@ -8,14 +8,14 @@ pub put_row_ends-u-requires : goal.put_row_ends-u-requires
 put_row_ends-u-requires c =
     let pre = c.requires in
     let t = list_count _ _ _ _ _ _ c.put_list-t.ensures pre.2 in
-    (omega (arith, pre.0, t, c.b-1.given), omega (arith, pre.1, t), omega (arith, pre.1), pre.3, omega (arith, pre.1))
+    (omega (arith, pre.0, t), omega (arith, pre.1, t), omega (arith, pre.1), pre.3, omega (arith, pre.1))
 
 pub put_rows-w-requires : goal.put_rows-w-requires
 put_rows-w-requires c =
     let pre = c.requires in
     let t = list_count _ _ _ _ _ _ c.put_list-t.ensures pre.2 in
     let u = words_count _ _ _ _ _ _ c.put_row_ends-u.ensures in
-    (omega (arith, pre.0, t, u, c.b-1.given, c.b-2-1.given), omega (arith, pre.1, t, u), omega (arith, pre.1), pre.3)
+    (omega (arith, pre.0, t, u), omega (arith, pre.1, t, u), omega (arith, pre.1), pre.3)
 
 pub put_locals-requires : goal.put_locals-requires
 put_locals-requires c =
@@ -23,7 +23,7 @@ put_locals-requires c =
     let t = list_count _ _ _ _ _ _ c.put_list-t.ensures pre.2 in
     let u = words_count _ _ _ _ _ _ c.put_row_ends-u.ensures in
     let w = many_count _ _ _ (rows_long _ _ _ _ _ _) _ _ _ _ c.put_rows-w.ensures in
-    (omega (arith, pre.0, t, u, w, c.b-1.given, c.b-2-1.given, c.b-3-1.given), omega (arith, pre.1, t, u, w), pre.4, omega (arith, pre.1))
+    (omega (arith, pre.0, t, u, w), omega (arith, pre.1, t, u, w), pre.4, omega (arith, pre.1))
 
 pub returns : goal.returns
 returns c =

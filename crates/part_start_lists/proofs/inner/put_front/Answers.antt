@@ -8,7 +8,7 @@ pub put_borders-requires : goal.put_borders-requires
 put_borders-requires c =
     let pre = c.requires in
     let s = head_count _ _ _ _ _ _ _ _ _ _ c.put_header-s.ensures in
-    (omega (arith, pre.0, s, c.b-1.given), omega (arith, s), pre.7, pre.8)
+    (omega (arith, pre.0, s), omega (arith, s), pre.7, pre.8)
 
 pub returns : goal.returns
 returns c =

@@ -1,5 +1,6 @@
 -- `part_start_points::points::find_points` meets its contract. The invariant: the points before p that touch the part are listed. Assumes nothing.
-use mathlib.Core.Path.{refl}
+use mathlib.Core.Path.{ap, refl}
+use mathlib.Core.Bool.{not}
 use Prim.Native.Nat.{◌-◌}
 use Rattle.part_start_points.proofs.FoundLaws.{found_start, found_no, found_yes, found_end}
 use borrow.Author.Rules.{rules}
@@ -20,7 +21,7 @@ loop-p-preserved c =
       search rules,
       search rules,
       found_yes _ _ _ _ _ _ _ _ _ _ inv.1 inv.5 c.number_at-t.ensures _
-          c.some_at.ensures _ _ _ _ c.if-not-some_at.false inv.3
+          c.some_at.ensures _ _ _ _ (ap not c.if-not-some_at.false) inv.3
           c.loop-p-test.true inv.0
           c.requires.1 inv.4 c.put_number_at.ensures,
     )

@@ -19,7 +19,7 @@ slice_bounds-renew-end c =
 pub renew-requires : goal.renew-requires
 renew-requires c =
     let pre = c.requires in
-    let kind = kind_is _ _ _ _ c.word_at.ensures.0 c.rule_of.ensures c.k-1.given.1 in (
+    let kind = kind_is _ _ _ _ c.word_at.ensures.0 c.rule_of.ensures c.in-Known.is in (
       pre.0,
       kind,
       weights_cut _ _ _ _ kind c.word_at-in-Known.ensures.0 c.weight_count.ensures.0,
@@ -30,4 +30,4 @@ renew-requires c =
 pub returns-in-Unknown : goal.returns-in-Unknown
 returns-in-Unknown c =
     let pre = c.requires in
-    absurd (kind_known _ _ _ pre.0 _ _ c.word_at.ensures.0 c.rule_of.ensures c.enum_told-1.given.1)
+    absurd (kind_known _ _ _ pre.0 _ _ c.word_at.ensures.0 c.rule_of.ensures c.in-Unknown.is)

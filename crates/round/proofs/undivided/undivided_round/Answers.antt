@@ -25,7 +25,7 @@ overflow_sub-stencil c = stencil_some _ _ c.bad_stencil.ensures c.if-bad_stencil
 pub returns-then-bad_weights : goal.returns-then-bad_weights
 returns-then-bad_weights c =
     told_11 _ _ _ _ _ _ (sym c.mesh_number_in-number.ensures ∙ c.if-number-ne0.false)
-    (accepted_stencil _ _ c.top_of.ensures.0 c.bad_stencil.ensures c.if-bad_stencil.false) _ _ c.rule_of.ensures c.k-1.given.1 _
+    (accepted_stencil _ _ c.top_of.ensures.0 c.bad_stencil.ensures c.if-bad_stencil.false) _ _ c.rule_of.ensures c.in-Known.is _
     c.bad_weights.ensures c.if-bad_weights.true
 
 pub round_on-requires : goal.round_on-requires
@@ -39,9 +39,9 @@ round_on-requires c =
     )
 
 pub returns-else-bad_weights : goal.returns-else-bad_weights
-returns-else-bad_weights c = told_kind _ _ _ _ _ _ _ _ c.rule_of.ensures c.k-1.given.1 _ _ c.round_on.ensures
+returns-else-bad_weights c = told_kind _ _ _ _ _ _ _ _ c.rule_of.ensures c.in-Known.is _ _ c.round_on.ensures
 
 pub returns-in-Unknown : goal.returns-in-Unknown
 returns-in-Unknown c =
     told_unknown _ _ _ _ _ _ (sym c.mesh_number_in-number.ensures ∙ c.if-number-ne0.false)
-    (accepted_stencil _ _ c.top_of.ensures.0 c.bad_stencil.ensures c.if-bad_stencil.false) _ c.rule_of.ensures c.enum_told-1.given.1
+    (accepted_stencil _ _ c.top_of.ensures.0 c.bad_stencil.ensures c.if-bad_stencil.false) _ c.rule_of.ensures c.in-Unknown.is

@@ -42,7 +42,7 @@ classify-requires c =
     let number = number_found _ _ _ _ _ wanted _ _ c.other_of.ensures c.split_number-number.ensures in
     let passed = sym number ∙ c.if-number-ne0.false in (
       cells_few _ _ (facts _ _ _ _ _ wanted passed).mesh c.cell_count.ensures.0,
-      omega (arith, c.prepare-number.auto.1.1.1.1.1.1.1.1.1.1.0, length-replicate {A = ℕ} most_elements 0),
+      omega (arith, length-replicate {A = ℕ} most_elements 0),
     )
 
 pub cell_words-n-requires : goal.cell_words-n-requires
@@ -63,7 +63,7 @@ give-requires c =
     let added = added_cells wanted _ _ _ _ _ _ _ _ _ c.range_class-wanted_class.ensures c.if-wanted_class-eq0.true c.cell_words-n.ensures in
     give_fits _ _ _ _ _ wanted c.args.out.now passed (sym told.0 ∙ zero) _ _ _ (told.1 zero) _
     c.cell_count.ensures.0 _ _ c.row_of.ensures c.classify.ensures _ _ _ added
-    (omega (arith, c.prepare-number.auto.1.1.1.1.1.1.1.1.0, c.split_number-number.auto.1.1.1.1.1.1.1.0, length-replicate {A = ℕ} element_places 0))
+    (omega (arith, length-replicate {A = ℕ} element_places 0))
 
 pub returns-then-wanted_class-eq0 : goal.returns-then-wanted_class-eq0
 returns-then-wanted_class-eq0 c =
@@ -75,7 +75,7 @@ returns-then-wanted_class-eq0 c =
     let added = added_cells wanted _ _ _ _ _ _ _ _ _ c.range_class-wanted_class.ensures c.if-wanted_class-eq0.true c.cell_words-n.ensures in
     give_list _ _ _ _ _ wanted c.args.out.now passed (sym told.0 ∙ zero) _ _ _ (told.1 zero) _
     c.cell_count.ensures.0 _ _ c.row_of.ensures c.classify.ensures _ _ _ added
-    (omega (arith, c.prepare-number.auto.1.1.1.1.1.1.1.1.0, c.split_number-number.auto.1.1.1.1.1.1.1.0, length-replicate {A = ℕ} element_places 0)) _ _
+    (omega (arith, length-replicate {A = ℕ} element_places 0)) _ _
     c.give.ensures
 
 pub classify_lowers-requires : goal.classify_lowers-requires
@@ -99,7 +99,7 @@ give-requires-2 c =
     c.classify_lowers.ensures c.add_range-n.ensures in
     give_fits _ _ _ _ _ wanted c.args.out.now passed (sym told.0 ∙ zero) _ _ _ (told.1 zero) _
     c.cell_count.ensures.0 _ _ c.row_of.ensures c.classify.ensures _ _ _ added
-    (omega (arith, c.prepare-number.auto.1.1.1.1.1.1.1.1.0, c.split_number-number.auto.1.1.1.1.1.1.1.0, length-replicate {A = ℕ} element_places 0))
+    (omega (arith, length-replicate {A = ℕ} element_places 0))
 
 pub returns : goal.returns
 returns c =
@@ -112,5 +112,5 @@ returns c =
     c.classify_lowers.ensures c.add_range-n.ensures in
     give_list _ _ _ _ _ wanted c.args.out.now passed (sym told.0 ∙ zero) _ _ _ (told.1 zero) _
     c.cell_count.ensures.0 _ _ c.row_of.ensures c.classify.ensures _ _ _ added
-    (omega (arith, c.prepare-number.auto.1.1.1.1.1.1.1.1.0, c.split_number-number.auto.1.1.1.1.1.1.1.0, length-replicate {A = ℕ} element_places 0)) _ _
+    (omega (arith, length-replicate {A = ℕ} element_places 0)) _ _
     c.give-2.ensures

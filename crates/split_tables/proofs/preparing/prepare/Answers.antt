@@ -26,21 +26,6 @@ overflow_number-requires c =
       c.reach_all-entries.ensures.1,
     )
 
-pub shape_of-cell-then-entries-gt-MOST_REACHED : goal.shape_of-cell-then-entries-gt-MOST_REACHED
-shape_of-cell-then-entries-gt-MOST_REACHED c = c.link.auto.1.1.1.0
-
-pub shape_of-prev-then-entries-gt-MOST_REACHED : goal.shape_of-prev-then-entries-gt-MOST_REACHED
-shape_of-prev-then-entries-gt-MOST_REACHED c = c.link.auto.1.1.1.1.0
-
-pub shape_of-last-then-entries-gt-MOST_REACHED : goal.shape_of-last-then-entries-gt-MOST_REACHED
-shape_of-last-then-entries-gt-MOST_REACHED c = c.link.auto.1.1.1.1.1.0
-
-pub shape_of-table-then-entries-gt-MOST_REACHED : goal.shape_of-table-then-entries-gt-MOST_REACHED
-shape_of-table-then-entries-gt-MOST_REACHED c = c.reach_all-entries.auto.1.1.1.1.1.1.1.1.1.1.0
-
-pub shape_of-ends-then-entries-gt-MOST_REACHED : goal.shape_of-ends-then-entries-gt-MOST_REACHED
-shape_of-ends-then-entries-gt-MOST_REACHED c = c.reach_all-entries.auto.1.1.1.1.1.1.1.1.1.1.1.0
-
 pub returns-then-entries-gt-MOST_REACHED : goal.returns-then-entries-gt-MOST_REACHED
 returns-then-entries-gt-MOST_REACHED c = (c.overflow_number.ensures.0, λ z. let n : ⊥ = omega (arith, c.overflow_number.ensures.1) in absurd n, c.link.ensures)
 
@@ -54,21 +39,6 @@ count_holders-requires c =
       omega (arith, c.reach_all-entries.ensures.1.marks_room),
     )
 
-pub shape_of-cell-then-count_holders-gt-MOST_HELD : goal.shape_of-cell-then-count_holders-gt-MOST_HELD
-shape_of-cell-then-count_holders-gt-MOST_HELD c = c.link.auto.1.1.1.0
-
-pub shape_of-prev-then-count_holders-gt-MOST_HELD : goal.shape_of-prev-then-count_holders-gt-MOST_HELD
-shape_of-prev-then-count_holders-gt-MOST_HELD c = c.link.auto.1.1.1.1.0
-
-pub shape_of-last-then-count_holders-gt-MOST_HELD : goal.shape_of-last-then-count_holders-gt-MOST_HELD
-shape_of-last-then-count_holders-gt-MOST_HELD c = c.link.auto.1.1.1.1.1.0
-
-pub shape_of-table-then-count_holders-gt-MOST_HELD : goal.shape_of-table-then-count_holders-gt-MOST_HELD
-shape_of-table-then-count_holders-gt-MOST_HELD c = c.reach_all-entries.auto.1.1.1.1.1.1.1.1.1.1.0
-
-pub shape_of-ends-then-count_holders-gt-MOST_HELD : goal.shape_of-ends-then-count_holders-gt-MOST_HELD
-shape_of-ends-then-count_holders-gt-MOST_HELD c = c.reach_all-entries.auto.1.1.1.1.1.1.1.1.1.1.1.0
-
 pub returns-then-count_holders-gt-MOST_HELD : goal.returns-then-count_holders-gt-MOST_HELD
 returns-then-count_holders-gt-MOST_HELD c =
     (
@@ -77,21 +47,6 @@ returns-then-count_holders-gt-MOST_HELD c =
       λ z. let n : ⊥ = omega arith in absurd n,
       c.link.ensures,
     )
-
-pub shape_of-cell : goal.shape_of-cell
-shape_of-cell c = c.link.auto.1.1.1.0
-
-pub shape_of-prev : goal.shape_of-prev
-shape_of-prev c = c.link.auto.1.1.1.1.0
-
-pub shape_of-last : goal.shape_of-last
-shape_of-last c = c.link.auto.1.1.1.1.1.0
-
-pub shape_of-table : goal.shape_of-table
-shape_of-table c = c.reach_all-entries.auto.1.1.1.1.1.1.1.1.1.1.0
-
-pub shape_of-ends : goal.shape_of-ends
-shape_of-ends c = c.reach_all-entries.auto.1.1.1.1.1.1.1.1.1.1.1.0
 
 pub returns : goal.returns
 returns c =

@@ -20,7 +20,7 @@ add_order-requires c = (search cells_fit, search cells_few, search rules)
 
 pub overflow_cast-j : goal.overflow_cast-j
 unfolding cell_words
-overflow_cast-j c = record { fits = omega (arith, other_few c.args.wanted c.args.i _ c.requires.3 c.wanted-1.given.1) }
+overflow_cast-j c = record { fits = omega (arith, other_few c.args.wanted c.args.i _ c.requires.3 c.in-Imports.is) }
 
 pub add_class-requires-in-Imports : goal.add_class-requires-in-Imports
 unfolding cell_words

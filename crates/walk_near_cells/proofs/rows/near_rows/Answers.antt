@@ -1,4 +1,6 @@
 -- `walk_near_cells::rows::near_rows` meets its contract. Assumes nothing.
+use mathlib.Core.Path.{ap}
+use mathlib.Core.Bool.{not}
 use native.Mathlib.Omega.{arith}
 use Rattle.walk_near_cells.proofs.RowLaws.{some_cells, rows_fit, some_width, through, ready_steps, ready_rows}
 use Rattle.walk_near_cells.proofs.rows.near_rows.Goals as goal
@@ -30,7 +32,7 @@ clear-requires c = c.list_rows.ensures.2
 
 pub returns-then-list_rows : goal.returns-then-list_rows
 returns-then-list_rows c =
-    ready_rows _ _ _ _ _ _ _ _ _ _ _ _ c.requires.0 c.requires.2 c.if-not-single.false c.byte_at-a.ensures
+    ready_rows _ _ _ _ _ _ _ _ _ _ _ _ c.requires.0 c.requires.2 (ap not c.if-not-single.false) c.byte_at-a.ensures
     (some_width _ _ _ c.requires.0.mesh c.requires.1.cells_is c.lesser-w.ensures.2)
     (rows_fit _ _ _ c.requires.0.mesh c.requires.1.cells_is c.lesser-w.ensures.1) (c.list_rows.ensures.0 c.if-list_rows.true)
     c.list_rows.ensures.1 c.list_rows.ensures.3 c.list_rows.ensures.4 c.clear.ensures
