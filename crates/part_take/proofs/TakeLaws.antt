@@ -18,8 +18,6 @@ use Rattle.layout.proofs.AnswerLaws.{refuses, accepts}
 use Rattle.layout.specs.declared.Answer.{Answer}
 use Rattle.layout.specs.declared.Answer.TheVariants.{Done, Refused}
 use Rattle.layout.specs.Limits.{most_parts}
-use types.Run.{OneOf}
-use denote.Enum.Declared.{tag_of}
 use Rattle.messages.specs.Messages.{depths_of, message_size, bad15, from_in, to_in, round_in, count_in, reading}
 use Rattle.messages.specs.Readings.{reading_number, meant_reading}
 use Rattle.messages.proofs.ReadingLaws.{message_told}
@@ -28,7 +26,6 @@ use Rattle.messages.specs.declared.Reading.{Reading}
 use Rattle.messages.specs.declared.Reading.TheVariants.{Message}
 use Rattle.messages.specs.declared.Reading.TheVariants as answers
 use Rattle.messages.proofs.Else.{else_bad, else_number}
-use Rattle.messages.specs.contracts.Reading as K
 use Rattle.part_state.specs.State.{Lists, lists_in, lists_of, dynamic, held_count, is_state, depth_place, state_length, taken_place, import_word, part_number}
 use Rattle.part_calls.specs.Calls.{imports_from, take_tests_in, taken_in, take_number, take_answer, take_state}
 use Rattle.part_calls.proofs.CallLaws.{Room, room_of, Taken, taken_facts}
@@ -110,9 +107,8 @@ store_told b x y z i at count l f e =
 
 -- ---- the reader's answer is a message
 
-pub message_good : (x : Bytes) (r : Reading) → meant_reading x r ≡ reading x → OneOf (0 ∷ []) (tag_of K.the_type r) → bad15 x ≡ false
-message_good x (Message h) e o = (message_told x h e).0
-message_good x (answers.Refused n) e o = absurd (omega arith)
+pub message_good : {h : Header} (x : Bytes) (r : Reading) → meant_reading x r ≡ reading x → r ≡ Message h → bad15 x ≡ false
+message_good {h = h} x r e o = (message_told x h (sym (ap (meant_reading x) o) ∙ e)).0
 
 pub message_header : (x : Bytes) (r : Reading) (h : Header) → meant_reading x r ≡ reading x → r ≡ Message h → (h.from ≡ from_in x) × (h.to ≡ to_in x) × (h.round ≡ round_in x) × (h.count ≡ count_in x)
 message_header x r h e m = let p = message_told x h (sym (ap (meant_reading x) m) ∙ e) in (p.1, p.2, p.3, p.4)
@@ -136,12 +132,12 @@ module _ (b x : Bytes) where
   here L changes = refl
 
   -- the reader refused
-  pub told_15 : (r : Reading) (n : ℕ) → meant_reading x r ≡ reading x → OneOf (1 ∷ []) (tag_of K.the_type r) → n ≡ reading_number r → Answered (Refused n) b
+  pub told_15 : {m : ℕ} (r : Reading) (n : ℕ) → meant_reading x r ≡ reading x → r ≡ answers.Refused m → n ≡ reading_number r → Answered (Refused n) b
   unfolding take_number take_tests_in
   told_15 r n e o q =
       let z : n ≡ 15 = else_number x r n e o q in refused n (simp (else_bad x r e o) (sym z)) (λ k. omega (arith, k))
 
-  pub told_20 : (r : Reading) (u : Bool) → meant_reading x r ≡ reading x → OneOf (0 ∷ []) (tag_of K.the_type r) → u ≡ is_state b → not u ≡ true → Answered (Refused 20) b
+  pub told_20 : {h : Header} (r : Reading) (u : Bool) → meant_reading x r ≡ reading x → r ≡ Message h → u ≡ is_state b → not u ≡ true → Answered (Refused 20) b
   unfolding take_number take_tests_in
   told_20 r u e o ue ut = refused 20 (simp (message_good x r e o, not_state b u ue ut)) (λ k. omega (arith, k))
 
