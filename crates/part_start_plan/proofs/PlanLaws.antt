@@ -282,6 +282,27 @@ module _ (m : Bytes) (parts : ℕ) (owners st : Bytes) (i part first all : ℕ) 
     few = λ cell prev last G. omega (arith, on_count cell prev last G);
   }
 
+  around_count : (outside : Bool) (local : List ℕ) (k : ℕ) → length (cell_words (split_of m parts owners st) i local outside k) ≡ length (around_of (split_of m parts owners st) i k)
+  unfolding cell_words
+  around_count true local k = length-replicate {A = ℕ} (length (around_of (split_of m parts owners st) i k)) 0
+  around_count false local k =
+      length-map (reverse (around_of (split_of m parts owners st) i k)) (local_in local) ∙ length-reverse (around_of (split_of m parts owners st) i k)
+
+  words_count : (outside : Bool) (local : List ℕ) → length (part_words (split_of m parts owners st) i local outside) ≡ 2 * count + 2 + many
+  unfolding part_words point_ends
+  words_count outside local =
+      let table = listed 0 (count + 1) (point_ends (split_of m parts owners st) i) in
+      let rows = blocks 1 count (cell_words (split_of m parts owners st) i local outside) in
+      omega (
+        arith,
+        length-append (count ∷ points_of (split_of m parts owners st) i) (table ++ rows),
+        length-append table rows,
+        listed_length 0 (point_ends (split_of m parts owners st) i) (count + 1),
+        blocks_length 1 (cell_words (split_of m parts owners st) i local outside) count,
+        total_cong 1 (λ k. length (cell_words (split_of m parts owners st) i local outside k)) (λ k. length (around_of (split_of m parts owners st) i k)) count
+            (λ k h. around_count outside local (1 + k)),
+      )
+
   -- the points' words as they are put, and how many there are
   points_put : (cell prev last : List ℕ) → Ground m st cell prev last → (local numbers : List ℕ) (outside : Bool) → local ≡ numbers → (y z : Bytes) (t u : ℕ)
       → Put y z t u (point_words cell prev last (cond outside [] local) (points_on cell prev last owners first part all) (length (points_on cell prev last owners first part all)))
@@ -292,26 +313,6 @@ module _ (m : Bytes) (parts : ℕ) (owners st : Bytes) (i part first all : ℕ) 
         (ap₂ (λ (xs : List ℕ) x. let ps = points_on cell prev last owners first x all in point_words cell prev last (cond outside [] xs) ps (length ps)) e pe) P),
     words_count outside numbers,
   )
-    where
-      around_count : (outside : Bool) (local : List ℕ) (k : ℕ) → length (cell_words (split_of m parts owners st) i local outside k) ≡ length (around_of (split_of m parts owners st) i k)
-      around_count true local k = unfold cell_words in length-replicate {A = ℕ} (length (around_of (split_of m parts owners st) i k)) 0
-      around_count false local k =
-          unfold cell_words in length-map (reverse (around_of (split_of m parts owners st) i k)) (local_in local) ∙ length-reverse (around_of (split_of m parts owners st) i k)
-
-      words_count : (outside : Bool) (local : List ℕ) → length (part_words (split_of m parts owners st) i local outside) ≡ 2 * count + 2 + many
-      words_count outside local =
-          let table = listed 0 (count + 1) (point_ends (split_of m parts owners st) i) in
-          let rows = blocks 1 count (cell_words (split_of m parts owners st) i local outside) in
-          unfold part_words point_ends in
-          omega (
-            arith,
-            length-append (count ∷ points_of (split_of m parts owners st) i) (table ++ rows),
-            length-append table rows,
-            listed_length 0 (point_ends (split_of m parts owners st) i) (count + 1),
-            blocks_length 1 (cell_words (split_of m parts owners st) i local outside) count,
-            total_cong 1 (λ k. length (cell_words (split_of m parts owners st) i local outside k)) (λ k. length (around_of (split_of m parts owners st) i k)) count
-                (λ k h. around_count outside local (1 + k)),
-          )
 
 -- 29 of the part, by its own number
 pub outside_is : (m : Bytes) (parts : ℕ) (owners st table : Bytes) (ends : List ℕ) (holders : Bytes) → Prepared m parts owners st table ends holders
