@@ -47,6 +47,6 @@ pub field_equality : FieldEquality
 field_equality = record {
   gathered_accepted = gathered_accepted;
   same_bytes = λ n f g p q a c. (field_bytes n f g (field_length n f p) (field_length n g q) a c, bytes_field n f g);
-  gap_bytes_lem = gap_bytes_lem;
+  gap_bytes_is = gap_bytes_lem;
   gap_alone = gap_alone;
 }
