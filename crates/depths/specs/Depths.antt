@@ -23,7 +23,7 @@ unfoldable pub unsigned : ℤ → ℕ
 unsigned (pos n) = n
 unsigned (negsuc n) = 4294967295 - n
 
--- the depth in the four bytes from o on
+-- the depth in the four bytes from o on. Standard term: big-endian 32-bit integer.
 unfoldable pub depth_from : Bytes → ℕ → ℤ
 depth_from b o = signed (number_from b o)
 
@@ -47,14 +47,14 @@ in_range z = leb (nat_abs z) deepest
 
 -- ---- gaps (F-2)
 
--- "The four bytes 80 00 00 00 (hexadecimal) now stand for a gap", and the number that they are
+-- "The four bytes 80 00 00 00 (hexadecimal) now stand for a gap", and the number that they are. Standard term: missing value.
 unfoldable pub gap_bytes : Bytes
 gap_bytes = 128 ∷ 0 ∷ 0 ∷ 0 ∷ []
 
 abbrev pub gap_number : ℕ
 gap_number = 2147483648
 
--- "Reading a depth gives either a depth or a gap": what the four bytes from o on stand for
+-- "Reading a depth gives either a depth or a gap": what the four bytes from o on stand for. Standard term: optional value.
 unfoldable pub value_from : Bytes → ℕ → Value
 value_from b o = cond (eqb (number_from b o) gap_number) Gap (Depth (depth_from b o))
 

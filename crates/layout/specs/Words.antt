@@ -3,7 +3,7 @@ use Rattle.std.specs.Prelude.{List, [], ◌∷◌, ℕ, ◌+◌, ◌*◌, ◌/�
 use Rattle.vocabulary.specs.Bytes.{Bytes, byte_at}
 use Rattle.vocabulary.specs.Intervals.{listed}
 
--- the word whose high byte stands at o; a byte past the end counts 0
+-- the word whose high byte stands at o; a byte past the end counts 0. Standard term: 16-bit big-endian integer.
 unfoldable pub word : Bytes → ℕ → ℕ
 word b o = byte_at b o * 256 + byte_at b (o + 1)
 

@@ -97,8 +97,8 @@ module _ (b : Bytes) where
   pieces = split_input mesh_piece parts_piece owners_piece stencil_piece
 
   -- "input cut short is 1, 3, 8 or 10 by the first piece that isn't whole (P and the owners 8, the length byte and the stencil 10), unless a
-  -- smaller number holds; bytes after the stencil are 10": a
-  -- mesh cut short is 1 or 3 by its length, a missing P is 0 and owners cut short are too few
+  -- smaller number holds; bytes after the stencil are 10": a mesh cut short is 1 or 3 by its length, a missing P is 0 and
+  -- owners cut short are too few
   unfoldable pub listing_number : ℕ
   listing_number = first_of (split_tests pieces [] ++ size_tests pieces)
 

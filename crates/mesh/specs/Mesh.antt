@@ -15,7 +15,7 @@ use Rattle.layout.specs.Limits.{most_elements, most_records}
 module _ (m : Bytes) where
   -- ---- the head
 
-  -- d, the dimension of the cells
+  -- d, the dimension of the cells. Standard term: topological dimension of the cells.
   abbrev pub top : ℕ
   top = word_at m 0
 
@@ -29,7 +29,7 @@ module _ (m : Bytes) where
   below zero = 0
   below (suc k) = below k + counted k
 
-  -- N, the total
+  -- N, the total. Standard term: the count of mesh entities.
   abbrev pub elements : ℕ
   elements = below 4
 
@@ -37,7 +37,7 @@ module _ (m : Bytes) where
   abbrev pub record_count : ℕ
   record_count = word_at m 5
 
-  -- the number of the first cell, and the count of cells
+  -- the number of the first cell (standard term: global index of the first top-dimensional entity), and the count of cells
   abbrev pub first_cell : ℕ
   first_cell = below top + 1
 
@@ -50,6 +50,7 @@ module _ (m : Bytes) where
 
   -- ---- heads, records, chains
 
+  -- the first record of e's chain, or 0. Standard term: head of a singly linked list.
   abbrev pub head_of : ℕ → ℕ
   head_of e = word_at m (5 + e)
 
@@ -57,6 +58,7 @@ module _ (m : Bytes) where
   unfoldable pub element_in : ℕ → ℕ
   element_in i = word_at m (4 + elements + 2 * i)
 
+  -- the record after i, or 0. Standard term: next node of a singly linked list.
   unfoldable pub next_of : ℕ → ℕ
   next_of i = word_at m (5 + elements + 2 * i)
 
@@ -70,6 +72,7 @@ module _ (m : Bytes) where
   records e = follow (record_count + 1) (head_of e)
 
   -- "The chain of an element names every element of lower dimension on its boundary, in any order."
+  -- Standard term: the transitive closure (DMPlex), without the element itself.
   unfoldable pub chain : ℕ → List ℕ
   chain e = map element_in (records e)
 

@@ -8,7 +8,7 @@ use Rattle.vocabulary.specs.Bytes.{Bytes}
 use Rattle.layout.specs.Words.{word_at, bytes_of}
 use Rattle.depths.specs.Depths.{four, ranged_at}
 
--- a message, each depth or gap (F-2) as its four bytes; its count is the number of these
+-- a message, each depth as its four bytes, or since F-2 a gap; its count is the number of these. Standard term: halo exchange message.
 pub record Message : Type 0 where
   pub from : ℕ
   pub to : ℕ
@@ -45,7 +45,7 @@ module _ (b : Bytes) where
   abbrev pub depths_of : Bytes
   depths_of = drop header_size b
 
-  -- "Message under 8 bytes, length not 8 + 4 × count, or a depth out of range"; a gap is let through (F-2)
+  -- "Message under 8 bytes, length not 8 + 4 × count, or a depth out of range"; since F-2 a gap is let through
   unfoldable pub bad15 : Bool
   bad15 = ltb (length b) header_size || not (eqb (length b) (message_size count_in)) || not (every 0 count_in (ranged_at b header_size))
 

@@ -21,6 +21,7 @@ use Rattle.part_state.specs.State.{Lists, lists_of, dynamic, bad20, round_at, ta
 unfoldable pub imports_from : Lists → ℕ → Bool
 imports_from L j = is_up_to most_parts j && ltb 0 (L.imported j)
 
+-- Standard term: receiving neighbour.
 unfoldable pub exports_to : Lists → ℕ → Bool
 exports_to L j = is_up_to most_parts j && ltb 0 (length (L.exports j))
 
@@ -44,6 +45,7 @@ module _ (L : Lists) (changes : ℕ) (b : Bytes) where
   abbrev pub sent_message_in : ℕ → Message
   sent_message_in j = record { from = L.part; to = j; round = round_at b changes; depths = map (depth_at changes b) (L.exports j) }
 
+  -- Standard term: pack.
   unfoldable pub message_to : ℕ → Bytes
   message_to j = encode (sent_message_in j)
 
@@ -51,6 +53,7 @@ module _ (L : Lists) (changes : ℕ) (b : Bytes) where
   unfoldable pub write_tests_in : ℕ → Bytes → List Test
   write_tests_in j out = refuse 20 (bad20 b) ∷ refuse 27 (not (exports_to L j)) ∷ refuse 16 (ltb (length out) (length (message_to j))) ∷ []
 
+  -- the flag of part j is set
   unfoldable pub written_in : ℕ → Bytes
   written_in j = set b (written_place changes j) 1
 
@@ -64,12 +67,13 @@ module _ (L : Lists) (changes : ℕ) (b : Bytes) where
       ∷ refuse 21 (not (eqb (to_in x) L.part) || not (imports_from L (from_in x)) || not (eqb (count_in x) (L.imported (from_in x))))
       ∷ refuse 22 (not (eqb (round_in x) (round_at b changes))) ∷ refuse 23 (eqb (byte_at b (taken_place changes (from_in x))) 1) ∷ []
 
-  -- the flag is set, and the message's depths become those of the cells imported from there
+  -- the flag is set, and the message's depths become those of the cells imported from there. Standard term: unpack.
   unfoldable pub taken_in : Bytes → Bytes
   taken_in x = over (set b (taken_place changes (from_in x)) 1) (depth_place changes (L.before (from_in x) + 1)) (depths_of x)
 
   -- ---- advance: "makes a round of the owned cells"
 
+  -- every import is taken, every export is written
   unfoldable pub all_taken : Bool
   all_taken = every 1 most_parts (λ j. not (imports_from L j) || eqb (byte_at b (taken_place changes j)) 1)
 
@@ -88,7 +92,8 @@ module _ (L : Lists) (changes : ℕ) (b : Bytes) where
   abbrev pub new_depths : Bytes
   new_depths = blocks 1 L.owned new_at
 
-  -- the next round, no flag set ("At each new round nothing is taken and nothing written"), the new depths; imported cells keep theirs
+  -- the next round, no flag set ("At each new round nothing is taken and nothing written"), the new depths; imported cells keep theirs.
+  -- Standard term: the computation of a superstep (BSP).
   unfoldable pub advanced_in : Bytes
   advanced_in = over b changes (word_bytes (round_at b changes + 1) ++ (replicate (2 * most_parts) 0 ++ new_depths))
 
@@ -98,7 +103,7 @@ module _ (L : Lists) (changes : ℕ) (b : Bytes) where
   unfoldable pub collect_tests_in : ℕ → Bytes → List Test
   collect_tests_in k f = refuse 20 (bad20 b) ∷ refuse 28 (not (eqb k (round_at b changes))) ∷ refuse 16 (ltb (length f) (4 * L.cells)) ∷ []
 
-  -- the field f with the depths of the local cells 1 to n put at their places
+  -- the field f with the depths of the local cells 1 to n put at their places. Standard term: one rank's share of a gather.
   abbrev pub collected_in : ℕ → Bytes → Bytes
   collected_in n f = scatter 4 (λ l. L.global l - L.first) (depth_at changes b) n f
 
@@ -113,6 +118,7 @@ module _ (L : Lists) (changes : ℕ) (b : Bytes) where
   unfoldable pub point_given : ℕ → Bytes
   point_given k = word_bytes (L.point k) ++ plain_mean (map (depth_at changes b) (L.around k))
 
+  -- Standard term: output at the vertices.
   abbrev pub points_given : Bytes
   points_given = blocks 1 L.points point_given
 

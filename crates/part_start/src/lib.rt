@@ -19,7 +19,7 @@ use split_tables::inner::prepare;
 use walk_steps::inner::sizes_of;
 
 // Makes the state of part i at round 0 at the front of b: mesh, number of parts and owners, the part, stencil, rule kind and weights, field. The mesh is
-// tested in arrays that hold the chains turned round and the ends of the reaches afterwards. Once the points are counted and tested the chains are not needed
+// tested in arrays that hold the inverted chains and the ends of the reaches afterwards. Once the points are counted and tested the chains are not needed
 // for a while: the order, the local numbers and the exports stand in their arrays. `last` has the cells linked by owner before it has the local numbers.
 pub fn start(
     m: &[u8],

@@ -31,7 +31,7 @@ pub record Planned (m : Bytes) (parts : ℕ) (owners : Bytes) (i : ℕ) (st tabl
   -- 48, two numbers for each of 2,000 cells and of 2,000 points, two for each of 8,000 entries, 4,096 exports and 12,000 cells at points
   pub long_few : p.long ≤ 40144
 
--- there is room for the words of the points from word s on, by whatever arrays have the chains turned round
+-- there is room for the words of the points from word s on, by whatever arrays have the inverted chains
 pub record PointRoom (m st owners b : Bytes) (s part first points : ℕ) : Type 0 where
   pub there : (cell prev last : List ℕ) → Ground m st cell prev last → let ps : List ℕ = points_on cell prev last owners first part points in
       2 * (s + word_count prev last ps (length ps)) ≤ length b

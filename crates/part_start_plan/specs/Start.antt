@@ -48,7 +48,7 @@ module _ (S : Split) (i : ℕ) (order : List ℕ) where
   unfoldable pub export_words : ℕ → List ℕ
   export_words j = map (local_of order) (exports S i j)
 
-  -- the cells at the k-th point in local numbers, falling by global number; where 29 holds of the part, no cell is to be read
+  -- the cells at the k-th point in local numbers, falling by global number; where 29 holds of the part, no cell is to be read (F-1)
   unfoldable pub around_words : ℕ → List ℕ
   around_words k = cond (bad29 S i) (replicate (length (around_of S i k)) 0) (map (local_of order) (reverse (around_of S i k)))
 
@@ -105,7 +105,7 @@ abbrev pub scheme_in : Inputs → Scheme
 scheme_in I = scheme_of I.split.mesh I.split.stencil I.rule.kind I.rule.weights
 
 module _ (I : Inputs) (i : ℕ) where
-  -- the state of the part at round 0: "nothing is taken and nothing written"
+  -- the state of the part at round 0: "nothing is taken and nothing written". Standard term: setup of the communication plan.
   unfoldable pub first_state : Bytes
   first_state =
       let order : List ℕ = order_of I.split i in

@@ -46,7 +46,7 @@ pub fn sought_of(m: &[u8], i: u32) -> Sought
     }
 }
 
-// Makes out the plan of part i, by the tables and by the chains turned round. Its order takes the place of one of the arrays of these, so they are gone
+// Makes out the plan of part i, by the tables and by the inverted chains. Its order takes the place of one of the arrays of these, so they are gone
 // afterwards; the counts of its imports come into a cleared array. The row is work space.
 pub fn draw_plan(
     m: &[u8],
@@ -85,7 +85,7 @@ pub fn draw_plan(
     make_plan(asked, sent, owners, table, ends, class, prev, got)
 }
 
-// Writes the words of the part's points from word s on, when all else is written: the chains are turned round once more, in arrays that are free by then.
+// Writes the words of the part's points from word s on, when all else is written: the chains are inverted once more, in arrays that are free by then.
 pub fn add_points(
     b: &mut [u8],
     s: usize,

@@ -75,7 +75,7 @@ pub record Lists : Type 0 where
   pub imported : ℕ → ℕ
   -- the local numbers of what is exported to part j
   pub exports : ℕ → List ℕ
-  -- the points that touch owned cells: how many, the number of the k-th, k from 1, and the local numbers of the cells at it, 0 for one that is not to be read
+  -- the points that touch owned cells (F-1): how many, the number of the k-th, k from 1, and the local numbers of the cells at it, 0 for one that is not to be read
   pub points : ℕ
   pub point : ℕ → ℕ
   pub around : ℕ → List ℕ
@@ -107,7 +107,7 @@ module _ (changes : ℕ) where
 unfoldable pub rises : ℕ → (ℕ → ℕ) → Bool
 rises n end = every 0 n (λ j. leb (end j) (end (j + 1)))
 
--- and each number has an entry
+-- a table of n + 1 ends rises at each step, so each number has an entry (F-1)
 unfoldable pub climbs : ℕ → (ℕ → ℕ) → Bool
 climbs n end = every 0 n (λ j. ltb (end j) (end (j + 1)))
 
@@ -210,7 +210,7 @@ module _ (b : Bytes) where
   unfoldable pub local_exports : ℕ → List ℕ
   local_exports j = listed (export_end (j - 1)) (export_end j - export_end (j - 1)) export_at
 
-  -- the cells at the k-th point
+  -- the cells at the k-th point (F-1)
   unfoldable pub local_around : ℕ → List ℕ
   local_around k = listed (point_end (k - 1)) (point_end k - point_end (k - 1)) point_cell_at
 
@@ -251,7 +251,7 @@ module _ (b : Bytes) where
   abbrev pub valid_export : ℕ → Bool
   valid_export t = is_up_to owned_count (export_at t)
 
-  -- a cell at a point is held, or not to be read
+  -- a cell at a point is held, or not to be read (F-1)
   abbrev pub valid_point_cell : ℕ → Bool
   valid_point_cell t = leb (point_cell_at t) held_count
 

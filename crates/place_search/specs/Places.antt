@@ -13,11 +13,11 @@ unfoldable pub lower_bound : ℕ → List ℕ → ℕ
 lower_bound x [] = 0
 lower_bound x (y ∷ ys) = cond (ltb y x) (suc (lower_bound x ys)) 0
 
--- "That number's place, from 1, is the answer if it is the one sought, else none": 0, which is no place
+-- "That number's place, from 1, is the answer if it is the one sought, else none": 0, which is no place. Standard term: position in a sorted list, by its lower bound.
 unfoldable pub place_in : ℕ → List ℕ → ℕ
 place_in x ys = cond (ltb (lower_bound x ys) (length ys) && eqb (get_or ys (lower_bound x ys) 0) x) (lower_bound x ys + 1) 0
 
--- "how many numbers were read: all up to that one, or the whole list if there is none"
+-- "how many numbers were read: all up to that one, or the whole list if there is none". Standard term: number of probes.
 unfoldable pub read_for : ℕ → List ℕ → ℕ
 read_for x ys = cond (ltb (lower_bound x ys) (length ys)) (lower_bound x ys + 1) (length ys)
 

@@ -6,14 +6,14 @@ ghost use Rattle.place_search.specs.Places.{place_in, read_for, words_in, found_
 
 use layout::inner::word_in;
 
-// The place of a number in a list, from 1, or none.
+// The place of a number in a list, from 1, or none (F-3).
 #[derive(Clone, Copy)]
 pub enum Found {
     At(usize),
     Nothing,
 }
 
-// What a search answers: the place, and how many numbers it read.
+// What a search answers (F-3): the place, and how many numbers it read.
 #[derive(Clone, Copy)]
 pub struct Search {
     pub found: Found,

@@ -12,7 +12,7 @@ use Rattle.round_rule.specs.Rules.{RuleInput, Old, new_depth, plain_mean, bad11}
 
 -- ---- fields: "A field is four bytes a cell", in rising number of the cells
 
--- "Field length or a depth wrong", for a mesh of n cells; a gap is let through (F-2)
+-- "Field length or a depth wrong", for a mesh of n cells; since F-2 a gap is let through
 unfoldable pub bad14 : ℕ → Bytes → Bool
 bad14 n f = not (eqb (length f) (4 * n)) || not (every 0 n (ranged_at f 0))
 
@@ -32,7 +32,7 @@ unfoldable pub scheme_of : Bytes → Bytes → ℕ → Bytes → Scheme
 scheme_of m stencil kind v = record { first = first_cell m; cells = cell_count m; reach = reach m stencil; around = cells_at m; new = new_depth kind v }
 
 module _ (S : Scheme) where
-  -- the depth of cell c in a field, as its four bytes
+  -- the depth of cell c in a field, as its four bytes. A field's standard term: cell-centred field (a dat in OP2).
   unfoldable pub depth_in : Bytes → ℕ → Bytes
   depth_in f c = four f (4 * (c - S.first))
 
@@ -44,17 +44,18 @@ module _ (S : Scheme) where
   unfoldable pub new_in : Bytes → ℕ → Bytes
   new_in f c = S.new (depth_in f c) (olds_in f (S.reach c))
 
-  -- what the rule makes of a field, at every cell of the mesh
+  -- what the rule makes of a field, at every cell of the mesh. Standard term: Jacobi sweep.
   unfoldable pub round : Bytes → Bytes
   round f = blocks S.first S.cells (new_in f)
 
   -- "The undivided field after 0 rounds is the starting field; after k rounds it is what the rule makes, at every cell of the mesh, of the
-  -- one after k−1 rounds."
+  -- one after k−1 rounds." Standard term: serial reference.
   unfoldable pub undivided : Bytes → ℕ → Bytes
   undivided f zero = f
   undivided f (suc k) = round (undivided f k)
 
-  -- the value at point p of a field (F-1, F-2): "the plain mean of the depths of the cells incident to it, all weights 1, rounded like the rule"
+  -- the value at point p of a field (F-1): "the plain mean of the depths of the cells incident to it, all weights 1, rounded like the rule".
+  -- Standard term: cell-to-vertex average.
   unfoldable pub point_in : Bytes → ℕ → Bytes
   point_in f p = plain_mean (map (depth_in f) (S.around p))
 

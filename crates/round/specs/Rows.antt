@@ -14,6 +14,7 @@ pub record Row (kind : ℕ) (v table : Bytes) (ends : List ℕ) (f : Bytes) (j :
   pub rises : get_or ends j 0 ≤ get_or ends (j + 1) 0
   pub ready : UpdateReady kind v table (4 * get_or ends j 0) (get_or ends (j + 1) 0 - get_or ends j 0) f 0 j
 
+-- the same of every cell
 pub record Rows (kind : ℕ) (v table : Bytes) (ends : List ℕ) (cells : ℕ) (f : Bytes) : Type 0 where
   pub few : cells < 65536
   pub each : (j : ℕ) → j < cells → Row kind v table ends f j

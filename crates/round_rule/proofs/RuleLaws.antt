@@ -212,7 +212,7 @@ positive : (w : ℕ) → eqb w 0 ≡ false → 1 ≤ w
 positive zero e = absurd (true≢false e)
 positive (suc w) e = omega arith
 
--- of a mean that is no gap: it is not deeper than its sum over its weights, and one more would be
+-- what is proved of every mean that is no gap: it is not deeper than its sum over its weights, and one more would be (F-4)
 unfoldable pub Floored : ℤ → ℕ → Value → Type 0
 Floored sum weights (Depth z) = ((pos weights *ℤ z) ≤ℤ sum) × (sum <ℤ (pos weights *ℤ (z +ℤ pos 1)))
 Floored sum weights Gap = Unit {0}

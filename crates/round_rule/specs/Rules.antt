@@ -22,10 +22,11 @@ pub record RuleInput : Type 0 where
 unfoldable pub weight_count : ℕ → ℕ → ℕ
 weight_count kind n = cond (eqb kind 1) (n / 2 + 1) 0
 
--- "Unknown rule, or weights wrong in number or range": "each 0 to 15, v0 at least 1". Weights are given as words.
+-- weight k is above 15; weights are given as words
 unfoldable pub too_heavy : Bytes → ℕ → Bool
 too_heavy v k = ltb most_weight (word_at v k)
 
+-- "Unknown rule, or weights wrong in number or range": "each 0 to 15, v0 at least 1"
 unfoldable pub bad11 : ℕ → ℕ → Bytes → Bool
 bad11 kind n v =
     ltb 2 kind
@@ -43,7 +44,7 @@ unfoldable pub without_gaps : List Old → List Old
 without_gaps os = filtered (λ o. is_depth (value_of o.depth)) os
 
 module _ (v : Bytes) where
-  -- the weight of what is met at a layer
+  -- the weight of what is met at a layer. Standard term: kernel coefficient.
   unfoldable pub weight : Old → ℕ
   weight o = word_at v (o.layer / 2)
 
@@ -68,12 +69,12 @@ quotient (pos n) weights = pos (n / weights)
 quotient (negsuc n) weights = negsuc (n / weights)
 
 -- of what is read: "The new depth is the sum of v(layer/2) × old depth over the reach, divided by the sum of those weights"; ".. with only gaps, or only zero weights
--- left, the new value is a gap" (F-2)
+-- left, the new value is a gap" (F-2). Standard term: weighted average (normalized convolution).
 unfoldable pub mean_of : Bytes → List Old → Value
 mean_of v [] = Gap
 mean_of v (o ∷ os) = Depth (quotient (depth_sum v (o ∷ os)) (weight_sum v (o ∷ os)))
 
--- the mean as four bytes: "pass over gaps, a mean's divisor too" (F-2)
+-- the mean as four bytes; F-2: "pass over gaps, a mean's divisor too"
 abbrev pub mean : Bytes → List Old → Bytes
 mean v os = value_bytes (mean_of v (read_by v 1 os))
 

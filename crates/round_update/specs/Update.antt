@@ -37,7 +37,7 @@ pub record Weighed (v b : Bytes) (at n : ℕ) : Type 0 where
   pub there : (t : ℕ) → t < n → 2 * (word b (at + 4 * t + 2) / 2) + 1 < length v
   pub light : (t : ℕ) → t < n → word_at v (word b (at + 4 * t + 2) / 2) ≤ most_weight
 
--- what the update supposes: only a mean asks for weights
+-- what the update requires: only a mean asks for weights
 pub record UpdateReady (kind : ℕ) (v b : Bytes) (at n : ℕ) (f : Bytes) (base own : ℕ) : Type 0 where
   pub reached : PlacesThere 4 b at n f base
   pub own_there : base + 4 * own + 3 < length f

@@ -34,7 +34,7 @@ pub record Collected : Type 0 where
   pub before : Bytes
   pub field : Bytes
 
--- an accepted points call: its part, the round of its part's state, how many advances of the part were accepted before it, and the output before and after
+-- an accepted points call (F-1): its part, the round of its part's state, how many advances of the part were accepted before it, and the output before and after
 pub record PointDepths : Type 0 where
   pub part : ℕ
   pub round : ℕ
@@ -81,6 +81,7 @@ step w (points i out) =
     let g : PointDepths = record { part = i; round = round_at b (dynamic b); made = w.made i; before = out; out = points_out b out } in
     record { states = w.states; made = w.made; sent = w.sent; given = w.given; pointed = more (points_number b out) g w.pointed }
 
+-- a list of calls, the first one first
 unfoldable pub run : World → List Call → World
 run w [] = w
 run w (c ∷ cs) = run (step w c) cs
@@ -94,6 +95,7 @@ Fair w (advance i) = Unit {0}
 Fair w (collect i k f) = Unit {0}
 Fair w (points i out) = Unit {0}
 
+-- each call of the list is fair in its turn. Standard term: links without forged messages (no creation).
 unfoldable pub Honest : World → List Call → Type 0
 Honest w [] = Unit {0}
 Honest w (c ∷ cs) = Fair w c × Honest (step w c) cs
@@ -107,7 +109,7 @@ owner_in I k = owner_at (map_in I.split) k
 unfoldable pub begin : Inputs → (ℕ → Bytes) → World
 begin I buffers = record { states = λ i. cond (is_up_to I.split.parts i) (start_state I i (buffers i)) []; made = λ i. 0; sent = []; given = []; pointed = [] }
 
--- a run: all parts started, of which there is one at least, and an honest list of calls
+-- a run: all parts started, of which there is one at least, and an honest list of calls. Standard term: execution trace.
 pub record Run (I : Inputs) : Type 0 where
   pub some_part : 1 ≤ I.split.parts
   pub buffers : ℕ → Bytes
@@ -122,6 +124,7 @@ end_of {I} r = run (begin I r.buffers) r.calls
 abbrev pub collects_of : {I : Inputs} → Run I → List Collected
 collects_of r = (end_of r).given
 
+-- its points calls (F-1)
 abbrev pub points_given_by : {I : Inputs} → Run I → List PointDepths
 points_given_by r = (end_of r).pointed
 
@@ -137,7 +140,7 @@ pub record Right (I : Inputs) (g : Collected) : Type 0 where
   pub others : (x : ℕ) → (x / 4 < cell_count I.split.mesh → owner_in I (x / 4) ≡ g.part → ⊥) → byte_at g.field x ≡ byte_at g.before x
 
 -- "Its gathered field after k rounds is what all parts collect at round k: at each cell, what an accepted collect of its owner gave, whichever
--- one if it was repeated."
+-- one if it was repeated." Standard term: gathered (assembled) field.
 pub record Gathered (I : Inputs) (gs : List Collected) (k : ℕ) (G : Bytes) : Type 0 where
   pub long : length G ≡ 4 * cell_count I.split.mesh
   pub collected : (c : ℕ) → c < cell_count I.split.mesh
@@ -166,6 +169,7 @@ pub record RunTheorem : Type 0 where
   pub two_runs : (I J : Inputs) → I.split.mesh ≡ J.split.mesh → I.split.stencil ≡ J.split.stencil → I.rule ≡ J.rule
       → (r : Run I) (s : Run J) (k : ℕ) (G H : Bytes) → Gathered I (collects_of r) k G → Gathered J (collects_of s) k H
       → let n : ℕ = cell_count I.split.mesh in SameField n G H ↔ SameField n (undivided (scheme_in I) I.field k) (undivided (scheme_in J) J.field k)
+  -- points (F-1)
   pub each_points : (I : Inputs) (r : Run I) → All (RightPoints I) (points_given_by r)
   pub shared_point : (I : Inputs) (r : Run I) (g h : PointDepths) → Memᴰ g (points_given_by r) → Memᴰ h (points_given_by r) → g.round ≡ h.round
       → (t u : ℕ) → t < points_in (split_in I.split) g.part → u < points_in (split_in I.split) h.part
@@ -198,8 +202,8 @@ pub record StatesKept : Type 0 where
   pub taken : (b x : Bytes) → is_state b ≡ true → is_state (take_state b x) ≡ true
   pub advanced : (b : Bytes) → is_state b ≡ true → is_state (advance_state b) ≡ true
 
--- "A state needs at most 200 + 40 × (held cells + reach sizes of owned cells + export entries) bytes"; "The bound on a state's bytes gains 40 for each point of
--- an owned cell and each cell at it" (F-1)
+-- "A state needs at most 200 + 40 × (held cells + reach sizes of owned cells + export entries) bytes"; F-1: "The bound on a state's bytes gains 40 for each
+-- point of an owned cell and each cell at it"
 unfoldable pub StateBound : Type 0
 StateBound =
     (D : SplitInput) (i : ℕ) → size_number D i ≡ 0 → let S : Split = split_in D in

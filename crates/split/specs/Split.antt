@@ -17,7 +17,7 @@ pub record Split : Type 0 where
   pub owner : ℕ → ℕ
   pub parts : ℕ
 
--- the owner of the cell of index k, from 0, in a part map
+-- the owner of the cell of index k, from 0, in a part map. A part map's standard term: partition.
 abbrev pub owner_at : Bytes → ℕ → ℕ
 owner_at owners k = byte_at owners k
 
@@ -38,7 +38,7 @@ module _ (S : Split) where
   unfoldable pub owns : ℕ → ℕ → Bool
   owns i c = eqb (S.owner c) i
 
-  -- the cells that part i owns, rising
+  -- the cells that part i owns, rising. Standard term: owned cells.
   unfoldable pub owned : ℕ → List ℕ
   owned i = picked S.first S.cells (owns i)
 
@@ -50,13 +50,16 @@ module _ (S : Split) where
   unfoldable pub holds : ℕ → ℕ → Bool
   holds i x = some_of (owned i) (λ c. reaches c x)
 
+  -- the cells that part i holds, rising. Standard term: local cells, owned and ghost.
   unfoldable pub held : ℕ → List ℕ
   held i = picked S.first S.cells (holds i)
 
   -- "It imports from j the held cells that j owns; j exports the same list to i. Both lists rise by global number."
+  -- Standard term: ghost cells (OP2's halo), the receive list.
   unfoldable pub imports : ℕ → ℕ → List ℕ
   imports i j = picked S.first S.cells (λ c. not (eqb i j) && owns j c && holds i c)
 
+  -- Standard term: send list.
   unfoldable pub exports : ℕ → ℕ → List ℕ
   exports j i = imports i j
 
@@ -64,33 +67,35 @@ module _ (S : Split) where
   unfoldable pub inside : ℕ → ℕ → Bool
   inside i c = every_of (S.reach c) (λ e. owns i e.cell)
 
-  -- "owned cells with only owned cells in their reach (interior), then the other owned cells (halo)"
+  -- "owned cells with only owned cells in their reach (interior), then the other owned cells (halo)". Standard term of interior: core.
   unfoldable pub interior : ℕ → List ℕ
   interior i = picked S.first S.cells (λ c. owns i c && inside i c)
 
+  -- Standard term: border (boundary) cells, NOT ghost cells: those are the imports.
   unfoldable pub halo : ℕ → List ℕ
   halo i = picked S.first S.cells (λ c. owns i c && not (inside i c))
 
   -- "Local cell numbers run from 1": interior, "then the other owned cells (halo), then imports by owner and number". The global numbers in
-  -- local order.
+  -- local order. Standard term: local-to-global map.
   unfoldable pub locals : ℕ → List ℕ
   locals i = interior i ++ (halo i ++ blocks 1 S.parts (imports i))
 
--- the local number of a global one in a part's local order, and back
+-- the local number of a global one in a part's local order, and back. Standard term: local index.
 unfoldable pub local_of : List ℕ → ℕ → ℕ
 local_of order c = place_of c order + 1
 
+-- Standard term: global index.
 unfoldable pub global_of : List ℕ → ℕ → ℕ
 global_of order l = get_or order (l - 1) 0
 
 -- ---- lower elements
 
 module _ (S : Split) where
-  -- "A part also holds every lower element incident to a held cell."
+  -- "A part also holds every lower element incident to a held cell." Standard term: local entity.
   unfoldable pub holds_lower : ℕ → ℕ → Bool
   holds_lower i e = some_of (S.around e) (holds S i)
 
-  -- "Such an element touches the parts that own a cell incident to it."
+  -- "Such an element touches the parts that own a cell incident to it." Standard term: adjacent subdomains of an entity.
   unfoldable pub touches : ℕ → ℕ → Bool
   touches e i = some_of (S.around e) (owns S i)
 
@@ -99,27 +104,30 @@ module _ (S : Split) where
   another i p = some 1 S.parts (λ j. not (eqb i j) && p j)
 
   -- "For part i it is copied if it doesn't touch i; shared if it touches i and another; otherwise exposed if another part holds it, and
-  -- private if none does."
+  -- private if none does." Standard term of copied: ghost entity.
   unfoldable pub is_copied : ℕ → ℕ → Bool
   is_copied i e = holds_lower i e && not (touches e i)
 
+  -- Standard term: interface entity.
   unfoldable pub is_shared : ℕ → ℕ → Bool
   is_shared i e = touches e i && another i (touches e)
 
+  -- Standard term: exported entity (owned, and in another part's halo in OP2's sense).
   unfoldable pub is_exposed : ℕ → ℕ → Bool
   is_exposed i e = touches e i && not (another i (touches e)) && another i (λ j. holds_lower j e)
 
+  -- Standard term: purely local entity.
   unfoldable pub is_private : ℕ → ℕ → Bool
   is_private i e = touches e i && not (another i (touches e)) && not (another i (λ j. holds_lower j e))
 
--- the lower elements of dimension k that pass; there are none from dimension d on. "Each range rises by global number."
+-- the lower elements of dimension k that pass; there are none from dimension d on. "Each range rises by global number." Standard term: index set.
 unfoldable pub range : Bytes → ℕ → (ℕ → Bool) → List ℕ
 range m k p = cond (ltb k (top m)) (picked (below m k + 1) (counted m k) p) []
 
 -- ---- points: the depths that a part gives at them (F-1)
 
 module _ (S : Split) where
-  -- "each point that touches its owned cells, in rising number"
+  -- "each point that touches its owned cells, in rising number". Standard term: vertices of the owned cells.
   unfoldable pub points_of : ℕ → List ℕ
   points_of i = picked 1 S.points (λ p. touches S p i)
 

@@ -28,7 +28,7 @@ pub fn number_cells(order: &[u16], n: usize, local: &mut [u16])
     }
 }
 
-// The local number of a cell of the part's list, which was turned round.
+// The local number of a cell of the part's inverted list.
 pub fn to_local(local: &[u16], c: Global) -> Local
     ensures { result.0 ≡ get_or local.now c.0 0 }
 {

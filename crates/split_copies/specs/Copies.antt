@@ -17,7 +17,7 @@ abbrev pub is_cell : Bytes → ℕ → Bool
 is_cell m c = is_of m (top m) c
 
 -- a walk of k steps from c to x. "A walk of k steps goes from a cell through incident elements of dimensions a1, .., ak .. It may return to an
--- element it has visited": nothing asks the elements of its path to differ.
+-- element it has visited": nothing asks the elements of its path to differ. Standard term: path in the incidence graph.
 pub record Walk (m stencil : Bytes) (k c x : ℕ) : Type 0 where
   -- c, and the element after each step
   pub path : List ℕ

@@ -13,7 +13,7 @@ use split_tables::inner::prepare;
 use split_wanted::inner::{cell_words, dimension_of, other_of, range_class, row_of};
 use word_lists::inner::give;
 
-// The call. A list that names no other part is tried as if it named its own part twice. The mesh is tested in arrays that hold the chains turned round and
+// The call. A list that names no other part is tried as if it named its own part twice. The mesh is tested in arrays that hold the inverted chains and
 // the ends of the reaches afterwards. Once the row of classes is made those ends are not needed, and the list is made in their array.
 pub fn list(
     wanted: Wanted,

@@ -35,7 +35,7 @@ use Rattle.split_ranges.specs.declared.inner.Side.{Side}
 use Rattle.split_ranges.specs.declared.inner.Side.TheVariants.{Mine, Anothers, Held, HeldByAnother}
 use Rattle.split_ranges.specs.Lowers.{side_at, some_side, lower_class, trail_class, element_class, Lowered, range_of, row_range}
 
--- the stencil (d), which is always right: the chains turned round do not depend on the stencil
+-- the stencil (d), which is always right: the inverted chains do not depend on the stencil
 alone_right : (d : ℕ) → bad10 d (d ∷ []) ≡ false
 unfolding bad10 valid_at every
 alone_right d = ap (λ b. not b) (eq-eqb d d refl)

@@ -16,7 +16,7 @@ use walk_part_reach::inner::count_all;
 use walk_reach_table::inner::reach_all;
 use walk_steps::inner::{MeshSizes, sizes_of};
 
-// Turns the chains of all cells round. Only `last` has to be cleared.
+// Inverts the chains of all cells. Only `last` has to be cleared.
 pub fn link(
     m: &[u8],
     sizes: MeshSizes,

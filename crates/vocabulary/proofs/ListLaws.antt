@@ -71,7 +71,6 @@ pub or_false : (a b : Bool) → a || b ≡ false → (a ≡ false) × (b ≡ fal
 or_false true b e = absurd (true≢false e)
 or_false false b e = (refl, e)
 
--- no test both passes and fails
 -- neither of the two; and all but the second
 pub neither : (a b : Bool) → not a && not b ≡ not (a || b)
 neither true b = refl

@@ -30,7 +30,7 @@ unfoldable pub every_of : {A : Type 0} → List A → (A → Bool) → Bool
 every_of [] p = true
 every_of (x ∷ xs) p = p x && every_of xs p
 
--- the elements that pass
+-- the elements that pass (F-2)
 unfoldable pub filtered : {A : Type 0} → (A → Bool) → List A → List A
 filtered p [] = []
 filtered p (x ∷ xs) = cond (p x) (x ∷ filtered p xs) (filtered p xs)
@@ -45,6 +45,6 @@ pub record Zeros (n : ℕ) (xs : List ℕ) : Type 0 where
   pub size : length xs ≡ n
   pub each : (i : ℕ) → get_or xs i 0 ≡ 0
 
--- rising: each number is below every later one
+-- rising: each number is below every later one (F-3)
 abbrev pub Rises : List ℕ → Type 0
 Rises xs = (i j : ℕ) → i < j → j < length xs → get_or xs i 0 < get_or xs j 0

@@ -89,7 +89,7 @@ fn count_reach(
 }
 
 // How many cells the cells of each row from 1 on reach, together over as many rows as `count`. The byte of `rows` at a cell's place tells its
-// row, and the chains are turned round already. The arrays from `marks` to `layers` are work space.
+// row, and the chains are inverted already. The arrays from `marks` to `layers` are work space.
 pub fn count_all(
     m: &[u8],
     sizes: MeshSizes,

@@ -112,7 +112,7 @@ fn reach_of(
     emit(near, sizes.first, b.low, b.high, table, t)
 }
 
-// The reaches of all cells, from the chains turned round. The arrays from `marks` to `near` are work space.
+// The reaches of all cells, from the inverted chains. The arrays from `marks` to `near` are work space.
 pub fn reach_all(
     m: &[u8],
     sizes: MeshSizes,

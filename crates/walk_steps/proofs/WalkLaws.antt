@@ -416,7 +416,7 @@ walk_more m st cell prev last cs single (suc j) v n base s n' low high low' high
     let q : suc j - 1 ≡ j = omega arith in
     more m st cell prev last cs single j v n base s n' low high low' high' met' marks marks' from from' found found' layers layers' G C se h (rw q at W) (rw q at T) A
 
--- what the calls of a walk suppose
+-- what the calls of a walk require
 pub gathered_as : (x y n : ℕ) (marks found : List ℕ) → x ≡ y → Frontier y marks found n → Frontier x marks found n
 gathered_as x y n marks found e G = rw e G
 

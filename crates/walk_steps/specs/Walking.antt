@@ -15,7 +15,7 @@ use Rattle.walk_steps.specs.declared.steps.MeshSizes.{MeshSizes}
 unfoldable pub is_cell_number : Bytes → ℕ → Bool
 is_cell_number m y = leb (first_cell m) y && ltb y (first_cell m + cell_count m)
 
--- an accepted mesh and stencil, with the chains of its cells turned round
+-- an accepted mesh and stencil, with its inverted chains
 pub record Ground (m st : Bytes) (cell prev last : List ℕ) : Type 0 where
   pub mesh : Accepted m
   pub stencil : bad10 (top m) st ≡ false
