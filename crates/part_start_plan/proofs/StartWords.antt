@@ -18,7 +18,7 @@ use Rattle.vocabulary.proofs.CountLaws.{total_add}
 use Rattle.layout.specs.Words.{word_at}
 use Rattle.layout.specs.Limits.{element_places, most_elements, most_held, most_parts, most_reached}
 use Rattle.mesh.specs.Mesh.{first_cell, cell_count}
-use Rattle.mesh.specs.Walks.{Near, reach, layer, steps, bad13}
+use Rattle.mesh.specs.Walks.{Near, reach, steps, bad13}
 use Rattle.mesh.proofs.WalkLaws.{reach_in}
 use Rattle.walk_reach_table.specs.Tables.{entry_count}
 use Rattle.walk_reach_table.proofs.EntryLaws.{count_more}

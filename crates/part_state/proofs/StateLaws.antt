@@ -1,5 +1,5 @@
 -- Laws of the form of a state: what the test 20 says of a state, and that it goes by the lists and by what calls change. Assumes nothing.
-use Rattle.std.specs.Prelude.{◌≡◌, refl, Bool, true, false, not, ◌&&◌, ℕ, zero, suc, ◌+◌, ◌-◌, ◌*◌, ◌%◌, ◌<◌, ◌≤◌, eqb, ltb, leb, length, take}
+use Rattle.std.specs.Prelude.{◌≡◌, refl, true, false, not, ◌&&◌, ℕ, zero, suc, ◌+◌, ◌-◌, ◌*◌, ◌%◌, ◌<◌, ◌≤◌, eqb, ltb, leb, length, take}
 use Rattle.std.proofs.Common.{sym, ◌∙◌, subst, ⊎_elim, zero-add, add-one, arith, get_or-take, ext_get_or, length-take-le, eqb-true, ltb-true, leb-true, lt-ltb, le-leb}
 use Rattle.std.proofs.Math.Path.{ap}
 use Rattle.std.proofs.lemmas.Bool.{not-true}

@@ -25,7 +25,7 @@ use Rattle.walk_frontier.specs.Visits.{up}
 use Rattle.walk_steps.specs.Walking.{Ground, stepped}
 use Rattle.walk_steps.proofs.StepLaws.{some_of_like, up_told}
 use Rattle.mesh.proofs.DimensionLaws.{below_next}
-use Rattle.split.specs.Split.{range, Split, split_of, owner_at, owns, holds, held, inside, holds_lower, touches, another}
+use Rattle.split.specs.Split.{range, Split, split_of, owner_at, owns, holds, inside, holds_lower, touches, another}
 use Rattle.split.proofs.SplitLaws.{map_facts}
 use Rattle.split_classes.specs.Classes.{class_in, holder_count, held_one, Classed, Prepared, of_class, class_cells, Appended}
 use Rattle.split_classes.proofs.HoldLaws.{class_zero}

@@ -17,7 +17,7 @@ use Rattle.vocabulary.proofs.ListLaws.{map_append}
 use Rattle.layout.specs.Limits.{element_places, most_reached, table_bytes}
 use Rattle.mesh.specs.Meet.{Under}
 use Rattle.mesh.specs.Mesh.{first_cell, cell_count}
-use Rattle.mesh.specs.Walks.{Near, steps, steps_to, layer, reach, step_to, walked}
+use Rattle.mesh.specs.Walks.{Near, steps_to, layer, reach, step_to, walked}
 use Rattle.walk_steps.specs.Walking.{Ground, Arrays, first_mark, layer_mark, walked_from, WalkDone, Within}
 use Rattle.walk_near_cells.specs.NearCells.{Layered, WalksReady}
 use Rattle.walk_near_cells.proofs.RowLaws.{under_more}

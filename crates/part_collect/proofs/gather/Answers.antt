@@ -1,7 +1,6 @@
 -- `part_collect::gather` meets its contract. The invariant: the depths of the cells before l are put. Assumes nothing.
 use native.Mathlib.Omega.{arith}
 use mathlib.Core.Path.{refl}
-use Prim.Native.Nat.{◌-◌}
 use Rattle.part_collect.proofs.CollectLaws.{gather_start, cell_low, cell_room, depth_room, gather_turn, gather_end}
 use borrow.Author.Rules.{rules}
 use Rattle.part_collect.proofs.gather.Goals as goal

@@ -1,6 +1,5 @@
 -- `part_points::put_points` meets its contract. The invariant: the points before the k-th are stored. Assumes nothing.
 use mathlib.Core.Path.{refl}
-use Prim.Native.Nat.{◌-◌}
 use Rattle.vocabulary.proofs.IntervalLaws.{stored_start}
 use Rattle.part_points.proofs.PointLaws.{points_turn, points_end}
 use borrow.Author.Rules.{rules}

@@ -1,5 +1,4 @@
 -- `part_points::some_outside` meets its contract. The invariant: every cell so far is to be read. Assumes nothing.
-use Prim.Native.Nat.{◌-◌}
 use Rattle.vocabulary.proofs.IntervalLaws.{some_start}
 use Rattle.part_points.proofs.PointLaws.{unread_stop, unread_turn, unread_end}
 use borrow.Author.Rules.{rules}

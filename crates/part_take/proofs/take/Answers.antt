@@ -12,18 +12,17 @@ pub returns-then-not-is_state : goal.returns-then-not-is_state
 returns-then-not-is_state c = told_20 _ _ _ _ c.read-r.ensures c.in-Message.is c.is_state.ensures (ap not c.if-not-is_state.true)
 
 pub take_in-requires : goal.take_in-requires
-take_in-requires c =
-    (
-      opened_here _ _ _ c.is_state.ensures (ap not c.if-not-is_state.false) c.word_at-changes.ensures.0
-          c.word_at-changes.ensures.1,
-      message_good _ _ c.read-r.ensures
-          c.in-Message.is,
-      (message_header _ _ _
-          c.read-r.ensures c.in-Message.is).0,
-      (message_header _ _ _
-          c.read-r.ensures c.in-Message.is).1,
-      (message_header _ _ _
-          c.read-r.ensures c.in-Message.is).2,
-      (message_header _ _ _
-          c.read-r.ensures c.in-Message.is).3,
-    )
+take_in-requires c = (
+  opened_here _ _ _ c.is_state.ensures (ap not c.if-not-is_state.false) c.word_at-changes.ensures.0
+      c.word_at-changes.ensures.1,
+  message_good _ _ c.read-r.ensures
+      c.in-Message.is,
+  (message_header _ _ _
+      c.read-r.ensures c.in-Message.is).0,
+  (message_header _ _ _
+      c.read-r.ensures c.in-Message.is).1,
+  (message_header _ _ _
+      c.read-r.ensures c.in-Message.is).2,
+  (message_header _ _ _
+      c.read-r.ensures c.in-Message.is).3,
+)

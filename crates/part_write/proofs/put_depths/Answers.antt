@@ -1,5 +1,4 @@
 -- `part_write::put_depths` meets its contract. The invariant: the first t depths are copied. Assumes nothing.
-use Prim.Native.Nat.{◌-◌}
 use Rattle.vocabulary.proofs.IntervalLaws.{stored_start, stored_end}
 use Rattle.part_write.proofs.WriteLaws.{put_room, put_turn}
 use borrow.Author.Rules.{rules}
@@ -13,8 +12,7 @@ copy-requires c = (search rules, search put_room)
 
 pub loop-t-preserved : goal.loop-t-preserved
 loop-t-preserved c =
-    let pre = c.requires in
-    (
+    let pre = c.requires in (
       search rules,
       search rules,
       put_turn _ _ _ pre.0 _ pre.1 _ c.exports_word-base.ensures _ _ pre.2 _ _ c.loop-t-test.true c.word_at-l.ensures.0 _ _ _ pre.5

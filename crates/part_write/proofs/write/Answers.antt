@@ -12,13 +12,12 @@ use Rattle.part_write.proofs.write.Goals as goal
 
 pub returns-then-not-is_state : goal.returns-then-not-is_state
 unfolding write_tests_in write_number write_answer write_state write_out
-returns-then-not-is_state c =
-    (
-      (told_20 _ _ _ [] [] _ c.is_state.ensures (ap not c.if-not-is_state.true)).0,
-      (told_20 _ _ 0 _ _ _ c.is_state.ensures (ap not c.if-not-is_state.true)).1,
-      (told_20 _ _ 0 _ _ _
-          c.is_state.ensures (ap not c.if-not-is_state.true)).1,
-    )
+returns-then-not-is_state c = (
+  (told_20 _ _ _ [] [] _ c.is_state.ensures (ap not c.if-not-is_state.true)).0,
+  (told_20 _ _ 0 _ _ _ c.is_state.ensures (ap not c.if-not-is_state.true)).1,
+  (told_20 _ _ 0 _ _ _
+      c.is_state.ensures (ap not c.if-not-is_state.true)).1,
+)
 
 pub write_in-requires : goal.write_in-requires
 unfolding write_tests_in write_number write_answer write_state write_out

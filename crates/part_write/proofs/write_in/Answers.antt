@@ -14,14 +14,13 @@ pub returns-then-out-count : goal.returns-then-out-count
 returns-then-out-count c = told_16 _ _ _ _ c.requires _ c.sent_to-count.ensures.0 c.if-count-lt1.false c.if-out-count.true
 
 pub write_message-requires : goal.write_message-requires
-write_message-requires c =
-    (
-      c.requires,
-      search sent_cut,
-      c.if-count-lt1.false,
-      c.sent_to-count.ensures.1,
-      c.if-out-count.false,
-    )
+write_message-requires c = (
+  c.requires,
+  search sent_cut,
+  c.if-count-lt1.false,
+  c.sent_to-count.ensures.1,
+  c.if-out-count.false,
+)
 
 pub overflow_add-changes-2 : goal.overflow_add-changes-2
 overflow_add-changes-2 c =

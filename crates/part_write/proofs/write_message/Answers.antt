@@ -8,14 +8,13 @@ pub slice_bounds-put_message-end : goal.slice_bounds-put_message-end
 slice_bounds-put_message-end c = omega (arith, long _ _ _ c.requires.0)
 
 pub put_message-requires : goal.put_message-requires
-put_message-requires c =
-    (
-      opened_cut _ _ c.requires.0,
-      search sent_whole,
-      c.requires.2,
-      c.requires.3,
-      c.requires.4,
-    )
+put_message-requires c = (
+  opened_cut _ _ c.requires.0,
+  search sent_whole,
+  c.requires.2,
+  c.requires.3,
+  c.requires.4,
+)
 
 pub returns : goal.returns
 returns c = search message_cut

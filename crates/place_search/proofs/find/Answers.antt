@@ -1,5 +1,5 @@
 -- `place_search::find` meets its contract. The invariant: the first k numbers are below the one sought. Assumes nothing.
-use Prim.Native.Nat.{◌-◌, ◌≤◌}
+use Prim.Native.Nat.{◌≤◌}
 use native.Mathlib.Omega.{arith}
 use Rattle.place_search.proofs.SearchLaws.{search_turn, search_found, search_absent, search_read, search_ended, search_all}
 use borrow.Author.Rules.{rules}

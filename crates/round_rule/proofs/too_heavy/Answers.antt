@@ -1,5 +1,4 @@
 -- `round_rule::too_heavy` meets its contract. The invariant: no weight so far is too heavy. Assumes nothing.
-use Prim.Native.Nat.{◌-◌}
 use Rattle.vocabulary.proofs.IntervalLaws.{some_start, some_end}
 use Rattle.round_rule.proofs.Refusals.{heavy_found, heavy_turn}
 use borrow.Author.Rules.{rules}

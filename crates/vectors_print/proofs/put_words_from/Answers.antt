@@ -1,5 +1,4 @@
 -- `vectors_print::put_words_from` runs to its end: the lengths stay. Assumes nothing.
-use Prim.Native.Nat.{◌-◌}
 use mathlib.Core.Path.{refl}
 use Rattle.vectors_print.proofs.put_words_from.Goals as goal
 

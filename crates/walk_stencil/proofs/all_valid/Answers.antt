@@ -1,6 +1,5 @@
 -- `walk_stencil::all_valid` meets its contract. The invariant: the places so far are valid. Assumes nothing.
 use mathlib.Core.Path.{refl}
-use Prim.Native.Nat.{◌-◌}
 use Rattle.vocabulary.proofs.IntervalLaws.{every_none, every_stop, every_turn, every_end}
 use borrow.Author.Rules.{rules}
 use Rattle.walk_stencil.proofs.all_valid.Goals as goal

@@ -1,7 +1,5 @@
 -- `depths::inner::values_valid` meets its contract. The invariant: `valid` says whether the first k values are. Assumes nothing.
 use mathlib.Core.Path.{◌≡◌, sym, ◌∙◌}
-use mathlib.Core.Logic.{⊎_elim}
-use Prim.Native.Nat.{◌-◌}
 use Rattle.vocabulary.proofs.IntervalLaws.{every_none}
 use Rattle.depths.specs.Depths.{ranged_at}
 use Rattle.depths.proofs.SignedLaws.{depth_told, gap_told, fine_turn, wrong_turn, valid_end}

@@ -1,6 +1,5 @@
 -- `layout::inner::copy` meets its contract. The invariant: the first k bytes are copied. Assumes nothing.
 use mathlib.Core.Path.{refl}
-use Prim.Native.Nat.{◌-◌}
 use Rattle.layout.proofs.Laws.{copy_start, copy_turn, copy_end}
 use borrow.Author.Rules.{rules}
 use Rattle.layout.proofs.inner.copy.Goals as goal

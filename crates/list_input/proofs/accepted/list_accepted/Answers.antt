@@ -1,7 +1,6 @@
 -- `list_input::accepted::list_accepted` meets its contract. The invariant: the tables are prepared, and the parts up to i are put. Assumes nothing.
 use mathlib.Core.Path.{refl, sym}
 use native.Mathlib.Omega.{arith}
-use Prim.Native.Nat.{◌-◌}
 use lib.ListN.{replicate}
 use Rattle.layout.specs.Limits.{element_places, most_elements, record_places, table_bytes}
 use Rattle.mesh.proofs.AcceptedLaws.{cells_few, cells_fit}
@@ -31,26 +30,25 @@ pub returns-then-number-ne0 : goal.returns-then-number-ne0
 returns-then-number-ne0 c = refused_sizes _ _ _ _ _ _ _ c.requires _ c.prepare-number.ensures.0 c.if-number-ne0.true c.put_line.ensures
 
 pub loop-i-init : goal.loop-i-init
-loop-i-init c =
-    (
-      record {
-        prepared = c.prepare-number.ensures.1 c.if-number-ne0.false;
-        ground = c.prepare-number.ensures.2;
-        few = (passed_facts _ _ _ _ _ _ c.requires).few;
-        cell_places = omega arith;
-        prev_places = omega arith;
-        last_places = omega arith;
-        table_bytes_is = omega arith;
-        end_places = omega arith;
-        holder_places = omega arith;
-      },
-      c.first_cell-first.ensures,
-      c.cell_count-cells.ensures.0,
-      omega arith,
-      search rules,
-      refl,
-      search texts_start,
-    )
+loop-i-init c = (
+  record {
+    prepared = c.prepare-number.ensures.1 c.if-number-ne0.false;
+    ground = c.prepare-number.ensures.2;
+    few = (passed_facts _ _ _ _ _ _ c.requires).few;
+    cell_places = omega arith;
+    prev_places = omega arith;
+    last_places = omega arith;
+    table_bytes_is = omega arith;
+    end_places = omega arith;
+    holder_places = omega arith;
+  },
+  c.first_cell-first.ensures,
+  c.cell_count-cells.ensures.0,
+  omega arith,
+  search rules,
+  refl,
+  search texts_start,
+)
 
 pub slice_bounds-classify-end : goal.slice_bounds-classify-end
 slice_bounds-classify-end c = sym c.loop-i.invariant.0.table_bytes_is

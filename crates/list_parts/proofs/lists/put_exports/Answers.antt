@@ -1,7 +1,6 @@
 -- `list_parts::lists::put_exports` meets its contract. The invariant: the lines before part j + 1 are put. Assumes nothing.
 use native.Mathlib.Omega.{arith}
 use mathlib.Core.Path.{refl}
-use Prim.Native.Nat.{◌-◌}
 use Rattle.mesh.proofs.AcceptedLaws.{cells_few, cells_fit}
 use Rattle.list_ranges.proofs.PartLaws.{export_told, exports_end, texts_start, texts_turn}
 use borrow.Author.Rules.{rules}

@@ -7,12 +7,11 @@ pub returns-then-n-lt1 : goal.returns-then-n-lt1
 returns-then-n-lt1 c = passing_none _ _ _ _ c.requires.1 _ _ _ c.add_class-n.ensures.0 refl _ _ c.if-n-lt1.true _ _
 
 pub put_full-requires : goal.put_full-requires
-put_full-requires c =
-    (
-      list_room _ _ _ _ c.requires.1 _ _ _
-          c.add_class-n.ensures.0 refl,
-      c.if-n-lt1.false,
-    )
+put_full-requires c = (
+  list_room _ _ _ _ c.requires.1 _ _ _
+      c.add_class-n.ensures.0 refl,
+  c.if-n-lt1.false,
+)
 
 pub returns : goal.returns
 returns c =

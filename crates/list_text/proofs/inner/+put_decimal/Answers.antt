@@ -1,6 +1,5 @@
 -- `list_text::inner::put_decimal` meets its contract: by the number, which falls. Assumes nothing.
 use Rattle.list_text.proofs.PrintLaws.{decimal_one, decimal_more}
-use borrow.Author.Rules.{rules}
 use Rattle.list_text.proofs.inner.+put_decimal.Goals as goal
 
 pub returns-then-v-lt10 : goal.returns-then-v-lt10

@@ -1,6 +1,5 @@
 -- `list_text::inner::put_numbers` meets its contract. The invariant: the numbers before k are put. Assumes nothing.
 use mathlib.Core.Path.{refl}
-use Prim.Native.Nat.{◌-◌}
 use Rattle.list_text.proofs.PrintLaws.{spaced_start, spaced_turn, numbers_told}
 use borrow.Author.Rules.{rules}
 use Rattle.list_text.proofs.inner.put_numbers.Goals as goal

@@ -1,6 +1,5 @@
 -- `list_text::inner::put_text` meets its contract. The invariant: the bytes before k are put. Assumes nothing.
 use mathlib.Core.Path.{refl}
-use Prim.Native.Nat.{◌-◌}
 use Rattle.list_text.proofs.PrintLaws.{text_start, text_turn, text_end}
 use borrow.Author.Rules.{rules}
 use Rattle.list_text.proofs.inner.put_text.Goals as goal

@@ -1,5 +1,4 @@
 -- `mesh::inner::below_of` meets its contract. The invariant: the sum of the counts so far. Assumes nothing.
-use Prim.Native.Nat.{◌-◌}
 use Rattle.mesh.proofs.ReaderLaws.{below_start, below_turn, below_end}
 use borrow.Author.Rules.{rules}
 use Rattle.mesh.proofs.inner.below_of.Goals as goal

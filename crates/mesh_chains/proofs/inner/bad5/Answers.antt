@@ -1,7 +1,6 @@
 -- `mesh_chains::inner::bad5` meets its contract. The invariant: no chain of a lower dimension is wrong, and every mark is at most low. Assumes nothing.
 use mathlib.Core.Path.{refl}
 use mathlib.Core.Bool.{true}
-use Prim.Native.Nat.{◌-◌}
 use Rattle.vocabulary.proofs.ListLaws.{not_both}
 use Rattle.mesh_chains.proofs.ElementLaws.{points_below, points_few, points_marks, points_right, lower_found, lower_turn, lower_end, lower_marks, next_below, next_few, next_marks}
 use borrow.Author.Rules.{rules}

@@ -1,7 +1,5 @@
 -- `mesh_chains::inner::bad_dimension` meets its contract. The invariant: no chain so far is wrong, and every mark is below e. Assumes nothing.
 use mathlib.Core.Path.{refl}
-use mathlib.Core.Bool.{false}
-use Prim.Native.Nat.{◌-◌}
 use Rattle.vocabulary.proofs.ScanLaws.{some_start_from}
 use Rattle.mesh_chains.proofs.ElementLaws.{few_elements, ends_there, dimension_in, end_here, marks_found, marks_all, wrong_found, wrong_turn, wrong_none}
 use borrow.Author.Rules.{rules}

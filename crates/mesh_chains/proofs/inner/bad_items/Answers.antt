@@ -1,6 +1,5 @@
 -- `mesh_chains::inner::bad_items` meets its contract. The invariant: meeting what is left gives what meeting the whole stretch gives. Assumes nothing.
 use mathlib.Core.Path.{refl}
-use Prim.Native.Nat.{◌-◌}
 use Rattle.mesh_chains.proofs.StretchLaws.{items_done, items_zero, items_above, items_again, items_turn}
 use borrow.Author.Rules.{rules}
 use Rattle.mesh_chains.proofs.inner.bad_items.Goals as goal

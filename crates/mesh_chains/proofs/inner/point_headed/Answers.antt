@@ -1,5 +1,4 @@
 -- `mesh_chains::inner::point_headed` meets its contract. The invariant: no point so far has a head. Assumes nothing.
-use Prim.Native.Nat.{◌-◌}
 use Rattle.vocabulary.proofs.ScanLaws.{some_start_from, some_end_from}
 use Rattle.mesh.proofs.FollowLaws.{head_found, head_turn}
 use borrow.Author.Rules.{rules}

@@ -1,6 +1,5 @@
 -- `mesh_chains::inner::write_chain` meets its contract. The invariant: noting what is left gives what noting the whole chain gives. Assumes nothing.
 use mathlib.Core.Path.{refl}
-use Prim.Native.Nat.{◌-◌}
 use Rattle.mesh_chains.proofs.NoteLaws.{note_begin, note_done, note_spent, note_above, note_again, note_turn}
 use borrow.Author.Rules.{rules}
 use Rattle.mesh_chains.proofs.inner.write_chain.Goals as goal

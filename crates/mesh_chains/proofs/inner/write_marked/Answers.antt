@@ -1,7 +1,6 @@
 -- `mesh_chains::inner::write_marked` meets its contract. The invariant: the chains so far are written down, with nothing amiss. Assumes nothing.
 use mathlib.Core.Path.{refl}
 use mathlib.Core.Bool.{true}
-use Prim.Native.Nat.{◌-◌}
 use Rattle.vocabulary.proofs.ListLaws.{not_both}
 use Rattle.mesh_chains.proofs.NoteLaws.{noting_start, noting_room, noting_found, noting_fits, noting_turn, noting_end, noting_wrote}
 use borrow.Author.Rules.{rules}
@@ -20,17 +19,16 @@ pub overflow_cast-ends : goal.overflow_cast-ends
 overflow_cast-ends c = search noting_fits
 
 pub loop-e-preserved : goal.loop-e-preserved
-loop-e-preserved c =
-    (
-      search rules,
-      search rules,
-      search rules,
-      search rules,
-      search rules,
-      search rules,
-      noting_turn _ _ _ _ c.requires.0 _ c.requires.2 _ c.loop-e.invariant.0 _ _ _ _ c.loop-e.invariant.6 _ c.head_of-h.ensures.0
-          _ _ _ _ c.write_chain-chain.ensures c.if-chain.false (search rules),
-    )
+loop-e-preserved c = (
+  search rules,
+  search rules,
+  search rules,
+  search rules,
+  search rules,
+  search rules,
+  noting_turn _ _ _ _ c.requires.0 _ c.requires.2 _ c.loop-e.invariant.0 _ _ _ _ c.loop-e.invariant.6 _ c.head_of-h.ensures.0
+      _ _ _ _ c.write_chain-chain.ensures c.if-chain.false (search rules),
+)
 
 pub returns : goal.returns
 returns c = (search noting_end, λ q. search noting_wrote)

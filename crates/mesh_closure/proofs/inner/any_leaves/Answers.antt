@@ -1,6 +1,5 @@
 -- `mesh_closure::inner::any_leaves` meets its contract. The invariant: what is left tells what the whole stretch tells. Assumes nothing.
 use mathlib.Core.Path.{refl}
-use Prim.Native.Nat.{◌-◌}
 use Rattle.mesh_closure.proofs.RowLaws.{row_there, row_low, row_high, row_names, try_found, try_turn, try_done}
 use Rattle.mesh_closure.proofs.inner.any_leaves.Goals as goal
 

@@ -1,6 +1,5 @@
 -- `mesh_closure::inner::any_unmarked` meets its contract. The invariant: what is left tells what the whole stretch tells. Assumes nothing.
 use mathlib.Core.Path.{refl}
-use Prim.Native.Nat.{◌-◌}
 use Rattle.mesh_closure.proofs.RowLaws.{item_there, item_small, unlike_found, unlike_turn, try_done}
 use Rattle.mesh_closure.proofs.inner.any_unmarked.Goals as goal
 

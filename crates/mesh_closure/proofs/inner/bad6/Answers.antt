@@ -1,7 +1,6 @@
 -- `mesh_closure::inner::bad6` meets its contract. The invariant: every chain so far is closed, and every mark is below e. Assumes nothing.
 use mathlib.Core.Path.{refl}
-use mathlib.Core.Bool.{true, false}
-use Prim.Native.Nat.{◌-◌}
+use mathlib.Core.Bool.{true}
 use Rattle.vocabulary.proofs.ListLaws.{not_both}
 use Rattle.mesh_closure.proofs.ClosureLaws.{elements_few, last_there, closed_fresh, closed_in, closed_start, rows_here, unclosed_found, unclosed_turn, closed_end, closed_marks}
 use borrow.Author.Rules.{rules}

@@ -1,7 +1,5 @@
 -- `mesh_closure::inner::bad7` meets its contract. The invariant: every lower element so far is in a cell's chain. Assumes nothing.
 use mathlib.Core.Path.{refl}
-use mathlib.Core.Bool.{false}
-use Prim.Native.Nat.{◌-◌}
 use Rattle.vocabulary.proofs.ScanLaws.{some_start_from}
 use Rattle.mesh_closure.proofs.ClosureLaws.{last_there, last_named, low_few, low_there, low_marked, bare_found, bare_turn, bare_end}
 use borrow.Author.Rules.{rules}

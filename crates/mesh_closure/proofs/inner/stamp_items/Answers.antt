@@ -1,6 +1,5 @@
 -- `mesh_closure::inner::stamp_items` meets its contract. The invariant: marking what is left gives what marking the whole stretch gives. Assumes nothing.
 use mathlib.Core.Path.{refl}
-use Prim.Native.Nat.{◌-◌}
 use Rattle.mesh_closure.proofs.RowLaws.{item_there, item_marked, stamp_done, stamp_turn}
 use borrow.Author.Rules.{rules}
 use Rattle.mesh_closure.proofs.inner.stamp_items.Goals as goal

@@ -1,5 +1,4 @@
 -- `mesh_valid::sizes::bad_counts` meets its contract. The invariant: no count so far is wrong. Assumes nothing.
-use Prim.Native.Nat.{◌-◌}
 use Rattle.vocabulary.proofs.IntervalLaws.{some_start, some_stop, some_turn, some_end}
 use borrow.Author.Rules.{rules}
 use Rattle.mesh_valid.proofs.sizes.bad_counts.Goals as goal

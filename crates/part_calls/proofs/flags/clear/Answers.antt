@@ -1,6 +1,5 @@
 -- `part_calls::flags::clear` meets its contract. The invariant: the first k bytes are cleared. Assumes nothing.
 use mathlib.Core.Path.{refl}
-use Prim.Native.Nat.{◌-◌}
 use Rattle.part_calls.proofs.FlagLaws.{clear_start, clear_turn, clear_end}
 use borrow.Author.Rules.{rules}
 use Rattle.part_calls.proofs.flags.clear.Goals as goal

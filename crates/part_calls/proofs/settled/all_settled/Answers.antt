@@ -1,5 +1,4 @@
 -- `part_calls::settled::all_settled` meets its contract. The invariant: the parts so far are settled. Assumes nothing.
-use Prim.Native.Nat.{◌-◌}
 use Rattle.vocabulary.proofs.ScanLaws.{every_start_from, every_stop_from, every_turn_from, every_end_from}
 use borrow.Author.Rules.{rules}
 use Rattle.part_calls.proofs.settled.all_settled.Goals as goal

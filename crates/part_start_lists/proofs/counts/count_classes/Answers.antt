@@ -1,5 +1,4 @@
 -- `part_start_lists::counts::count_classes` meets its contract. The invariant: the cells before q are counted. Assumes nothing.
-use Prim.Native.Nat.{◌-◌}
 use Rattle.part_start_lists.proofs.CountLaws.{tally_start, tally_room, tally_turn, tally_end}
 use borrow.Author.Rules.{rules}
 use Rattle.part_start_lists.proofs.counts.count_classes.Goals as goal

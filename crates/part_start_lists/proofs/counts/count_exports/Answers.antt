@@ -1,5 +1,4 @@
 -- `part_start_lists::counts::count_exports` meets its contract. The invariant: the cells before q are counted. Assumes nothing.
-use Prim.Native.Nat.{◌-◌}
 use Rattle.part_start_lists.proofs.CountLaws.{exports_start, exports_turn, exports_end}
 use borrow.Author.Rules.{rules}
 use Rattle.part_start_lists.proofs.counts.count_exports.Goals as goal

@@ -1,6 +1,5 @@
 -- `part_start_lists::exports::add_stamped` meets its contract. The invariant: what is left of the group leads to the whole. Assumes nothing.
 use mathlib.Core.Path.{refl}
-use Prim.Native.Nat.{◌-◌}
 use native.Mathlib.Omega.{arith}
 use Rattle.part_start_lists.proofs.FollowLaws.{appending_start, appending_stop, appending_turn, appending_end, below_start, below_here, below_turn}
 use borrow.Author.Rules.{rules}

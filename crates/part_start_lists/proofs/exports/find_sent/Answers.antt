@@ -1,6 +1,5 @@
 -- `part_start_lists::exports::find_sent` meets its contract. The invariant: the exports to the first j parts are listed and counted. Assumes nothing.
 use mathlib.Core.Path.{refl, ◌∙◌}
-use Prim.Native.Nat.{◌-◌}
 use native.Mathlib.Omega.{arith}
 use Rattle.split_classes.proofs.HolderLaws.{few_start, few_more}
 use Rattle.part_start_lists.proofs.FollowLaws.{group_below}

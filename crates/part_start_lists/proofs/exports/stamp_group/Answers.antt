@@ -1,5 +1,4 @@
 -- `part_start_lists::exports::stamp_group` meets its contract. The invariant: what is left of the group leads to the whole. Assumes nothing.
-use Prim.Native.Nat.{◌-◌}
 use Rattle.part_start_lists.proofs.FollowLaws.{stamping_start, stamping_stop, stamping_turn, stamping_end}
 use borrow.Author.Rules.{rules}
 use Rattle.part_start_lists.proofs.exports.stamp_group.Goals as goal

@@ -1,7 +1,6 @@
 -- `part_start_lists::exports::stamp_reach` meets its contract. The invariant: the entries before t are stamped. Assumes nothing.
 use mathlib.Core.Path.{refl}
 use mathlib.Core.Logic.{inl, inr}
-use Prim.Native.Nat.{◌-◌}
 use Rattle.part_start_lists.proofs.FollowLaws.{entries_start, entries_turn, entries_end}
 use borrow.Author.Rules.{rules}
 use Rattle.part_start_lists.proofs.exports.stamp_reach.Goals as goal

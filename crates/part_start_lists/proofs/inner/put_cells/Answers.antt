@@ -1,6 +1,5 @@
 -- `part_start_lists::inner::put_cells` meets its contract. The invariant: the depths of the cells before l are copied. Assumes nothing.
 use mathlib.Core.Path.{refl}
-use Prim.Native.Nat.{◌-◌}
 use Rattle.vocabulary.proofs.IntervalLaws.{stored_start, stored_up}
 use Rattle.part_start_lists.proofs.StartLists.{held_low, held_room, held_turn}
 use borrow.Author.Rules.{rules}

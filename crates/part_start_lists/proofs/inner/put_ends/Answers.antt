@@ -1,5 +1,4 @@
 -- `part_start_lists::inner::put_ends` meets its contract. The invariant: the first k ends are written, and e is the next. Assumes nothing.
-use Prim.Native.Nat.{◌-◌}
 use Rattle.layout.specs.Limits.{most_parts}
 use Rattle.part_start_lists.proofs.CountLaws.{ends_start, ends_turn, ends_base, ends_small}
 use Rattle.word_lists.proofs.PutLaws.{words_start, words_more, words_last}

@@ -1,5 +1,4 @@
 -- `part_start_lists::inner::put_locals` meets its contract. The invariant: the cells before place k are written. Assumes nothing.
-use Prim.Native.Nat.{◌-◌}
 use Rattle.part_start_lists.proofs.StartCounts.{locals_start, locals_turn, locals_end}
 use borrow.Author.Rules.{rules}
 use Rattle.part_start_lists.proofs.inner.put_locals.Goals as goal

@@ -1,6 +1,5 @@
 -- `part_start_lists::inner::put_row` meets its contract. The invariant: the entries before t are written. Assumes nothing.
 use Rattle.word_lists.proofs.PutLaws.{blocks_begin}
-use Prim.Native.Nat.{◌-◌}
 use Rattle.part_start_lists.proofs.StartCounts.{row_cell, row_near, row_room, row_turn, row_count, row_end}
 use borrow.Author.Rules.{rules}
 use Rattle.part_start_lists.proofs.inner.put_row.Goals as goal

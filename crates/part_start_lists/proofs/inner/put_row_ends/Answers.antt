@@ -1,5 +1,4 @@
 -- `part_start_lists::inner::put_row_ends` meets its contract. The invariant: the first l ends are written, and e is the next. Assumes nothing.
-use Prim.Native.Nat.{◌-◌}
 use Rattle.part_start_lists.proofs.StartCounts.{rows_start, rows_turn, rows_small, rows_cell}
 use Rattle.word_lists.proofs.PutLaws.{words_start, words_more, words_last}
 use borrow.Author.Rules.{rules}

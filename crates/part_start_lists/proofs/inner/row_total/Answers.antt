@@ -1,5 +1,4 @@
 -- `part_start_lists::inner::row_total` meets its contract. The invariant: e is the end of the first l rows. Assumes nothing.
-use Prim.Native.Nat.{◌-◌}
 use Rattle.part_start_lists.proofs.StartCounts.{rows_start, rows_turn, rows_small, rows_cell, rows_last}
 use borrow.Author.Rules.{rules}
 use Rattle.part_start_lists.proofs.inner.row_total.Goals as goal

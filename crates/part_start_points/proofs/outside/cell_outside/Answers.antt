@@ -6,11 +6,10 @@ use borrow.Author.Rules.{rules}
 use Rattle.part_start_points.proofs.outside.cell_outside.Goals as goal
 
 pub returns-then-owner_of-sought : goal.returns-then-owner_of-sought
-returns-then-owner_of-sought c =
-    (
-      cell_anothers _ _ _ _ _ _ _ _ _ _ _ _ _ refl c.owner_of.ensures c.if-owner_of-sought.true,
-      c.requires.4,
-    )
+returns-then-owner_of-sought c = (
+  cell_anothers _ _ _ _ _ _ _ _ _ _ _ _ _ refl c.owner_of.ensures c.if-owner_of-sought.true,
+  c.requires.4,
+)
 
 pub stamp_reach-requires : goal.stamp_reach-requires
 stamp_reach-requires c =
@@ -28,14 +27,13 @@ chain_unstamped-outside-requires c =
     )
 
 pub stamp_reach-requires-2 : goal.stamp_reach-requires-2
-stamp_reach-requires-2 c =
-    (
-      omega (
-        arith,
-        c.requires.3,
-      ),
-      c.stamp_reach.ensures.room,
-    )
+stamp_reach-requires-2 c = (
+  omega (
+    arith,
+    c.requires.3,
+  ),
+  c.stamp_reach.ensures.room,
+)
 
 pub returns : goal.returns
 returns c =

@@ -1,6 +1,5 @@
 -- `part_start_points::outside::chain_unstamped` meets its contract. The invariant: the rest of the chain tells what the whole does. Assumes nothing.
 use mathlib.Core.Path.{refl}
-use Prim.Native.Nat.{◌-◌}
 use native.Mathlib.Omega.{arith}
 use Rattle.part_start_points.proofs.StampLaws.{chain_begin, chain_over, chain_run, chain_here, chain_turn}
 use borrow.Author.Rules.{rules}

@@ -1,9 +1,6 @@
 -- `part_start_points::outside::some_outside` meets its contract. The invariant: no cell before c has one outside, and the row is clear. Assumes nothing.
 use mathlib.Core.Path.{refl, sym, ◌∙◌}
-use mathlib.Core.Bool.{false}
-use Prim.Native.Nat.{◌-◌}
 use native.Mathlib.Omega.{arith}
-use Rattle.part_start_points.specs.Outside.{cell_outside}
 use Rattle.part_start_points.proofs.StampLaws.{outside_begin, outside_turn, outside_found, outside_none}
 use borrow.Author.Rules.{rules}
 use Rattle.part_start_points.proofs.outside.some_outside.Goals as goal

@@ -1,7 +1,6 @@
 -- `part_start_points::points::find_points` meets its contract. The invariant: the points before p that touch the part are listed. Assumes nothing.
 use mathlib.Core.Path.{ap, refl}
 use mathlib.Core.Bool.{not}
-use Prim.Native.Nat.{◌-◌}
 use Rattle.part_start_points.proofs.FoundLaws.{found_start, found_no, found_yes, found_end}
 use borrow.Author.Rules.{rules}
 use Rattle.part_start_points.proofs.points.find_points.Goals as goal

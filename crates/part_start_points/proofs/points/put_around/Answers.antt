@@ -1,7 +1,6 @@
 -- `part_start_points::points::put_around` meets its contract. The invariant: the cells at the points before the k-th are written. Assumes nothing.
 use native.Mathlib.Omega.{arith}
 use mathlib.Core.Path.{refl}
-use Prim.Native.Nat.{◌-◌}
 use Rattle.word_lists.proofs.PutLaws.{many_start, many_end}
 use Rattle.part_start_points.proofs.FoundLaws.{around_room, around_turn}
 use borrow.Author.Rules.{rules}

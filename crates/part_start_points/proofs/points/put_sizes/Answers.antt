@@ -1,5 +1,4 @@
 -- `part_start_points::points::put_sizes` meets its contract. The invariant: the first k ends are written, and e is the next. Assumes nothing.
-use Prim.Native.Nat.{◌-◌}
 use Rattle.word_lists.proofs.PutLaws.{words_start, words_more, words_last}
 use Rattle.part_start_points.proofs.FoundLaws.{sizes_start, sizes_turn, sizes_small}
 use borrow.Author.Rules.{rules}

@@ -1,5 +1,4 @@
 -- `part_start_points::points::total_size` meets its contract. The invariant: the cells at the first k points are counted. Assumes nothing.
-use Prim.Native.Nat.{◌-◌}
 use Rattle.part_start_points.proofs.FoundLaws.{sizes_start, sizes_turn, sizes_end}
 use borrow.Author.Rules.{rules}
 use Rattle.part_start_points.proofs.points.total_size.Goals as goal

@@ -1,5 +1,4 @@
 -- `part_start_points::trails::put_trail` meets its contract. The invariant: the rest of the trail completes what is written. Assumes nothing.
-use Prim.Native.Nat.{◌-◌}
 use Rattle.part_start_points.proofs.TrailSteps.{cells_begin, cells_same, cells_over, cells_spent, cells_room, cells_turn}
 use borrow.Author.Rules.{rules}
 use Rattle.part_start_points.proofs.trails.put_trail.Goals as goal

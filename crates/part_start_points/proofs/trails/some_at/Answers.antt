@@ -1,5 +1,4 @@
 -- `part_start_points::trails::some_at` meets its contract. The invariant: the rest of the trail tells what the whole does. Assumes nothing.
-use Prim.Native.Nat.{◌-◌}
 use Rattle.part_start_points.proofs.TrailSteps.{some_begin, some_over, some_spent, some_here, some_further}
 use Rattle.part_start_points.proofs.trails.some_at.Goals as goal
 

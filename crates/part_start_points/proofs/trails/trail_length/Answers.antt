@@ -1,5 +1,4 @@
 -- `part_start_points::trails::trail_length` meets its contract. The invariant: n cells are counted, and the rest makes the whole. Assumes nothing.
-use Prim.Native.Nat.{◌-◌}
 use Rattle.part_start_points.proofs.TrailSteps.{count_begin, count_over, count_spent, count_turn}
 use borrow.Author.Rules.{rules}
 use Rattle.part_start_points.proofs.trails.trail_length.Goals as goal

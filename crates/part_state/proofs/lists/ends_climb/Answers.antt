@@ -1,5 +1,4 @@
 -- `part_state::lists::ends_climb` meets its contract. The invariant: each end so far is greater than the one before. Assumes nothing.
-use Prim.Native.Nat.{◌-◌}
 use Rattle.vocabulary.proofs.IntervalLaws.{every_none, every_end}
 use Rattle.part_state.proofs.ListChecks.{ends_start, climb_stops, climb_turn}
 use borrow.Author.Rules.{rules}

@@ -1,5 +1,4 @@
 -- `part_state::lists::ends_rise` meets its contract. The invariant: the ends so far never fall. Assumes nothing.
-use Prim.Native.Nat.{◌-◌}
 use Rattle.vocabulary.proofs.IntervalLaws.{every_none, every_end}
 use Rattle.part_state.proofs.ListChecks.{ends_start, ends_fall, ends_turn}
 use borrow.Author.Rules.{rules}

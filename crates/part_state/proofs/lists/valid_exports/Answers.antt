@@ -1,6 +1,5 @@
 -- `part_state::lists::valid_exports` meets its contract. The invariant: the exports so far are owned. Assumes nothing.
 use mathlib.Core.Path.{refl}
-use Prim.Native.Nat.{◌-◌}
 use Rattle.vocabulary.proofs.IntervalLaws.{every_none, every_stop, every_turn, every_end}
 use Rattle.part_state.proofs.ListChecks.{counted_by, export_told}
 use borrow.Author.Rules.{rules}

@@ -1,6 +1,5 @@
 -- `part_state::lists::valid_globals` meets its contract. The invariant: the cells so far are the mesh's. Assumes nothing.
 use mathlib.Core.Path.{refl}
-use Prim.Native.Nat.{◌-◌}
 use Rattle.vocabulary.proofs.ScanLaws.{every_start_from, every_stop_from, every_turn_from, every_end_from}
 use Rattle.part_state.proofs.ListChecks.{global_told}
 use borrow.Author.Rules.{rules}

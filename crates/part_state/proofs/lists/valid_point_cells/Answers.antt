@@ -1,7 +1,7 @@
 -- `part_state::lists::valid_point_cells` meets its contract. The invariants: the cells so far are held, first four at a time. Assumes nothing.
 use mathlib.Core.Path.{◌≡◌, refl, ap}
 use mathlib.Core.Bool.{true, not}
-use Prim.Native.Nat.{◌+◌, ◌-◌, ◌*◌}
+use Prim.Native.Nat.{◌+◌, ◌*◌}
 use native.Mathlib.Omega.{arith}
 use Rattle.vocabulary.specs.Intervals.{every}
 use Rattle.vocabulary.proofs.IntervalLaws.{every_none, every_end, at_last}
@@ -49,12 +49,11 @@ pub returns-then-sizes-word_there : goal.returns-then-sizes-word_there
 returns-then-sizes-word_there c = search (counted_by, point_unheld)
 
 pub loop-t-preserved : goal.loop-t-preserved
-loop-t-preserved c =
-    (
-      search rules,
-      search rules,
-      point_turn _ _ c.requires.counts _ c.point_cells_word-at.ensures _ _ c.word_there.ensures.0 c.loop-t.invariant.2 c.if-sizes-word_there.false,
-    )
+loop-t-preserved c = (
+  search rules,
+  search rules,
+  point_turn _ _ c.requires.counts _ c.point_cells_word-at.ensures _ _ c.word_there.ensures.0 c.loop-t.invariant.2 c.if-sizes-word_there.false,
+)
 
 pub returns : goal.returns
 returns c = search (counted_by, every_end)

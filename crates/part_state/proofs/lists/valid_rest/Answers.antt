@@ -1,5 +1,4 @@
 -- `part_state::lists::valid_rest` meets its contract. The invariant: the entries so far are valid. Assumes nothing.
-use Prim.Native.Nat.{◌-◌}
 use Rattle.vocabulary.proofs.ScanLaws.{every_start_from, every_turn_from}
 use Rattle.part_state.proofs.ListChecks.{rest_wrong, rest_end}
 use borrow.Author.Rules.{rules}

@@ -1,8 +1,5 @@
 -- `part_state::lists::valid_row` meets its contract. The invariant: the entries so far are valid, and none is the cell's own. Assumes nothing.
-use mathlib.Core.Bool.{false}
-use Prim.Native.Nat.{◌-◌}
 use Rattle.vocabulary.proofs.ScanLaws.{every_start_from, every_turn_from, some_start_from, some_turn_from}
-use Rattle.part_state.specs.Checks.{own_entry}
 use Rattle.part_state.proofs.ListChecks.{row_wrong, row_found, row_end}
 use borrow.Author.Rules.{rules}
 use Rattle.part_state.proofs.lists.valid_row.Goals as goal

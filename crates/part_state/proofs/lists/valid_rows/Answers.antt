@@ -1,6 +1,5 @@
 -- `part_state::lists::valid_rows` meets its contract. The invariant: the rows so far are valid, and the next begins where they end. Assumes nothing.
 use mathlib.Core.Path.{refl}
-use Prim.Native.Nat.{◌-◌}
 use Rattle.vocabulary.proofs.ScanLaws.{every_start_from, every_stop_from, every_turn_from, every_end_from}
 use Rattle.part_state.proofs.ListChecks.{rows_start, rows_next, row_above, row_tested, row_rises, row_room, row_told}
 use borrow.Author.Rules.{rules}

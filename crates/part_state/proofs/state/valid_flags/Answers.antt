@@ -1,5 +1,4 @@
 -- `part_state::state::valid_flags` meets its contract. The invariant: the flags so far are 0 or 1. Assumes nothing.
-use Prim.Native.Nat.{◌-◌}
 use Rattle.vocabulary.proofs.ScanLaws.{every_start_from, every_stop_from, every_turn_from, every_end_from}
 use borrow.Author.Rules.{rules}
 use Rattle.part_state.proofs.state.valid_flags.Goals as goal

@@ -1,6 +1,5 @@
 -- `part_update::inner::renew` meets its contract. The invariant: the new values of the cells before l are made. Assumes nothing.
 use mathlib.Core.Path.{refl}
-use Prim.Native.Nat.{◌-◌}
 use native.Mathlib.Omega.{arith}
 use Rattle.vocabulary.proofs.IntervalLaws.{stored_start, stored_up}
 use Rattle.part_update.proofs.RenewLaws.{renew_turn}

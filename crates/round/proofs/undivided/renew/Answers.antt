@@ -1,5 +1,4 @@
 -- `round::undivided::renew` meets its contract. The invariant: the first j new depths are written. Assumes nothing.
-use Prim.Native.Nat.{◌-◌}
 use Rattle.vocabulary.proofs.IntervalLaws.{stored_start, stored_end}
 use Rattle.round.proofs.UndividedLaws.{renew_turn, row_each}
 use borrow.Author.Rules.{rules}

@@ -21,12 +21,11 @@ returns-then-out-cells c =
     c.cell_count-cells.ensures.0 _ c.bad_field.ensures c.if-bad_field.false c.if-out-cells.true
 
 pub renew-requires : goal.renew-requires
-renew-requires c =
-    (
-      rows_ready _ _ _ _ _ _ _ _ _ c.reach_table-t.ensures c.if-t-gt-MOST_REACHED.false refl c.requires.1 c.requires.2 _ c.cell_count-cells.ensures.0
-          c.cell_count-cells.ensures.1 _ c.bad_field.ensures c.if-bad_field.false,
-      c.if-out-cells.false,
-    )
+renew-requires c = (
+  rows_ready _ _ _ _ _ _ _ _ _ c.reach_table-t.ensures c.if-t-gt-MOST_REACHED.false refl c.requires.1 c.requires.2 _ c.cell_count-cells.ensures.0
+      c.cell_count-cells.ensures.1 _ c.bad_field.ensures c.if-bad_field.false,
+  c.if-out-cells.false,
+)
 
 pub returns : goal.returns
 returns c =

@@ -29,14 +29,13 @@ returns-then-bad_weights c =
     c.bad_weights.ensures c.if-bad_weights.true
 
 pub round_on-requires : goal.round_on-requires
-round_on-requires c =
-    (
-      sym c.mesh_number_in-number.ensures ∙ c.if-number-ne0.false,
-      accepted_stencil _ _ c.top_of.ensures.0 c.bad_stencil.ensures c.if-bad_stencil.false,
-      rule_good _ _ _ _ c.bad_weights.ensures c.if-bad_weights.false,
-      search rules,
-      search rules,
-    )
+round_on-requires c = (
+  sym c.mesh_number_in-number.ensures ∙ c.if-number-ne0.false,
+  accepted_stencil _ _ c.top_of.ensures.0 c.bad_stencil.ensures c.if-bad_stencil.false,
+  rule_good _ _ _ _ c.bad_weights.ensures c.if-bad_weights.false,
+  search rules,
+  search rules,
+)
 
 pub returns-else-bad_weights : goal.returns-else-bad_weights
 returns-else-bad_weights c = told_kind _ _ _ _ _ _ _ _ c.rule_of.ensures c.in-Known.is _ _ c.round_on.ensures

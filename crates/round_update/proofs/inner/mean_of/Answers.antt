@@ -1,5 +1,5 @@
 -- `round_update::inner::mean_of` meets its contract. The invariant: the two sums over the entries so far. Assumes nothing.
-use Prim.Native.Nat.{◌-◌, ◌<◌}
+use Prim.Native.Nat.{◌<◌}
 use Rattle.round_update.proofs.Sums.{weights_fit}
 use Rattle.round_update.proofs.Places.{place_listed, place_fits, place_there, place_small}
 use Rattle.round_update.proofs.Reaches.{sum_start, layer_low, weight_there, weight_known, is_light, sum_depth, sum_gap, sum_few, sum_large, sum_end}
@@ -33,19 +33,18 @@ overflow_add-weight_sum c =
     weights_fit _ _ _ _ _ _ _ c.loop-t.invariant.1 c.loop-t-test.true c.requires.0.few share
 
 pub loop-t-preserved : goal.loop-t-preserved
-loop-t-preserved c =
-    (
-      search rules,
-      elim c.match-value_in.branch [
-        | in-Depth w ↦
-            sum_depth _ _ _ _ _ _ _ c.loop-t-test.true c.requires.0 _ c.place_of.ensures _ c.value_in.ensures
-            _ _ _ _ c.loop-t.invariant.1 _ _ _ w.in-Depth.is (search rules) c.requires.1
-            c.weight_of-w.ensures.0 w.add_weighed-sum.ensures w.sum-is w.weight_sum-is
-        | in-Gap w ↦
-            sum_gap _ _ _ _ _ _ _ c.loop-t-test.true c.requires.0 _ c.place_of.ensures _ c.value_in.ensures
-            _ _ _ _ c.loop-t.invariant.1 (search rules) w.sum-is w.weight_sum-is
-      ],
-    )
+loop-t-preserved c = (
+  search rules,
+  elim c.match-value_in.branch [
+    | in-Depth w ↦
+        sum_depth _ _ _ _ _ _ _ c.loop-t-test.true c.requires.0 _ c.place_of.ensures _ c.value_in.ensures
+        _ _ _ _ c.loop-t.invariant.1 _ _ _ w.in-Depth.is (search rules) c.requires.1
+        c.weight_of-w.ensures.0 w.add_weighed-sum.ensures w.sum-is w.weight_sum-is
+    | in-Gap w ↦
+        sum_gap _ _ _ _ _ _ _ c.loop-t-test.true c.requires.0 _ c.place_of.ensures _ c.value_in.ensures
+        _ _ _ _ c.loop-t.invariant.1 (search rules) w.sum-is w.weight_sum-is
+  ],
+)
 
 pub mean_by-requires : goal.mean_by-requires
 mean_by-requires c = (search sum_few, search sum_large)

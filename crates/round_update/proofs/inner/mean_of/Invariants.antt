@@ -1,7 +1,5 @@
 -- `round_update::inner::mean_of` meets its contract. The invariant: the two sums over the entries so far. Assumes nothing.
 use Prim.Native.Nat.{◌-◌, ◌≤◌}
-use mir.Syntax.{w64}
-use mir.Val.{to_z}
 use Rattle.round_update.specs.Update.{table_entries, olds_at}
 use Rattle.round_update.proofs.Sums.{Summed}
 use Rattle.round_update.proofs.inner.mean_of.Given as goal

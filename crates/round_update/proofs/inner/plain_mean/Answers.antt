@@ -1,5 +1,5 @@
 -- `round_update::inner::plain_mean` meets its contract. The invariant: the sum and the count of the depths so far. Assumes nothing.
-use Prim.Native.Nat.{◌-◌, ◌<◌}
+use Prim.Native.Nat.{◌<◌}
 use Rattle.round_update.proofs.Sums.{weights_fit}
 use Rattle.round_update.proofs.Places.{place_listed, place_fits, place_there, place_small}
 use Rattle.round_update.proofs.Plain.{plain_start, plain_depth, plain_gap, plain_few, plain_large, plain_end, plain_within}

@@ -1,7 +1,5 @@
 -- `round_update::inner::plain_mean` meets its contract. The invariant: the sum and the count of the depths so far. Assumes nothing.
 use Prim.Native.Nat.{◌-◌, ◌≤◌}
-use mir.Syntax.{w64}
-use mir.Val.{to_z}
 use Rattle.round_update.proofs.Sums.{Summed}
 use Rattle.round_rule.specs.Rules.{ones}
 use Rattle.round_update.proofs.Plain.{plain_olds}

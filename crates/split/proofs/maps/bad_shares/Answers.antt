@@ -1,6 +1,4 @@
 -- `split::maps::bad_shares` meets its contract. The invariant: each part so far owns a cell. Assumes nothing.
-use mathlib.Core.Bool.{false}
-use Prim.Native.Nat.{◌-◌}
 use Rattle.vocabulary.proofs.IntervalLaws.{some_start}
 use Rattle.split.proofs.MapLaws.{share_missing, share_turn, share_end}
 use borrow.Author.Rules.{rules}

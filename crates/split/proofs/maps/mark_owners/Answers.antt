@@ -1,6 +1,5 @@
 -- `split::maps::mark_owners` meets its contract. The invariant: the owners of the cells before q are marked. Assumes nothing.
 use mathlib.Core.Path.{refl}
-use Prim.Native.Nat.{◌-◌}
 use Rattle.split.proofs.MapLaws.{seen_start, seen_turn, seen_end}
 use borrow.Author.Rules.{rules}
 use Rattle.split.proofs.maps.mark_owners.Goals as goal

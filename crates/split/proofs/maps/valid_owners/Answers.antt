@@ -1,6 +1,5 @@
 -- `split::maps::valid_owners` meets its contract. The invariant: the owners so far are parts. Assumes nothing.
 use mathlib.Core.Path.{refl}
-use Prim.Native.Nat.{◌-◌}
 use Rattle.vocabulary.proofs.IntervalLaws.{every_none, every_end}
 use Rattle.split.proofs.MapLaws.{owner_wrong, owner_turn}
 use borrow.Author.Rules.{rules}

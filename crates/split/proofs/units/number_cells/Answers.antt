@@ -1,5 +1,4 @@
 -- `split::units::number_cells` meets its contract. The invariant: the last k cells have their numbers. Assumes nothing.
-use Prim.Native.Nat.{◌-◌}
 use Rattle.split.proofs.UnitLaws.{number_start, number_turn, number_end}
 use borrow.Author.Rules.{rules}
 use Rattle.split.proofs.units.number_cells.Goals as goal

@@ -1,6 +1,5 @@
 -- `split_cells::inner::add_class` meets its contract. The invariant: the cells before q are added. Assumes nothing.
 use mathlib.Core.Path.{refl}
-use Prim.Native.Nat.{◌-◌}
 use Rattle.split_cells.proofs.AddLaws.{add_start, add_turn, class_end}
 use borrow.Author.Rules.{rules}
 use Rattle.split_cells.proofs.inner.add_class.Goals as goal

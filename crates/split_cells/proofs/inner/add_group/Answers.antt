@@ -1,6 +1,5 @@
 -- `split_cells::inner::add_group` meets its contract. The invariant: the cells that were followed are added. Assumes nothing.
 use mathlib.Core.Path.{refl}
-use Prim.Native.Nat.{◌-◌}
 use Rattle.split_cells.proofs.AddLaws.{adding_start, adding_number, adding_turn, adding_stop, adding_end}
 use borrow.Author.Rules.{rules}
 use Rattle.split_cells.proofs.inner.add_group.Goals as goal

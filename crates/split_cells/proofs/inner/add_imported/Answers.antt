@@ -1,6 +1,5 @@
 -- `split_cells::inner::add_imported` meets its contract. The invariant: the imports from the first j parts are added. Assumes nothing.
 use mathlib.Core.Path.{refl}
-use Prim.Native.Nat.{◌-◌}
 use Rattle.split_cells.proofs.AddLaws.{imported_start, imported_turn, imported_end}
 use borrow.Author.Rules.{rules}
 use Rattle.split_cells.proofs.inner.add_imported.Goals as goal

@@ -1,5 +1,4 @@
 -- `split_classes::classes::classify` meets its contract. The invariant: the cells before q have told what they tell. Assumes nothing.
-use Prim.Native.Nat.{◌-◌}
 use Rattle.split_classes.proofs.ClassLaws.{class_start, class_end}
 use borrow.Author.Rules.{rules}
 use Rattle.split_classes.proofs.classes.classify.Goals as goal

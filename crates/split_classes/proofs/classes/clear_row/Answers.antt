@@ -1,5 +1,4 @@
 -- `split_classes::classes::clear_row` meets its contract. The invariant: the places before q are cleared. Assumes nothing.
-use Prim.Native.Nat.{◌-◌}
 use Rattle.split_classes.proofs.ClassLaws.{clear_start, clear_turn, clear_end}
 use borrow.Author.Rules.{rules}
 use Rattle.split_classes.proofs.classes.clear_row.Goals as goal

@@ -1,7 +1,6 @@
 -- `split_classes::classes::mark_reach` meets its contract. The invariant: the entries before t are marked. Assumes nothing.
 use mathlib.Core.Path.{refl}
 use mathlib.Core.Logic.{inl, inr}
-use Prim.Native.Nat.{◌-◌}
 use Rattle.split_classes.proofs.ClassLaws.{pass_start, pass_turn, pass_end}
 use borrow.Author.Rules.{rules}
 use Rattle.split_classes.proofs.classes.mark_reach.Goals as goal

@@ -1,6 +1,5 @@
 -- `split_classes::groups::group_cells` meets its contract. The invariant: the last t cells are linked. Assumes nothing.
 use mathlib.Core.Path.{refl}
-use Prim.Native.Nat.{◌-◌}
 use Rattle.split_classes.proofs.GroupLaws.{grouped_start, grouped_turn, grouped_end}
 use borrow.Author.Rules.{rules}
 use Rattle.split_classes.proofs.groups.group_cells.Goals as goal

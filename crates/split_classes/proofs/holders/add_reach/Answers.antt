@@ -1,7 +1,6 @@
 -- `split_classes::holders::add_reach` meets its contract. The invariant: the entries before t are counted. Assumes nothing.
 use mathlib.Core.Path.{refl}
 use mathlib.Core.Logic.{inl, inr}
-use Prim.Native.Nat.{◌-◌}
 use Rattle.split_classes.proofs.HolderLaws.{pass_start, pass_room, pass_turn, reach_end}
 use borrow.Author.Rules.{rules}
 use Rattle.split_classes.proofs.holders.add_reach.Goals as goal

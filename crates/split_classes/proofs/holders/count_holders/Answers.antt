@@ -1,5 +1,4 @@
 -- `split_classes::holders::count_holders` meets its contract. The invariant: the first k parts are counted. Assumes nothing.
-use Prim.Native.Nat.{◌-◌}
 use native.Mathlib.Omega.{arith}
 use Rattle.split_classes.proofs.HolderLaws.{few_start, count_start, count_room, raised_stamps, raised_owned, count_turn, holders_told}
 use borrow.Author.Rules.{rules}

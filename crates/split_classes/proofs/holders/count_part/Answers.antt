@@ -1,5 +1,4 @@
 -- `split_classes::holders::count_part` meets its contract. The invariant: the cells that were followed are counted. Assumes nothing.
-use Prim.Native.Nat.{◌-◌}
 use Rattle.split_classes.proofs.HolderLaws.{follow_start, follow_room, follow_turn, follow_stop, follow_end}
 use borrow.Author.Rules.{rules}
 use Rattle.split_classes.proofs.holders.count_part.Goals as goal

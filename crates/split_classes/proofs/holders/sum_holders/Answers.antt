@@ -1,5 +1,4 @@
 -- `split_classes::holders::sum_holders` meets its contract. The invariant: the counts before q are summed. Assumes nothing.
-use Prim.Native.Nat.{◌-◌}
 use Rattle.split_classes.proofs.HolderLaws.{sum_start, sum_turn, sum_end}
 use borrow.Author.Rules.{rules}
 use Rattle.split_classes.proofs.holders.sum_holders.Goals as goal

@@ -1,6 +1,5 @@
 -- `split_ranges::inner::classify_lowers` meets its contract. The invariant: the elements before q have their classes. Assumes nothing.
 use mathlib.Core.Path.{refl}
-use Prim.Native.Nat.{◌-◌}
 use native.Mathlib.Omega.{arith}
 use Rattle.split_ranges.proofs.LowerLaws.{lowered, lowered_none, range_fits, trailed_start, trailed_turn, trailed_end}
 use borrow.Author.Rules.{rules}
@@ -16,13 +15,12 @@ loop-q-init c =
     (f.0, f.1, omega arith, search trailed_start)
 
 pub loop-q-preserved : goal.loop-q-preserved
-loop-q-preserved c =
-    (
-      search rules,
-      search rules,
-      search rules,
-      trailed_turn _ _ _ _ _ _ _ _ _ _ _ _ c.loop-q-test.true c.loop-q.invariant.1 c.loop-q.invariant.3 c.lower_class.ensures refl,
-    )
+loop-q-preserved c = (
+  search rules,
+  search rules,
+  search rules,
+  trailed_turn _ _ _ _ _ _ _ _ _ _ _ _ c.loop-q-test.true c.loop-q.invariant.1 c.loop-q.invariant.3 c.lower_class.ensures refl,
+)
 
 pub returns : goal.returns
 returns c =

@@ -1,5 +1,4 @@
 -- `split_ranges::inner::some_cell` meets its contract. The invariant: the rest of the trail tells what the whole does. Assumes nothing.
-use Prim.Native.Nat.{◌-◌}
 use Rattle.split_ranges.proofs.SideLaws.{rest_start, rest_end, rest_spent, rest_found, rest_turn}
 use Rattle.split_ranges.proofs.inner.some_cell.Goals as goal
 

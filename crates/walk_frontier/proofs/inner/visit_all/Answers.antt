@@ -1,6 +1,5 @@
 -- `walk_frontier::inner::visit_all` meets its contract. The invariant: the first j numbers were gathered. Assumes nothing.
 use mathlib.Core.Path.{refl}
-use Prim.Native.Nat.{◌-◌}
 use Rattle.walk_frontier.proofs.VisitLaws.{toward_start, list_turn, list_low, list_high, list_end}
 use borrow.Author.Rules.{rules}
 use Rattle.walk_frontier.proofs.inner.visit_all.Goals as goal

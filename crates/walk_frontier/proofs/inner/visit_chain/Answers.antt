@@ -1,6 +1,5 @@
 -- `walk_frontier::inner::visit_chain` meets its contract. The invariant: what was gathered with what is left of the chain is what is wanted. Assumes nothing.
 use mathlib.Core.Path.{refl}
-use Prim.Native.Nat.{◌-◌}
 use native.Mathlib.Nat.{sub-zero}
 use Rattle.walk_frontier.proofs.VisitLaws.{grown_none, grown_both, toward_start, toward_done, toward_turn, between_ended, between_spent, between_more}
 use borrow.Author.Rules.{rules}

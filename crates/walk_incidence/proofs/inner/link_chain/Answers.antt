@@ -1,6 +1,5 @@
 -- `walk_incidence::inner::link_chain` meets its contract. The invariant: linking what is left gives what linking the whole chain gives. Assumes nothing.
 use mathlib.Core.Path.{refl}
-use Prim.Native.Nat.{◌-◌}
 use native.Mathlib.Nat.{sub-zero}
 use Rattle.mesh.proofs.FollowLaws.{chain_ended, chain_spent}
 use Rattle.walk_incidence.proofs.LinkLaws.{link_done, link_turn, room_one, room_turn}

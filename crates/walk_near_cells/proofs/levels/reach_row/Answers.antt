@@ -1,6 +1,5 @@
 -- `walk_near_cells::levels::reach_row` meets its contract. The invariant: the cells before place t were gone on to. Assumes nothing.
 use mathlib.Core.Path.{refl}
-use Prim.Native.Nat.{◌-◌}
 use Rattle.walk_near_cells.proofs.LevelLaws.{row_start, row_turn, row_stop, row_end, row_high}
 use borrow.Author.Rules.{rules}
 use Rattle.walk_near_cells.proofs.levels.reach_row.Goals as goal

@@ -15,17 +15,16 @@ pub nonzero_div-sizes : goal.nonzero_div-sizes
 nonzero_div-sizes c = some_cells _ _ c.requires.0.mesh c.requires.1.cells_is
 
 pub list_rows-requires : goal.list_rows-requires
-list_rows-requires c =
-    (
-      c.requires.0,
-      c.requires.1,
-      through _ _ _ _ _ _ c.requires.0 c.if-stencil-lt2.false c.byte_at-a.ensures,
-      rows_fit _ _ _ c.requires.0.mesh c.requires.1.cells_is c.lesser-w.ensures.1,
-      c.requires.3,
-      c.requires.4,
-      c.requires.5,
-      c.requires.6,
-    )
+list_rows-requires c = (
+  c.requires.0,
+  c.requires.1,
+  through _ _ _ _ _ _ c.requires.0 c.if-stencil-lt2.false c.byte_at-a.ensures,
+  rows_fit _ _ _ c.requires.0.mesh c.requires.1.cells_is c.lesser-w.ensures.1,
+  c.requires.3,
+  c.requires.4,
+  c.requires.5,
+  c.requires.6,
+)
 
 pub clear-requires : goal.clear-requires
 clear-requires c = c.list_rows.ensures.2

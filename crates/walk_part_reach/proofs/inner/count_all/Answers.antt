@@ -1,6 +1,5 @@
 -- `walk_part_reach::inner::count_all` meets its contract. The invariant: the first i rows are counted. Assumes nothing.
 use mathlib.Core.Path.{sym, ◌∙◌}
-use Prim.Native.Nat.{◌-◌}
 use native.Mathlib.Omega.{arith}
 use Rattle.mesh.proofs.WalkLaws.{stencil_parts}
 use Rattle.walk_part_reach.proofs.RowLaws.{space_start, counted_start, counted_turn, counted_end}
@@ -20,16 +19,15 @@ pub loop-i-init : goal.loop-i-init
 loop-i-init c = (search rules, counted_start _ _ _ _ _ _ _ (space_start _ _ _ _ _ c.requires.3 c.clear.ensures))
 
 pub count_reach-s-requires : goal.count_reach-s-requires
-count_reach-s-requires c =
-    (
-      c.requires.0,
-      c.requires.1,
-      omega (arith, (stencil_parts _ _ c.requires.0.stencil).0),
-      omega (arith, (stencil_parts _ _ c.requires.0.stencil).1),
-      c.through_one-single.ensures,
-      omega (arith, c.loop-i.invariant.1.turns, c.loop-i.invariant.0, c.requires.2),
-      c.loop-i.invariant.1.space,
-    )
+count_reach-s-requires c = (
+  c.requires.0,
+  c.requires.1,
+  omega (arith, (stencil_parts _ _ c.requires.0.stencil).0),
+  omega (arith, (stencil_parts _ _ c.requires.0.stencil).1),
+  c.through_one-single.ensures,
+  omega (arith, c.loop-i.invariant.1.turns, c.loop-i.invariant.0, c.requires.2),
+  c.loop-i.invariant.1.space,
+)
 
 pub overflow_add-s : goal.overflow_add-s
 overflow_add-s c = omega (arith, c.loop-i.invariant.1.few, c.count_reach-s.ensures.1, c.loop-i.invariant.0, c.requires.2)
@@ -41,12 +39,11 @@ pub overflow_add-mark-in-loop-i : goal.overflow_add-mark-in-loop-i
 overflow_add-mark-in-loop-i c = omega (arith, c.loop-i.invariant.1.turns, c.loop-i.invariant.0, c.requires.2, (stencil_parts _ _ c.requires.0.stencil).1)
 
 pub loop-i-preserved : goal.loop-i-preserved
-loop-i-preserved c =
-    (
-      search rules,
-      counted_turn _ _ _ _ _ _ _ _ _ _ _ _ _ _ _ _ (omega (arith, (stencil_parts _ _ c.requires.0.stencil).1)) c.loop-i.invariant.1 c.count_reach-s.ensures.0
-          c.count_reach-s.ensures.1 c.count_reach-s.ensures.2,
-    )
+loop-i-preserved c = (
+  search rules,
+  counted_turn _ _ _ _ _ _ _ _ _ _ _ _ _ _ _ _ (omega (arith, (stencil_parts _ _ c.requires.0.stencil).1)) c.loop-i.invariant.1 c.count_reach-s.ensures.0
+      c.count_reach-s.ensures.1 c.count_reach-s.ensures.2,
+)
 
 pub shape_of-marks : goal.shape_of-marks
 shape_of-marks c = c.loop-i.invariant.1.space.fresh.size ∙ sym c.requires.3.marks_room

@@ -11,20 +11,19 @@ pub clear-requires : goal.clear-requires
 clear-requires c = c.requires.6.layers_long
 
 pub walk-requires : goal.walk-requires
-walk-requires c =
-    (
-      c.requires.0,
-      c.requires.1,
-      c.requires.4,
-      row_starts _ _ c.requires.0.mesh c.requires.1 _ _ _ _ c.row_cells-s.ensures,
-      omega (arith, c.requires.2),
-      c.requires.3,
-      c.requires.5,
-      c.requires.6.fresh,
-      c.row_cells-s.ensures.room,
-      c.requires.6.found_long,
-      c.clear.ensures,
-    )
+walk-requires c = (
+  c.requires.0,
+  c.requires.1,
+  c.requires.4,
+  row_starts _ _ c.requires.0.mesh c.requires.1 _ _ _ _ c.row_cells-s.ensures,
+  omega (arith, c.requires.2),
+  c.requires.3,
+  c.requires.5,
+  c.requires.6.fresh,
+  c.row_cells-s.ensures.room,
+  c.requires.6.found_long,
+  c.clear.ensures,
+)
 
 pub count_row-requires : goal.count_row-requires
 count_row-requires c = (first_small _ _ c.requires.0.mesh c.requires.1, omega (arith, cells_small _ _ c.requires.0.mesh c.requires.1))
@@ -42,10 +41,9 @@ pub shape_of-layers : goal.shape_of-layers
 shape_of-layers c = c.walk.ensures.0.size ∙ sym c.requires.6.layers_long
 
 pub returns : goal.returns
-returns c =
-    (
-      reach_counted _ _ _ _ _ _ _ c.requires.0 c.requires.1 c.requires.2 _ _ _ _ _ _ _ _ _ _ _ _ _ c.row_cells-s.ensures
-          c.walk.ensures.0 c.count_row.ensures.0,
-      omega (arith, c.count_row.ensures.1, cells_small _ _ c.requires.0.mesh c.requires.1),
-      space_after _ _ _ _ _ _ _ _ _ _ _ _ c.walk.ensures.0,
-    )
+returns c = (
+  reach_counted _ _ _ _ _ _ _ c.requires.0 c.requires.1 c.requires.2 _ _ _ _ _ _ _ _ _ _ _ _ _ c.row_cells-s.ensures
+      c.walk.ensures.0 c.count_row.ensures.0,
+  omega (arith, c.count_row.ensures.1, cells_small _ _ c.requires.0.mesh c.requires.1),
+  space_after _ _ _ _ _ _ _ _ _ _ _ _ c.walk.ensures.0,
+)

@@ -1,5 +1,4 @@
 -- `walk_part_reach::inner::count_row` meets its contract. The invariant: the places before q are counted. Assumes nothing.
-use Prim.Native.Nat.{◌-◌}
 use Rattle.walk_part_reach.proofs.RowLaws.{count_start, count_turn, count_end}
 use borrow.Author.Rules.{rules}
 use Rattle.walk_part_reach.proofs.inner.count_row.Goals as goal

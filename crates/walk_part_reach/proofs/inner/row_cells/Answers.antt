@@ -1,5 +1,4 @@
 -- `walk_part_reach::inner::row_cells` meets its contract. The invariant: the row's cells among the first q stand in the list. Assumes nothing.
-use Prim.Native.Nat.{◌-◌}
 use Rattle.walk_part_reach.proofs.RowLaws.{rowed_start, rowed_end}
 use borrow.Author.Rules.{rules}
 use Rattle.walk_part_reach.proofs.inner.row_cells.Goals as goal

@@ -1,6 +1,5 @@
 -- `walk_reach_table::table::emit` meets its contract. The invariant: the entries of the cells before x are written, and their layers cleared. Assumes nothing.
 use mathlib.Core.Path.{refl}
-use Prim.Native.Nat.{◌-◌}
 use Rattle.walk_reach_table.proofs.TableLaws.{cleared_start, cleared_turn, cleared_end, emit_start, emit_turn, emit_end}
 use borrow.Author.Rules.{rules}
 use Rattle.walk_reach_table.proofs.table.emit.Goals as goal

@@ -1,6 +1,5 @@
 -- `walk_reach_table::table::reach_all` meets its contract. The invariant: the reaches of the cells before x are in the table. Assumes nothing.
 use mathlib.Core.Path.{refl, sym, ◌∙◌}
-use Prim.Native.Nat.{◌-◌}
 use native.Mathlib.Omega.{arith}
 use Rattle.mesh.proofs.WalkLaws.{stencil_parts}
 use Rattle.mesh.proofs.AcceptedLaws.{cells_few}
@@ -21,34 +20,32 @@ pub overflow_add-x-end : goal.overflow_add-x-end
 overflow_add-x-end c = omega (arith, first_small _ _ c.requires.0.mesh c.requires.1.first_is, cells_few _ _ c.requires.0.mesh c.requires.1.cells_is)
 
 pub loop-x-init : goal.loop-x-init
-loop-x-init c =
-    (
-      search rules,
-      search rules,
-      refl,
-      search rules,
-      search rules,
-      c.near_rows-w.ensures,
-      c.requires.6,
-      search rules,
-      table_start _ _ _ _,
-      ends_start _ _ _ c.args.ends.now _ c.requires.7 c.put_number_at.ensures,
-    )
+loop-x-init c = (
+  search rules,
+  search rules,
+  refl,
+  search rules,
+  search rules,
+  c.near_rows-w.ensures,
+  c.requires.6,
+  search rules,
+  table_start _ _ _ _,
+  ends_start _ _ _ c.args.ends.now _ c.requires.7 c.put_number_at.ensures,
+)
 
 pub reach_of-t-requires : goal.reach_of-t-requires
-reach_of-t-requires c =
-    (
-      c.requires.0,
-      c.requires.1,
-      cell_is _ _ _ _ c.requires.1.first_is c.requires.1.cells_is c.loop-x.invariant.0 c.loop-x-test.true,
-      omega (arith, (stencil_parts _ _ c.requires.0.stencil).0),
-      c.through_one-single.ensures,
-      omega (arith, (stencil_parts _ _ c.requires.0.stencil).1),
-      c.loop-x.invariant.5,
-      omega (arith, c.loop-x.invariant.4, c.loop-x-test.true, cells_few _ _ c.requires.0.mesh c.requires.1.cells_is),
-      c.loop-x.invariant.6,
-      omega (arith, c.loop-x.invariant.3),
-    )
+reach_of-t-requires c = (
+  c.requires.0,
+  c.requires.1,
+  cell_is _ _ _ _ c.requires.1.first_is c.requires.1.cells_is c.loop-x.invariant.0 c.loop-x-test.true,
+  omega (arith, (stencil_parts _ _ c.requires.0.stencil).0),
+  c.through_one-single.ensures,
+  omega (arith, (stencil_parts _ _ c.requires.0.stencil).1),
+  c.loop-x.invariant.5,
+  omega (arith, c.loop-x.invariant.4, c.loop-x-test.true, cells_few _ _ c.requires.0.mesh c.requires.1.cells_is),
+  c.loop-x.invariant.6,
+  omega (arith, c.loop-x.invariant.3),
+)
 
 pub shape_of-marks-then-t-gt-MOST_REACHED : goal.shape_of-marks-then-t-gt-MOST_REACHED
 shape_of-marks-then-t-gt-MOST_REACHED c = c.reach_of-t.ensures.2.marks_low.size ∙ sym c.requires.2.size
@@ -66,12 +63,11 @@ pub shape_of-ends-then-t-gt-MOST_REACHED : goal.shape_of-ends-then-t-gt-MOST_REA
 shape_of-ends-then-t-gt-MOST_REACHED c = c.loop-x.invariant.7 ∙ sym c.requires.7
 
 pub returns-then-t-gt-MOST_REACHED : goal.returns-then-t-gt-MOST_REACHED
-returns-then-t-gt-MOST_REACHED c =
-    (
-      table_over _ _ _ _ c.requires.1.first_is c.loop-x.invariant.0 _ _ _ _ _ _ _ c.requires.6 c.requires.1.cells_is c.loop-x-test.true
-          c.loop-x.invariant.8 c.reach_of-t.ensures.0 c.if-t-gt-MOST_REACHED.true,
-      arrays_after _ _ _ _ _ _ _ _ c.reach_of-t.ensures.2,
-    )
+returns-then-t-gt-MOST_REACHED c = (
+  table_over _ _ _ _ c.requires.1.first_is c.loop-x.invariant.0 _ _ _ _ _ _ _ c.requires.6 c.requires.1.cells_is c.loop-x-test.true
+      c.loop-x.invariant.8 c.reach_of-t.ensures.0 c.if-t-gt-MOST_REACHED.true,
+  arrays_after _ _ _ _ _ _ _ _ c.reach_of-t.ensures.2,
+)
 
 pub overflow_add-mark : goal.overflow_add-mark
 overflow_add-mark c = omega (arith, (stencil_parts _ _ c.requires.0.stencil).1)
@@ -109,21 +105,20 @@ pub loop-x-smaller : goal.loop-x-smaller
 loop-x-smaller c = omega (arith, c.loop-x-test.true)
 
 pub loop-x-preserved : goal.loop-x-preserved
-loop-x-preserved c =
-    (
-      search rules,
-      search rules,
-      search rules,
-      search rules,
-      omega (arith, c.loop-x.invariant.4, (stencil_parts _ _ c.requires.0.stencil).1),
-      c.reach_of-t.ensures.2,
-      search rules,
-      search rules,
-      table_turn _ _ _ _ c.requires.1.first_is c.loop-x.invariant.0 _ _ _ _ _ c.requires.6 c.loop-x.invariant.8 c.reach_of-t.ensures.0,
-      ends_turn _ _ _ _ c.requires.1.first_is c.loop-x.invariant.0 _ _ _ _ _ _ _ _ c.requires.0.mesh c.requires.1.cells_is c.loop-x-test.true
-          c.requires.6 c.loop-x.invariant.7 c.loop-x.invariant.8 c.reach_of-t.ensures.0 c.if-t-gt-MOST_REACHED.false c.loop-x.invariant.9
-          c.put_number_at-in-loop-x.ensures,
-    )
+loop-x-preserved c = (
+  search rules,
+  search rules,
+  search rules,
+  search rules,
+  omega (arith, c.loop-x.invariant.4, (stencil_parts _ _ c.requires.0.stencil).1),
+  c.reach_of-t.ensures.2,
+  search rules,
+  search rules,
+  table_turn _ _ _ _ c.requires.1.first_is c.loop-x.invariant.0 _ _ _ _ _ c.requires.6 c.loop-x.invariant.8 c.reach_of-t.ensures.0,
+  ends_turn _ _ _ _ c.requires.1.first_is c.loop-x.invariant.0 _ _ _ _ _ _ _ _ c.requires.0.mesh c.requires.1.cells_is c.loop-x-test.true
+      c.requires.6 c.loop-x.invariant.7 c.loop-x.invariant.8 c.reach_of-t.ensures.0 c.if-t-gt-MOST_REACHED.false c.loop-x.invariant.9
+      c.put_number_at-in-loop-x.ensures,
+)
 
 pub shape_of-marks : goal.shape_of-marks
 shape_of-marks c = c.loop-x.invariant.5.marks_low.size ∙ sym c.requires.2.size
@@ -141,9 +136,8 @@ pub shape_of-ends : goal.shape_of-ends
 shape_of-ends c = c.loop-x.invariant.7 ∙ sym c.requires.7
 
 pub returns : goal.returns
-returns c =
-    (
-      table_end _ _ _ _ _ _ _ _ _ c.requires.1.cells_is c.loop-x.invariant.1 (omega (arith, c.loop-x-test.false, c.loop-x.invariant.2)) c.loop-x.invariant.0
-          c.loop-x.invariant.8 c.loop-x.invariant.9,
-      arrays_after _ _ _ _ _ _ _ _ c.loop-x.invariant.5,
-    )
+returns c = (
+  table_end _ _ _ _ _ _ _ _ _ c.requires.1.cells_is c.loop-x.invariant.1 (omega (arith, c.loop-x-test.false, c.loop-x.invariant.2)) c.loop-x.invariant.0
+      c.loop-x.invariant.8 c.loop-x.invariant.9,
+  arrays_after _ _ _ _ _ _ _ _ c.loop-x.invariant.5,
+)

@@ -1,6 +1,5 @@
 -- `walk_steps::steps::clear` meets its contract. The invariant: the numbers before place j are 0. Assumes nothing.
 use mathlib.Core.Path.{refl}
-use Prim.Native.Nat.{◌-◌}
 use native.Mathlib.Omega.{arith}
 use Rattle.walk_steps.proofs.WalkLaws.{clear_turn, clear_end}
 use borrow.Author.Rules.{rules}

@@ -1,6 +1,5 @@
 -- `walk_steps::steps::note_all` meets its contract. The invariant: the first j numbers have the layer. Assumes nothing.
 use mathlib.Core.Path.{refl}
-use Prim.Native.Nat.{◌-◌}
 use Rattle.walk_steps.proofs.NoteLaws.{notes_start, notes_turn, notes_end, note_fits}
 use borrow.Author.Rules.{rules}
 use Rattle.walk_steps.proofs.steps.note_all.Goals as goal

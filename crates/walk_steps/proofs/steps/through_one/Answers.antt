@@ -1,6 +1,5 @@
 -- `walk_steps::steps::through_one` meets its contract. The invariant: the odd places so far are alike. Assumes nothing.
 use mathlib.Core.Path.{refl}
-use Prim.Native.Nat.{◌-◌}
 use Rattle.vocabulary.proofs.IntervalLaws.{every_none, every_stop, every_turn, every_end}
 use Rattle.walk_steps.specs.Walking.{through_one}
 use borrow.Author.Rules.{rules}

@@ -1,5 +1,4 @@
 -- `word_lists::inner::put_list` meets its contract. The invariant: the first k numbers are written. Assumes nothing.
-use Prim.Native.Nat.{◌-◌}
 use Rattle.word_lists.proofs.PutLaws.{list_start, list_turn, list_end}
 use borrow.Author.Rules.{rules}
 use Rattle.word_lists.proofs.inner.put_list.Goals as goal

@@ -1,5 +1,4 @@
 -- `word_lists::inner::put_words` meets its contract. The invariant: the first k words are written. Assumes nothing.
-use Prim.Native.Nat.{◌-◌}
 use Rattle.word_lists.proofs.PutLaws.{words_start, words_turn, words_end}
 use borrow.Author.Rules.{rules}
 use Rattle.word_lists.proofs.inner.put_words.Goals as goal
