@@ -23,11 +23,11 @@ use Rattle.layout.specs.Limits.{most_parts, most_steps}
 use Rattle.depths.specs.Depths.{four}
 use Rattle.depths.proofs.DepthLaws.{length_four, four_left, four_past, fours_length, fours_at}
 use Rattle.mesh.specs.Mesh.{top, cell_count, mesh_number}
-use Rattle.mesh.specs.Walks.{Near, reach, steps, bad10}
+use Rattle.mesh.specs.Walks.{Near, steps, bad10}
 use Rattle.mesh.proofs.WalkLaws.{steps_few}
 use Rattle.round_rule.specs.Rules.{new_depth, bad11}
 use Rattle.round.specs.Rounds.{scheme_of, depth_in, undivided, bad14}
-use Rattle.split.specs.Split.{Split, split_of, owned, imports, exports, locals, local_of, global_of}
+use Rattle.split.specs.Split.{Split, split_of, imports, exports, locals, local_of, global_of}
 use Rattle.split.specs.Lists.{size_tests, split_in}
 use Rattle.split.proofs.SplitLaws.{split_parted, split_fine, sizes_parted, map_facts, split_reach, split_owner, SplitCell, order_length, own_is, own_has, own_local, local_back, own_first, import_own, import_at, import_fits, local_cases, reach_held, import_total, own_cells, own_count}
 use Rattle.part_state.specs.State.{LocalNear, Lists, lists_in, dynamic, round_at, taken_place, depth_place, state_length}
