@@ -113,7 +113,7 @@ pub fn put_exports(
     at: usize,
 ) -> usize
     requires { Accepted m.now × (i ≤ most_parts) × (parts ≤ most_parts) }
-    ensures { Printed out.old out.new at result (blocks 1 parts (export_line owners.now table.now ends.entry.now (first_cell m.now) (cell_count m.now) i)) }
+    ensures { Printed out.old out.new at result (blocks 1 parts (export_line owners.now table.now ends.now (first_cell m.now) (cell_count m.now) i)) }
 {
     let first = first_cell(m);
     let cells = cell_count(m);

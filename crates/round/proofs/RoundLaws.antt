@@ -16,8 +16,8 @@ use Rattle.layout.specs.Words.{word}
 use Rattle.depths.specs.Depths.{deepest, Within, Valid, four, number_from, signed, depth_from, value_from, value_of, ranged_at}
 use Rattle.depths.proofs.DepthLaws.{length_four, four_same, value_same, value_four, fours_length, fours_at, within_valid, ranged_valid}
 use Rattle.mesh.specs.Walks.{Near}
-use Rattle.round_rule.specs.Rules.{Old, read_by, depth_sum, weight_sum, ones, plain_old, new_depth}
-use Rattle.round_rule.proofs.RuleLaws.{SmallOld, Floored, mean_floor, point_floor, new_within, new_length}
+use Rattle.round_rule.specs.Rules.{Old, read_by, depth_sum, weight_sum, ones, plain_old, new_depth, Floored}
+use Rattle.round_rule.proofs.RuleLaws.{SmallOld, mean_floor, point_floor, new_within, new_length}
 use Rattle.round.specs.Rounds.{bad14, Scheme, scheme_of, depth_in, olds_in, new_in, round, undivided, point_in}
 use Rattle.round_update.specs.Update.{olds_at}
 

@@ -24,7 +24,7 @@ use Rattle.depths.specs.Depths.{depth_of, gap_bytes, is_depth, value_of, value_b
 use Rattle.depths.proofs.DepthLaws.{gap_alone, value_is, length_value_bytes, value_back, bytes_gap}
 use Rattle.depths.specs.declared.Value.{Value}
 use Rattle.depths.specs.declared.Value.TheVariants.{Depth, Gap}
-use Rattle.round_rule.specs.Rules.{Old, weight_count, too_heavy, bad11, without_gaps, read_by, weight, depth_sum, weight_sum, quotient, mean_of, mean, ones, plain_old, plain_mean, lesser, least, least_of, new_depth}
+use Rattle.round_rule.specs.Rules.{Old, weight_count, too_heavy, bad11, without_gaps, read_by, weight, depth_sum, weight_sum, quotient, mean_of, mean, ones, plain_old, plain_mean, lesser, least, least_of, new_depth, Floored}
 use Rattle.round_rule.specs.Code.{divided_by, lesser_of}
 
 -- ---- what is read
@@ -211,11 +211,6 @@ module _ (w : ℕ) (i : 1 ≤ w) where
 positive : (w : ℕ) → eqb w 0 ≡ false → 1 ≤ w
 positive zero e = absurd (true≢false e)
 positive (suc w) e = omega arith
-
--- what is proved of every mean that is no gap: it is not deeper than its sum over its weights, and one more would be (F-4)
-unfoldable pub Floored : ℤ → ℕ → Value → Type 0
-Floored sum weights (Depth z) = ((pos weights *ℤ z) ≤ℤ sum) × (sum <ℤ (pos weights *ℤ (z +ℤ pos 1)))
-Floored sum weights Gap = Unit {0}
 
 divided_floor : (sum : ℤ) (w : ℕ) → Floored sum w (divided_by sum w)
 unfolding Floored

@@ -1,7 +1,7 @@
 -- Rules and the new value of one cell, a depth or a gap, and the refusal 11. Assumes nothing.
 --
 -- "The rule kind is 0 hold, 1 mean, 2 shoalest."
-use Rattle.std.specs.Prelude.{Bool, ◌&&◌, ◌||◌, not, cond, List, [], ◌∷◌, map, ℕ, zero, suc, ◌+◌, ◌*◌, ◌/◌, eqb, ltb, ℤ, pos, negsuc, ◌+ℤ◌, ◌*ℤ◌, length}
+use Rattle.std.specs.Prelude.{Bool, ◌&&◌, ◌||◌, not, cond, List, [], ◌∷◌, map, ℕ, zero, suc, ◌+◌, ◌*◌, ◌/◌, eqb, ltb, ℤ, pos, negsuc, ◌+ℤ◌, ◌*ℤ◌, ◌≤ℤ◌, ◌<ℤ◌, length}
 use Rattle.std.specs.Int.Signed.{lt_z}
 use Rattle.vocabulary.specs.Lists.{filtered}
 use Rattle.vocabulary.specs.Intervals.{some}
@@ -67,6 +67,11 @@ module _ (v : Bytes) where
 unfoldable pub quotient : ℤ → ℕ → ℤ
 quotient (pos n) weights = pos (n / weights)
 quotient (negsuc n) weights = negsuc (n / weights)
+
+-- what is proved of every mean that is no gap: it is not deeper than its sum over its weights, and one more would be (F-4)
+unfoldable pub Floored : ℤ → ℕ → Value → Type 0
+Floored sum weights (Depth z) = ((pos weights *ℤ z) ≤ℤ sum) × (sum <ℤ (pos weights *ℤ (z +ℤ pos 1)))
+Floored sum weights Gap = Unit {0}
 
 -- of what is read: "The new depth is the sum of v(layer/2) × old depth over the reach, divided by the sum of those weights"; ".. with only gaps, or only zero weights
 -- left, the new value is a gap" (F-2). Standard term: weighted average (normalized convolution).

@@ -105,7 +105,7 @@ module _ (S : Split) (i : ℕ) where
       let b = local_back S i (global_of (locals S i) l) a in
       local_once _ l b.0 b.1 low high b.2
 
-  -- what stands in the local order is held; `held-has` is the other way
+  -- what stands in the local order is held; `held_has` is the other way
   module _ (own_reach : (c : ℕ) → SplitCell S c → reaches S c c ≡ true) where
     pub order_held : (l : ℕ) → 1 ≤ l → l ≤ length (locals S i) → holds S i (global_of (locals S i) l) ≡ true
     order_held l low high = ⊎_elim mine theirs (local_cases S i l low high)

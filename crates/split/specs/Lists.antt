@@ -57,7 +57,7 @@ module _ (D : SplitInput) where
   unfoldable pub size_tests : List Test
   size_tests = refuse 12 (bad12 split_in) ∷ refuse 13 (bad13 D.mesh D.stencil) ∷ []
 
--- the number of the first of these tests that holds
+-- the numbers of the two, apart
 unfoldable pub split_number : Bytes → ℕ → Bytes → List ℕ → Bytes → ℕ
 split_number m parts owners named stencil = first_of (split_tests (split_input m parts owners stencil) named)
 

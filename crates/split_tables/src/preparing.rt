@@ -97,7 +97,7 @@ pub fn prepare(
         × (length prev.old ≡ record_places) × (last.old ≡ replicate element_places 0) × (length table.old ≡ table_bytes) × (length ends.old ≡ element_places)
         × (length holders.old ≡ most_elements) × (length class.old ≡ most_elements) }
     ensures { (result ≡ sizes_number m.now parts owners.now stencil.now)
-        × (result ≡ 0 → Prepared m.now parts owners.now stencil.now table.new ends.new holders.exit.now)
+        × (result ≡ 0 → Prepared m.now parts owners.now stencil.now table.new ends.new holders.new)
         × Ground m.now stencil.now cell.new prev.new last.new }
 {
     let sizes = sizes_of(m);

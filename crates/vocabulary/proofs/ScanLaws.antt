@@ -1,5 +1,5 @@
 -- Laws for a loop that tries the numbers x from a on, n of them, and stops at the first that tells: `some` and `every` as its turns make
--- them. The answer t of a test stands in for the test, as a call gives it. RangeLaws has the same for a loop from 0 on. Assumes nothing.
+-- them. The answer t of a test stands in for the test, as a call gives it. IntervalLaws has the same for a loop from 0 on. Assumes nothing.
 use Rattle.std.specs.Prelude.{◌≡◌, Bool, true, false, not, ℕ, ◌+◌, ◌-◌, ◌≤◌, ◌<◌}
 use Rattle.std.proofs.Common.{sym, ap, ◌∙◌}
 use native.Mathlib.Omega.{arith}

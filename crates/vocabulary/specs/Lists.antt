@@ -45,6 +45,6 @@ pub record Zeros (n : ℕ) (xs : List ℕ) : Type 0 where
   pub size : length xs ≡ n
   pub each : (i : ℕ) → get_or xs i 0 ≡ 0
 
--- rising: each number is below every later one (F-3)
+-- rising: each number is below every later one
 abbrev pub Rises : List ℕ → Type 0
 Rises xs = (i j : ℕ) → i < j → j < length xs → get_or xs i 0 < get_or xs j 0

@@ -1,2 +1,2 @@
-// No code: the words in which every definition of the engine is said, and their laws, stand in specs/.
+// No code: the words in which every definition of the engine is said stand in specs/, and their laws in proofs/.
 #![tactic(auto)]

@@ -60,7 +60,7 @@ pub fn invert(
     last: &mut [u16],
 ) -> usize
     requires { Accepted m.now × (n ≡ elements m.now) × (r ≡ record_count m.now) × (first ≡ first_cell m.now) × (cells ≡ cell_count m.now) }
-    ensures { Links.links result cell.new prev.new last.new ≡ link_cells m.now first cells (Links.links 0 cell.entry.now prev.old last.old) }
+    ensures { Links.links result cell.new prev.new last.new ≡ link_cells m.now first cells (Links.links 0 cell.old prev.old last.old) }
 {
     let mut s = 0;
     for e in first..first + cells {
