@@ -79,10 +79,7 @@ impl Repository {
             requests::correct(path, &mut page.definitions);
             self.pages.insert(path.to_string(), page);
         } else if path.starts_with("crates/") && path.ends_with(".rt") {
-            let mut code = code::read(&text);
-            let folder = path.split_inclusive('/').take(3).collect::<String>();
-            requests::correct(folder.trim_end_matches('/'), &mut code.types);
-            self.code.insert(path.to_string(), code);
+            self.code.insert(path.to_string(), code::read(&text));
         }
         self.texts.insert(path.to_string(), text);
     }

@@ -3,9 +3,7 @@
 use crate::pages::Definition;
 
 /// Pages, the request (0 is document 01), and the definitions that came with it.
-const CAME_WITH: [(&str, u32, &[&str]); 13] = [
-    ("crates/vocabulary/specs/Lists.antt", 2, &["filtered"]),
-    ("crates/vocabulary/specs/Lists.antt", 3, &["Rises"]),
+const CAME_WITH: [(&str, u32, &[&str]); 4] = [
     (
         "crates/depths/specs/Depths.antt",
         0,
@@ -22,32 +20,22 @@ const CAME_WITH: [(&str, u32, &[&str]); 13] = [
             "in_range",
         ],
     ),
-    ("crates/messages/specs/Messages.antt", 0, &["Message", "bad15"]),
-    ("crates/round_rule/specs/Rules.antt", 0, &["mean"]),
     ("crates/round_rule/specs/Rules.antt", 1, &["plain_old", "plain_mean"]),
-    ("crates/round/specs/Rounds.antt", 0, &["bad14"]),
     (
         "crates/part_state/specs/State.antt",
         1,
         &[
             "point_ends_word",
             "point_cells_word",
-            "climbs",
             "points_from",
             "point_count",
             "point_at",
             "point_end",
             "point_cells",
             "point_cell_at",
-            "local_around",
-            "valid_point_cell",
         ],
     ),
     ("crates/part_calls/specs/Calls.antt", 1, &["points_number", "points_answer", "points_out"]),
-    ("crates/part_start_plan/specs/Start.antt", 1, &["around_words"]),
-    ("crates/run_theorem/specs/Run.antt", 0, &["StateBound"]),
-    ("crates/run_theorem/specs/Run.antt", 1, &["PointDepths", "points_given_by"]),
-    ("crates/place_search/src", 3, &["Found", "Search"]),
 ];
 
 /// Sets the request of each listed definition of a page, and of those of its lines that have no request of their own.
@@ -74,14 +62,14 @@ mod tests {
 
     #[test]
     fn a_listed_definition_and_its_lines_have_the_request() {
-        let text = "-- head (F-4)\n\n-- as (F-9, x) says\npub record filtered : Type 0 where\n  pub a : ℕ\n  -- b (F-7)\n  pub b : ℕ\n\nother : ℕ\nother = 0\n";
+        let text = "-- head (F-4)\n\n-- as (F-9, x) says\npub record plain_old : Type 0 where\n  pub a : ℕ\n  -- b (F-7)\n  pub b : ℕ\n\nother : ℕ\nother = 0\n";
         let mut page = read(text);
-        correct("crates/vocabulary/specs/Lists.antt", &mut page.definitions);
+        correct("crates/round_rule/specs/Rules.antt", &mut page.definitions);
         let told = |at: usize| {
             (page.definitions[at].request, page.definitions[at].lines.iter().map(|line| line.request).collect())
         };
-        assert_eq!([told(0), told(1)], [(2, vec![2, 2, 2, 7, 7]), (4, vec![4, 4])]);
+        assert_eq!([told(0), told(1)], [(1, vec![1, 1, 1, 7, 7]), (4, vec![4, 4])]);
         correct("crates/other/specs/Lists.antt", &mut page.definitions);
-        assert_eq!(page.definitions[0].request, 2);
+        assert_eq!(page.definitions[0].request, 1);
     }
 }
