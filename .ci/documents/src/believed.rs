@@ -2,7 +2,7 @@
 
 use std::collections::BTreeSet;
 
-use crate::pages::{Definition, Imports};
+use crate::pages::{Definition, Imports, Page};
 use crate::repository::{Place, Repository, Slip};
 
 /// The public calls, by crate; `*` stands for every function of the crate. They are those of the last table of docs/TRACE.md. The calls that
@@ -30,18 +30,43 @@ const STATEMENTS: [(&str, &str); 10] = [
     ("round_rule", "Floored"),
 ];
 
-/// Pages of specs/ that nobody has to believe: the lists of a crate's pages, the words in which proofs speak of the code, and the examples.
-fn is_beside(page: &str) -> bool {
+/// What the head of a page says on which no believed definition stands: it has the words in which inner contracts speak of the code.
+const INNER: &str = "o public contract rests on this page";
+
+/// Pages of specs/ that nobody has to believe: the lists of a crate's pages, those whose head says so, and the examples.
+fn is_beside(page: &str, read: &Page) -> bool {
     page.ends_with("/Lib.antt")
-        || page.ends_with("/Code.antt")
+        || read.head.contains(INNER)
         || ["worked_examples/specs/Table", "changed_examples/specs/Table", "example_inputs/specs/Inputs"]
             .iter()
             .any(|examples| page == format!("crates/{examples}.antt"))
 }
 
+/// Definitions that only contracts within the engine and proofs rest on, and that stand on pages of the believed text.
+const INNER_DEFINITIONS: [(&str, &[&str]); 8] = [
+    ("depths/specs/Depths", &["Within", "Valid"]),
+    ("layout/specs/Limits", &["element_places", "record_places", "table_bytes"]),
+    (
+        "list_input/specs/Pieces",
+        &["pieces_number", "pieces_text", "stencil_text", "last_text", "owners_text", "map_text"],
+    ),
+    ("list_text/specs/Printing", &["numbers"]),
+    ("part_state/specs/State", &["is_state_at"]),
+    ("round_rule/specs/Kinds", &["kind_number", "rule_of"]),
+    ("split/specs/Lists", &["sizes_number"]),
+    ("vocabulary/specs/Lists", &["Zeros"]),
+];
+
 /// How a document names a page.
 pub fn label(page: &str) -> String {
-    page.trim_start_matches("crates/").trim_end_matches(".antt").replace("/specs/", "/")
+    page.trim_start_matches("crates/").trim_end_matches(".antt").replace("/specs/", "/").replace("/proofs/", "/")
+}
+
+/// Whether a definition is one of those that are listed as inner.
+fn is_inner(place: &Place) -> bool {
+    INNER_DEFINITIONS
+        .iter()
+        .any(|(page, names)| place.page == format!("crates/{page}.antt") && names.contains(&place.name.as_str()))
 }
 
 pub struct Believed<'a> {
@@ -63,9 +88,11 @@ impl<'a> Believed<'a> {
         }
         for (package, name) in statements {
             let specs = format!("crates/{package}/specs/");
-            let page =
-                repository.pages.keys().find(|page| page.starts_with(&specs) && repository.find(page, name).is_some());
-            match page.and_then(|page| repository.find(page, name)) {
+            let proofs = format!("crates/{package}/proofs/");
+            let states = |folder: &str| {
+                repository.pages.keys().find(|page| page.starts_with(folder) && repository.find(page, name).is_some())
+            };
+            match states(&specs).or_else(|| states(&proofs)).and_then(|page| repository.find(page, name)) {
                 Some((_, place)) => believed.add(place),
                 None => believed.slips.push(Slip::new(&specs, 0, format!("no statement {name}"))),
             }
@@ -107,6 +134,25 @@ impl<'a> Believed<'a> {
         }
     }
 
+    /// What is listed as inner and is not there, or is believed.
+    pub fn listed(&self) -> Vec<Slip> {
+        let mut slips = Vec::new();
+        for (page, names) in INNER_DEFINITIONS {
+            let page = format!("crates/{page}.antt");
+            for name in names {
+                match self.repository.find(&page, name) {
+                    Some((_, place)) if !self.found.contains(&place) => {}
+                    _ => slips.push(Slip::new(
+                        &page,
+                        0,
+                        format!("{name} is listed as inner, and is not there or is believed"),
+                    )),
+                }
+            }
+        }
+        slips
+    }
+
     /// The pages that have believed definitions.
     pub fn pages(&self) -> BTreeSet<&str> {
         self.found.iter().map(|place| place.page.as_str()).collect()
@@ -120,27 +166,31 @@ impl<'a> Believed<'a> {
         found
     }
 
-    /// What stands in specs/ and is not believed, and what is believed and stands elsewhere.
+    /// What stands in specs/ and is neither believed nor listed above, and what is believed and stands elsewhere; a statement itself may.
     pub fn misplaced(&self) -> Vec<Slip> {
         let mut slips = Vec::new();
         for (page, read) in
-            self.repository.pages.iter().filter(|(page, _)| page.contains("/specs/") && !is_beside(page))
+            self.repository.pages.iter().filter(|(page, read)| page.contains("/specs/") && !is_beside(page, read))
         {
             for definition in &read.definitions {
                 let place = Place { page: page.clone(), name: definition.name.clone() };
-                if !self.found.contains(&place) {
+                if !self.found.contains(&place) && !is_inner(&place) {
                     let what = format!("{} is in specs/, and no public statement rests on it", definition.name);
                     slips.push(Slip::new(page, definition.line, what));
                 }
             }
         }
-        for page in self.pages().into_iter().filter(|page| is_beside(page) || page.contains("/proofs/")) {
+        let is_elsewhere = |page: &&str| {
+            page.contains("/proofs/") || self.repository.pages.get(*page).is_some_and(|read| is_beside(page, read))
+        };
+        for page in self.pages().into_iter().filter(is_elsewhere) {
             for definition in self.on(page) {
-                slips.push(Slip::new(
-                    page,
-                    definition.line,
-                    format!("a public statement rests on {}, here", definition.name),
-                ));
+                if !STATEMENTS.iter().any(|(package, name)| {
+                    *name == definition.name && page.starts_with(&format!("crates/{package}/proofs/"))
+                }) {
+                    let what = format!("a public statement rests on {}, here", definition.name);
+                    slips.push(Slip::new(page, definition.line, what));
+                }
             }
         }
         slips
@@ -153,10 +203,10 @@ mod tests {
     use crate::repository::Repository;
 
     const CALL: &str = "\
-ghost use Rattle·mesh.specs.Mesh.{answer};
+ghost use Rattle.mesh.specs.Mesh.{answer};
 
 pub fn call(b: &[u8]) -> Told
-    ensures { λ r. ⌜ r ≡ answer b ⌝ }
+    ensures { result ≡ answer b.now }
 {
     0
 }
@@ -170,12 +220,12 @@ struct Inner(u8);
 
     const MESH: &str = "\
 -- head
-use Rattle·words.specs.Words.{word}
-use Rattle·words.specs.declared.Kind.the-variants.{Mean}
+use Rattle.words.specs.Words.{word}
+use Rattle.words.specs.declared.Kind.TheVariants.{Mean}
 
 module _ (m : Sized) where
   unfoldable pub answer : ℕ
-  answer = word m + kind .unused
+  answer = word m + kind.unused
 
 record Sized : Type 0 where
   pub size : ℕ
@@ -193,7 +243,10 @@ kind = Mean
         repository.add("crates/mesh/specs/Mesh.antt", MESH.into());
         let words = "unfoldable pub word : ℕ\nword = 0\n\npub word-law : word ≡ 0\nword-law = refl\n";
         repository.add("crates/words/specs/Words.antt", words.into());
-        repository.add("crates/words/specs/Code.antt", "-- head\n\nunfoldable pub mirror : ℕ\nmirror = 0\n".into());
+        repository.add(
+            "crates/words/specs/Code.antt",
+            "-- No public contract rests\n-- on this page.\n\nunfoldable pub mirror : ℕ\nmirror = 0\n".into(),
+        );
         repository.add("crates/words/src/lib.rt", "// Kinds.\npub enum Kind {\n    Mean,\n}\n".into());
         repository
     }
@@ -237,7 +290,7 @@ kind = Mean
         assert!(
             told.iter()
                 .any(|slip| slip.to_string()
-                    == "crates/words/specs/Code.antt:3: a public statement rests on mirror, here")
+                    == "crates/words/specs/Code.antt:4: a public statement rests on mirror, here")
         );
     }
 

@@ -43,13 +43,14 @@ pub enum Cited {
     Path(String),
 }
 
-/// The documents whose citations are checked. The notes on the first two requests speak of crates that have other names now.
+/// The documents whose citations are checked. The notes on the first two requests, and the page on the move to today's kit, speak of names that
+/// are there no more.
 pub fn is_document(path: &str) -> bool {
     let folder = path.rsplit_once('/').map_or("", |(folder, _)| folder);
     ["README.md", "CHANGELOG.md", "CONTRIBUTING.md", "examples/README.md", "model/README.md"].contains(&path)
         || ["docs", "docs/changes"].contains(&folder)
             && path.ends_with(".md")
-            && !["docs/changes/F-1.md", "docs/changes/F-2.md"].contains(&path)
+            && !["docs/PORT.md", "docs/changes/F-1.md", "docs/changes/F-2.md"].contains(&path)
 }
 
 /// All that a document cites, and on which lines.
@@ -149,7 +150,7 @@ fn open_brackets(spans: &[Span]) -> bool {
     count('(') > count(')')
 }
 
-/// The paths in a span. A command may have several.
+/// The paths in a span. A command may have several. What `rt` builds, in `out/` of a crate, need not be there.
 fn paths(text: &str) -> Vec<Cited> {
     let path = |word: &str| {
         let word = word.trim_end_matches([',', ';', ':']);
@@ -159,6 +160,9 @@ fn paths(text: &str) -> Vec<Cited> {
             is_package(package)
                 && ["specs", "proofs", "src", "must-fail"].contains(&rest.split('/').next().unwrap_or(""))
         });
+        if word.starts_with("crates/") && word.split('/').nth(2) == Some("out") {
+            return None;
+        }
         match (rooted, in_crate) {
             (true, _) => Some(Cited::Path(word.trim_end_matches('/').to_string())),
             (_, true) => Some(Cited::Path(format!("crates/{}", word.trim_end_matches('/')))),
@@ -362,7 +366,7 @@ mod tests {
             "`model/tests/runs.rs`: every_order (7 8, and 9), another; `model/tests/runs.rs`: every part map is held to one field",
             "`mesh`: inner `read_record` (`x` of it, `y`), `next_of`; `ChainReader`; `layout`: `MOST`, and by it `absent`; `layout`: the nine calls",
             "`mesh::read_record`, `mesh::inner::next_of`, `std::mem::take`, `Found`: `At`, `crate/File: name`, `crate`: `function`, `specs/Code`",
-            "`crates/mesh/src`, `crates/mesh/specs/Mesh.antt`, `cat < docs/TRACE.md`, `crates/*/must-fail`, `crates/NAME/specs`, `mesh/src/reader.rt`",
+            "`crates/NAME/out/NAME`, `crates/mesh/src`, `crates/mesh/specs/Mesh.antt`, `cat < docs/TRACE.md`, `crates/*/must-fail`, `crates/NAME/specs`, `mesh/src/reader.rt`",
             "By D-1, see (D-1). A `D-1` and X-D-7.\n\n    $ `\n\n```\n`mesh/Mesh: absent`\n```\n",
         ] {
             assert_eq!(slips(document), Vec::<String>::new(), "{document}");

@@ -44,17 +44,20 @@ pub fn read(text: &str) -> Code {
 
 /// A type, with the comment above it.
 fn declared(lines: &[&str], at: usize, name: &str) -> Definition {
+    // what it derives stands between it and the comment
+    let derives = lines[..at].iter().rev().take_while(|line| line.starts_with("#[")).count();
+    let at = at - derives;
     let above = lines[..at].iter().rev().take_while(|line| line.starts_with("//")).count();
-    let body = 1 + lines[at..].iter().take_while(|line| !line.ends_with(';') && **line != "}").count();
+    let body = 1 + lines[at + derives..].iter().take_while(|line| !line.ends_with(';') && **line != "}").count();
     let request = request(&lines[at - above..at].join("\n"), "", lines[0]);
     Definition {
         name: name.to_string(),
         kind: Kind::Data,
         public: true,
-        line: at + 1,
+        line: at + derives + 1,
         lines: lines_of(request, above, body),
         parts: Vec::new(),
-        text: names_alone(&lines[at..at + body].join("\n")),
+        text: names_alone(&lines[at + derives..at + derives + body].join("\n")),
         request,
     }
 }
@@ -64,8 +67,14 @@ fn function(lines: &[&str], at: usize, name: &str) -> Function {
     let indent = lines[at].len() - lines[at].trim_start().len();
     let header = |line: &&&str| line.get(indent..) != Some("{");
     let contract = |line: &&&str| !["requires", "ensures"].iter().any(|clause| line.trim_start().starts_with(clause));
+    // without a contract the brace of the body stands on the last line of the types
     let types: Vec<&str> = lines[at..].iter().take_while(header).take_while(contract).copied().collect();
-    let promised: Vec<&str> = lines[at..].iter().take_while(header).skip(types.len()).copied().collect();
+    let bare = types.iter().position(|line| line.ends_with('{'));
+    let types = &types[..bare.map_or(types.len(), |at| at + 1)];
+    let promised: Vec<&str> = match bare {
+        Some(_) => Vec::new(),
+        None => lines[at..].iter().take_while(header).skip(types.len()).copied().collect(),
+    };
     Function {
         name: name.to_string(),
         line: at + 1,
@@ -92,7 +101,7 @@ mod tests {
 
     const CODE: &str = "\
 use layout::word_at;
-ghost use Rattle·messages·specs.specs.Messages.{bad15, reading};
+ghost use Rattle.messages.specs.Messages.{bad15, reading};
 
 pub const SIZE: usize = 8;
 
@@ -103,6 +112,7 @@ pub struct Header {
 }
 
 // A cell.
+#[derive(Clone, Copy)]
 pub struct Local(pub usize);
 
 pub enum Reading {
@@ -113,18 +123,22 @@ pub enum Reading {
 pub extern \"C\" fn read(
     b: &[u8],
 ) -> Reading
-    requires { ⌜ 1 ≤ length b ⌝ }
-    ensures { λ r. ⌜ r ≡ reading (now (b .entry)) ⌝ }
+    requires { 1 ≤ length b.old }
+    ensures { result ≡ reading b.old }
 {
     other(b)
 }
 
 impl Header {
     pub fn size(self) -> usize
-        ensures { λ r. ⌜ r ≡ 8 ⌝ }
+        ensures { result ≡ 8 }
     {
         8
     }
+}
+
+fn bare() {
+    inner()
 }
 ";
 
@@ -133,14 +147,15 @@ impl Header {
         let code = read(CODE);
         assert_eq!(
             code.functions.iter().map(|f| (f.name.as_str(), f.line)).collect::<Vec<_>>(),
-            [("read", 20), ("size", 30)]
+            [("read", 21), ("size", 31), ("bare", 38)]
         );
-        assert!(
-            code.functions[0].text.contains(" Reading") && code.functions[0].text.contains("reading (now (b .entry))")
-        );
-        assert!(!code.functions[0].text.contains("other"));
+        assert!(code.functions[0].text.contains(" Reading") && code.functions[0].text.contains("reading b.old"));
+        assert!(!code.functions[0].text.contains("other") && !code.functions[2].text.contains("inner"));
         assert!(code.imports.names.contains_key("reading"));
-        assert_eq!(code.names.iter().collect::<Vec<_>>(), ["Header", "Local", "Reading", "SIZE", "read", "size"]);
+        assert_eq!(
+            code.names.iter().collect::<Vec<_>>(),
+            ["Header", "Local", "Reading", "SIZE", "bare", "read", "size"]
+        );
     }
 
     #[test]

@@ -70,7 +70,7 @@ value = 0
 
     /// Its law `again` is not that of the other page.
     const OTHERS: &str = "\
-use Rattle·mesh.proofs.Laws.{imported}
+use Rattle.mesh.proofs.Laws.{imported}
 
 pub again : ⊤
 again = tt

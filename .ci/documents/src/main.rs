@@ -1,6 +1,7 @@
 //! Holds the documents to the definitions. Run it from the root of the repository.
 //!
 //! - `documents believed` prints the believed text as docs/READING.md has it.
+//! - `documents laws` prints the laws that nothing names.
 //! - `documents check` prints each thing that is wrong as `file:line: what`, and ends with status 1 if there is any.
 
 mod believed;
@@ -11,6 +12,7 @@ mod markdown;
 mod pages;
 mod reading;
 mod repository;
+mod requests;
 mod texts;
 mod words;
 
@@ -35,13 +37,20 @@ fn main() -> ExitCode {
             print!("{}", reading::block(&repository, &believed));
             ExitCode::SUCCESS
         }
+        Some("laws") => {
+            for law in laws::check(&repository) {
+                println!("{law}");
+            }
+            ExitCode::SUCCESS
+        }
         Some("check") => {
             let mut slips = repository.unknown_imports();
+            slips.extend(repository.unknown_listed());
             slips.extend(believed.slips.iter().cloned());
             slips.extend(believed.misplaced());
+            slips.extend(believed.listed());
             slips.extend(reading::check(&repository, &believed));
             slips.extend(cited::check(&repository));
-            slips.extend(laws::check(&repository));
             slips.extend(texts::check(&repository));
             slips.sort();
             for slip in &slips {
@@ -50,7 +59,7 @@ fn main() -> ExitCode {
             if slips.is_empty() { ExitCode::SUCCESS } else { ExitCode::FAILURE }
         }
         _ => {
-            eprintln!("documents believed | check");
+            eprintln!("documents believed | laws | check");
             ExitCode::FAILURE
         }
     }

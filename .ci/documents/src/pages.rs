@@ -58,6 +58,8 @@ pub struct Imports {
 
 #[derive(Debug, Default)]
 pub struct Page {
+    /// The comment at its head, on one line.
+    pub head: String,
     pub imports: Imports,
     pub definitions: Vec<Definition>,
     /// Where the definition of each name and of each constructor stands among them.
@@ -72,9 +74,10 @@ impl Page {
 }
 
 impl Imports {
-    /// Adds `use Rattle·mesh.specs.Mesh.{top, below as under}` or `use Rattle·mesh.specs.Mesh as mesh`. Other imports are the library's.
+    /// Adds `use Rattle.mesh.specs.Mesh.{top, below as under}` or `use Rattle.mesh.specs.Mesh as mesh`. Those of a crate that is not here are the
+    /// library's.
     pub fn add(&mut self, line: usize, text: &str) {
-        let Some((_, import)) = text.trim_end_matches(';').split_once("use Rattle·") else { return };
+        let Some((_, import)) = text.trim_end_matches(';').split_once("use Rattle.") else { return };
         if let Some((path, names)) = import.split_once(".{") {
             let (page, declared) = page_of(path);
             for name in names.trim_end_matches('}').split(", ") {
@@ -91,10 +94,9 @@ impl Imports {
 /// The page that a path of an import names, and the type, where it is one that the code declares: its variants stand for it.
 fn page_of(path: &str) -> (String, Option<&str>) {
     let (package, rest) = path.split_once('.').unwrap_or((path, ""));
-    let package = package.split('·').next().unwrap_or(package);
     match rest.strip_prefix("specs.declared.") {
         Some(declared) => {
-            (format!("crates/{package}/src"), declared.trim_end_matches(".the-variants").rsplit('.').next())
+            (format!("crates/{package}/src"), declared.trim_end_matches(".TheVariants").rsplit('.').next())
         }
         None => (format!("crates/{package}/{}.antt", rest.replace('.', "/")), None),
     }
@@ -134,6 +136,8 @@ pub fn read(text: &str) -> Page {
         reader.line(at + 1, line);
     }
     let mut page = reader.page;
+    let line = |line: &str| line.trim_start_matches("--").trim().to_string();
+    page.head = text.lines().take(head).map(line).collect::<Vec<_>>().join(" ");
     for (place, found) in page.definitions.iter().enumerate().rev() {
         let constructors = found.parts.iter().filter(|_| found.kind == Kind::Data);
         page.places.extend(constructors.chain([&found.name]).map(|name| (name.clone(), place)));
@@ -298,10 +302,10 @@ mod tests {
 -- Words (F-3). Assumes nothing.
 --
 -- \"A word is two bytes.\"
-use lib.ListN.{length}
-use Rattle·mesh.specs.Mesh.{top, below as under}
-use Rattle·mesh·specs.specs.declared.inner.Wanted.the-variants.{Imports}
-use Rattle·messages.specs.Messages as paper
+use Rattle.std.specs.Prelude.{length}
+use Rattle.mesh.specs.Mesh.{top, below as under}
+use Rattle.mesh.specs.declared.inner.Wanted.TheVariants.{Imports}
+use Rattle.messages.specs.Messages as paper
 
 -- not the comment of it
 
@@ -337,6 +341,7 @@ x = 0
 
     #[test]
     fn names_kinds_and_parts() {
+        assert_eq!(read(PAGE).head, "Words (F-3). Assumes nothing.  \"A word is two bytes.\"");
         let found = read(PAGE).definitions;
         let names: Vec<_> = found.iter().map(|d| (d.name.as_str(), d.kind, d.public, d.line)).collect();
         assert_eq!(
@@ -387,6 +392,6 @@ x = 0
         assert_eq!(imports.names.get("under"), origin("crates/mesh/specs/Mesh.antt", "below", 5).as_ref());
         assert_eq!(imports.names.get("Imports"), origin("crates/mesh/src", "Wanted", 6).as_ref());
         assert_eq!(imports.pages.get("paper").map(String::as_str), Some("crates/messages/specs/Messages.antt"));
-        assert_eq!(imports.names.get("length"), None);
+        assert_eq!(imports.names.get("length"), origin("crates/std/specs/Prelude.antt", "length", 4).as_ref());
     }
 }

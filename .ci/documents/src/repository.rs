@@ -7,6 +7,7 @@ use std::{fs, io};
 
 use crate::code::{self, Code};
 use crate::pages::{self, Definition, Imports, Page};
+use crate::requests;
 use crate::words::{Word, words};
 
 /// Something that is wrong, and where.
@@ -61,7 +62,7 @@ impl Repository {
             let path = if folder.is_empty() { name.clone() } else { format!("{folder}/{name}") };
             if !entry.file_type()?.is_dir() {
                 self.add(&path, fs::read(entry.path())?);
-            } else if !["target", ".git"].contains(&name.as_str()) {
+            } else if !["target", ".git", "out"].contains(&name.as_str()) {
                 self.enter(root, &path)?;
             }
         }
@@ -74,7 +75,9 @@ impl Repository {
         self.paths.insert(path.to_string());
         let Some(text) = String::from_utf8(bytes).ok().filter(|text| !text.contains('\0')) else { return };
         if path.starts_with("crates/") && path.ends_with(".antt") {
-            self.pages.insert(path.to_string(), pages::read(&text));
+            let mut page = pages::read(&text);
+            requests::correct(path, &mut page.definitions);
+            self.pages.insert(path.to_string(), page);
         } else if path.starts_with("crates/") && path.ends_with(".rt") {
             self.code.insert(path.to_string(), code::read(&text));
         }
@@ -83,6 +86,21 @@ impl Repository {
 
     pub fn has_crate(&self, package: &str) -> bool {
         self.paths.contains(&format!("crates/{package}"))
+    }
+
+    /// Definitions whose request is listed and that are not there.
+    pub fn unknown_listed(&self) -> Vec<Slip> {
+        let missing = requests::listed().filter(|(page, name)| self.find(page, name).is_none());
+        missing
+            .map(|(page, name)| Slip::new(page, 0, format!("the request of {name} is listed, and it is not there")))
+            .collect()
+    }
+
+    /// Whether a page that an import names is in specs/ of a crate that is here, or is its code.
+    fn is_of_here(&self, page: &str) -> bool {
+        let mut parts = page.split('/').skip(1);
+        let is_here = parts.next().is_some_and(|package| self.has_crate(package));
+        is_here && parts.next().is_some_and(|folder| folder != "proofs")
     }
 
     /// The files of a crate's code.
@@ -110,16 +128,21 @@ impl Repository {
             Word::Of(alias, name) => self.find(imports.pages.get(alias)?, name),
             Word::Field(_) | Word::Mark(_) => None,
         };
-        words(text).into_iter().filter_map(origin).map(|(_, place)| place).collect()
+        // `S.owner` is a field of S, where S is no page
+        let whole = |word| match word {
+            Word::Of(alias, _) if !imports.pages.contains_key(alias) => Word::Plain(alias),
+            word => word,
+        };
+        words(text).into_iter().map(whole).filter_map(origin).map(|(_, place)| place).collect()
     }
 
-    /// Imports of definitions or types that are not found. The checker would refuse them, so it is this program that does not see them, and
-    /// what it tells of the believed text would be too little. Pages in proofs/ may be generated.
+    /// Imports of definitions or types of this repository's crates that are not found. The checker would refuse them, so it is this program that
+    /// does not see them, and what it tells of the believed text would be too little. Pages in proofs/ may be generated.
     pub fn unknown_imports(&self) -> Vec<Slip> {
         let pages = self.pages.iter().map(|(file, page)| (file, &page.imports));
         let mut slips = Vec::new();
         for (file, imports) in pages.chain(self.code.iter().map(|(file, code)| (file, &code.imports))) {
-            for origin in imports.names.values().filter(|origin| !origin.page.contains("/proofs/")) {
+            for origin in imports.names.values().filter(|origin| self.is_of_here(&origin.page)) {
                 if self.find(&origin.page, &origin.name).is_none() {
                     slips.push(Slip::new(file, origin.line, format!("no {} is found in {}", origin.name, origin.page)));
                 }

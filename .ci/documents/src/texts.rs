@@ -1,4 +1,4 @@
-//! What holds of every text: how long its lines are.
+//! How long the lines of a text are. Those of crates/ are laid out by `rt fmt`.
 
 use crate::repository::{Repository, Slip};
 
@@ -18,10 +18,10 @@ pub fn check(repository: &Repository) -> Vec<Slip> {
     slips
 }
 
-/// What programs print, and two lists that programs read.
+/// The crates, and two lists that programs read.
 fn may_be_long(file: &str) -> bool {
     let name = file.rsplit('/').next().unwrap_or(file);
-    ["stdout", "Cargo.lock"].contains(&name) || file == "crates.txt"
+    name == "Cargo.lock" || file == "crates.txt" || file.starts_with("crates/")
 }
 
 #[cfg(test)]
@@ -33,15 +33,11 @@ mod tests {
     fn long_lines_are_told() {
         let mut repository = Repository::default();
         let line = "é".repeat(200);
-        for file in ["README.md", "crates/list/stdout", "crates/mesh/specs/Mesh.antt", "model/Cargo.lock", "crates.txt"]
-        {
+        for file in ["README.md", ".ci/run", "crates/mesh/specs/Mesh.antt", "model/Cargo.lock", "crates.txt"] {
             repository.add(file, format!("{line}\n{line}é\n").into());
         }
         repository.add("mesh.bin", vec![0; 300]);
         let told: Vec<_> = check(&repository).iter().map(|slip| slip.to_string()).collect();
-        assert_eq!(
-            told,
-            ["README.md:2: a line of 201 characters", "crates/mesh/specs/Mesh.antt:2: a line of 201 characters"]
-        );
+        assert_eq!(told, [".ci/run:2: a line of 201 characters", "README.md:2: a line of 201 characters"]);
     }
 }

@@ -5,7 +5,7 @@
 pub enum Word<'a> {
     /// A name on its own, a number or a sign.
     Plain(&'a str),
-    /// A name on a page that is imported under a name of its own: `page.name`.
+    /// A name on a page that is imported under a name of its own, `page.name`, or a field of what has a name.
     Of(&'a str, &'a str),
     /// A name directly after a dot, or one that a `record { .. }` gives a value.
     Field(&'a str),
@@ -59,7 +59,7 @@ fn name_fields(words: &mut [Word]) {
 
 /// What ends a word, beside space.
 fn is_mark(c: char) -> bool {
-    matches!(c, '(' | ')' | '{' | '}' | ';' | ',' | '.' | '⌜' | '⌝' | '"')
+    matches!(c, '(' | ')' | '{' | '}' | ';' | ',' | '.' | '"')
 }
 
 fn ends_word(c: char) -> bool {
@@ -99,9 +99,9 @@ mod tests {
 
     #[test]
     fn a_word_after_a_dot_is_a_field() {
-        assert_eq!(names("owns i c = eqb (S .owner c) i"), ["owns", "i", "c", "=", "eqb", "S", "c", "i"]);
+        assert_eq!(names("owns i c = eqb ((of S).owner c) i"), ["owns", "i", "c", "=", "eqb", "of", "S", "c", "i"]);
         assert_eq!(names("λ e. eqb (e .cell) x"), ["λ", "e", "eqb", "e", "x"]);
-        assert_eq!(names("a .0 .pre"), ["a"]);
+        assert_eq!(words("eqb S.owner.first"), [Word::Plain("eqb"), Word::Of("S", "owner"), Word::Field("first")]);
     }
 
     #[test]
