@@ -269,4 +269,5 @@ def main():
         print("renamed", module, old, new, n, sep="\t")
 
 
-main()
+if __name__ == "__main__":
+    main()
