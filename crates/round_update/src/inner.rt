@@ -64,6 +64,7 @@ fn truncated(sum: i64, w: usize) -> i32
 }
 
 // The mean, "the greatest whole number not above the quotient" (F-4): one less, if the number without the fraction is above it.
+#[tactic(auto, using(crate::proofs::Registers::lowered_gives, crate::proofs::Registers::same_gives))]
 fn quotient(sum: i64, w: usize) -> i32
     requires { (1 ≤ w) × (w ≤ 983025) × (nat_abs sum ≤ w * deepest) }
     ensures { result ≡ quotient sum w }

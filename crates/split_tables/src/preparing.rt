@@ -43,6 +43,7 @@ pub fn link(
 
 // Which of the tests 12 and 13 refuses first, where the reaches have too many entries for the table: how many cells the parts hold together is told
 // by walks from whole parts, in lent space.
+#[tactic(auto, using(crate::proofs::PreparedLaws::overflow_twelve, crate::proofs::PreparedLaws::overflow_thirteen))]
 fn overflow_number(
     m: &[u8],
     sizes: MeshSizes,

@@ -1,5 +1,5 @@
 -- `round_update::inner::quotient` meets its contract. Assumes nothing.
-use Rattle.round_update.proofs.Registers.{number_fits, times_fits, less_fits, lowered_gives, same_gives}
+use Rattle.round_update.proofs.Registers.{number_fits, times_fits, less_fits}
 use Rattle.round_update.proofs.inner.quotient.Goals as goal
 
 pub overflow_cast-back-2 : goal.overflow_cast-back-2
@@ -10,9 +10,3 @@ overflow_mul-back c = search times_fits
 
 pub overflow_sub-result : goal.overflow_sub-result
 overflow_sub-result c = search less_fits
-
-pub returns-then-sum-back : goal.returns-then-sum-back
-returns-then-sum-back c = search lowered_gives
-
-pub returns-else-sum-back : goal.returns-else-sum-back
-returns-else-sum-back c = search same_gives
