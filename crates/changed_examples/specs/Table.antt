@@ -9,7 +9,8 @@ use Rattle.depths.specs.Depths.{four, number_from, signed, unsigned, depth_from,
 use Rattle.depths.specs.declared.Value.{Value}
 use Rattle.depths.specs.declared.Value.TheVariants.{Depth, Gap}
 use Rattle.mesh.specs.Meet.{meet, stamp, unlike}
-use Rattle.mesh.specs.Mesh.{below, dimension, element_in, next_of, follow, records, chain, all_records, bad1, bad_count, bad2, mesh_length, bad3, headed, bad4, bad_item, bad_chain, bad5, leaves, unclosed, bad6, bare, bad7, mesh_tests, mesh_number}
+use Rattle.mesh.specs.Mesh.{below, dimension, element_in, next_of, follow, records, chain, all_records, bad1, bad_count, bad2, mesh_length, bad3, headed, bad4}
+use Rattle.mesh.specs.Mesh.{bad_item, bad_chain, bad5, leaves, unclosed, bad6, bare, bad7, mesh_tests, mesh_number}
 use Rattle.mesh.specs.Walks.{incident, steps, valid_at, bad10, step_to, walked, steps_to, layer, reach, bad13, cells_at}
 use Rattle.round_rule.specs.Rules.{weight_count, too_heavy, bad11, without_gaps, weight, read_by, depth_sum, weight_sum, quotient, mean_of, plain_mean, least, least_of, new_depth}
 use Rattle.round.specs.Rounds.{bad14, scheme_of, depth_in, olds_in, new_in, round, undivided}
@@ -18,7 +19,8 @@ use Rattle.split.specs.Lists.{bad8, bad9, bad12, split_tests, size_tests}
 use Rattle.split.specs.Split.{split_of, owns, owned, reaches, holds, held, imports, exports, inside, interior, halo, locals, local_of, global_of, touches, points_of, cell_points, point_ends, bad29}
 use Rattle.part_state.specs.State.{weights, local_reach, local_exports, local_around, lists_in, lists_of, rises, climbs, lists_tests, dynamic_tests, is_state, bad20}
 use Rattle.part_calls.specs.Calls.{imports_from, outside, take_tests_in, taken_in, all_taken, points_tests_in, point_given, take_number, take_state, points_number, points_out}
-use Rattle.part_start_plan.specs.Start.{import_ends, export_ends, reach_ends, reach_words, export_words, around_words, lists_long, lists_regions, state_size, size_number, inputs, Inputs, first_state, start_number, start_state}
+use Rattle.part_start_plan.specs.Start.{import_ends, export_ends, reach_ends, reach_words, export_words, around_words, lists_long, lists_regions, state_size}
+use Rattle.part_start_plan.specs.Start.{size_number, inputs, Inputs, first_state, start_number, start_state}
 use Rattle.place_search.specs.Places.{lower_bound, place_in, read_for, words_in}
 use Rattle.example_inputs.specs.Inputs.{five, triangles, field, five_inputs}
 

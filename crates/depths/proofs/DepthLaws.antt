@@ -1,6 +1,8 @@
 -- Laws of depths and gaps in bytes: fours and where they stand, depths and values written and read back, both ways, the range, and what is valid. Assumes nothing.
 use Rattle.std.specs.Prelude.{◌≡◌, refl, ◌⊎◌, Bool, true, false, cond, ℕ, zero, suc, ◌+◌, ◌-◌, ◌*◌, ◌/◌, ◌%◌, ◌<◌, ◌≤◌, ℤ, pos, negsuc, nat_abs, eqb, ltb, length, get_or, set, take, drop}
-use Rattle.std.proofs.Common.{sym, ap, ap₂, ◌∙◌, subst, ⊎_elim, not-suc-le-zero, le_of_suc-le-suc, add-zero, zero-add, length-append, length-drop, get_or-append-add, get_or-set_other, get_or-take, get_or-drop, length-take-le, ext_get_or, lt-ltb, le-ltb, leb-true, le-leb, eq-eqb, ne_eqb, eqb-true}
+use Rattle.std.proofs.Common.{sym, ap, ap₂, ◌∙◌, subst, ⊎_elim, not-suc-le-zero, le_of_suc-le-suc, add-zero, zero-add, length-append, length-drop}
+use Rattle.std.proofs.Common.{get_or-append-add, get_or-set_other, get_or-take, get_or-drop, length-take-le, ext_get_or, lt-ltb, le-ltb, leb-true, le-leb}
+use Rattle.std.proofs.Common.{eq-eqb, ne_eqb, eqb-true}
 use Rattle.std.proofs.lemmas.Bool.{false≢true}
 use mathlib.Core.List.{List, [], ◌∷◌, ◌++◌}
 use native.Mathlib.Omega.{arith}
@@ -12,7 +14,8 @@ use Rattle.vocabulary.proofs.IntervalLaws.{every_at, rows_length, rows_at, block
 use Rattle.vocabulary.proofs.ByteLaws.{over_in, over_before, over_after, over_more}
 use Rattle.layout.specs.Words.{word}
 use Rattle.layout.proofs.WordLaws.{word_same}
-use Rattle.depths.specs.Depths.{deepest, Valid, four, number_from, signed, unsigned, depth_from, depth_of, number_bytes, depth_bytes, in_range, ranged_at, gap_bytes, gap_number, value_from, value_of, value_bytes, is_depth, is_valid, Within}
+use Rattle.depths.specs.Depths.{deepest, Valid, four, number_from, signed, unsigned, depth_from, depth_of, number_bytes, depth_bytes, in_range, ranged_at}
+use Rattle.depths.specs.Depths.{gap_bytes, gap_number, value_from, value_of, value_bytes, is_depth, is_valid, Within}
 use Rattle.depths.specs.declared.Value.{Value}
 use Rattle.depths.specs.declared.Value.TheVariants.{Depth, Gap}
 

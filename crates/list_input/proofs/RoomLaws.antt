@@ -21,11 +21,13 @@ use Rattle.layout.specs.Limits.{most_elements, most_held, most_parts}
 use Rattle.mesh.specs.Mesh.{top, counted, below, first_cell, cell_count}
 use Rattle.mesh.proofs.WalkLaws.{below_grows}
 use Rattle.mesh.specs.Accepted.{Accepted}
-use Rattle.split.specs.Split.{Split, split_of, held, holds, owns, inside as inside_of, imports, exports, interior, halo, range, touches, holds_lower, another, is_private, is_exposed, is_shared, is_copied}
+use Rattle.split.specs.Split.{Split, split_of, held, holds, owns, inside as inside_of, imports, exports, interior, halo, range, touches, holds_lower, another}
+use Rattle.split.specs.Split.{is_private, is_exposed, is_shared, is_copied}
 use Rattle.split.proofs.SplitLaws.{split_parted, split_small, sizes_fine, sizes_small, map_facts, own_count, order_length, local_held, split_reach, split_own, split_owner}
 use Rattle.split.specs.Lists.{bad8, bad12, split_tests, size_tests, split_number, sizes_number, split_input}
 use Rattle.split.proofs.PassedLaws.{tests_are, passed_facts}
-use Rattle.list_text.specs.Listing.{ascii, digits, decimal, spaced, line, line_unless_empty, dimension_text, part_text, split_text, mesh_piece, parts_piece, owners_piece, stencil_piece, listing_number, list_text}
+use Rattle.list_text.specs.Listing.{ascii, digits, decimal, spaced, line, line_unless_empty, dimension_text, part_text, split_text, mesh_piece, parts_piece}
+use Rattle.list_text.specs.Listing.{owners_piece, stencil_piece, listing_number, list_text}
 use Rattle.list_text.specs.Printing.{fitting, Printed}
 use Rattle.list_input.specs.Pieces.{Listed, pieces_number, pieces_text}
 use Rattle.list_text.proofs.PrintLaws.{room}

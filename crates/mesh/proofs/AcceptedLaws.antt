@@ -14,7 +14,9 @@ use Rattle.vocabulary.specs.Lists.{is_in, repeats, some_of, All}
 use Rattle.vocabulary.proofs.ListLaws.{or_false, and_true, All_map, All_split, All_both, All_get_or, some_of_false, is_in_at, once_few, repeats_parts}
 use Rattle.vocabulary.proofs.TestLaws.{holds_of, passed_by}
 use Rattle.layout.specs.Limits.{most_elements}
-use Rattle.mesh.specs.Mesh.{top, counted, below, elements, record_count, first_cell, cell_count, dimension, head_of, element_in, follow, records, chain, all_records, headed, bad_item, bad_chain, leaves, unclosed, bare, bad1, bad2, bad3, bad4, bad5, bad6, bad7, mesh_length, mesh_tests, mesh_number}
+use Rattle.mesh.specs.Mesh.{top, counted, below, elements, record_count, first_cell, cell_count, dimension, head_of, element_in, follow, records, chain}
+use Rattle.mesh.specs.Mesh.{all_records, headed, bad_item, bad_chain, leaves, unclosed, bare, bad1, bad2, bad3, bad4, bad5, bad6, bad7, mesh_length, mesh_tests}
+use Rattle.mesh.specs.Mesh.{mesh_number}
 use Rattle.mesh.specs.Meet.{Sizes}
 use Rattle.mesh.specs.Accepted.{Element, Cell, Accepted}
 use Rattle.mesh.proofs.MeetLaws.{outside}

@@ -1,5 +1,5 @@
-// A chain is followed inside the lent mesh bytes, one record at a time. The borrow checker covers no function over a struct that holds a reference:
-// those here are few and thin, and proved by hand. All else calls `read_record` and `is_empty`, whose parameters are plain.
+// A chain is followed inside the lent mesh bytes, one record at a time. The functions over the reader, a struct that holds a reference, are few and
+// thin. All else calls `read_record` and `is_empty`, whose parameters are plain.
 ghost use Rattle.std.specs.Prelude.{◌≡◌, ◌<◌, eqb};
 ghost use Rattle.mesh.specs.Mesh.{elements, head_of, element_in, next_of};
 

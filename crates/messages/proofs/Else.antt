@@ -1,4 +1,5 @@
--- What a caller learns in the `else` of `let Reading::Message(h) = r else`: there the reader refused, with 15. Assumes nothing.
+-- What a caller learns where it tells the reader's answers apart, and in the `else` of `let Reading::Message(h) = r else`: there the reader refused,
+-- with 15. Assumes nothing.
 use mathlib.Core.Path.{◌≡◌, ◌∙◌, sym, ap}
 use mathlib.Core.Bool.{true}
 use Prim.Native.Nat.{ℕ}
@@ -10,8 +11,12 @@ use Rattle.messages.specs.declared.Reading.{Reading}
 use Rattle.messages.specs.declared.Reading.TheVariants.{Refused}
 
 module _ (b : Bytes) where
+  -- the answer by its value
+  pub meant_as : {x : Reading} (r : Reading) → meant_reading b r ≡ reading b → r ≡ x → meant_reading b x ≡ reading b
+  meant_as r e o = sym (ap (meant_reading b) o) ∙ e
+
   pub else_bad : {m : ℕ} (r : Reading) → meant_reading b r ≡ reading b → r ≡ Refused m → bad15 b ≡ true
-  else_bad {m = m} r e o = (refusal_told b m (sym (ap (meant_reading b) o) ∙ e)).0
+  else_bad {m = m} r e o = (refusal_told b m (meant_as r e o)).0
 
   pub else_number : {m : ℕ} (r : Reading) (n : ℕ) → meant_reading b r ≡ reading b → r ≡ Refused m → n ≡ reading_number r → n ≡ 15
-  else_number {m = m} r n e o q = q ∙ ap reading_number o ∙ (refusal_told b m (sym (ap (meant_reading b) o) ∙ e)).1
+  else_number {m = m} r n e o q = q ∙ ap reading_number o ∙ (refusal_told b m (meant_as r e o)).1

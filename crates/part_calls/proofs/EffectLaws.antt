@@ -27,7 +27,9 @@ use Rattle.messages.specs.Messages.{depth_start, message_size, depths_of, encode
 use Rattle.messages.proofs.MessageLaws.{encode_length}
 use Rattle.part_state.specs.State.{Lists, round_at, taken_place, depth_place, depths_place}
 use Rattle.part_state.proofs.StateLaws.{Frame}
-use Rattle.part_calls.specs.Calls.{imports_from, depth_at, scatter, sent_message_in, message_to, taken_in, all_taken, advance_tests_in, new_at, new_depths, advanced_in, collected_in, write_number, write_state, write_out, take_number, take_state, advance_number, advance_state, collect_number, collect_out, point_given, points_given, points_number, points_out}
+use Rattle.part_calls.specs.Calls.{imports_from, depth_at, scatter, sent_message_in, message_to, taken_in, all_taken, advance_tests_in, new_at, new_depths}
+use Rattle.part_calls.specs.Calls.{advanced_in, collected_in, write_number, write_state, write_out, take_number, take_state, advance_number, advance_state}
+use Rattle.part_calls.specs.Calls.{collect_number, collect_out, point_given, points_given, points_number, points_out}
 use Rattle.part_calls.proofs.CallLaws.{Room, Taken, fours_long}
 use Rattle.layout.specs.Limits.{most_parts}
 

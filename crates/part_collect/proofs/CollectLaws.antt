@@ -21,7 +21,8 @@ use Rattle.vocabulary.proofs.IntervalLaws.{at_last}
 -- ---- the loop
 
 collect_more : (lists : Bytes) (changes : ℕ) (b : Bytes) (n : ℕ) (f : Bytes)
-    → over (collected_in (lists_in lists) changes b n f) (4 * (global_at lists (suc n) - first_of_mesh lists)) (four b (depth_place changes (suc n))) ≡ collected_in (lists_in lists) changes b (suc n) f
+    → over (collected_in (lists_in lists) changes b n f) (4 * (global_at lists (suc n) - first_of_mesh lists)) (four b (depth_place changes (suc n)))
+    ≡ collected_in (lists_in lists) changes b (suc n) f
 unfolding scatter lists_in
 collect_more lists changes b n f = refl
 

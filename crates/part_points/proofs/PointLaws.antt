@@ -27,7 +27,8 @@ use Rattle.depths.proofs.DepthLaws.{ranged_valid}
 use Rattle.depths.specs.declared.Value.{Value}
 use Rattle.round_rule.specs.Rules.{plain_mean}
 use Rattle.round_update.specs.Update.{placed_at, PlacesThere}
-use Rattle.part_state.specs.State.{Lists, lists_in, lists_of, dynamic, held_count, owned_count, reach_count, export_count, point_count, point_at, point_end, point_cells, point_cell_at, local_around, points_from, point_ends_word, point_cells_word, depth_place, depths_place}
+use Rattle.part_state.specs.State.{Lists, lists_in, lists_of, dynamic, held_count, owned_count, reach_count, export_count, point_count, point_at, point_end}
+use Rattle.part_state.specs.State.{point_cells, point_cell_at, local_around, points_from, point_ends_word, point_cells_word, depth_place, depths_place}
 use Rattle.part_state.proofs.StateLaws.{Whole}
 use Rattle.part_state.specs.Checks.{Counts, Fitting, point_start, point_end_start, point_cell_start, depth_base}
 use Rattle.part_state.specs.declared.places.Sizes.{Sizes}

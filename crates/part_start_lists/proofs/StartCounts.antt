@@ -99,7 +99,8 @@ module _ (table : Bytes) (ends : List ℕ) (first : ℕ) (order : List ℕ) (l q
   unfolding row_words
   row_end local a b s u t h k w P =
       let e : t - from ≡ to - from = omega arith in
-      put_as a b s u _ _ (ap (λ k. blocks from k (entry_words table first local)) (e ∙ sym row_size_lem) ∙ ap (λ x. blocks x (row_size table ends first order l) (entry_words table first local)) from_is) P
+      put_as a b s u _ _ (ap (λ k. blocks from k (entry_words table first local)) (e ∙ sym row_size_lem)
+      ∙ ap (λ x. blocks x (row_size table ends first order l) (entry_words table first local)) from_is) P
 
 pub row_cell : (table : Bytes) (ends : List ℕ) (first : ℕ) (order : List ℕ) (l : ℕ) → ReachRow table ends first order l → first ≤ get_or order (l - 1) 0
 row_cell table ends first order l R = R.cell

@@ -21,7 +21,9 @@ use Rattle.part_state.specs.State.{import_word, reach_word, exports_word}
 use Rattle.part_state.specs.Checks.{Small, point_start, word_count}
 use Rattle.part_state.specs.declared.places.Sizes.{Sizes}
 use Rattle.word_lists.specs.Putting.{Put}
-use Rattle.part_start_lists.specs.Starting.{local_in, numbers_of, start_words, got_ends, sent_ends, sent_list, sent_words, row_ends, row_words, numbered_words, start_depth, FieldCells, got_from, sent_from, count_at, ends_by, Tallied, Got, Sent, Fit, TablesFit, Drawn, part_order, part_owned}
+use Rattle.part_start_lists.specs.Starting.{local_in, numbers_of, start_words, got_ends, sent_ends, sent_list, sent_words, row_ends, row_words, numbered_words}
+use Rattle.part_start_lists.specs.Starting.{start_depth, FieldCells, got_from, sent_from, count_at, ends_by, Tallied, Got, Sent, Fit, TablesFit, Drawn}
+use Rattle.part_start_lists.specs.Starting.{part_order, part_owned}
 use Rattle.part_calls.proofs.OpenedLaws.{four_cut}
 use Rattle.word_lists.proofs.PutLaws.{put_as, put_both}
 use Rattle.word_lists.proofs.RegionLaws.{joined_length, joined_append, regions_two, regions_three, regions_four}
@@ -122,13 +124,15 @@ module _ (owners table : Bytes) (ends : List ℕ) (i first cells : ℕ) (order :
 
     pub lists_put : (got sent before list : List ℕ) (x k : ℕ) (a b c : Bytes) (t u : ℕ) → Got owners table ends i cells got → Sent owners table ends i cells most_parts sent
         → Appended before list 0 x (sent_list owners table ends i first cells most_parts) → k ≡ sent_ends owners table ends i first cells most_parts → k ≤ length before → 2 * reach_word 0 ≤ length a
-        → Put a b 0 t (((long ∷ i ∷ steps ∷ kind ∷ []) ++ (listed 0 5 (word_at v) ++ (first ∷ cells ∷ []))) ++ (listed 0 (most_parts + 1) (ends_by got owned) ++ listed 0 (most_parts + 1) (ends_by sent 0)))
+        → Put a b 0 t (((long ∷ i ∷ steps ∷ kind ∷ []) ++ (listed 0 5 (word_at v) ++ (first ∷ cells ∷ [])))
+        ++ (listed 0 (most_parts + 1) (ends_by got owned) ++ listed 0 (most_parts + 1) (ends_by sent 0)))
         → Put b c t u (take n order ++ (listed 0 (owned + 1) (row_ends table ends first order) ++ (blocks 1 owned (row_words table ends first order local) ++ map (local_in local) (take k list))))
         → Put a c 0 u (numbered_words owners table ends i first cells order n local owned long steps kind v)
     lists_put got sent before list x k a b c t u G X Y ke there room P Q =
         let e = sent_taken before list (sent_list owners table ends i first cells most_parts) x k Y (ke ∙ sym (sent_length owners table ends i first cells)) there in
         put_as a c 0 u _ _
-        (append_assoc ((long ∷ i ∷ steps ∷ kind ∷ []) ++ (listed 0 5 (word_at v) ++ (first ∷ cells ∷ []))) (listed 0 (most_parts + 1) (ends_by got owned) ++ listed 0 (most_parts + 1) (ends_by sent 0)) _
+        (append_assoc ((long ∷ i ∷ steps ∷ kind ∷ []) ++ (listed 0 5 (word_at v) ++ (first ∷ cells ∷ []))) (listed 0 (most_parts + 1) (ends_by got owned)
+        ++ listed 0 (most_parts + 1) (ends_by sent 0)) _
         ∙ ap₂ (λ (bs : List ℕ) (xs : List ℕ). ((long ∷ i ∷ steps ∷ kind ∷ []) ++ (listed 0 5 (word_at v) ++ (first ∷ cells ∷ []))) ++ (bs ++ (take n order
         ++ (listed 0 (owned + 1) (row_ends table ends first order) ++ (blocks 1 owned (row_words table ends first order local) ++ xs)))))
         (borders_are owners table ends i first cells got sent owned G X) (ap (map (local_in local)) e ∙ sent_mapped owners table ends i first cells local most_parts)

@@ -38,7 +38,8 @@ use Rattle.part_start_plan.specs.Start.{owned_in, export_ends, lists_long, state
 use Rattle.word_lists.specs.Putting.{Put}
 use Rattle.word_lists.proofs.PutLaws.{put_as}
 use Rattle.part_state.specs.State.{exports_word, depths_place, state_length}
-use Rattle.part_start_lists.specs.Starting.{local_in, numbers_of, row_ends, row_words, sent_ends, sent_list, ends_by, numbered_words, start_words, start_depth, Got, Sent, Fit, FieldCells, exported_at, export_tally, part_order, part_owned, TablesFit, Drawn}
+use Rattle.part_start_lists.specs.Starting.{local_in, numbers_of, row_ends, row_words, sent_ends, sent_list, ends_by, numbered_words, start_words, start_depth}
+use Rattle.part_start_lists.specs.Starting.{Got, Sent, Fit, FieldCells, exported_at, export_tally, part_order, part_owned, TablesFit, Drawn}
 use Rattle.part_start_lists.specs.declared.inner.Plan.{Plan}
 use Rattle.part_start_points.specs.Points.{points_on, size_ends, point_words, word_count, cell_words, part_words}
 use Rattle.part_start_points.specs.Outside.{some_outside}

@@ -23,7 +23,8 @@ use Rattle.mesh.proofs.WalkLaws.{reach_in}
 use Rattle.walk_reach_table.specs.Tables.{entry_count}
 use Rattle.walk_reach_table.proofs.EntryLaws.{count_more}
 use Rattle.split.specs.Split.{Split, split_of, owns, held, inside, imports, exports, interior, halo, locals, local_of, global_of, points_of, points_in, around_of, point_ends, bad29}
-use Rattle.split.proofs.SplitLaws.{map_facts, SplitCell, own_cells, split_reach, split_own, split_owner, own_is, own_local, local_back, import_own, reach_held, order_cells, order_length, own_count, own_first, held_length, imports_none, import_total, export_total}
+use Rattle.split.proofs.SplitLaws.{map_facts, SplitCell, own_cells, split_reach, split_own, split_owner, own_is, own_local, local_back, import_own, reach_held}
+use Rattle.split.proofs.SplitLaws.{order_cells, order_length, own_count, own_first, held_length, imports_none, import_total, export_total}
 use Rattle.split.proofs.PointLaws.{point_at, point_held, split_around}
 use Rattle.split.specs.Numbering.{numbering}
 use Rattle.split.proofs.UnitLaws.{numbered}
@@ -131,7 +132,11 @@ module _ (m : Bytes) (parts : ℕ) (owners st table : Bytes) (ends : List ℕ) (
   -- how many entries the first cells' reaches have together
   pub entries_few : bad13 m st ≡ false → (q : ℕ) → q ≤ cell_count m → entry_count m st q ≤ most_reached
   unfolding bad13 entry_count
-  entries_few e q h = omega (arith, ltb-false most_reached (total (first_cell m) (cell_count m) (λ c. length (reach m st c))) e, total_grows (first_cell m) (λ c. length (reach m st c)) q (cell_count m) h)
+  entries_few e q h = omega (
+    arith,
+    ltb-false most_reached (total (first_cell m) (cell_count m) (λ c. length (reach m st c))) e,
+    total_grows (first_cell m) (λ c. length (reach m st c)) q (cell_count m) h,
+  )
 
   -- no part imports more than it holds
   imports_held : (j i : ℕ) → 1 ≤ i → length (imports S j i) ≤ length (held S j)
@@ -184,7 +189,8 @@ module _ (m : Bytes) (parts : ℕ) (owners st table : Bytes) (ends : List ℕ) (
     module _ (order : List ℕ) (n own : ℕ) (oe : take n order ≡ locals S i) (ne : n ≡ length (locals S i)) (we : own ≡ owned_in S i) where
       pub got_ends_lem : (j : ℕ) → j ≤ most_parts → got_ends owners table ends i first cells own j ≡ import_ends S i L j
       unfolding got_ends import_ends
-      got_ends_lem j h = ap₂ ◌+◌ we (total_agree (λ k. length (part_cells owners table ends i first cells k)) (λ k. length (imports S i k)) most_parts j h (λ k l q. ap length (cells_are i k high l q)))
+      got_ends_lem j h = ap₂ ◌+◌ we
+          (total_agree (λ k. length (part_cells owners table ends i first cells k)) (λ k. length (imports S i k)) most_parts j h (λ k l q. ap length (cells_are i k high l q)))
 
       -- all imports are all that is held
       pub got_all : got_ends owners table ends i first cells own most_parts ≡ n
@@ -271,7 +277,8 @@ module _ (m : Bytes) (parts : ℕ) (owners st table : Bytes) (ends : List ℕ) (
 
         entry_words_lem : (t : ℕ) → t < length (reach m st (first_cell m + place))
             → entry_words table first (numbers_of order n) (entry_count m st place + t)
-            ≡ local_of L (get_or (reach m st (first_cell m + place)) t (record { cell = 0; layer = 0 })).cell ∷ (get_or (reach m st (first_cell m + place)) t (record { cell = 0; layer = 0 })).layer ∷ []
+            ≡ local_of L (get_or (reach m st (first_cell m + place)) t (record { cell = 0; layer = 0 })).cell ∷
+            (get_or (reach m st (first_cell m + place)) t (record { cell = 0; layer = 0 })).layer ∷ []
         unfolding entry_words
         entry_words_lem t q =
             let o = own_is S i l h (omega arith) in

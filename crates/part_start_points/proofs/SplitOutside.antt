@@ -117,7 +117,8 @@ module _ (m : Bytes) (parts : ℕ) (owners st table : Bytes) (ends : List ℕ) (
       ∙ whole
     where
       each : (q : ℕ) → q < cell_count m
-          → owns_at owners i (first_cell m + q - first_cell m) && some_of (chain m (first_cell m + q)) (outside_at cell prev last table ends (first_cell m) (counted m 0) (first_cell m + q - first_cell m))
+          → owns_at owners i (first_cell m + q - first_cell m)
+          && some_of (chain m (first_cell m + q)) (outside_at cell prev last table ends (first_cell m) (counted m 0) (first_cell m + q - first_cell m))
           ≡ owns S i (first_cell m + q) && some_of (cell_points S (first_cell m + q)) (λ p. some_of (S.around p) (λ x. not (reaches S (first_cell m + q) x)))
       each q h =
           let z : first_cell m + q - first_cell m ≡ q = omega arith in

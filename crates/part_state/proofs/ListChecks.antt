@@ -26,10 +26,14 @@ use Rattle.round_rule.specs.declared.Rule.{Rule}
 use Rattle.round_rule.specs.declared.Rule.TheVariants.{Known, Unknown}
 use Rattle.round_rule.proofs.KindLaws.{known_number}
 use Rattle.round_rule.proofs.Refusals.{unknown_rule}
-use Rattle.part_state.specs.State.{LocalNear, part_number, step_count, rule_kind, weights, owned_count, held_count, reach_end, reach_count, rises, entry_at, first_of_mesh, cells_of_mesh, weights_place, export_count, climbs, point_count, point_end, point_cells, point_cell_at, valid_point_cell, point_ends_word, point_cells_word, export_at, local_reach, global_at, valid_global, valid_entry, own_found, valid_export, lists_tests, exports_word, entry_word, reach_word}
+use Rattle.part_state.specs.State.{LocalNear, part_number, step_count, rule_kind, weights, owned_count, held_count, reach_end, reach_count, rises, entry_at}
+use Rattle.part_state.specs.State.{first_of_mesh, cells_of_mesh, weights_place, export_count, climbs, point_count, point_end, point_cells, point_cell_at}
+use Rattle.part_state.specs.State.{valid_point_cell, point_ends_word, point_cells_word, export_at, local_reach, global_at, valid_global, valid_entry, own_found}
+use Rattle.part_state.specs.State.{valid_export, lists_tests, exports_word, entry_word, reach_word}
 use Rattle.part_state.proofs.StateLaws.{rises_grow}
 use Rattle.part_state.specs.declared.places.Sizes.{Sizes}
-use Rattle.part_state.specs.Checks.{reach_start, entry_start, export_start, point_end_start, point_cell_start, Counts, Fitting, Tested, rise_at, climb_at, own_entry, valid_row, header_tests, end_tests, entry_tests, point_tests}
+use Rattle.part_state.specs.Checks.{reach_start, entry_start, export_start, point_end_start, point_cell_start, Counts, Fitting, Tested, rise_at, climb_at}
+use Rattle.part_state.specs.Checks.{own_entry, valid_row, header_tests, end_tests, entry_tests, point_tests}
 
 -- ---- a test of a range, asked with the count that stands in the lists
 
@@ -324,7 +328,8 @@ module _ (b : Bytes) where
     pub steps_fine : (x y : Bool) → n % 2 ≡ 0 → n ≤ most_steps → y ≡ x → y ≡ (eqb (step_count b % 2) 0 && leb (step_count b) most_steps) && x
     steps_fine x y e h q = simp (sym ne, eq-eqb _ _ e, le-leb _ _ h, q)
 
-    pub header_rule : (kind : ℕ) (w : Bool) → kind ≡ rule_kind b → w ≡ not (bad11 kind n (take (2 * weight_count kind n) (drop weights_place b))) → w ≡ not (bad11 (rule_kind b) (step_count b) (weights b))
+    pub header_rule : (kind : ℕ) (w : Bool) → kind ≡ rule_kind b → w ≡ not (bad11 kind n (take (2 * weight_count kind n) (drop weights_place b)))
+        → w ≡ not (bad11 (rule_kind b) (step_count b) (weights b))
     unfolding weights
     header_rule kind w ke we = we ∙ ap₂ (λ k m. not (bad11 k m (take (2 * weight_count k m) (drop weights_place b)))) ke ne
 

@@ -13,7 +13,8 @@ use Rattle.vocabulary.specs.Tests.{all_of}
 use Rattle.layout.specs.Words.{word, word_at}
 use Rattle.layout.specs.Limits.{last_round, most_parts}
 use Rattle.depths.specs.Depths.{ranged_at}
-use Rattle.part_state.specs.State.{owned_count, held_count, export_count, lists_length, lists_tests, dynamic_tests, valid_flags, is_state, state_length, written_place, taken_place, depths_place, reach_word, reach_count, points_from, point_count, point_cells, is_state_at}
+use Rattle.part_state.specs.State.{owned_count, held_count, export_count, lists_length, lists_tests, dynamic_tests, valid_flags, is_state, state_length}
+use Rattle.part_state.specs.State.{written_place, taken_place, depths_place, reach_word, reach_count, points_from, point_count, point_cells, is_state_at}
 use Rattle.part_state.specs.declared.places.Sizes.{Sizes}
 use Rattle.part_state.proofs.StateLaws.{state_at}
 use Rattle.part_state.specs.Checks.{point_start, word_count, Counts, Fitting}

@@ -15,7 +15,10 @@ use Rattle.layout.proofs.WordLaws.{word_same}
 use Rattle.layout.specs.Limits.{last_round, most_elements, most_parts, most_steps}
 use Rattle.depths.specs.Depths.{ranged_at}
 use Rattle.round_rule.specs.Rules.{bad11}
-use Rattle.part_state.specs.State.{is_state_at, step_count, rule_kind, weights, first_of_mesh, cells_of_mesh, global_at, export_end, export_count, export_at, valid_global, valid_entry, valid_export, reach_end, reach_count, climbs, point_count, point_end, point_cells, point_cell_at, valid_point_cell, entry_at, local_reach, dynamic, import_end, owned_count, held_count, rises, lists_length, lists_tests, valid_flags, dynamic_tests, is_state, round_at, taken_place, written_place, state_length, depths_place}
+use Rattle.part_state.specs.State.{is_state_at, step_count, rule_kind, weights, first_of_mesh, cells_of_mesh, global_at, export_end, export_count, export_at}
+use Rattle.part_state.specs.State.{valid_global, valid_entry, valid_export, reach_end, reach_count, climbs, point_count, point_end, point_cells, point_cell_at}
+use Rattle.part_state.specs.State.{valid_point_cell, entry_at, local_reach, dynamic, import_end, owned_count, held_count, rises, lists_length, lists_tests}
+use Rattle.part_state.specs.State.{valid_flags, dynamic_tests, is_state, round_at, taken_place, written_place, state_length, depths_place}
 
 -- a table of ends that never falls
 pub rises_grow : (n : ℕ) (end : ℕ → ℕ) → rises n end ≡ true → (i j : ℕ) → i ≤ j → j ≤ n → end i ≤ end j

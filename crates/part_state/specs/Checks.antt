@@ -6,7 +6,10 @@ use Rattle.vocabulary.specs.Intervals.{is_up_to, every}
 use Rattle.layout.specs.Words.{word_at}
 use Rattle.layout.specs.Limits.{most_elements, most_parts, most_steps}
 use Rattle.round_rule.specs.Rules.{bad11}
-use Rattle.part_state.specs.State.{part_number, step_count, rule_kind, weights, import_end, owned_count, held_count, export_end, export_count, point_count, point_end, point_cells, reach_end, reach_count, entry_at, valid_global, valid_entry, own_found, valid_export, rises, exports_word, entry_word, reach_word, import_word, export_word, climbs, valid_point_cell, points_word, point_ends_word, point_cells_word}
+use Rattle.part_state.specs.State.{part_number, step_count, rule_kind, weights, import_end, owned_count, held_count, export_end, export_count, point_count}
+use Rattle.part_state.specs.State.{point_end, point_cells, reach_end, reach_count, entry_at, valid_global, valid_entry, own_found, valid_export, rises}
+use Rattle.part_state.specs.State.{exports_word, entry_word, reach_word, import_word, export_word, climbs, valid_point_cell, points_word, point_ends_word}
+use Rattle.part_state.specs.State.{point_cells_word}
 use Rattle.part_state.specs.declared.places.Sizes.{Sizes}
 
 -- the lists b in four groups

@@ -24,7 +24,7 @@ use Rattle.messages.specs.declared.Header.{Header}
 use Rattle.messages.specs.declared.Reading.{Reading}
 use Rattle.messages.specs.declared.Reading.TheVariants.{Message}
 use Rattle.messages.specs.declared.Reading.TheVariants as answers
-use Rattle.messages.proofs.Else.{else_bad, else_number}
+use Rattle.messages.proofs.Else.{meant_as, else_bad, else_number}
 use Rattle.part_state.specs.State.{Lists, lists_in, lists_of, dynamic, held_count, is_state, depth_place, state_length, taken_place, import_word, part_number}
 use Rattle.part_calls.specs.Calls.{imports_from, take_tests_in, taken_in, take_number, take_answer, take_state}
 use Rattle.part_calls.proofs.CallLaws.{Room, room_of, Taken, taken_facts}
@@ -107,10 +107,10 @@ store_told b x y z i at count l f e =
 -- ---- the reader's answer is a message
 
 pub message_good : {h : Header} (x : Bytes) (r : Reading) → meant_reading x r ≡ reading x → r ≡ Message h → bad15 x ≡ false
-message_good {h = h} x r e o = (message_told x h (sym (ap (meant_reading x) o) ∙ e)).0
+message_good {h = h} x r e o = (message_told x h (meant_as x r e o)).0
 
 pub message_header : (x : Bytes) (r : Reading) (h : Header) → meant_reading x r ≡ reading x → r ≡ Message h → (h.from ≡ from_in x) × (h.to ≡ to_in x) × (h.round ≡ round_in x) × (h.count ≡ count_in x)
-message_header x r h e m = let p = message_told x h (sym (ap (meant_reading x) m) ∙ e) in (p.1, p.2, p.3, p.4)
+message_header x r h e m = let p = message_told x h (meant_as x r e m) in (p.1, p.2, p.3, p.4)
 
 -- ---- the answer
 

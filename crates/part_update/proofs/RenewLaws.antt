@@ -24,7 +24,8 @@ use Rattle.round_rule.proofs.KindLaws.{known_number, unknown_number}
 use Rattle.round_update.specs.Update.{table_entries, olds_at, UpdateReady}
 use Rattle.round_update.specs.Update as update
 use Rattle.round_update.proofs.UpdateLaws.{weighed_from}
-use Rattle.part_state.specs.State.{LocalNear, lists_in, rule_kind, step_count, weights, held_count, owned_count, reach_end, weights_place, reach_count, entry_at, local_reach, depth_place, depths_place, entry_word, reach_word}
+use Rattle.part_state.specs.State.{LocalNear, lists_in, rule_kind, step_count, weights, held_count, owned_count, reach_end, weights_place, reach_count}
+use Rattle.part_state.specs.State.{entry_at, local_reach, depth_place, depths_place, entry_word, reach_word}
 use Rattle.part_state.specs.Checks.{reach_start, entry_start, Counts, depth_base}
 use Rattle.part_state.specs.declared.places.Sizes.{Sizes}
 use Rattle.part_calls.specs.Calls.{depth_at, new_at}

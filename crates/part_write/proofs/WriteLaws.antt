@@ -21,7 +21,8 @@ use Rattle.layout.specs.declared.Answer.{Answer}
 use Rattle.layout.specs.declared.Answer.TheVariants.{Done, Refused}
 use Rattle.layout.specs.Limits.{most_parts}
 use Rattle.messages.specs.Messages.{header_size, depth_start, message_size, encode}
-use Rattle.part_state.specs.State.{Lists, lists_in, lists_of, dynamic, export_end, export_count, export_at, local_exports, held_count, owned_count, reach_count, depth_place, written_place, exports_word, part_number, export_word}
+use Rattle.part_state.specs.State.{Lists, lists_in, lists_of, dynamic, export_end, export_count, export_at, local_exports, held_count, owned_count, reach_count}
+use Rattle.part_state.specs.State.{depth_place, written_place, exports_word, part_number, export_word}
 use Rattle.part_calls.specs.Calls.{exports_to, depth_at, message_to, write_tests_in, written_in, write_number, message, write_answer, write_state, write_out}
 use Rattle.part_calls.proofs.EffectLaws.{message_length}
 use Rattle.part_state.specs.Checks.{export_start, Counts, before_exports}
@@ -41,7 +42,8 @@ depths_are lists j changes b from count fe ce =
     ∙ sym (joined_mapped (depth_at changes b) (export_end lists (j - 1)) (export_at lists) (export_end lists j - export_end lists (j - 1)))
 
 encoded_is : (lists : Bytes) (j changes : ℕ) (b : Bytes)
-    → bytes_of (part_number lists ∷ j ∷ word b changes ∷ length (map (depth_at changes b) ((lists_in lists).exports j)) ∷ []) ++ joined (map (depth_at changes b) ((lists_in lists).exports j)) ≡ message_to
+    → bytes_of (part_number lists ∷ j ∷ word b changes ∷ length (map (depth_at changes b) ((lists_in lists).exports j)) ∷ [])
+    ++ joined (map (depth_at changes b) ((lists_in lists).exports j)) ≡ message_to
     (lists_in lists) changes b j
 unfolding message_to encode lists_in
 encoded_is lists j changes b = refl

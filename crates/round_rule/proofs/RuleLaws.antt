@@ -24,7 +24,8 @@ use Rattle.depths.specs.Depths.{depth_of, gap_bytes, is_depth, value_of, value_b
 use Rattle.depths.proofs.DepthLaws.{gap_alone, value_is, length_value_bytes, value_back, bytes_gap}
 use Rattle.depths.specs.declared.Value.{Value}
 use Rattle.depths.specs.declared.Value.TheVariants.{Depth, Gap}
-use Rattle.round_rule.specs.Rules.{Old, weight_count, too_heavy, bad11, without_gaps, read_by, weight, depth_sum, weight_sum, quotient, mean_of, mean, ones, plain_old, plain_mean, lesser, least, least_of, new_depth, Floored}
+use Rattle.round_rule.specs.Rules.{Old, weight_count, too_heavy, bad11, without_gaps, read_by, weight, depth_sum, weight_sum, quotient, mean_of, mean, ones}
+use Rattle.round_rule.specs.Rules.{plain_old, plain_mean, lesser, least, least_of, new_depth, Floored}
 use Rattle.round_rule.specs.Code.{divided_by, lesser_of}
 
 -- ---- what is read

@@ -27,15 +27,19 @@ use Rattle.round.specs.Rounds.{scheme_of, depth_in}
 use Rattle.round.proofs.RoundLaws.{field_depth}
 use Rattle.split.specs.Split.{Split, split_of, held, holds, imports, exports, locals, local_of, global_of}
 use Rattle.split.proofs.SplitLaws.{SplitCell, split_own, order_cells, own_is, own_number, own_local, import_own, local_back, local_held, reach_held}
-use Rattle.part_state.specs.State.{LocalNear, valid_near, part_number, step_count, rule_kind, weights, first_of_mesh, cells_of_mesh, import_end, owned_count, held_count, export_end, export_count, global_at, reach_end, reach_count, entry_at, export_at, local_reach, lists_length, rises, lists_tests, dynamic_tests, is_state, round_at, taken_place, written_place, state_length, depth_place, is_state_at}
+use Rattle.part_state.specs.State.{LocalNear, valid_near, part_number, step_count, rule_kind, weights, first_of_mesh, cells_of_mesh, import_end, owned_count}
+use Rattle.part_state.specs.State.{held_count, export_end, export_count, global_at, reach_end, reach_count, entry_at, export_at, local_reach, lists_length}
+use Rattle.part_state.specs.State.{rises, lists_tests, dynamic_tests, is_state, round_at, taken_place, written_place, state_length, depth_place, is_state_at}
 use Rattle.part_state.proofs.StateLaws.{rises_intro, state_at}
 use Rattle.part_start_plan.specs.Start.{owned_in, reach_of, import_ends, export_ends, reach_ends, export_words, lists_long, Inputs, start_number, start_state}
-use Rattle.run_theorem.proofs.FormLaws.{front_length, part_back, steps_back, kind_back, first_back, cells_back, weights_back, import_back, export_back, owned_back, global_back, held_back, ends_back, count_back, entry_back, reach_back, export_word_lem, exports_length}
+use Rattle.run_theorem.proofs.FormLaws.{front_length, part_back, steps_back, kind_back, first_back, cells_back, weights_back, import_back, export_back}
+use Rattle.run_theorem.proofs.FormLaws.{owned_back, global_back, held_back, ends_back, count_back, entry_back, reach_back, export_word_lem, exports_length}
 use Rattle.run_theorem.proofs.PointFormLaws.{points_back, point_cells_back}
 use Rattle.run_theorem.proofs.PointStartLaws.{points_climb, point_cells_valid}
 use Rattle.run_theorem.specs.Run.{StatesKept}
 use Rattle.run_theorem.proofs.RunLaws.{Part}
-use Rattle.run_theorem.proofs.StartLaws.{Ready, started_facts, front_in, reach_inside, owner_inside, order_full, state_of, state_dynamic, state_front, state_length_lem, state_flag, state_round, state_depth, start_is}
+use Rattle.run_theorem.proofs.StartLaws.{Ready, started_facts, front_in, reach_inside, owner_inside, order_full, state_of, state_dynamic, state_front}
+use Rattle.run_theorem.proofs.StartLaws.{state_length_lem, state_flag, state_round, state_depth, start_is}
 use Rattle.run_theorem.proofs.KeptLaws.{ValidFour, local_ranged, write_kept, take_kept, advance_kept}
 use Rattle.split.specs.Lists.{split_in}
 use Rattle.layout.specs.Limits.{last_round, most_elements, most_parts, most_records, most_steps}

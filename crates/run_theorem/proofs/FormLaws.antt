@@ -22,7 +22,9 @@ use Rattle.layout.specs.Limits.{most_parts, most_steps, most_weight}
 use Rattle.mesh.specs.Walks.{Near}
 use Rattle.round_rule.specs.Rules.{weight_count, too_heavy, bad11}
 use Rattle.split.specs.Split.{Split, imports, exports, local_of, global_of, points_in, around_of, point_ends, bad29}
-use Rattle.part_state.specs.State.{LocalNear, import_word, export_word, cell_word, reach_word, entry_word, exports_word, weights_place, part_number, step_count, rule_kind, weights, first_of_mesh, cells_of_mesh, import_end, owned_count, held_count, export_end, global_at, reach_end, reach_count, entry_at, export_at, local_reach, local_exports, points_from}
+use Rattle.part_state.specs.State.{LocalNear, import_word, export_word, cell_word, reach_word, entry_word, exports_word, weights_place, part_number, step_count}
+use Rattle.part_state.specs.State.{rule_kind, weights, first_of_mesh, cells_of_mesh, import_end, owned_count, held_count, export_end, global_at, reach_end}
+use Rattle.part_state.specs.State.{reach_count, entry_at, export_at, local_reach, local_exports, points_from}
 use Rattle.part_start_plan.specs.Start.{owned_in, reach_of, import_ends, export_ends, reach_ends, reach_words, export_words, around_words, lists_long, lists_regions}
 use Rattle.word_lists.proofs.RegionLaws.{lengths, joined_length, joined_at, region_at, table_at, rows_words, entry_word_lem, row_back}
 
@@ -205,7 +207,8 @@ module _ (S : Split) (i : ℕ) (order : List ℕ) (n kind : ℕ) (v : Bytes) whe
           → word_at front (entry_word (held_count front) (owned_count front) + (2 * (reach_ends S i order (l - 1) + t) + r)) ≡ get_or (reach_words S i order l) (2 * t + r) 0
       unfolding reach_ends
       near_word =
-          entry_word_lem 2 (reach_words S i order) reached reach_length front (reach_word (held_count front)) (entry_word (held_count front) (owned_count front)) (owned_in S i) near_ends reach_word_lem l h k
+          entry_word_lem 2 (reach_words S i order) reached reach_length front (reach_word (held_count front)) (entry_word (held_count front) (owned_count front))
+          (owned_in S i) near_ends reach_word_lem l h k
 
       pub entry_back : (t : ℕ) → t < length (reach_of S i order l)
           → entry_at front (reach_ends S i order (l - 1) + t) ≡ to_local (get_or (reach_of S i order l) t (record { cell = 0; layer = 0 }))
@@ -228,7 +231,8 @@ module _ (S : Split) (i : ℕ) (order : List ℕ) (n kind : ℕ) (v : Bytes) whe
       unfolding local_reach reach_ends
       reach_back =
           let d : Near = record { cell = 0; layer = 0 } in
-          row_back 2 (reach_words S i order) reached reach_length front (reach_word (held_count front)) (entry_word (held_count front) (owned_count front)) (owned_in S i) near_ends reach_word_lem l h k
+          row_back 2 (reach_words S i order) reached reach_length front (reach_word (held_count front)) (entry_word (held_count front) (owned_count front))
+          (owned_in S i) near_ends reach_word_lem l h k
           (entry_at front) (map to_local (reach_of S i order l)) (to_local d) (length-map (reach_of S i order l) to_local)
           (λ t q. entry_back t q ∙ sym (get_or_map_any to_local (reach_of S i order l) t d (to_local d) q))
 

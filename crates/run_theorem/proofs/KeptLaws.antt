@@ -21,7 +21,8 @@ use Rattle.depths.proofs.DepthLaws.{length_four, four_set, value_four, within_va
 use Rattle.round_rule.specs.Rules.{Old}
 use Rattle.round_rule.proofs.RuleLaws.{SmallOld, new_within, new_length}
 use Rattle.messages.specs.Messages.{header_size, depth_start, depths_of, from_in, count_in}
-use Rattle.part_state.specs.State.{LocalNear, lists_in, lists_of, dynamic, rule_kind, weights, held_count, owned_count, local_reach, is_state, round_at, taken_place, written_place, depth_place, depths_place, is_state_at}
+use Rattle.part_state.specs.State.{LocalNear, lists_in, lists_of, dynamic, rule_kind, weights, held_count, owned_count, local_reach, is_state, round_at}
+use Rattle.part_state.specs.State.{taken_place, written_place, depth_place, depths_place, is_state_at}
 use Rattle.part_state.proofs.StateLaws.{state_at, Whole, whole_is, still_whole, near_whole, Frame, frame_take, frame_dynamic}
 use Rattle.part_calls.specs.Calls.{depth_at, written_in, taken_in, advance_tests_in, new_at, advanced_in, write_number, write_state, take_number, take_state, advance_number, advance_state}
 use Rattle.part_calls.proofs.CallLaws.{Room, room_of, Taken, taken_facts}

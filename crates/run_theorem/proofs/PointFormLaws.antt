@@ -11,7 +11,8 @@ use Rattle.vocabulary.proofs.IntervalLaws.{listed_length}
 use Rattle.layout.specs.Words.{word_at}
 use Rattle.layout.specs.Limits.{most_parts}
 use Rattle.split.specs.Split.{Split, points_of, points_in, point_ends}
-use Rattle.part_state.specs.State.{held_count, owned_count, reach_count, export_count, point_ends_word, point_cells_word, points_from, point_count, point_at, point_end, point_cells, point_cell_at, local_around}
+use Rattle.part_state.specs.State.{held_count, owned_count, reach_count, export_count, point_ends_word, point_cells_word, points_from, point_count, point_at}
+use Rattle.part_state.specs.State.{point_end, point_cells, point_cell_at, local_around}
 use Rattle.part_start_plan.specs.Start.{import_ends, around_words, lists_regions}
 use Rattle.run_theorem.proofs.FormLaws.{regions, front, at_point, around_length, points_place}
 use Rattle.word_lists.proofs.RegionLaws.{region_at, table_at, entry_word_lem, row_back}

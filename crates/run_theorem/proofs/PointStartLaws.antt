@@ -80,7 +80,8 @@ module _ (I : Inputs) (R : Ready I) (i : ℕ) where
       (λ j h.
       let ys : List ℕ = reverse (around_of S i (1 + j)) in
       ap (λ xs. some_of xs (eqb 0)) (around_read e (1 + j) (omega arith) (omega (arith, lists_points)))
-      ∙ some_of_none (eqb 0) (map (local_of order) ys) (All_of_map (λ l. eqb 0 l ≡ false) (local_of order) ys (All_intro (λ x. eqb 0 (local_of order x) ≡ false) ys 0 (λ l k. local_there (get_or ys l 0)))))
+      ∙ some_of_none (eqb 0) (map (local_of order) ys)
+      (All_of_map (λ l. eqb 0 l ≡ false) (local_of order) ys (All_intro (λ x. eqb 0 (local_of order x) ≡ false) ys 0 (λ l k. local_there (get_or ys l 0)))))
 
   outside_read : bad29 S i ≡ true → outside L ≡ true
   unfolding outside around_words

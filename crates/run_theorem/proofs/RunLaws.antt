@@ -22,7 +22,8 @@ use Rattle.part_state.specs.State.{LocalNear, Lists, dynamic, round_at, taken_pl
 use Rattle.part_state.proofs.StateLaws.{Frame, frame_take, frame_dynamic}
 use Rattle.part_calls.specs.Calls.{depth_at, message_to, written_in, taken_in, new_at, advanced_in}
 use Rattle.part_calls.proofs.CallLaws.{Room, Taken}
-use Rattle.part_calls.proofs.EffectLaws.{take_flag, take_frame, take_word, take_in, take_below, take_above, message_words, message_length, message_depth, advance_frame, advance_word, advance_flag, advance_owned}
+use Rattle.part_calls.proofs.EffectLaws.{take_flag, take_frame, take_word, take_in, take_below, take_above, message_words, message_length, message_depth}
+use Rattle.part_calls.proofs.EffectLaws.{advance_frame, advance_word, advance_flag, advance_owned}
 
 -- ---- what the lists of all parts must have
 

@@ -29,10 +29,13 @@ use Rattle.round_rule.specs.Rules.{new_depth, bad11}
 use Rattle.round.specs.Rounds.{scheme_of, depth_in, undivided, bad14}
 use Rattle.split.specs.Split.{Split, split_of, imports, exports, locals, local_of, global_of}
 use Rattle.split.specs.Lists.{size_tests, split_in}
-use Rattle.split.proofs.SplitLaws.{split_parted, split_fine, sizes_parted, map_facts, split_reach, split_owner, SplitCell, order_length, own_is, own_has, own_local, local_back, own_first, import_own, import_at, import_fits, local_cases, reach_held, import_total, own_cells, own_count}
+use Rattle.split.proofs.SplitLaws.{split_parted, split_fine, sizes_parted, map_facts, split_reach, split_owner, SplitCell, order_length, own_is, own_has}
+use Rattle.split.proofs.SplitLaws.{own_local, local_back, own_first, import_own, import_at, import_fits, local_cases, reach_held, import_total, own_cells}
+use Rattle.split.proofs.SplitLaws.{own_count}
 use Rattle.part_state.specs.State.{LocalNear, Lists, lists_in, dynamic, round_at, taken_place, depth_place, state_length}
 use Rattle.part_start_plan.specs.Start.{owned_in, import_ends, lists_regions, state_size, first_state, last_tests, start_number, start_state, Inputs, scheme_in}
-use Rattle.run_theorem.proofs.FormLaws.{front, words_length, front_length, part_back, kind_back, first_back, cells_back, owned_back, held_back, global_back, import_back, reach_back, exports_back, weights_back}
+use Rattle.run_theorem.proofs.FormLaws.{front, words_length, front_length, part_back, kind_back, first_back, cells_back, owned_back, held_back, global_back}
+use Rattle.run_theorem.proofs.FormLaws.{import_back, reach_back, exports_back, weights_back}
 use Rattle.run_theorem.specs.Run.{owner_in}
 use Rattle.run_theorem.proofs.RunLaws.{Part, Parted, Block, Good, globally}
 use Rattle.run_theorem.proofs.WorldLaws.{owner_of}

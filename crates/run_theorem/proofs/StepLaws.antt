@@ -12,7 +12,8 @@ use Rattle.vocabulary.proofs.IntervalLaws.{up_to_true}
 use Rattle.vocabulary.proofs.TestLaws.{passed_by}
 use Rattle.layout.specs.Limits.{most_parts}
 use Rattle.part_state.specs.State.{lists_of, dynamic, is_state, bad20}
-use Rattle.part_calls.specs.Calls.{exports_to, write_tests_in, take_tests_in, advance_tests_in, collect_tests_in, points_tests_in, write_number, message, write_out, take_number, advance_number, collect_number, points_number}
+use Rattle.part_calls.specs.Calls.{exports_to, write_tests_in, take_tests_in, advance_tests_in, collect_tests_in, points_tests_in, write_number, message}
+use Rattle.part_calls.specs.Calls.{write_out, take_number, advance_number, collect_number, points_number}
 use Rattle.run_theorem.specs.Run.{put, more}
 
 -- ---- one more state, one more in a list

@@ -27,7 +27,9 @@ use Rattle.split.specs.Split.{points_of}
 use Rattle.split.specs.Lists.{split_in}
 use Rattle.part_state.specs.State.{Lists, lists_in, lists_of, dynamic, is_state, round_at, is_state_at}
 use Rattle.part_state.proofs.StateLaws.{state_at, whole_is}
-use Rattle.part_calls.specs.Calls.{message_to, written_in, take_tests_in, taken_in, advance_tests_in, advanced_in, collect_tests_in, collected_in, write_number, message, write_state, write_out, take_number, take_state, advance_number, advance_state, collect_number, collect_out, points_tests_in, points_given, points_number, points_out}
+use Rattle.part_calls.specs.Calls.{message_to, written_in, take_tests_in, taken_in, advance_tests_in, advanced_in, collect_tests_in, collected_in, write_number}
+use Rattle.part_calls.specs.Calls.{message, write_state, write_out, take_number, take_state, advance_number, advance_state, collect_number, collect_out}
+use Rattle.part_calls.specs.Calls.{points_tests_in, points_given, points_number, points_out}
 use Rattle.run_theorem.specs.Run.{Call, write, take_in, advance, collect, points, World, step, run, Fair, Honest, owner_in, Right, RightPoints}
 use Rattle.part_calls.proofs.CallLaws.{Room, room_of, taken_facts}
 use Rattle.part_calls.proofs.EffectLaws.{all_taken_lem, advance_taken, collect_length, collect_owned, collect_others, points_length}

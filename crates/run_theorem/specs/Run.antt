@@ -13,7 +13,8 @@ use Rattle.round.specs.Rounds.{bad14, undivided, point_in}
 use Rattle.messages.specs.Messages.{read, reading}
 use Rattle.split.specs.Split.{Split, owner_at, owned, held, exports, locals, global_of, points_of, points_in, bad29}
 use Rattle.part_state.specs.State.{is_state, lists_of, dynamic, round_at}
-use Rattle.part_calls.specs.Calls.{write_number, sent_message, message, write_state, write_out, take_number, take_state, advance_number, advance_state, collect_number, collect_out, all_taken, points_number, points_out}
+use Rattle.part_calls.specs.Calls.{write_number, sent_message, message, write_state, write_out, take_number, take_state, advance_number, advance_state}
+use Rattle.part_calls.specs.Calls.{collect_number, collect_out, all_taken, points_number, points_out}
 use Rattle.split.specs.Lists.{map_in, SplitInput, split_in}
 use Rattle.part_start_plan.specs.Start.{Inputs, scheme_in, start_number, start_state, size_number, state_size}
 

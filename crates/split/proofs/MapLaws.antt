@@ -168,7 +168,8 @@ shares_any m parts owners st = refl
 pub named_fine : (m : Bytes) (parts : ℕ) (owners : Bytes) (i j : ℕ) → bad8 m parts owners [] ≡ false → is_up_to parts i ≡ true → is_up_to parts j ≡ true
     → bad8 m parts owners (i ∷ j ∷ []) ≡ false
 unfolding bad8 every_of
-named_fine m parts owners i j e f g = ap₂ (λ x y. not (is_up_to most_parts parts) || not (x && (y && true)) || not (eqb (length owners) (cell_count m)) || not (every_of owners (is_up_to parts))) f g ∙ e
+named_fine m parts owners i j e f g = ap₂ (λ x y. not (is_up_to most_parts parts) || not (x && (y && true)) || not (eqb (length owners) (cell_count m))
+    || not (every_of owners (is_up_to parts))) f g ∙ e
 
 -- ---- the number by the tests up to 10
 
@@ -200,7 +201,8 @@ module _ (m : Bytes) (parts : ℕ) (owners : Bytes) (i j : ℕ) (st : Bytes) (n 
       wrong_named : (l : ℕ) → l < 2 → is_up_to parts (get_or (i ∷ j ∷ []) l 0) ≡ false → bad8 m parts owners (i ∷ j ∷ []) ≡ true
       unfolding bad8
       wrong_named l h e =
-          ap (λ x. not (is_up_to most_parts parts) || not x || not (eqb (length owners) (cell_count m)) || not (every_of owners (is_up_to parts))) (every_of_fails (is_up_to parts) (i ∷ j ∷ []) 0 l h e)
+          ap (λ x. not (is_up_to most_parts parts) || not x || not (eqb (length owners) (cell_count m))
+          || not (every_of owners (is_up_to parts))) (every_of_fails (is_up_to parts) (i ∷ j ∷ []) 0 l h e)
           ∙ go (not (is_up_to most_parts parts)) (not (eqb (length owners) (cell_count m))) (not (every_of owners (is_up_to parts)))
         where
           go : (a c d : Bool) → a || true || c || d ≡ true

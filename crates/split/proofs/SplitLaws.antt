@@ -14,9 +14,11 @@ use borrow.Author.Tests.{eqb-true, eqb-false, eq-eqb, ne_eqb, ltb-true, ltb-fals
 use Rattle.vocabulary.specs.Bytes.{Bytes}
 use Rattle.vocabulary.proofs.ByteLaws.{Place, below, inside as within, above, place}
 use Rattle.vocabulary.specs.Lists.{All, some_of, every_of, place_of, repeats}
-use Rattle.vocabulary.proofs.ListLaws.{repeats_none, repeats_once, and_true, and_intro, and_left, and_right, or_false, every_of_at, every_of_true, All_map, All_append, All_get_or, All_intro, At, at_left, at_right, place_of_is, place_of_left, not_both, same_test, some_of_has}
+use Rattle.vocabulary.proofs.ListLaws.{repeats_none, repeats_once, and_true, and_intro, and_left, and_right, or_false, every_of_at, every_of_true, All_map}
+use Rattle.vocabulary.proofs.ListLaws.{All_append, All_get_or, All_intro, At, at_left, at_right, place_of_is, place_of_left, not_both, same_test, some_of_has}
 use Rattle.vocabulary.specs.Intervals.{is_up_to, picked, blocks, total}
-use Rattle.vocabulary.proofs.IntervalLaws.{picked_all, picked_in, picked_passes, picked_none, picked_cong, picked_rises, blocks_all, blocks_cases, blocks_at, blocks_have, blocks_length, up_to_true, total_fit}
+use Rattle.vocabulary.proofs.IntervalLaws.{picked_all, picked_in, picked_passes, picked_none, picked_cong, picked_rises, blocks_all, blocks_cases, blocks_at}
+use Rattle.vocabulary.proofs.IntervalLaws.{blocks_have, blocks_length, up_to_true, total_fit}
 use Rattle.vocabulary.proofs.CountLaws.{picked_halves, total_short, picked_shared}
 use Rattle.vocabulary.specs.Tests.{Test, first_of}
 use Rattle.vocabulary.proofs.TestLaws.{numbered, numbered_append, small, small_append, passed_by, passed_append, first_of_after, first_of_left}

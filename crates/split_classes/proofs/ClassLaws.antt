@@ -197,7 +197,8 @@ module _ (owners table : Bytes) (ends : List ℕ) (i q o : ℕ) (small : q < mos
           (reached_at owners table ends i q x)))
           ∙ sym (ap (λ b. cond b (cond (ltb x (q + 1)) (cond (inside_at owners table ends i x) 17 18) 0) (cond (reached_at owners table ends i (q + 1) x) (owner_at owners x) 0)) e)
 
-  pub class_own : (inside : Bool) (marked after : Bytes) (k : ℕ) → o ≡ i → inside ≡ inside_at owners table ends i q → OwnersMarked owners i before marked (reach_has table ends q) → k ≡ cond inside 17 18
+  pub class_own : (inside : Bool) (marked after : Bytes) (k : ℕ) → o ≡ i → inside ≡ inside_at owners table ends i q
+      → OwnersMarked owners i before marked (reach_has table ends q) → k ≡ cond inside 17 18
       → after ≡ set marked q k → Classed owners table ends i (q + 1) after
   unfolding owns_at class_at
   class_own inside marked after k own ie M ke e = record {

@@ -119,7 +119,8 @@ module _ (m : Bytes) (parts : ℕ) (owners st : Bytes) where
       let l : 0 + q < cell_count m = omega arith in
       let own : List ℕ = picked (first_cell m) (cell_count m) (λ x. eqb (owner_at owners (x - first_cell m)) i) in
       ap (λ b. cond b 1 0)
-      (same_test (some_of (picked (first_cell m) (cell_count m) (λ x. eqb (owner_at owners (x - first_cell m)) i)) (λ c. walked_to m st c (first_cell m + (0 + q)))) (holds S i (first_cell m + (0 + q)))
+      (same_test (some_of (picked (first_cell m) (cell_count m) (λ x. eqb (owner_at owners (x - first_cell m)) i)) (λ c. walked_to m st c (first_cell m + (0 + q))))
+      (holds S i (first_cell m + (0 + q)))
       (λ e. let w = some_of_witness (λ c. walked_to m st c (first_cell m + (0 + q)))
       (picked (first_cell m) (cell_count m) (λ x. eqb (owner_at owners (x - first_cell m)) i)) 0 e in some_of_has (λ c. reaches S c (first_cell m + (0 + q)))
       (picked (first_cell m) (cell_count m) (λ x. eqb (owner_at owners (x - first_cell m)) i)) 0 w.0 w.1 (sym (walked_is _ (0 + q) l) ∙ w.2))
@@ -246,7 +247,8 @@ module _ (m : Bytes) (parts : ℕ) (owners st : Bytes) where
       pub class_told : (i q : ℕ) → q < cell_count m → class_at owners table ends i (cell_count m) q ≡ class_in S i (first_cell m + q)
       unfolding class_at class_in owns_at owns
       class_told i q h =
-          ap₂ (λ o b. cond (eqb o i) (cond b (cond (inside_at owners table ends i q) 17 18) 0) (cond (reached_at owners table ends i (cell_count m) q) o 0)) (sym (owner_at_lem q)) (lt-ltb q (cell_count m) h)
+          ap₂ (λ o b. cond (eqb o i) (cond b (cond (inside_at owners table ends i q) 17 18) 0) (cond (reached_at owners table ends i (cell_count m) q) o 0))
+          (sym (owner_at_lem q)) (lt-ltb q (cell_count m) h)
           ∙ ap₂ (λ a b. cond (eqb (S.owner (first_cell m + q)) i) (cond a 17 18) (cond b (S.owner (first_cell m + q)) 0)) (N i q h) (holds_told i q)
 
       held_by_lem : (i q : ℕ) → held_by owners table ends (cell_count m) q i ≡ cond (holds S i (first_cell m + q)) 1 0
@@ -271,4 +273,5 @@ module _ (m : Bytes) (parts : ℕ) (owners st : Bytes) where
         unfolding bad12 split_of
         sum_told =
             ap (ltb most_held)
-            (H.sum ∙ ap (λ c. total 1 parts (part_held owners table ends c)) ce ∙ total_cong 1 (part_held owners table ends (cell_count m)) (λ i. length (held S i)) parts (λ k h. part_held_lem (1 + k)))
+            (H.sum ∙ ap (λ c. total 1 parts (part_held owners table ends c)) ce
+            ∙ total_cong 1 (part_held owners table ends (cell_count m)) (λ i. length (held S i)) parts (λ k h. part_held_lem (1 + k)))

@@ -17,7 +17,8 @@ use Rattle.vocabulary.specs.Tests.{first_of}
 use Rattle.mesh.specs.Mesh.{top, counted, below, first_cell, cell_count}
 use Rattle.mesh.specs.Accepted.{Accepted}
 use Rattle.mesh.specs.Walks.{Near, incident, reach, layer, steps_to, steps, walked, bad10, cells_at}
-use Rattle.split.specs.Split.{Split, split_of, owns, owned, reaches, holds, held, imports, locals, local_of, global_of, holds_lower, touches, another, is_copied, is_shared, is_exposed, is_private, range}
+use Rattle.split.specs.Split.{Split, split_of, owns, owned, reaches, holds, held, imports, locals, local_of, global_of, holds_lower, touches, another}
+use Rattle.split.specs.Split.{is_copied, is_shared, is_exposed, is_private, range}
 use Rattle.split.specs.Lists.{split_number, list_of}
 use Rattle.split.specs.declared.Wanted.TheVariants.{Private, Exposed, Shared, Copied}
 use Rattle.split.proofs.SplitLaws as Laws

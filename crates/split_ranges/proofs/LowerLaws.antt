@@ -12,7 +12,8 @@ use Rattle.vocabulary.proofs.CountLaws.{total_add, total_single, picked_count}
 use borrow.Author.Tests.{eq-eqb, lt-leb, lt-ltb, le-ltb, eqb-true, eqb-false, ne_eqb, not-true, ltb-true}
 use Rattle.vocabulary.specs.Bytes.{Bytes, byte_at}
 use Rattle.vocabulary.specs.Intervals.{picked, every, blocks, some, total}
-use Rattle.vocabulary.proofs.IntervalLaws.{at_last, picked_cong, some_cong, some_swap, picked_some, last_or, total_cong, blocks_cong, picked_all, picked_length_le, some_in, some_witness, blocks_picked}
+use Rattle.vocabulary.proofs.IntervalLaws.{at_last, picked_cong, some_cong, some_swap, picked_some, last_or, total_cong, blocks_cong, picked_all}
+use Rattle.vocabulary.proofs.IntervalLaws.{picked_length_le, some_in, some_witness, blocks_picked}
 use Rattle.vocabulary.specs.Lists.{is_in, some_of, All}
 use Rattle.vocabulary.proofs.ListLaws.{or_nothing, and_true, and_intro, same_test, All_map, All_get_or, some_of_has, some_of_witness, some_of_cong, some_of_and, cond_has}
 use Rattle.layout.specs.Limits.{most_elements, most_parts, record_places}
@@ -93,7 +94,8 @@ module _ (m : Bytes) (cell prev last : List ℕ) (G : Ground m (top m ∷ []) ce
     unfolding trail_class element_class lower_class cells_at
     class_like e low high = λ x. cond (side Mine x) (cond (side Anothers x) 3 (cond (side HeldByAnother x) 2 1)) (cond (side Held x) 4 0)
       where
-        side : (k : Side) → some_side (trail cell prev record_places (get_or last e 0)) first k class holders ≡ some_side (picked (first_cell m) (cell_count m) (incident m e)) (first_cell m) k class holders
+        side : (k : Side) → some_side (trail cell prev record_places (get_or last e 0)) first k class holders
+            ≡ some_side (picked (first_cell m) (cell_count m) (incident m e)) (first_cell m) k class holders
         side k =
             unfold some_side in some_of_like (trail cell prev record_places (get_or last e 0)) (picked (first_cell m) (cell_count m) (incident m e))
             (λ y. side_at k class holders (y - first)) (λ z. trail_told e z low high)

@@ -1,7 +1,8 @@
 -- Laws of a buffer with a part replaced: what stands where afterwards, and pieces put one after another. Assumes nothing.
 use Rattle.std.specs.Prelude.{◌≡◌, refl, Bool, true, false, [], ◌∷◌, ◌++◌, ℕ, ◌+◌, ◌-◌, ◌<◌, ◌≤◌, set, ltb}
 use Rattle.std.proofs.Math.Path.{sym, subst}
-use Rattle.std.proofs.Common.{ap, ◌∙◌, append_assoc, append-nil, add-zero, zero-add, add-one, arith, length-drop, take-append-drop, get_or-append-add, get_or-drop, get_or-take, length-take-le, drop_at, ltb-true, ltb-false}
+use Rattle.std.proofs.Common.{ap, ◌∙◌, append_assoc, append-nil, add-zero, zero-add, add-one, arith, length-drop, take-append-drop, get_or-append-add}
+use Rattle.std.proofs.Common.{get_or-drop, get_or-take, length-take-le, drop_at, ltb-true, ltb-false}
 use Rattle.std.proofs.Math.ListN.{length, take, drop, length-append, get_or-append, get_or-eq_default}
 use Rattle.std.proofs.Math.Seq.{take_at, drop-drop, drop-append-add, drop-length}
 use Rattle.std.proofs.lemmas.List.{set_split}

@@ -16,7 +16,9 @@ use borrow.Author.Tests.{eqb-true, eqb-false, ltb-true, ltb-false, lt-ltb, leb-t
 use Rattle.vocabulary.specs.Bytes.{Bytes, over}
 use Rattle.vocabulary.proofs.ByteLaws.{over_none}
 use Rattle.vocabulary.specs.Lists.{Rises, is_in, some_of, repeats, joined, All}
-use Rattle.vocabulary.proofs.ListLaws.{is_in_append, some_of_append, some_of_witness, some_of_has, or_nothing, same_test, and_true, and_intro, or_left, or_right, or_true, or_none, not_both, not_or_not, All_append, All_get_or, At, at_left, at_right, repeats_none, map_append, joined_last}
+use Rattle.vocabulary.proofs.ListLaws.{is_in_append, some_of_append, some_of_witness, some_of_has, or_nothing, same_test, and_true, and_intro, or_left}
+use Rattle.vocabulary.proofs.ListLaws.{or_right, or_true, or_none, not_both, not_or_not, All_append, All_get_or, At, at_left, at_right, repeats_none}
+use Rattle.vocabulary.proofs.ListLaws.{map_append, joined_last}
 use Rattle.vocabulary.specs.Intervals.{is_up_to, picked, every, some, listed, blocks, total}
 
 -- a loop that has come to its end: what holds so far holds in all

@@ -209,7 +209,8 @@ step_turn found₀ found found' base n n' j g xs t e u = record {
       u.each z
       ∙ ap (λ b. b || is_in z xs) (sym (or_nothing (is_in z (take n found))) ∙ t.each z)
       ∙ or_assoc (is_in z (take base found₀)) (is_in z (blocks 0 j g)) (is_in z xs)
-      ∙ ap (λ b. is_in z (take base found₀) || b) (sym (is_in_append z (blocks 0 j g) xs) ∙ ap (λ (l : List ℕ). is_in z (blocks 0 j g ++ l)) e ∙ ap (is_in z) (sym (rw zero-add at (blocks_turn 0 g j))));
+      ∙ ap (λ b. is_in z (take base found₀) || b) (sym (is_in_append z (blocks 0 j g) xs) ∙ ap (λ (l : List ℕ). is_in z (blocks 0 j g ++ l)) e
+      ∙ ap (is_in z) (sym (rw zero-add at (blocks_turn 0 g j))));
 }
 
 pub step_end : (found₀ found : List ℕ) (base n j s : ℕ) (g : ℕ → List ℕ) → j ≤ n → n ≤ j → Toward found s [] (with found₀ base (blocks 0 j g)) → Toward found s [] (with found₀ base (blocks 0 n g))

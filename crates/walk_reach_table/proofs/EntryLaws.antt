@@ -46,7 +46,8 @@ module _ (m st : Bytes) where
   unfolding entry_count
   count_fits n j h = total_fit (first_cell m) (λ c. length (reach m st c)) n j h
 
-  word_in_row : (n j s : ℕ) → j < n → s < 2 * length (reach m st (first_cell m + j)) → get_or (table_words m st n) (length (table_words m st j) + s) 0 ≡ get_or (reach_entries m st (first_cell m + j)) s 0
+  word_in_row : (n j s : ℕ) → j < n → s < 2 * length (reach m st (first_cell m + j))
+      → get_or (table_words m st n) (length (table_words m st j) + s) 0 ≡ get_or (reach_entries m st (first_cell m + j)) s 0
   unfolding table_words
   word_in_row n j s h k = blocks_at (first_cell m) (reach_entries m st) n j s 0 h (omega (arith, row_length (first_cell m + j)))
 

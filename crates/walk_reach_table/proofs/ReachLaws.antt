@@ -155,7 +155,12 @@ cell_count_lem m st c = words_length (first_cell m) (reach m st c)
 pub table_count : (m st : Bytes) (n : ℕ) → length (table_words m st n) ≡ 2 * entry_count m st n
 unfolding table_words entry_count blocks total
 table_count m st zero = refl
-table_count m st (suc n) = omega (arith, length-append (blocks (first_cell m) n (reach_entries m st)) (reach_entries m st (first_cell m + n)), cell_count_lem m st (first_cell m + n), table_count m st n)
+table_count m st (suc n) = omega (
+  arith,
+  length-append (blocks (first_cell m) n (reach_entries m st)) (reach_entries m st (first_cell m + n)),
+  cell_count_lem m st (first_cell m + n),
+  table_count m st n,
+)
 
 -- ---- what the calls suppose
 
@@ -176,7 +181,10 @@ table_start m st b first = let z : first - first ≡ 0 = omega arith in subst (�
 
 pub ends_start : (m st : Bytes) (first : ℕ) (ends after : List ℕ) → length ends ≡ element_places → after ≡ set ends 0 0 → EndTable m st after (first - first)
 ends_start m st first ends after r f =
-    record { each = λ j h. let z : j ≡ 0 = omega arith in subst (λ k. get_or after k 0 ≡ entry_count m st k) (sym z) (ap (λ (l : List ℕ). get_or l 0 0) f ∙ get_or-set_same ends 0 0 0 (omega arith) ∙ none) }
+    record {
+      each = λ j h. let z : j
+          ≡ 0 = omega arith in subst (λ k. get_or after k 0 ≡ entry_count m st k) (sym z) (ap (λ (l : List ℕ). get_or l 0 0) f ∙ get_or-set_same ends 0 0 0 (omega arith) ∙ none);
+    }
   where
     none : 0 ≡ entry_count m st 0
     none = unfold entry_count total in refl
@@ -230,7 +238,12 @@ module _ (m st : Bytes) (first x : ℕ) (fe : first ≡ first_cell m) (l : first
       many = lots (leb (entry_count m st (x + 1 - first)) most_reached) refl
         where
           lots : (d : Bool) → leb (entry_count m st (x + 1 - first)) most_reached ≡ d → most_reached < entry_count m st (x + 1 - first)
-          lots true e = let z : ⊥ = omega (arith, here, capped_low (entry_count m st (x + 1 - first)) (leb-true _ most_reached e), leb-true (entry_count m st (x + 1 - first)) most_reached e) in absurd z
+          lots true e = let z : ⊥ = omega (
+            arith,
+            here,
+            capped_low (entry_count m st (x + 1 - first)) (leb-true _ most_reached e),
+            leb-true (entry_count m st (x + 1 - first)) most_reached e,
+          ) in absurd z
           lots false e = leb-false (entry_count m st (x + 1 - first)) most_reached e
 
       grows : entry_count m st (x + 1 - first) ≤ entry_count m st (cell_count m)

@@ -15,7 +15,8 @@ use Rattle.vocabulary.specs.Bytes.{Bytes, byte_at}
 use Rattle.vocabulary.specs.Intervals.{picked, some}
 use Rattle.vocabulary.proofs.IntervalLaws.{picked_cong, picked_some, some_in, some_witness, every_at, at_last}
 use Rattle.vocabulary.specs.Lists.{is_in, repeats, All, Zeros}
-use Rattle.vocabulary.proofs.ListLaws.{or_nothing, and_true, and_intro, and_right, and_all, not_both, same_test, is_in_append, repeats_once, All_map, All_append, All_split, is_in_at, at_is_in, at_all, All_intro}
+use Rattle.vocabulary.proofs.ListLaws.{or_nothing, and_true, and_intro, and_right, and_all, not_both, same_test, is_in_append, repeats_once, All_map}
+use Rattle.vocabulary.proofs.ListLaws.{All_append, All_split, is_in_at, at_is_in, at_all, All_intro}
 use Rattle.layout.specs.Limits.{element_places, most_elements, most_steps}
 use Rattle.mesh.specs.Mesh.{top, elements, counted, below, first_cell, cell_count}
 use Rattle.mesh.specs.Walks.{bad10, incident, step_to}
@@ -25,7 +26,8 @@ use Rattle.mesh.proofs.DimensionLaws.{below_more}
 use Rattle.walk_steps.proofs.StepLaws.{some_of_like, step_from, step_to_lem}
 use Rattle.walk_steps.proofs.NoteLaws.{begin}
 use Rattle.walk_frontier.specs.Visits.{Frontier, Toward, Added}
-use Rattle.walk_steps.specs.Walking.{Ground, AllCells, Lowers, Sided, stepped, alike, through_one, met_before, newly, mark_at, starts_among, or_among, first_mark, layer_mark, noted, Noted, among_first, cells_among, walked_from, WalkDone, Within, Widened, Departed, Arrived}
+use Rattle.walk_steps.specs.Walking.{Ground, AllCells, Lowers, Sided, stepped, alike, through_one, met_before, newly, mark_at, starts_among, or_among}
+use Rattle.walk_steps.specs.Walking.{first_mark, layer_mark, noted, Noted, among_first, cells_among, walked_from, WalkDone, Within, Widened, Departed, Arrived}
 
 -- ---- the copy
 

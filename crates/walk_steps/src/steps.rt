@@ -7,7 +7,8 @@ ghost use Rattle.layout.specs.Limits.{element_places, most_elements, most_steps,
 ghost use Rattle.mesh.specs.Mesh.{top};
 ghost use Rattle.mesh.specs.Accepted.{Accepted};
 ghost use Rattle.walk_frontier.specs.Visits.{Frontier, Toward, Added};
-ghost use Rattle.walk_steps.specs.Walking.{Ground, Sized, AllCells, Lowers, Sided, stepped, alike, through_one, mark_at, starts_among, or_among, Noted, among_first, WalkDone, Within, Widened, Departed, Arrived};
+ghost use Rattle.walk_steps.specs.Walking.{Ground, Sized, AllCells, Lowers, Sided, stepped, alike, through_one, mark_at, starts_among, or_among, Noted};
+ghost use Rattle.walk_steps.specs.Walking.{among_first, WalkDone, Within, Widened, Departed, Arrived};
 
 use layout::{byte_at, number_at, put_number_at};
 use mesh::inner::{below_of, cell_count, elements_of, first_cell, record_count};

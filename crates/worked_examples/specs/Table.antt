@@ -11,7 +11,8 @@ use Rattle.layout.specs.Answers.{answer}
 use Rattle.depths.specs.Depths.{four, number_from, signed, unsigned, depth_from, number_bytes, depth_bytes, in_range, value_from, value_bytes, is_depth, is_valid, ranged_at}
 use Rattle.layout.specs.Words.{word, word_at, words, word_bytes, bytes_of}
 use Rattle.mesh.specs.Meet.{meet, stamp, unlike}
-use Rattle.mesh.specs.Mesh.{below, dimension, element_in, next_of, follow, records, chain, all_records, bad1, bad_count, bad2, mesh_length, bad3, headed, bad4, bad_item, bad_chain, bad5, leaves, unclosed, bad6, bare, bad7, mesh_tests, mesh_number, check_answer}
+use Rattle.mesh.specs.Mesh.{below, dimension, element_in, next_of, follow, records, chain, all_records, bad1, bad_count, bad2, mesh_length, bad3, headed, bad4}
+use Rattle.mesh.specs.Mesh.{bad_item, bad_chain, bad5, leaves, unclosed, bad6, bare, bad7, mesh_tests, mesh_number, check_answer}
 use Rattle.mesh.specs.Walks.{Near, incident, steps, valid_at, bad10, step_to, walked, steps_to, layer, reach, bad13, cells_at}
 use Rattle.round.specs.Rounds.{bad14, scheme_of, depth_in, olds_in, new_in, round, undivided, round_number, round_answer, round_out}
 use Rattle.round_rule.specs.Rules.{weight_count, too_heavy, bad11, without_gaps, weight, read_by, depth_sum, weight_sum, quotient, mean_of, least, least_of, new_depth}
@@ -20,13 +21,20 @@ use Rattle.messages.specs.Messages.{encode, bad15, reading}
 use Rattle.split.specs.Lists.{bad8, bad9, bad12, split_tests, size_tests, others, list_of, list_words, list_number, list_answer, list_out, split_input}
 use Rattle.split.specs.declared.Wanted.{Wanted}
 use Rattle.split.specs.declared.Wanted.TheVariants.{Interior, Imports}
-use Rattle.split.specs.Split.{split_of, owns, owned, reaches, holds, held, imports, exports, inside, interior, halo, locals, local_of, global_of, holds_lower, touches, another, is_copied, is_shared, is_exposed, is_private, range, points_of, cell_points, point_ends, bad29}
-use Rattle.part_calls.specs.Calls.{imports_from, exports_to, message_to, write_tests_in, written_in, take_tests_in, taken_in, all_taken, all_written, advance_tests_in, new_at, advanced_in, collect_tests_in, scatter, write_number, message, write_answer, write_state, write_out, take_number, take_answer, take_state, advance_number, advance_answer, advance_state, collect_number, collect_answer, collect_out, outside, points_tests_in, point_given, points_number, points_out}
+use Rattle.split.specs.Split.{split_of, owns, owned, reaches, holds, held, imports, exports, inside, interior, halo, locals, local_of, global_of, holds_lower}
+use Rattle.split.specs.Split.{touches, another, is_copied, is_shared, is_exposed, is_private, range, points_of, cell_points, point_ends, bad29}
+use Rattle.part_calls.specs.Calls.{imports_from, exports_to, message_to, write_tests_in, written_in, take_tests_in, taken_in, all_taken, all_written}
+use Rattle.part_calls.specs.Calls.{advance_tests_in, new_at, advanced_in, collect_tests_in, scatter, write_number, message, write_answer, write_state}
+use Rattle.part_calls.specs.Calls.{write_out, take_number, take_answer, take_state, advance_number, advance_answer, advance_state, collect_number}
+use Rattle.part_calls.specs.Calls.{collect_answer, collect_out, outside, points_tests_in, point_given, points_number, points_out}
 use Rattle.part_state.specs.State.{weights, local_reach, local_exports, local_around, lists_in, lists_of, rises, climbs, lists_tests, dynamic_tests, is_state, bad20}
-use Rattle.part_start_plan.specs.Start.{import_ends, export_ends, reach_ends, reach_words, export_words, around_words, lists_long, lists_regions, state_size, size_number, size_answer, inputs, scheme_in, first_state, start_number, start_answer, start_state}
+use Rattle.part_start_plan.specs.Start.{import_ends, export_ends, reach_ends, reach_words, export_words, around_words, lists_long, lists_regions, state_size}
+use Rattle.part_start_plan.specs.Start.{size_number, size_answer, inputs, scheme_in, first_state, start_number, start_answer, start_state}
 use Rattle.example_inputs.specs.Inputs.{five, triangles, field, five_inputs}
-use Rattle.run_theorem.specs.Run.{owner_in, Gathered, collects_of, Run, World, Collected, PointDepths, collect, points, advance, take_in, write, Call, put, more, step, run, Fair, Honest, begin, StateBound}
-use Rattle.list_text.specs.Listing.{ascii, digits, decimal, spaced, line, line_unless_empty, dimension_text, part_text, split_text, mesh_piece, map_piece, parts_piece, owners_piece, last_piece, stencil_piece, listing_number, list_text}
+use Rattle.run_theorem.specs.Run.{owner_in, Gathered, collects_of, Run, World, Collected, PointDepths, collect, points, advance, take_in, write, Call, put}
+use Rattle.run_theorem.specs.Run.{more, step, run, Fair, Honest, begin, StateBound}
+use Rattle.list_text.specs.Listing.{ascii, digits, decimal, spaced, line, line_unless_empty, dimension_text, part_text, split_text, mesh_piece, map_piece}
+use Rattle.list_text.specs.Listing.{parts_piece, owners_piece, last_piece, stencil_piece, listing_number, list_text}
 
 -- ---- short forms, and what the list program reads
 

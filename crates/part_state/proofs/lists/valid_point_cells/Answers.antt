@@ -37,7 +37,8 @@ loop-k-preserved c =
       search rules,
       search rules,
       two_turn _ _ counts _ place (4 * k + 2) _ (omega arith) _ c.two_within-in-loop-k.ensures
-          (two_turn _ _ counts _ place (4 * k) _ refl _ c.two_within.ensures c.loop-k.invariant.2 (ap not c.if-not-two_within.false) (4 * k + 2) refl) (ap not c.if-not-two_within-2.false) (4 * (k + 1)) (omega arith),
+          (two_turn _ _ counts _ place (4 * k) _ refl _ c.two_within.ensures c.loop-k.invariant.2 (ap not c.if-not-two_within.false) (4 * k + 2) refl)
+          (ap not c.if-not-two_within-2.false) (4 * (k + 1)) (omega arith),
     )
 
 pub loop-t-init : goal.loop-t-init

@@ -7,7 +7,8 @@ use Rattle.walk_near_cells.proofs.levels.reach_row.Given as goal
 
 abbrev pub invariant-loop-t : goal.invariant-loop-t
 invariant-loop-t l =
-    (l.lo ≤ l.t) × (l.t ≤ l.hi) × (length l.layers ≡ length l.initial.layers) × (length l.found ≡ length l.initial.found) × Spread l.k l.initial.layers l.initial.found l.count l.layers l.found l.s (in_row l.near l.lo l.t)
+    (l.lo ≤ l.t) × (l.t ≤ l.hi) × (length l.layers ≡ length l.initial.layers) × (length l.found ≡ length l.initial.found)
+    × Spread l.k l.initial.layers l.initial.found l.count l.layers l.found l.s (in_row l.near l.lo l.t)
 
 abbrev pub decreases-loop-t : goal.decreases-loop-t
 decreases-loop-t l = l.hi - l.t

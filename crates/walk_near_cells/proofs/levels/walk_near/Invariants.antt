@@ -7,7 +7,8 @@ use Rattle.walk_near_cells.proofs.levels.walk_near.Given as goal
 
 abbrev pub invariant-loop-j : goal.invariant-loop-j
 invariant-loop-j l =
-    (l.j ≤ l.steps / 2) × (l.j-end ≡ l.steps / 2) × (length l.layers ≡ length l.initial.layers) × (length l.found ≡ length l.initial.found) × Level l.m l.stencil l.c (2 * l.j) l.layers l.found l.old l.met
+    (l.j ≤ l.steps / 2) × (l.j-end ≡ l.steps / 2) × (length l.layers ≡ length l.initial.layers) × (length l.found ≡ length l.initial.found)
+    × Level l.m l.stencil l.c (2 * l.j) l.layers l.found l.old l.met
 
 abbrev pub decreases-loop-j : goal.decreases-loop-j
 decreases-loop-j l = l.steps / 2 - l.j

@@ -8,7 +8,8 @@ use Rattle.walk_near_cells.proofs.rows.list_rows.Given as goal
 
 abbrev pub invariant-loop-q : goal.invariant-loop-q
 invariant-loop-q l =
-    (l.q ≤ l.sizes.cells) × (l.q-end ≡ l.sizes.cells) × Under (2 * l.q + 1) l.marks × (length l.marks ≡ length l.initial.marks) × (length l.from ≡ length l.initial.from) × (length l.found ≡ length l.initial.found) ×
+    (l.q ≤ l.sizes.cells) × (l.q-end ≡ l.sizes.cells) × Under (2 * l.q + 1) l.marks × (length l.marks ≡ length l.initial.marks) × (length l.from ≡ length l.initial.from)
+    × (length l.found ≡ length l.initial.found) ×
     (length l.near ≡ length l.initial.near) × Filled l.m l.a l.near l.w l.q
 
 abbrev pub decreases-loop-q : goal.decreases-loop-q

@@ -9,7 +9,8 @@ use Rattle.walk_reach_table.proofs.table.emit.Given as goal
 
 abbrev pub invariant-loop-x : goal.invariant-loop-x
 invariant-loop-x l =
-    (l.low ≤ l.x) × (l.x - l.low ≤ l.high - l.low) × (l.s ≤ (most_reached + 1)) × (length l.layers ≡ length l.initial.layers) × (length l.table ≡ length l.initial.table) × Cleared l.low l.x l.initial.layers l.layers
+    (l.low ≤ l.x) × (l.x - l.low ≤ l.high - l.low) × (l.s ≤ (most_reached + 1)) × (length l.layers ≡ length l.initial.layers) × (length l.table ≡ length l.initial.table)
+    × Cleared l.low l.x l.initial.layers l.layers
     × Emitted l.initial.table l.table l.t l.s (blocks (l.low - l.first) (l.x - l.low) (row l.initial.layers l.first))
 
 abbrev pub decreases-loop-x : goal.decreases-loop-x
