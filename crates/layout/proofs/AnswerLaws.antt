@@ -2,8 +2,7 @@
 use Rattle.std.specs.Prelude.{◌≡◌, refl, Bool, true, false, cond, ℕ, eqb}
 use Rattle.std.proofs.Common.{sym, ap, ◌∙◌, eqb-true, eq-eqb, ne_eqb}
 use Rattle.vocabulary.specs.Bytes.{Bytes}
-use Rattle.layout.specs.declared.Answer.TheVariants.{Done, Refused}
-use Rattle.layout.specs.Answers.{answer, number_of, count_of}
+use Rattle.layout.specs.Answers.{Done, Refused, answer, number_of, count_of}
 
 pub answer_number : (n c : ℕ) → number_of (answer n c) ≡ n
 unfolding answer

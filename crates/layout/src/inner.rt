@@ -3,16 +3,13 @@ ghost use Rattle.std.specs.Prelude.{◌≡◌, ◌+◌, ◌<◌, ◌≤◌, leng
 ghost use Rattle.vocabulary.specs.Bytes.{over};
 ghost use Rattle.layout.specs.Words.{word, word_bytes};
 
-use crate::wide;
-
 // The word whose high byte stands at `o`.
+#[tactic(auto, unfolding(crate::specs::Words::word))]
 pub fn word_in(b: &[u8], o: usize) -> usize
     requires { o + 1 < length b.now }
     ensures { (result ≡ word b.now o) × (result < 65536) }
 {
-    let high = wide(b[o]);
-    let low = wide(b[o + 1]);
-    high * 256 + low
+    usize::from(u16::from_be_bytes([b[o], b[o + 1]]))
 }
 
 // Stores the word `v` with its high byte at `o`.
@@ -20,8 +17,7 @@ pub fn put_word(b: &mut [u8], o: usize, v: usize)
     requires { (o + 1 < length b.old) × (v < 65536) }
     ensures { b.new ≡ over b.old o (word_bytes v) }
 {
-    b[o] = (v / 256) as u8;
-    b[o + 1] = (v % 256) as u8;
+    b[o..o + 2].copy_from_slice(&(v as u16).to_be_bytes());
 }
 
 // Copies n bytes of `src` from `from` on into `dst` at `at`.
@@ -29,7 +25,5 @@ pub fn copy(dst: &mut [u8], at: usize, src: &[u8], from: usize, n: usize)
     requires { (at + n ≤ length dst.old) × (from + n ≤ length src.now) }
     ensures { dst.new ≡ over dst.old at (take n (drop from src.now)) }
 {
-    for k in 0..n {
-        dst[at + k] = src[from + k];
-    }
+    dst[at..at + n].copy_from_slice(&src[from..from + n]);
 }

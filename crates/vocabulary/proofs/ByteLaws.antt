@@ -6,6 +6,7 @@ use Rattle.std.proofs.Common.{get_or-drop, get_or-take, length-take-le, drop_at,
 use Rattle.std.proofs.Math.ListN.{length, take, drop, length-append, get_or-append, get_or-eq_default}
 use Rattle.std.proofs.Math.Seq.{take_at, drop-drop, drop-append-add, drop-length}
 use Rattle.std.proofs.lemmas.List.{set_split}
+use borrow.Rule.Slice.PartMut.{put_mid}
 use Rattle.vocabulary.specs.Bytes.{Bytes, byte_at, over}
 
 -- a number and the n numbers from `at` on: below them, the t-th of them, or above
@@ -24,6 +25,11 @@ place at n l = go (ltb l at) (ltb l (at + n)) refl refl
         let k : l < at + n = ltb-true l (at + n) q in
         inside (l - at) (omega arith) (omega arith)
     go false false p q = above (ltb-false l (at + n) q)
+
+-- a part of a buffer written by a method of its slice
+pub over_mid : (b : Bytes) (at k : ℕ) (xs ys : Bytes) → ys ≡ xs → length xs ≡ k → put_mid at k b ys ≡ over b at xs
+unfolding over
+over_mid b at k xs ys e l = rw (e, ← l) (ap (λ r. take at b ++ (xs ++ r)) (drop-drop (length xs) at b))
 
 -- a byte past the end
 pub byte_past : (b : Bytes) (i : ℕ) → length b ≤ i → byte_at b i ≡ 0
