@@ -5,18 +5,21 @@ use Prim.Native.Nat.{ℕ, ◌+◌, ◌*◌, ◌/◌, ◌%◌, ◌<◌}
 use native.Mathlib.Omega.{arith}
 use lib.Dec.{eqb}
 use borrow.Author.Tests.{eqb-true}
-use Rattle.layout.specs.Answers.{answer, number_of, count_of}
-use Rattle.layout.specs.declared.Answer.{Answer}
-use Rattle.layout.specs.declared.Answer.TheVariants.{Done, Refused}
+use Rattle.std.specs.Prelude.{Result, Ok, Err}
+use Rattle.layout.specs.Answers.{Answer, Done, Refused, answer, answer_of, number_of, count_of, refusal_number}
+use Rattle.layout.specs.declared.refusal.Refusal.{Refusal}
 use Rattle.c_answer.specs.Packed.{packed}
 
-pub packed_done : (a : Answer) (count : ℕ) → a ≡ Done count → count ≡ packed a
-unfolding packed
-packed_done a count e = (let q : count ≡ 0 * 4294967296 + count = omega arith in q) ∙ ap packed (sym e)
+-- as the code answers
+module _ (r : Result ℕ Refusal) (n : ℕ) where
+  pub packed_done : {count : ℕ} → r ≡ Ok count → n ≡ count → n ≡ packed (answer_of r)
+  unfolding packed
+  packed_done {count = count} e q = q ∙ (let z : count ≡ 0 * 4294967296 + count = omega arith in z) ∙ ap (λ x. packed (answer_of x)) (sym e)
 
-pub packed_refused : (a : Answer) (number : ℕ) → a ≡ Refused number → number * 4294967296 ≡ packed a
-unfolding packed
-packed_refused a number e = (let q : number * 4294967296 ≡ number * 4294967296 + 0 = omega arith in q) ∙ ap packed (sym e)
+  pub packed_refused : {refusal : Refusal} → r ≡ Err refusal → n ≡ refusal_number refusal → n * 4294967296 ≡ packed (answer_of r)
+  unfolding packed
+  packed_refused {refusal = refusal} e q =
+      let z : n * 4294967296 ≡ refusal_number refusal * 4294967296 + 0 = omega (arith, q) in z ∙ ap (λ x. packed (answer_of x)) (sym e)
 
 pub packed_as : (r : ℕ) (a x : Answer) → r ≡ packed a → a ≡ x → r ≡ packed x
 packed_as r a x e q = e ∙ ap packed q

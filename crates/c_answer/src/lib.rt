@@ -2,16 +2,17 @@
 #![tactic(auto)]
 
 ghost use Rattle.std.specs.Prelude.{◌≡◌};
+ghost use Rattle.layout.specs.Answers.{answer_of};
 ghost use Rattle.c_answer.specs.Packed.{packed};
 
-use layout::Answer;
+use layout::Refusal;
 
 // An answer as one number.
-pub fn pack(a: Answer) -> u64
-    ensures { result ≡ packed a }
+pub fn pack(a: Result<u32, Refusal>) -> u64
+    ensures { result ≡ packed (answer_of a) }
 {
     match a {
-        Answer::Done(count) => count as u64,
-        Answer::Refused(number) => (number as u64) * 4294967296,
+        Ok(count) => u64::from(count),
+        Err(refusal) => u64::from(u32::from(refusal)) * 4294967296,
     }
 }

@@ -1,14 +1,14 @@
 // Reads a mesh from standard input and says how many cells it has, or the number of its refusal. No accepted mesh is longer than 52,012 bytes.
 #![tactic(auto)]
 
-use layout::Answer;
+use layout::Refusal;
 
 fn main() {
     let mut buffer = [0u8; 65536];
     let n = io::read_full(0, &mut buffer);
     let answer = mesh_valid::check_mesh(&buffer[..n]);
     match answer {
-        Answer::Done(cells) => {
+        Ok(cells) => {
             io::write_all(1, b"cells ");
             io::print_decimal(1, cells as u64);
         }

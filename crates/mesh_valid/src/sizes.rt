@@ -2,8 +2,10 @@
 ghost use Rattle.std.specs.Prelude.{◌≡◌, [], ◌∷◌, ◌+◌, ◌*◌, ◌<◌};
 ghost use Rattle.vocabulary.specs.Intervals.{some};
 ghost use Rattle.vocabulary.specs.Tests.{refuse, first_of};
+ghost use Rattle.layout.specs.Answers.{refused_as};
 ghost use Rattle.mesh.specs.Mesh.{bad_count, bad1, bad2, bad3};
 
+use layout::Refusal;
 use layout::limits::{MOST_ELEMENTS, MOST_RECORDS};
 use mesh::inner::{count_of, elements_of, record_count, top_of};
 
@@ -63,18 +65,18 @@ fn bad3(m: &[u8]) -> bool
     m.len() != 2 * (6 + n + 2 * r)
 }
 
-// The number of the first of them that refuses the mesh, and 0 where none does.
-pub fn size_number(m: &[u8]) -> u32
-    ensures { result ≡ first_of (refuse 1 (bad1 m.now) ∷ refuse 2 (bad2 m.now) ∷ refuse 3 (bad3 m.now) ∷ []) }
+// The first of them that refuses the mesh.
+pub fn test_sizes(m: &[u8]) -> Result<(), Refusal>
+    ensures { refused_as result ≡ first_of (refuse 1 (bad1 m.now) ∷ refuse 2 (bad2 m.now) ∷ refuse 3 (bad3 m.now) ∷ []) }
 {
     if bad1(m) {
-        return 1;
+        return Err(Refusal::MeshHead);
     }
     if bad2(m) {
-        return 2;
+        return Err(Refusal::Counts);
     }
     if bad3(m) {
-        return 3;
+        return Err(Refusal::MeshLength);
     }
-    0
+    Ok(())
 }

@@ -12,8 +12,10 @@ use Rattle.vocabulary.proofs.ByteLaws.{over_more}
 use Rattle.layout.specs.Words.{word_bytes, bytes_of}
 use Rattle.depths.specs.Depths.{ranged_at}
 use Rattle.messages.specs.Messages.{header_size, message_size, bad15, reading, count_in, from_in, to_in, round_in}
-use Rattle.messages.specs.Readings.{meant_reading}
-use Rattle.messages.specs.declared.Reading.TheVariants.{Message, Refused}
+use Rattle.std.specs.Prelude.{Ok, Err}
+use Rattle.layout.specs.declared.refusal.Refusal.TheVariants.{Message}
+use Rattle.messages.specs.Readings.{IsHeader, meant_reading}
+use Rattle.messages.specs.declared.Header.{Header}
 
 -- ---- 15
 
@@ -34,14 +36,13 @@ module _ (b : Bytes) where
 -- ---- the answer
 
 module _ (b : Bytes) (t : Bool) (r : t ≡ bad15 b) where
-  pub not_read : t ≡ true → meant_reading b (Refused 15) ≡ reading b
+  pub not_read : t ≡ true → meant_reading b (Err Message) ≡ reading b
   unfolding meant_reading reading
   not_read e = simp (sym r, e)
 
-  pub is_read : (f g k n : ℕ) → t ≡ false → f ≡ from_in b → g ≡ to_in b → k ≡ round_in b → n ≡ count_in b
-      → meant_reading b (Message (record { from = f; to = g; round = k; count = n })) ≡ reading b
+  pub is_read : (h : Header) → t ≡ false → IsHeader b h → meant_reading b (Ok h) ≡ reading b
   unfolding meant_reading reading
-  is_read f g k n e p q s u = simp (sym r, e, sym p, sym q, sym s, sym u)
+  is_read h e w = simp (sym r, e, sym w.0, sym w.1, sym w.2, sym w.3)
 
 -- ---- the four words of a header
 

@@ -5,10 +5,10 @@ pub mod inner;
 
 ghost use Rattle.std.specs.Prelude.{◌≡◌};
 ghost use Rattle.messages.specs.Messages.{bad15, reading};
-ghost use Rattle.messages.specs.Readings.{reading_number, meant_reading};
+ghost use Rattle.messages.specs.Readings.{IsHeader, meant_reading};
 
 use depths::inner::values_valid;
-use layout::word_at;
+use layout::{Refusal, word_at};
 
 // The bytes of the four words before the depths.
 pub const HEADER_SIZE: usize = 8;
@@ -20,13 +20,6 @@ pub struct Header {
     pub to: usize,
     pub round: usize,
     pub count: usize,
-}
-
-// What reading gives: the message, or the number of its refusal.
-#[derive(Clone, Copy)]
-pub enum Reading {
-    Message(Header),
-    Refused(u32),
 }
 
 // Whether the bytes are to be refused, with number 15.
@@ -43,27 +36,24 @@ fn bad_message(b: &[u8]) -> bool
     !values_valid(b, HEADER_SIZE, count)
 }
 
-// Reads a message out of any bytes.
-pub fn read(b: &[u8]) -> Reading
-    ensures { meant_reading b.now result ≡ reading b.now }
+// The four words at the front of a message.
+fn header_of(b: &[u8]) -> Header
+    ensures { IsHeader b.now result }
 {
-    if bad_message(b) {
-        return Reading::Refused(15);
-    }
-    Reading::Message(Header {
+    Header {
         from: word_at(b, 0),
         to: word_at(b, 1),
         round: word_at(b, 2),
         count: word_at(b, 3),
-    })
+    }
 }
 
-// The number of a refusal, and 0 of a message: for the `else` of a caller who takes the message by `let`.
-pub fn refusal_of(r: Reading) -> u32
-    ensures { result ≡ reading_number r }
+// Reads a message out of any bytes.
+pub fn read(b: &[u8]) -> Result<Header, Refusal>
+    ensures { meant_reading b.now result ≡ reading b.now }
 {
-    match r {
-        Reading::Message(_) => 0,
-        Reading::Refused(number) => number,
+    if bad_message(b) {
+        return Err(Refusal::Message);
     }
+    Ok(header_of(b))
 }

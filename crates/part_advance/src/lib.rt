@@ -6,6 +6,7 @@ ghost use Rattle.vocabulary.specs.Bytes.{over};
 ghost use Rattle.vocabulary.specs.Intervals.{blocks};
 ghost use Rattle.layout.specs.Words.{word_bytes};
 ghost use Rattle.layout.specs.Limits.{most_elements};
+ghost use Rattle.layout.specs.Answers.{answer_of};
 ghost use Rattle.part_state.specs.State.{lists_in, state_length};
 ghost use Rattle.part_state.specs.Checks.{Counts};
 ghost use Rattle.part_calls.specs.Opened.{Opened, advance_rest};
@@ -13,7 +14,7 @@ ghost use Rattle.part_calls.specs.Calls.{new_at, advanced_in, advance_answer, ad
 
 use layout::inner::{copy, put_word, word_in};
 use layout::limits::{LAST_ROUND, MOST_ELEMENTS};
-use layout::{Answer, word_at};
+use layout::{Refusal, word_at};
 use part_calls::inner::{all_taken, all_written, clear};
 use part_state::inner::{DEPTHS, LENGTH, Sizes, sizes_of};
 use part_state::is_state;
@@ -87,25 +88,22 @@ fn next_round(b: &mut [u8], changes: usize, sizes: Sizes)
 }
 
 // Advance on a state whose lists end at `changes`.
-fn advance_in(b: &mut [u8], changes: usize) -> Answer
+fn advance_in(b: &mut [u8], changes: usize) -> Result<u32, Refusal>
     requires { Opened (take changes b.old) changes b.old }
-    ensures { (result ≡ advance_answer b.old) × (b.new ≡ advance_state b.old) }
+    ensures { (answer_of result ≡ advance_answer b.old) × (b.new ≡ advance_state b.old) }
 {
-    let number = advance_number(b, changes);
-    if number != 0 {
-        return Answer::Refused(number);
-    }
+    advance_number(b, changes)?;
     let sizes = sizes_of(&b[0..changes]);
     next_round(b, changes, sizes);
-    Answer::Done(0)
+    Ok(0)
 }
 
 // Makes one round of the owned cells.
-pub fn advance(b: &mut [u8]) -> Answer
-    ensures { (result ≡ advance_answer b.old) × (b.new ≡ advance_state b.old) }
+pub fn advance(b: &mut [u8]) -> Result<u32, Refusal>
+    ensures { (answer_of result ≡ advance_answer b.old) × (b.new ≡ advance_state b.old) }
 {
     if !is_state(b) {
-        return Answer::Refused(20);
+        return Err(Refusal::State);
     }
     let changes = 2 * word_at(b, LENGTH);
     advance_in(b, changes)

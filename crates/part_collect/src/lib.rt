@@ -2,6 +2,7 @@
 #![tactic(auto)]
 
 ghost use Rattle.std.specs.Prelude.{◌≡◌, ◌*◌, ◌<◌, ◌≤◌, length};
+ghost use Rattle.layout.specs.Answers.{answer_of};
 ghost use Rattle.part_state.specs.State.{lists_in, first_of_mesh, cells_of_mesh, owned_count};
 ghost use Rattle.part_calls.specs.Opened.{Opened};
 ghost use Rattle.part_calls.specs.Calls.{collected_in, collect_answer, collect_out};
@@ -9,7 +10,7 @@ ghost use Rattle.part_calls.specs.Calls.{collected_in, collect_answer, collect_o
 use cell_numbers::Local;
 use cell_numbers::inner::index_of;
 use layout::inner::{copy, word_in};
-use layout::{Answer, word_at};
+use layout::{Refusal, word_at};
 use part_state::inner::{CELLS, DEPTH, FIRST, LENGTH, OWNED, global_of};
 use part_state::is_state;
 
@@ -25,27 +26,27 @@ fn gather(lists: &[u8], b: &[u8], changes: usize, first: usize, owned: usize, f:
 }
 
 // Collect on a state whose lists end at `changes`.
-fn collect_from(lists: &[u8], b: &[u8], changes: usize, k: u32, f: &mut [u8]) -> Answer
+fn collect_from(lists: &[u8], b: &[u8], changes: usize, k: u32, f: &mut [u8]) -> Result<u32, Refusal>
     requires { Opened lists.now changes b.now }
-    ensures { (result ≡ collect_answer b.now k f.old) × (f.new ≡ collect_out b.now k f.old) }
+    ensures { (answer_of result ≡ collect_answer b.now k f.old) × (f.new ≡ collect_out b.now k f.old) }
 {
     if word_in(b, changes) != k as usize {
-        return Answer::Refused(28);
+        return Err(Refusal::OtherRound);
     }
     if f.len() < 4 * word_at(lists, CELLS) {
-        return Answer::Refused(16);
+        return Err(Refusal::Output);
     }
     let owned = word_at(lists, OWNED);
     gather(lists, b, changes, word_at(lists, FIRST), owned, f);
-    Answer::Done(owned as u32)
+    Ok(owned as u32)
 }
 
 // Puts the owned depths of a state at round k into a field, and changes no other byte of it.
-pub fn collect(b: &[u8], k: u32, f: &mut [u8]) -> Answer
-    ensures { (result ≡ collect_answer b.now k f.old) × (f.new ≡ collect_out b.now k f.old) }
+pub fn collect(b: &[u8], k: u32, f: &mut [u8]) -> Result<u32, Refusal>
+    ensures { (answer_of result ≡ collect_answer b.now k f.old) × (f.new ≡ collect_out b.now k f.old) }
 {
     if !is_state(b) {
-        return Answer::Refused(20);
+        return Err(Refusal::State);
     }
     let changes = 2 * word_at(b, LENGTH);
     collect_from(&b[0..changes], b, changes, k, f)

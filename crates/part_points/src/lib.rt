@@ -4,6 +4,7 @@
 ghost use Rattle.std.specs.Prelude.{◌≡◌, false, map, ◌-◌, ◌*◌, ◌≤◌, length};
 ghost use Rattle.vocabulary.specs.Bytes.{over};
 ghost use Rattle.vocabulary.specs.Intervals.{some};
+ghost use Rattle.layout.specs.Answers.{answer_of};
 ghost use Rattle.depths.specs.Depths.{deepest, value_bytes, Within};
 ghost use Rattle.round_rule.specs.Rules.{plain_mean};
 ghost use Rattle.part_state.specs.State.{lists_in, local_around, point_cells};
@@ -14,7 +15,7 @@ ghost use Rattle.part_calls.specs.Calls.{outside, depth_at, point_given, points_
 use depths::Value;
 use depths::inner::put_value;
 use layout::inner::{put_word, word_in};
-use layout::{Answer, word_at};
+use layout::{Refusal, word_at};
 use part_calls::inner::all_taken;
 use part_state::inner::{DEPTH, LENGTH, Sizes, count_between, sizes_of};
 use part_state::is_state;
@@ -88,25 +89,22 @@ fn put_points(lists: &[u8], b: &[u8], changes: usize, sizes: Sizes, out: &mut [u
 }
 
 // Points on a state whose lists end at `changes`.
-fn points_from(lists: &[u8], b: &[u8], changes: usize, out: &mut [u8]) -> Answer
+fn points_from(lists: &[u8], b: &[u8], changes: usize, out: &mut [u8]) -> Result<u32, Refusal>
     requires { Opened lists.now changes b.now }
-    ensures { (result ≡ points_answer b.now out.old) × (out.new ≡ points_out b.now out.old) }
+    ensures { (answer_of result ≡ points_answer b.now out.old) × (out.new ≡ points_out b.now out.old) }
 {
     let sizes = sizes_of(lists);
-    let number = points_rest(lists, b, changes, sizes, out.len());
-    if number != 0 {
-        return Answer::Refused(number);
-    }
+    points_rest(lists, b, changes, sizes, out.len())?;
     put_points(lists, b, changes, sizes, out);
-    Answer::Done(sizes.points as u32)
+    Ok(sizes.points as u32)
 }
 
 // Gives each point that touches an owned cell, in rising number, with its value, and changes no other byte of the output.
-pub fn points(b: &[u8], out: &mut [u8]) -> Answer
-    ensures { (result ≡ points_answer b.now out.old) × (out.new ≡ points_out b.now out.old) }
+pub fn points(b: &[u8], out: &mut [u8]) -> Result<u32, Refusal>
+    ensures { (answer_of result ≡ points_answer b.now out.old) × (out.new ≡ points_out b.now out.old) }
 {
     if !is_state(b) {
-        return Answer::Refused(20);
+        return Err(Refusal::State);
     }
     let changes = 2 * word_at(b, LENGTH);
     points_from(&b[0..changes], b, changes, out)

@@ -2,10 +2,11 @@
 #![tactic(auto)]
 
 ghost use Rattle.std.specs.Prelude.{◌≡◌};
+ghost use Rattle.layout.specs.Answers.{answer_of};
 ghost use Rattle.part_start_plan.specs.Start.{size_answer};
 ghost use Rattle.split.specs.Lists.{split_input};
 
-use layout::Answer;
+use layout::Refusal;
 use layout::limits::{ELEMENT_PLACES, MOST_ELEMENTS, RECORD_PLACES, TABLE_BYTES};
 use part_start_plan::inner::draw_plan;
 use part_state::inner::DEPTHS;
@@ -14,22 +15,19 @@ use split_classes::inner::CLASSES;
 use split_tables::inner::prepare;
 
 // How many bytes the state of part i needs. The mesh is tested in arrays that hold the inverted chains and the ends of the reaches afterwards.
-pub fn state_size(m: &[u8], parts: u32, owners: &[u8], i: u32, stencil: &[u8]) -> Answer
-    ensures { result ≡ size_answer (split_input m.now parts owners.now stencil.now) i }
+pub fn state_size(m: &[u8], parts: u32, owners: &[u8], i: u32, stencil: &[u8]) -> Result<u32, Refusal>
+    ensures { answer_of result ≡ size_answer (split_input m.now parts owners.now stencil.now) i }
 {
     let mut cell = [0u16; RECORD_PLACES];
     let mut ends = [0u16; ELEMENT_PLACES];
-    let number = split_number(m, parts, owners, i, i, stencil, &mut cell, &mut ends);
-    if number != 0 {
-        return Answer::Refused(number);
-    }
+    split_number(m, parts, owners, i, i, stencil, &mut cell, &mut ends)?;
     let mut prev = [0u16; RECORD_PLACES];
     let mut last = [0u16; ELEMENT_PLACES];
     let mut table = [0u8; TABLE_BYTES];
     let mut holders = [0u8; MOST_ELEMENTS];
     let mut class = [0u8; MOST_ELEMENTS];
     let mut got = [0u16; CLASSES];
-    let number = prepare(
+    prepare(
         m,
         parts,
         owners,
@@ -41,13 +39,10 @@ pub fn state_size(m: &[u8], parts: u32, owners: &[u8], i: u32, stencil: &[u8]) -
         &mut ends,
         &mut holders,
         &mut class,
-    );
-    if number != 0 {
-        return Answer::Refused(number);
-    }
+    )?;
     let p = draw_plan(
         m, parts, owners, i, stencil, &table, &ends, &holders, &mut class, &cell, &mut prev, &last,
         &mut got,
     );
-    Answer::Done((2 * p.long + DEPTHS + 4 * p.held) as u32)
+    Ok((2 * p.long + DEPTHS + 4 * p.held) as u32)
 }

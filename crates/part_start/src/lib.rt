@@ -2,9 +2,10 @@
 #![tactic(auto)]
 
 ghost use Rattle.std.specs.Prelude.{◌≡◌};
+ghost use Rattle.layout.specs.Answers.{answer_of};
 ghost use Rattle.part_start_plan.specs.Start.{inputs, start_answer, start_state};
 
-use layout::Answer;
+use layout::Refusal;
 use layout::limits::{ELEMENT_PLACES, MOST_ELEMENTS, MOST_PARTS, RECORD_PLACES, TABLE_BYTES};
 use mesh::inner::cell_count;
 use part_start_lists::inner::{find_sent, number_order, put_entries, put_front};
@@ -31,18 +32,15 @@ pub fn start(
     weights: &[u8],
     f: &[u8],
     b: &mut [u8],
-) -> Answer
+) -> Result<u32, Refusal>
     ensures { let I = inputs m.now parts owners.now stencil.now kind weights.now f.now in
-        (result ≡ start_answer I i b.old) × (b.new ≡ start_state I i b.old) }
+        (answer_of result ≡ start_answer I i b.old) × (b.new ≡ start_state I i b.old) }
 {
     let mut cell = [0u16; RECORD_PLACES];
     let mut ends = [0u16; ELEMENT_PLACES];
-    let number = split_number(m, parts, owners, i, i, stencil, &mut cell, &mut ends);
-    if number != 0 {
-        return Answer::Refused(number);
-    }
+    split_number(m, parts, owners, i, i, stencil, &mut cell, &mut ends)?;
     if bad_rule(kind, stencil.len() - 1, weights) {
-        return Answer::Refused(11);
+        return Err(Refusal::Rule);
     }
     let mut prev = [0u16; RECORD_PLACES];
     let mut last = [0u16; ELEMENT_PLACES];
@@ -51,7 +49,7 @@ pub fn start(
     let mut class = [0u8; MOST_ELEMENTS];
     let mut got = [0u16; CLASSES];
     let mut sent = [0u16; MOST_PARTS + 1];
-    let number = prepare(
+    prepare(
         m,
         parts,
         owners,
@@ -63,12 +61,9 @@ pub fn start(
         &mut ends,
         &mut holders,
         &mut class,
-    );
-    if number != 0 {
-        return Answer::Refused(number);
-    }
+    )?;
     if bad_field(cell_count(m), f) {
-        return Answer::Refused(14);
+        return Err(Refusal::Field);
     }
     let sought = sought_of(m, i);
     let outside = some_outside(
@@ -89,7 +84,7 @@ pub fn start(
     );
     let size = 2 * p.long + DEPTHS + 4 * p.held;
     if b.len() < size {
-        return Answer::Refused(16);
+        return Err(Refusal::Output);
     }
     find_sent(
         owners, &table, &ends, p, &mut class, &mut last, &mut cell, &mut sent,
@@ -101,5 +96,5 @@ pub fn start(
     add_points(
         b, p.front, m, stencil, sought, outside, owners, &last, &mut cell, &mut prev, &mut ends,
     );
-    Answer::Done(size as u32)
+    Ok(size as u32)
 }

@@ -4,6 +4,7 @@
 ghost use Rattle.std.specs.Prelude.{◌≡◌, false, ◌+◌, ◌*◌, ◌<◌, ◌≤◌, length, set, take};
 ghost use Rattle.vocabulary.specs.Bytes.{over};
 ghost use Rattle.layout.specs.Limits.{most_parts};
+ghost use Rattle.layout.specs.Answers.{answer_of};
 ghost use Rattle.messages.specs.Messages.{depths_of, message_size, bad15, from_in, to_in, round_in, count_in};
 ghost use Rattle.part_state.specs.State.{lists_in, depth_place, state_length, taken_place};
 ghost use Rattle.part_calls.specs.Opened.{Opened, bad_sender, take_rest};
@@ -11,7 +12,7 @@ ghost use Rattle.part_calls.specs.Calls.{take_answer, take_state};
 
 use layout::inner::{copy, word_in};
 use layout::limits::MOST_PARTS;
-use layout::{Answer, byte_at, word_at};
+use layout::{Refusal, byte_at, word_at};
 use messages::{HEADER_SIZE, Reading, read, refusal_of};
 use part_calls::inner::set_flag;
 use part_state::inner::{BEFORE_IMPORTS, DEPTH, LENGTH, PART, TAKEN, count_between};
@@ -75,29 +76,26 @@ fn take_in(
     round: usize,
     count: usize,
     x: &[u8],
-) -> Answer
+) -> Result<u32, Refusal>
     requires { Opened (take changes b.old) changes b.old × (bad15 x.now ≡ false) × (from ≡ from_in x.now) × (to ≡ to_in x.now) × (round ≡ round_in x.now) × (count ≡ count_in x.now) }
-    ensures { (result ≡ take_answer b.old x.now) × (b.new ≡ take_state b.old x.now) }
+    ensures { (answer_of result ≡ take_answer b.old x.now) × (b.new ≡ take_state b.old x.now) }
 {
-    let number = take_rest(b, changes, from, to, round, count);
-    if number != 0 {
-        return Answer::Refused(number);
-    }
+    take_rest(b, changes, from, to, round, count)?;
     let before = word_at(&b[0..changes], BEFORE_IMPORTS + from);
     store(b, changes, from, before, x, count);
-    Answer::Done(0)
+    Ok(0)
 }
 
 // Takes one message into a state.
-pub fn take(b: &mut [u8], x: &[u8]) -> Answer
-    ensures { (result ≡ take_answer b.old x.now) × (b.new ≡ take_state b.old x.now) }
+pub fn take(b: &mut [u8], x: &[u8]) -> Result<u32, Refusal>
+    ensures { (answer_of result ≡ take_answer b.old x.now) × (b.new ≡ take_state b.old x.now) }
 {
     let r = read(x);
     let Reading::Message(h) = r else {
         return Answer::Refused(refusal_of(r));
     };
     if !is_state(b) {
-        return Answer::Refused(20);
+        return Err(Refusal::State);
     }
     let changes = 2 * word_at(b, LENGTH);
     take_in(b, changes, h.from, h.to, h.round, h.count, x)

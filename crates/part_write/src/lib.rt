@@ -5,6 +5,7 @@ ghost use Rattle.std.specs.Prelude.{◌≡◌, ◌+◌, ◌*◌, ◌<◌, ◌≤
 ghost use Rattle.messages.specs.Messages.{header_size, message_size};
 ghost use Rattle.vocabulary.specs.Bytes.{over};
 ghost use Rattle.vocabulary.specs.Intervals.{blocks};
+ghost use Rattle.layout.specs.Answers.{answer_of};
 ghost use Rattle.part_state.specs.State.{lists_in, export_count};
 ghost use Rattle.part_state.specs.Checks.{Counts};
 ghost use Rattle.part_calls.specs.Opened.{Opened, sent_to, sent_at};
@@ -12,7 +13,7 @@ ghost use Rattle.part_calls.specs.Calls.{message_to, write_answer, write_state, 
 
 use layout::inner::{copy, word_in};
 use layout::limits::MOST_PARTS;
-use layout::{Answer, word_at};
+use layout::{Refusal, word_at};
 use messages::HEADER_SIZE;
 use messages::inner::write_header;
 use part_calls::inner::set_flag;
@@ -71,32 +72,32 @@ fn write_message(b: &[u8], changes: usize, j: usize, count: usize, out: &mut [u8
 }
 
 // Write on a state whose lists end at `changes`.
-fn write_in(b: &mut [u8], changes: usize, j: usize, out: &mut [u8]) -> Answer
+fn write_in(b: &mut [u8], changes: usize, j: usize, out: &mut [u8]) -> Result<u32, Refusal>
     requires { Opened (take changes b.old) changes b.old }
-    ensures { (result ≡ write_answer b.old j out.old)
+    ensures { (answer_of result ≡ write_answer b.old j out.old)
         × (b.new ≡ write_state b.old j out.old)
         × (out.new ≡ write_out b.old j out.old) }
 {
     let count = sent_to(&b[0..changes], j);
     if count < 1 {
-        return Answer::Refused(27);
+        return Err(Refusal::Receiver);
     }
     if out.len() < HEADER_SIZE + 4 * count {
-        return Answer::Refused(16);
+        return Err(Refusal::Output);
     }
     write_message(b, changes, j, count, out);
     set_flag(b, changes + WRITTEN + j);
-    Answer::Done((HEADER_SIZE + 4 * count) as u32)
+    Ok((HEADER_SIZE + 4 * count) as u32)
 }
 
 // Gives the message to part j.
-pub fn write(b: &mut [u8], j: u32, out: &mut [u8]) -> Answer
-    ensures { (result ≡ write_answer b.old j out.old)
+pub fn write(b: &mut [u8], j: u32, out: &mut [u8]) -> Result<u32, Refusal>
+    ensures { (answer_of result ≡ write_answer b.old j out.old)
         × (b.new ≡ write_state b.old j out.old)
         × (out.new ≡ write_out b.old j out.old) }
 {
     if !is_state(b) {
-        return Answer::Refused(20);
+        return Err(Refusal::State);
     }
     let changes = 2 * word_at(b, LENGTH);
     write_in(b, changes, j as usize, out)

@@ -3,6 +3,7 @@ ghost use Rattle.std.specs.Prelude.{◌≡◌, false, ◌*◌, ◌≤◌, length
 ghost use Rattle.vocabulary.specs.Bytes.{over};
 ghost use Rattle.vocabulary.specs.Intervals.{blocks};
 ghost use Rattle.layout.specs.Limits.{element_places, record_places};
+ghost use Rattle.layout.specs.Answers.{answer_of};
 ghost use Rattle.depths.specs.Depths.{deepest, value_bytes, Within};
 ghost use Rattle.mesh.specs.Mesh.{top, mesh_number};
 ghost use Rattle.mesh.specs.Walks.{steps, bad10};
@@ -15,7 +16,7 @@ use crate::bad_field;
 use depths::Value;
 use depths::inner::put_value;
 use layout::limits::{ELEMENT_PLACES, MOST_REACHED, RECORD_PLACES, TABLE_BYTES};
-use layout::{Answer, number_at};
+use layout::{Refusal, get_or};
 use mesh::inner::{cell_count, top_of};
 use mesh_valid::inner::mesh_number_in;
 use round_rule::{Kind, Rule, bad_weights, rule_of};
@@ -28,8 +29,8 @@ fn new_at(kind: Kind, weights: &[u8], table: &[u8], ends: &[u16], f: &[u8], j: u
     requires { (j ≤ 65535) × Row (kind_number kind) weights.now table.now ends.now f.now j }
     ensures { (value_bytes result ≡ row_new (kind_number kind) weights.now table.now ends.now f.now j) × Within deepest result }
 {
-    let from = number_at(ends, j) as usize;
-    let to = number_at(ends, j + 1) as usize;
+    let from = get_or(ends, j, 0) as usize;
+    let to = get_or(ends, j + 1, 0) as usize;
     new_depth(kind, weights, table, 4 * from, to - from, f, 0, j)
 }
 
@@ -62,27 +63,27 @@ fn round_on(
     out: &mut [u8],
     cell: &mut [u16],
     ends: &mut [u16],
-) -> Answer
+) -> Result<u32, Refusal>
     requires { (mesh_number m.now ≡ 0) × (bad10 (top m.now) stencil.now ≡ false) × (bad11 (kind_number kind) (steps stencil.now) weights.now ≡ false)
         × (length cell.old ≡ record_places) × (length ends.old ≡ element_places) }
     ensures { let I = round_input m.now stencil.now (kind_number kind) weights.now f.now in
-        (result ≡ round_answer I out.old) × (out.new ≡ round_out I out.old) }
+        (answer_of result ≡ round_answer I out.old) × (out.new ≡ round_out I out.old) }
 {
     // the table is written even where the reaches are too many, so it stands in an array of our own
     let mut table = [0u8; TABLE_BYTES];
     let t = reach_table(m, stencil, cell, &mut table, ends);
     if MOST_REACHED < t {
-        return Answer::Refused(13);
+        return Err(Refusal::Reach);
     }
     let cells = cell_count(m);
     if bad_field(cells, f) {
-        return Answer::Refused(14);
+        return Err(Refusal::Field);
     }
     if out.len() < 4 * cells {
-        return Answer::Refused(16);
+        return Err(Refusal::Output);
     }
     renew(kind, weights, &table, ends, cells, f, out);
-    Answer::Done(cells as u32)
+    Ok(cells as u32)
 }
 
 // One undivided round: mesh, stencil, rule kind and weights, field. The new field stands at the front of `out`. The mesh is tested in arrays that the
@@ -94,26 +95,23 @@ pub fn undivided_round(
     weights: &[u8],
     f: &[u8],
     out: &mut [u8],
-) -> Answer
+) -> Result<u32, Refusal>
     ensures { let I = round_input m.now stencil.now kind weights.now f.now in
-        (result ≡ round_answer I out.old) × (out.new ≡ round_out I out.old) }
+        (answer_of result ≡ round_answer I out.old) × (out.new ≡ round_out I out.old) }
 {
     let mut cell = [0u16; RECORD_PLACES];
     let mut ends = [0u16; ELEMENT_PLACES];
-    let number = mesh_number_in(m, &mut cell, &mut ends);
-    if number != 0 {
-        return Answer::Refused(number);
-    }
+    mesh_number_in(m, &mut cell, &mut ends)?;
     if bad_stencil(top_of(m), stencil) {
-        return Answer::Refused(10);
+        return Err(Refusal::Stencil);
     }
     match rule_of(kind) {
         Rule::Known(k) => {
             if bad_weights(k, stencil.len() - 1, weights) {
-                return Answer::Refused(11);
+                return Err(Refusal::Rule);
             }
             round_on(m, stencil, k, weights, f, out, &mut cell, &mut ends)
         }
-        Rule::Unknown => Answer::Refused(11),
+        Rule::Unknown => Err(Refusal::Rule),
     }
 }

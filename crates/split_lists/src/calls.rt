@@ -1,10 +1,11 @@
 // The public calls. Each writes a list of part `i` as words, and answers their count or its refusal.
 ghost use Rattle.std.specs.Prelude.{◌≡◌};
+ghost use Rattle.layout.specs.Answers.{answer_of};
 ghost use Rattle.split.specs.Lists.{split_input, list_answer, list_out};
 ghost use Rattle.split.specs.declared.Wanted.TheVariants.{Interior, Halo, Locals, Imports, Exports, Private, Exposed, Shared, Copied};
 
 use crate::lists::list;
-use layout::Answer;
+use layout::Refusal;
 use split::Wanted;
 
 // The interior of a part: its cells with only its own cells in their reach.
@@ -15,17 +16,17 @@ pub fn interior(
     i: u32,
     stencil: &[u8],
     out: &mut [u8],
-) -> Answer
+) -> Result<u32, Refusal>
     ensures { let D = split_input m.now parts owners.now stencil.now in
-        (result ≡ list_answer D i Interior out.old) × (out.new ≡ list_out D i Interior out.old) }
+        (answer_of result ≡ list_answer D i Interior out.old) × (out.new ≡ list_out D i Interior out.old) }
 {
     list(Wanted::Interior, m, parts, owners, i, stencil, out)
 }
 
 // The halo of a part: its other cells.
-pub fn halo(m: &[u8], parts: u32, owners: &[u8], i: u32, stencil: &[u8], out: &mut [u8]) -> Answer
+pub fn halo(m: &[u8], parts: u32, owners: &[u8], i: u32, stencil: &[u8], out: &mut [u8]) -> Result<u32, Refusal>
     ensures { let D = split_input m.now parts owners.now stencil.now in
-        (result ≡ list_answer D i Halo out.old) × (out.new ≡ list_out D i Halo out.old) }
+        (answer_of result ≡ list_answer D i Halo out.old) × (out.new ≡ list_out D i Halo out.old) }
 {
     list(Wanted::Halo, m, parts, owners, i, stencil, out)
 }
@@ -38,9 +39,9 @@ pub fn local_order(
     i: u32,
     stencil: &[u8],
     out: &mut [u8],
-) -> Answer
+) -> Result<u32, Refusal>
     ensures { let D = split_input m.now parts owners.now stencil.now in
-        (result ≡ list_answer D i Locals out.old) × (out.new ≡ list_out D i Locals out.old) }
+        (answer_of result ≡ list_answer D i Locals out.old) × (out.new ≡ list_out D i Locals out.old) }
 {
     list(Wanted::Locals, m, parts, owners, i, stencil, out)
 }
@@ -54,9 +55,9 @@ pub fn imports(
     stencil: &[u8],
     from: u32,
     out: &mut [u8],
-) -> Answer
+) -> Result<u32, Refusal>
     ensures { let D = split_input m.now parts owners.now stencil.now in
-        (result ≡ list_answer D i (Imports from) out.old) × (out.new ≡ list_out D i (Imports from) out.old) }
+        (answer_of result ≡ list_answer D i (Imports from) out.old) × (out.new ≡ list_out D i (Imports from) out.old) }
 {
     list(Wanted::Imports(from), m, parts, owners, i, stencil, out)
 }
@@ -70,9 +71,9 @@ pub fn exports(
     stencil: &[u8],
     to: u32,
     out: &mut [u8],
-) -> Answer
+) -> Result<u32, Refusal>
     ensures { let D = split_input m.now parts owners.now stencil.now in
-        (result ≡ list_answer D i (Exports to) out.old) × (out.new ≡ list_out D i (Exports to) out.old) }
+        (answer_of result ≡ list_answer D i (Exports to) out.old) × (out.new ≡ list_out D i (Exports to) out.old) }
 {
     list(Wanted::Exports(to), m, parts, owners, i, stencil, out)
 }
@@ -86,9 +87,9 @@ pub fn private_range(
     stencil: &[u8],
     dimension: u32,
     out: &mut [u8],
-) -> Answer
+) -> Result<u32, Refusal>
     ensures { let D = split_input m.now parts owners.now stencil.now in
-        (result ≡ list_answer D i (Private dimension) out.old) × (out.new ≡ list_out D i (Private dimension) out.old) }
+        (answer_of result ≡ list_answer D i (Private dimension) out.old) × (out.new ≡ list_out D i (Private dimension) out.old) }
 {
     list(
         Wanted::Private(dimension),
@@ -110,9 +111,9 @@ pub fn exposed_range(
     stencil: &[u8],
     dimension: u32,
     out: &mut [u8],
-) -> Answer
+) -> Result<u32, Refusal>
     ensures { let D = split_input m.now parts owners.now stencil.now in
-        (result ≡ list_answer D i (Exposed dimension) out.old) × (out.new ≡ list_out D i (Exposed dimension) out.old) }
+        (answer_of result ≡ list_answer D i (Exposed dimension) out.old) × (out.new ≡ list_out D i (Exposed dimension) out.old) }
 {
     list(
         Wanted::Exposed(dimension),
@@ -134,9 +135,9 @@ pub fn shared_range(
     stencil: &[u8],
     dimension: u32,
     out: &mut [u8],
-) -> Answer
+) -> Result<u32, Refusal>
     ensures { let D = split_input m.now parts owners.now stencil.now in
-        (result ≡ list_answer D i (Shared dimension) out.old) × (out.new ≡ list_out D i (Shared dimension) out.old) }
+        (answer_of result ≡ list_answer D i (Shared dimension) out.old) × (out.new ≡ list_out D i (Shared dimension) out.old) }
 {
     list(Wanted::Shared(dimension), m, parts, owners, i, stencil, out)
 }
@@ -150,9 +151,9 @@ pub fn copied_range(
     stencil: &[u8],
     dimension: u32,
     out: &mut [u8],
-) -> Answer
+) -> Result<u32, Refusal>
     ensures { let D = split_input m.now parts owners.now stencil.now in
-        (result ≡ list_answer D i (Copied dimension) out.old) × (out.new ≡ list_out D i (Copied dimension) out.old) }
+        (answer_of result ≡ list_answer D i (Copied dimension) out.old) × (out.new ≡ list_out D i (Copied dimension) out.old) }
 {
     list(Wanted::Copied(dimension), m, parts, owners, i, stencil, out)
 }

@@ -1,8 +1,9 @@
 // The lists of a part, as the calls give them.
 ghost use Rattle.std.specs.Prelude.{◌≡◌};
+ghost use Rattle.layout.specs.Answers.{answer_of};
 ghost use Rattle.split.specs.Lists.{split_input, list_answer, list_out};
 
-use layout::Answer;
+use layout::Refusal;
 use layout::limits::{ELEMENT_PLACES, MOST_ELEMENTS, RECORD_PLACES, TABLE_BYTES};
 use mesh::inner::cell_count;
 use split::Wanted;
@@ -23,13 +24,13 @@ pub fn list(
     i: u32,
     stencil: &[u8],
     out: &mut [u8],
-) -> Answer
+) -> Result<u32, Refusal>
     ensures { let D = split_input m.now parts owners.now stencil.now in
-        (result ≡ list_answer D i wanted out.old) × (out.new ≡ list_out D i wanted out.old) }
+        (answer_of result ≡ list_answer D i wanted out.old) × (out.new ≡ list_out D i wanted out.old) }
 {
     let mut cell = [0u16; RECORD_PLACES];
     let mut ends = [0u16; ELEMENT_PLACES];
-    let number = split_number(
+    split_number(
         m,
         parts,
         owners,
@@ -38,16 +39,13 @@ pub fn list(
         stencil,
         &mut cell,
         &mut ends,
-    );
-    if number != 0 {
-        return Answer::Refused(number);
-    }
+    )?;
     let mut prev = [0u16; RECORD_PLACES];
     let mut last = [0u16; ELEMENT_PLACES];
     let mut table = [0u8; TABLE_BYTES];
     let mut holders = [0u8; MOST_ELEMENTS];
     let mut class = [0u8; MOST_ELEMENTS];
-    let number = prepare(
+    prepare(
         m,
         parts,
         owners,
@@ -59,10 +57,7 @@ pub fn list(
         &mut ends,
         &mut holders,
         &mut class,
-    );
-    if number != 0 {
-        return Answer::Refused(number);
-    }
+    )?;
     classify(
         owners,
         &table,

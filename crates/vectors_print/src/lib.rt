@@ -4,7 +4,7 @@
 
 ghost use Rattle.std.specs.Prelude.{◌<◌};
 
-use layout::{Answer, byte_at, word_at};
+use layout::{Refusal, byte_at, word_at};
 
 pub const OWNERS: [u8; 5] = [1, 1, 1, 2, 2];
 
@@ -62,7 +62,7 @@ fn print_value(form: Form, out: &[u8], i: u32) {
 pub fn print_answer(name: &[u8], a: Answer) -> u32 {
     io::write_all(1, name);
     match a {
-        Answer::Done(count) => {
+        Ok(count) => {
             io::write_all(1, b": count ");
             io::print_decimal(1, count as u64);
             count

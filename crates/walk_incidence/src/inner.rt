@@ -5,7 +5,7 @@ ghost use Rattle.mesh.specs.Mesh.{elements, record_count, first_cell, cell_count
 ghost use Rattle.mesh.specs.Accepted.{Accepted};
 ghost use Rattle.walk_incidence.specs.Links.{Links, link, link_all, link_cells};
 
-use layout::{number_at, put_number_at};
+use layout::{get_or, put_at};
 use mesh::inner::{head_of, read_record};
 
 // One entry more: element g in the chain of cell c.
@@ -14,9 +14,9 @@ fn link(c: u16, g: usize, t: usize, cell: &mut [u16], prev: &mut [u16], last: &m
     ensures { (Links.links result cell.new prev.new last.new ≡ link c g (Links.links t cell.old prev.old last.old)) × (result ≡ t + 1) }
 {
     let s = t + 1;
-    put_number_at(cell, s, c);
-    put_number_at(prev, s, number_at(last, g));
-    put_number_at(last, g, s as u16);
+    put_at(cell, s, c);
+    put_at(prev, s, get_or(last, g, 0));
+    put_at(last, g, s as u16);
     s
 }
 

@@ -9,7 +9,7 @@ ghost use Rattle.walk_steps.specs.Walking.{Ground, Sized, through_one};
 ghost use Rattle.walk_near_cells.specs.NearCells.{NearRow, NearRows, WalksReady};
 
 use layout::limits::ELEMENT_PLACES;
-use layout::{byte_at, put_number_at};
+use layout::{byte_at, put_at};
 use walk_frontier::inner::visit;
 use walk_steps::inner::{MeshSizes, clear, copy_part, lesser, walk_down, walk_up};
 
@@ -36,7 +36,7 @@ fn near_to(
     ensures { NearRow m.now a c from.new 1 result × (result ≤ most_elements) × Under (mark + 2) marks.new × (length from.new ≡ element_places)
         × (length found.new ≡ element_places) }
 {
-    put_number_at(from, 0, c as u16);
+    put_at(from, 0, c as u16);
     let n = walk_down(m, sizes, a, from, 1, mark as u16, marks, found, 0);
     let own = visit((mark + 1) as u16, c, marks, from, 0);
     walk_up(

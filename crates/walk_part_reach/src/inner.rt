@@ -5,7 +5,7 @@ ghost use Rattle.layout.specs.Limits.{element_places, most_elements, most_parts,
 ghost use Rattle.walk_steps.specs.Walking.{Ground, Sized, Arrays, through_one};
 ghost use Rattle.walk_part_reach.specs.Rows.{Rowed, Space, layer_one, layer_count, row_reach_count};
 
-use layout::{byte_at, put_number_at};
+use layout::{byte_at, put_at};
 use walk_frontier::inner::index_at;
 use walk_steps::inner::{MeshSizes, clear, through_one, walk};
 
@@ -17,7 +17,7 @@ fn add_cell(rows: &[u8], i: usize, first: usize, q: usize, list: &mut [u16], k: 
     if byte_at(rows, q) as usize != i {
         return k;
     }
-    put_number_at(list, k, (first + q) as u16);
+    put_at(list, k, (first + q) as u16);
     k + 1
 }
 

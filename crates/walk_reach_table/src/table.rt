@@ -15,7 +15,7 @@ ghost use Rattle.mesh.specs.Accepted.{Accepted, Cell};
 
 use layout::inner::put_word;
 use layout::limits::{ELEMENT_PLACES, MOST_ELEMENTS, MOST_REACHED, RECORD_PLACES};
-use layout::put_number_at;
+use layout::put_at;
 use walk_frontier::inner::index_at;
 use walk_incidence::inner::invert;
 use walk_near_cells::inner::{near_rows, walk_near};
@@ -43,7 +43,7 @@ fn emit_one(layers: &mut [u16], first: usize, q: usize, table: &mut [u8], t: usi
         × (layers.new ≡ set layers.old (first + q) 0) }
 {
     let x = index_at(layers, first + q);
-    put_number_at(layers, first + q, 0);
+    put_at(layers, first + q, 0);
     if x < 1 {
         return t;
     }
@@ -105,7 +105,7 @@ fn reach_of(
         let b = walk_near(m, stencil, near, w, sizes.first, c, steps, from, found);
         return emit(from, sizes.first, b.low, b.high, table, t);
     }
-    put_number_at(from, 0, c as u16);
+    put_at(from, 0, c as u16);
     let b = walk(
         m, sizes, stencil, single, cell, prev, last, 1, steps, mark, marks, from, found, near,
     );
@@ -139,7 +139,7 @@ pub fn reach_all(
     );
     let mut t = 0;
     let mut mark = AFTER_ROWS;
-    put_number_at(ends, 0, 0);
+    put_at(ends, 0, 0);
     for x in sizes.first..sizes.first + sizes.cells {
         t = reach_of(
             m, sizes, stencil, n, single, cell, prev, last, w, x, mark, marks, from, found, near,
@@ -149,7 +149,7 @@ pub fn reach_all(
             return t;
         }
         mark += n + 1;
-        put_number_at(ends, x + 1 - sizes.first, t as u16);
+        put_at(ends, x + 1 - sizes.first, t as u16);
     }
     t
 }

@@ -10,7 +10,7 @@ ghost use Rattle.walk_frontier.specs.Visits.{Frontier, Toward, Added};
 ghost use Rattle.walk_steps.specs.Walking.{Ground, Sized, AllCells, Lowers, Sided, stepped, alike, through_one, mark_at, starts_among, or_among, Noted};
 ghost use Rattle.walk_steps.specs.Walking.{among_first, WalkDone, Within, Widened, Departed, Arrived};
 
-use layout::{byte_at, number_at, put_number_at};
+use layout::{byte_at, get_or, put_at};
 use mesh::inner::{below_of, cell_count, elements_of, first_cell, record_count};
 use walk_frontier::inner::{index_at, step_down, step_up, visit_all};
 
@@ -94,8 +94,8 @@ fn note(k: u16, y: usize, layers: &mut [u16])
     requires { (k < 65535) × (y < length layers.old) }
     ensures { Noted k layers.old layers.new (eqb y) }
 {
-    if number_at(layers, y) == 0 {
-        put_number_at(layers, y, k + 1);
+    if get_or(layers, y, 0) == 0 {
+        put_at(layers, y, k + 1);
     }
 }
 

@@ -2,10 +2,11 @@
 ghost use Rattle.std.specs.Prelude.{◌≡◌, [], ◌∷◌, ◌+◌, ◌*◌, ◌<◌, ◌≤◌, length, take};
 ghost use Rattle.vocabulary.specs.Intervals.{listed};
 ghost use Rattle.layout.specs.Words.{word_at};
+ghost use Rattle.layout.specs.Answers.{answer_of};
 ghost use Rattle.word_lists.specs.Putting.{Put, given_answer, given_out};
 
 use layout::inner::put_word;
-use layout::{Answer, number_at, word_at};
+use layout::{Refusal, get_or, word_at};
 
 // Writes w as word s, and gives how many words there are then.
 pub fn put_one(b: &mut [u8], s: usize, w: usize) -> usize
@@ -23,7 +24,7 @@ pub fn put_list(b: &mut [u8], s: usize, list: &[u16], n: usize) -> usize
 {
     let mut t = s;
     for k in 0..n {
-        t = put_one(b, t, number_at(list, k) as usize);
+        t = put_one(b, t, get_or(list, k, 0) as usize);
     }
     t
 }
@@ -41,14 +42,14 @@ pub fn put_words(b: &mut [u8], s: usize, v: &[u8], n: usize) -> usize
 }
 
 // Gives the first n numbers of a list as words, where there is room for them.
-pub fn give(list: &[u16], n: usize, out: &mut [u8]) -> Answer
+pub fn give(list: &[u16], n: usize, out: &mut [u8]) -> Result<u32, Refusal>
     requires { (n ≤ length list.now) × (n ≤ 65536) }
-    ensures { (result ≡ given_answer (take n list.now) out.old)
+    ensures { (answer_of result ≡ given_answer (take n list.now) out.old)
         × (out.new ≡ given_out (take n list.now) out.old) }
 {
     if out.len() < 2 * n {
-        return Answer::Refused(16);
+        return Err(Refusal::Output);
     }
     put_list(out, 0, list, n);
-    Answer::Done(n as u32)
+    Ok(n as u32)
 }

@@ -2,8 +2,8 @@
 use Rattle.c_answer.proofs.PackedLaws.{packed_done, packed_refused}
 use Rattle.c_answer.proofs.pack.Goals as goal
 
-pub returns-in-Done : goal.returns-in-Done
-returns-in-Done c = search packed_done
+pub returns-in-Ok : goal.returns-in-Ok
+returns-in-Ok c = search packed_done
 
-pub returns-in-Refused : goal.returns-in-Refused
-returns-in-Refused c = search packed_refused
+pub returns-in-Err : goal.returns-in-Err
+returns-in-Err c = ?

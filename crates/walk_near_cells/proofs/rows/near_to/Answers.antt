@@ -12,14 +12,14 @@ walk_down-n-requires c = (
   c.requires.0.mesh,
   c.requires.1,
   c.requires.2,
-  one_cell _ c.args.from.now _ _ c.requires.3 c.requires.6 c.put_number_at.ensures,
+  one_cell _ c.args.from.now _ _ c.requires.3 c.requires.6 c.put_at.ensures,
   begin _ _ _ c.requires.5 c.requires.7,
   search rules,
 )
 
 pub visit-own-requires : goal.visit-own-requires
 visit-own-requires c = (
-  begin_next _ _ _ _ _ c.args.from.now _ c.walk_down-n.ensures.gathered c.requires.6 c.put_number_at.ensures,
+  begin_next _ _ _ _ _ c.args.from.now _ c.walk_down-n.ensures.gathered c.requires.6 c.put_at.ensures,
   search rules,
   (cell_small _ _ c.requires.0.mesh c.requires.3).0,
   (cell_small _ _ c.requires.0.mesh c.requires.3).1,
@@ -28,7 +28,7 @@ visit-own-requires c = (
 pub walk_up-requires : goal.walk_up-requires
 walk_up-requires c = (
   c.requires.0,
-  lowers _ _ _ _ _ _ _ (front c.args.from.now _ _ c.requires.6 c.put_number_at.ensures) c.walk_down-n.ensures.all c.requires.2
+  lowers _ _ _ _ _ _ _ (front c.args.from.now _ _ c.requires.6 c.put_at.ensures) c.walk_down-n.ensures.all c.requires.2
       c.walk_down-n.ensures.gathered.count,
   c.visit-own.ensures.gathered,
   c.visit-own.ensures.few,
@@ -36,7 +36,7 @@ walk_up-requires c = (
 
 pub returns : goal.returns
 returns c = (
-  near_row _ _ _ _ _ _ _ (front c.args.from.now _ _ c.requires.6 c.put_number_at.ensures) c.walk_down-n.ensures.all _ _ _ _ _ _
+  near_row _ _ _ _ _ _ _ (front c.args.from.now _ _ c.requires.6 c.put_at.ensures) c.walk_down-n.ensures.all _ _ _ _ _ _
       c.requires.3 c.visit-own.ensures.all c.walk_up.ensures,
   c.walk_up.ensures.few,
   under_more _ _ _ (omega arith) (next_mark _ _ _ _ c.walk_up.ensures.gathered),

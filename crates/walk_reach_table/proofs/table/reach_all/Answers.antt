@@ -30,7 +30,7 @@ loop-x-init c = (
   c.requires.6,
   search rules,
   table_start _ _ _ _,
-  ends_start _ _ _ c.args.ends.now _ c.requires.7 c.put_number_at.ensures,
+  ends_start _ _ _ c.args.ends.now _ c.requires.7 c.put_at.ensures,
 )
 
 pub reach_of-t-requires : goal.reach_of-t-requires
@@ -117,7 +117,7 @@ loop-x-preserved c = (
   table_turn _ _ _ _ c.requires.1.first_is c.loop-x.invariant.0 _ _ _ _ _ c.requires.6 c.loop-x.invariant.8 c.reach_of-t.ensures.0,
   ends_turn _ _ _ _ c.requires.1.first_is c.loop-x.invariant.0 _ _ _ _ _ _ _ _ c.requires.0.mesh c.requires.1.cells_is c.loop-x-test.true
       c.requires.6 c.loop-x.invariant.7 c.loop-x.invariant.8 c.reach_of-t.ensures.0 c.if-t-gt-MOST_REACHED.false c.loop-x.invariant.9
-      c.put_number_at-in-loop-x.ensures,
+      c.put_at-in-loop-x.ensures,
 )
 
 pub shape_of-marks : goal.shape_of-marks

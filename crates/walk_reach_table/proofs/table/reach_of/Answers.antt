@@ -39,7 +39,7 @@ walk-b-requires c = (
   c.requires.0,
   c.requires.1,
   c.requires.4,
-  one_cell _ c.args.from.now _ _ c.requires.2 c.requires.6.from_room c.put_number_at.ensures,
+  one_cell _ c.args.from.now _ _ c.requires.2 c.requires.6.from_room c.put_at.ensures,
   omega (arith, c.requires.3),
   c.requires.5,
   c.requires.7,
@@ -61,7 +61,7 @@ emit-requires-2 c = (
 pub returns : goal.returns
 returns c = (
   emitted_cell _ _ _ _ _ _ _ _ _ _ _ c.requires.0 c.requires.2
-      (layered_by _ _ _ _ _ _ _ _ _ _ _ _ _ (front c.args.from.now _ _ c.requires.6.from_room c.put_number_at.ensures) c.walk-b.ensures.0)
+      (layered_by _ _ _ _ _ _ _ _ _ _ _ _ _ (front c.args.from.now _ _ c.requires.6.from_room c.put_at.ensures) c.walk-b.ensures.0)
       c.walk-b.ensures.1 c.requires.3 c.requires.1.first_is _ _ _ _ c.emit-2.ensures.0,
   c.emit-2.ensures.1,
   ready_by_steps _ _ _ _ _ _ _ _ c.if-w-ne0.false (walk_fresh _ _ _ _ _ _ _ _ _ _ _ _ c.walk-b.ensures.0) c.walk-b.ensures.0.room

@@ -1,8 +1,8 @@
--- `mesh_valid::chains::marked_number` meets its contract. Assumes nothing.
+-- `mesh_valid::chains::test_marked` meets its contract. Assumes nothing.
 use mathlib.Core.Path.{sym, ◌∙◌}
 use Rattle.vocabulary.proofs.TestLaws.{told_here, told_later}
 use Rattle.mesh_valid.proofs.ChainLaws.{past_four, marks_left}
-use Rattle.mesh_valid.proofs.chains.marked_number.Goals as goal
+use Rattle.mesh_valid.proofs.chains.test_marked.Goals as goal
 
 pub returns-then-bad5 : goal.returns-then-bad5
 returns-then-bad5 c = search (past_four, told_here, told_later)

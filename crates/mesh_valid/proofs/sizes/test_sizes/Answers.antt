@@ -1,7 +1,7 @@
--- `mesh_valid::sizes::size_number` meets its contract. Assumes nothing.
+-- `mesh_valid::sizes::test_sizes` meets its contract. Assumes nothing.
 use Rattle.vocabulary.proofs.TestLaws.{told_here, told_later}
 use borrow.Author.Rules.{rules}
-use Rattle.mesh_valid.proofs.sizes.size_number.Goals as goal
+use Rattle.mesh_valid.proofs.sizes.test_sizes.Goals as goal
 
 pub returns-then-bad1 : goal.returns-then-bad1
 returns-then-bad1 c = search told_here
