@@ -22,8 +22,8 @@ use Rattle.round_rule.specs.Rules.{weight_count, bad11}
 use Rattle.round_rule.specs.Kinds.{kind_number, rule_of}
 use Rattle.round_rule.specs.declared.Kind.{Kind}
 use Rattle.round_rule.specs.declared.Kind.TheVariants.{Hold, Mean, Shoalest}
-use Rattle.round_rule.specs.declared.Rule.{Rule}
-use Rattle.round_rule.specs.declared.Rule.TheVariants.{Known, Unknown}
+use Rattle.std.specs.Prelude.{Result, Ok, Err}
+use Rattle.layout.specs.declared.refusal.Refusal.{Refusal}
 use Rattle.round_rule.proofs.KindLaws.{known_number}
 use Rattle.round_rule.proofs.Refusals.{unknown_rule}
 use Rattle.part_state.specs.State.{LocalNear, part_number, step_count, rule_kind, weights, owned_count, held_count, reach_end, reach_count, rises, entry_at}
@@ -302,8 +302,8 @@ module _ (kind : Kind) (n : ℕ) where
   unfolding weight_count kind_number
   weights_shoalest e = rw e refl
 
-module _ (b : Bytes) (number n : ℕ) (r : Rule) (re : r ≡ rule_of number) where
-  pub rule_told : (k : Kind) → r ≡ Known k → (count : ℕ) → count ≡ weight_count (kind_number k) n → (w : Bool)
+module _ (b : Bytes) (number n : ℕ) (r : Result Kind Refusal) (re : r ≡ rule_of number) where
+  pub rule_told : (k : Kind) → r ≡ Ok k → (count : ℕ) → count ≡ weight_count (kind_number k) n → (w : Bool)
       → w ≡ bad11 (kind_number k) n (take (weights_place + 2 * count - weights_place) (drop weights_place b))
       → not w ≡ not (bad11 number n (take (2 * weight_count number n) (drop weights_place b)))
   rule_told k q count ce w we =
@@ -311,7 +311,7 @@ module _ (b : Bytes) (number n : ℕ) (r : Rule) (re : r ≡ rule_of number) whe
       ap not (we ∙ ap (λ x. bad11 (kind_number k) n (take x (drop weights_place b))) p)
       ∙ ap (λ x. not (bad11 x n (take (2 * weight_count x n) (drop weights_place b)))) (sym (known_number number k (sym re ∙ q)))
 
-  pub rule_unknown : r ≡ Unknown → false ≡ not (bad11 number n (take (2 * weight_count number n) (drop weights_place b)))
+  pub rule_unknown : {e : Refusal} → r ≡ Err e → false ≡ not (bad11 number n (take (2 * weight_count number n) (drop weights_place b)))
   rule_unknown q = ap not (unknown_rule (take (2 * weight_count number n) (drop weights_place b)) n number r re q)
 
 module _ (b : Bytes) where

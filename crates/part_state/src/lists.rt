@@ -17,7 +17,7 @@ use cell_numbers::{Global, Local};
 use layout::inner::word_in;
 use layout::limits::{MOST_ELEMENTS, MOST_PARTS, MOST_STEPS};
 use layout::word_at;
-use round_rule::{Kind, Rule, bad_weights, rule_of};
+use round_rule::{Kind, bad_weights};
 
 // Whether x is a number from 1 to n.
 pub fn up_to(n: usize, x: usize) -> bool
@@ -260,12 +260,12 @@ fn valid_rule(lists: &[u8], kind: usize, steps: usize) -> bool
     requires { (weights_place + 10 ≤ length lists.now) × (steps ≤ most_steps) × (kind < 65536) }
     ensures { result ≡ not (bad11 kind steps (take (2 * weight_count kind steps) (drop weights_place lists.now))) }
 {
-    match rule_of(kind as u32) {
-        Rule::Known(k) => {
+    match Kind::try_from(kind as u32) {
+        Ok(k) => {
             let end = WEIGHTS + 2 * weight_count(k, steps);
             !bad_weights(k, steps, &lists[WEIGHTS..end])
         }
-        Rule::Unknown => false,
+        Err(_) => false,
     }
 }
 

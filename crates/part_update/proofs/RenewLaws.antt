@@ -18,8 +18,8 @@ use Rattle.round_rule.specs.Rules.{Old, new_depth, bad11, weight_count}
 use Rattle.round_rule.proofs.RuleLaws.{rule_known, new_length}
 use Rattle.round_rule.specs.Kinds.{kind_number, rule_of}
 use Rattle.round_rule.specs.declared.Kind.{Kind}
-use Rattle.round_rule.specs.declared.Rule.{Rule}
-use Rattle.round_rule.specs.declared.Rule.TheVariants.{Known, Unknown}
+use Rattle.std.specs.Prelude.{Result, Ok, Err}
+use Rattle.layout.specs.declared.refusal.Refusal.{Refusal}
 use Rattle.round_rule.proofs.KindLaws.{known_number, unknown_number}
 use Rattle.round_update.specs.Update.{table_entries, olds_at, UpdateReady}
 use Rattle.round_update.specs.Update as update
@@ -167,11 +167,11 @@ module _ (lists : Bytes) (changes : ℕ) (b new : Bytes) (owned : ℕ) where
 -- ---- the rule
 
 -- the kind that the number in the lists stands for
-pub kind_is : (lists : Bytes) (number : ℕ) (r : Rule) (k : Kind) → number ≡ rule_kind lists → r ≡ rule_of number → r ≡ Known k → kind_number k ≡ rule_kind lists
+pub kind_is : (lists : Bytes) (number : ℕ) (r : Result Kind Refusal) (k : Kind) → number ≡ rule_kind lists → r ≡ rule_of number → r ≡ Ok k → kind_number k ≡ rule_kind lists
 kind_is lists number r k ne e q = sym (known_number number k (sym e ∙ q)) ∙ ne
 
 -- a state has a known one
-pub kind_known : (lists : Bytes) (changes : ℕ) (b : Bytes) → Opened lists changes b → (number : ℕ) (r : Rule) → number ≡ rule_kind lists → r ≡ rule_of number → r ≡ Unknown → ⊥
+pub kind_known : {x : Refusal} (lists : Bytes) (changes : ℕ) (b : Bytes) → Opened lists changes b → (number : ℕ) (r : Result Kind Refusal) → number ≡ rule_kind lists → r ≡ rule_of number → r ≡ Err x → ⊥
 kind_known lists changes b o number r ne e q =
     omega (arith, unknown_number number (sym e ∙ q), ne, rule_known (rule_kind lists) (step_count lists) (weights lists) (whole lists changes b o).rule)
 

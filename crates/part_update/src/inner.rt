@@ -14,7 +14,7 @@ use depths::inner::put_value;
 use layout::inner::word_in;
 use layout::word_at;
 use part_state::inner::{DEPTH, KIND, STEPS, Sizes, WEIGHTS, weight_count};
-use round_rule::{Kind, Rule, rule_of};
+use round_rule::Kind;
 use round_update::inner::new_depth;
 
 // The new value of local cell l.
@@ -65,12 +65,12 @@ pub fn renew_by(lists: &[u8], b: &[u8], changes: usize, sizes: Sizes, new: &mut 
     requires { Opened lists.now changes b.now × Counts lists.now sizes × (4 * sizes.owned ≤ length new.old) }
     ensures { new.new ≡ over new.old 0 (blocks 1 sizes.owned (new_at (lists_in lists.now) changes b.now)) }
 {
-    match rule_of(word_at(lists, KIND) as u32) {
-        Rule::Known(k) => {
+    match Kind::try_from(word_at(lists, KIND) as u32) {
+        Ok(k) => {
             let end = WEIGHTS + 2 * weight_count(k, word_at(lists, STEPS));
             renew(lists, &lists[WEIGHTS..end], b, changes, k, sizes, new)
         }
         // no state has such a rule (20)
-        Rule::Unknown => {}
+        Err(_) => {}
     }
 }

@@ -30,8 +30,8 @@ use Rattle.walk_reach_table.proofs.EntryLaws.{row_fits, row_size, row_cell, row_
 use Rattle.round_rule.specs.Rules.{new_depth, bad11}
 use Rattle.round_rule.specs.Kinds.{kind_number, rule_of}
 use Rattle.round_rule.specs.declared.Kind.{Kind}
-use Rattle.round_rule.specs.declared.Rule.{Rule}
-use Rattle.round_rule.specs.declared.Rule.TheVariants.{Known, Unknown}
+use Rattle.std.specs.Prelude.{Result, Ok, Err}
+use Rattle.layout.specs.declared.refusal.Refusal.{Refusal}
 use Rattle.round_rule.proofs.KindLaws.{known_number}
 use Rattle.round_rule.proofs.Refusals.{known_rule, unknown_rule}
 use Rattle.round_rule.proofs.RuleLaws.{new_length}
@@ -163,7 +163,7 @@ module _ (m st : Bytes) (kind : ℕ) (v f out : Bytes) where
   done = accepts (round_number given out) (cell_count m) (over out 0 (round (scheme_of m st kind v) f)) out
 
   -- the call goes on by the kind that the number stands for
-  pub told_kind : (r : Rule) (k : Kind) → r ≡ rule_of kind → r ≡ Known k → (a : Answer) (x : Bytes)
+  pub told_kind : (r : Result Kind Refusal) (k : Kind) → r ≡ rule_of kind → r ≡ Ok k → (a : Answer) (x : Bytes)
       → (a ≡ round_answer (round_input m st (kind_number k) v f) out) × (x ≡ round_out (round_input m st (kind_number k) v f) out) → Answered a x
   told_kind r k e q a x g =
       let n : kind_number k ≡ kind = sym (known_number kind k (sym e ∙ q)) in
@@ -207,10 +207,10 @@ module _ (m st : Bytes) (kind : ℕ) (v f out : Bytes) where
     told_10 d b p q t = refused 10 (number_10 mesh (ap (λ k. bad10 k st) (sym p) ∙ sym q ∙ t)) (λ z. omega (arith, z))
 
     module _ (ten : bad10 (top m) st ≡ false) where
-      pub told_unknown : (r : Rule) → r ≡ rule_of kind → r ≡ Unknown → Answered (Refused 11) out
-      told_unknown r e q = refused 11 (number_11 mesh ten (sym (unknown_rule v (steps st) kind r e q))) (λ z. omega (arith, z))
+      pub told_unknown : {e : Refusal} (r : Result Kind Refusal) → r ≡ rule_of kind → r ≡ Err e → Answered (Refused 11) out
+      told_unknown r f q = refused 11 (number_11 mesh ten (sym (unknown_rule v (steps st) kind r f q))) (λ z. omega (arith, z))
 
-      pub told_11 : (r : Rule) (k : Kind) → r ≡ rule_of kind → r ≡ Known k → (b : Bool) → b ≡ bad11 (kind_number k) (length st - 1) v → b ≡ true → Answered (Refused 11) out
+      pub told_11 : (r : Result Kind Refusal) (k : Kind) → r ≡ rule_of kind → r ≡ Ok k → (b : Bool) → b ≡ bad11 (kind_number k) (length st - 1) v → b ≡ true → Answered (Refused 11) out
       unfolding steps
       told_11 r k e q b f t = refused 11 (number_11 mesh ten (sym (known_rule v (length st - 1) kind k r b e q f) ∙ t)) (λ z. omega (arith, z))
 

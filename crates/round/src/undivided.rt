@@ -18,8 +18,8 @@ use depths::inner::put_value;
 use layout::limits::{ELEMENT_PLACES, MOST_REACHED, RECORD_PLACES, TABLE_BYTES};
 use layout::{Refusal, get_or};
 use mesh::inner::{cell_count, top_of};
-use mesh_valid::inner::mesh_number_in;
-use round_rule::{Kind, Rule, bad_weights, rule_of};
+use mesh_valid::inner::test_mesh_in;
+use round_rule::{Kind, bad_weights};
 use round_update::inner::new_depth;
 use walk_reach_table::inner::reach_table;
 use walk_stencil::bad_stencil;
@@ -101,17 +101,13 @@ pub fn undivided_round(
 {
     let mut cell = [0u16; RECORD_PLACES];
     let mut ends = [0u16; ELEMENT_PLACES];
-    mesh_number_in(m, &mut cell, &mut ends)?;
+    test_mesh_in(m, &mut cell, &mut ends)?;
     if bad_stencil(top_of(m), stencil) {
         return Err(Refusal::Stencil);
     }
-    match rule_of(kind) {
-        Rule::Known(k) => {
-            if bad_weights(k, stencil.len() - 1, weights) {
-                return Err(Refusal::Rule);
-            }
-            round_on(m, stencil, k, weights, f, out, &mut cell, &mut ends)
-        }
-        Rule::Unknown => Err(Refusal::Rule),
+    let kind = Kind::try_from(kind)?;
+    if bad_weights(kind, stencil.len() - 1, weights) {
+        return Err(Refusal::Rule);
     }
+    round_on(m, stencil, kind, weights, f, out, &mut cell, &mut ends)
 }

@@ -15,8 +15,8 @@ use Rattle.round_rule.specs.Rules.{weight_count, too_heavy, bad11}
 use Rattle.round_rule.specs.Kinds.{kind_number, rule_of}
 use Rattle.round_rule.specs.declared.Kind.{Kind}
 use Rattle.round_rule.specs.declared.Kind.TheVariants.{Hold, Mean, Shoalest}
-use Rattle.round_rule.specs.declared.Rule.{Rule}
-use Rattle.round_rule.specs.declared.Rule.TheVariants.{Known, Unknown}
+use Rattle.std.specs.Prelude.{Result, Ok, Err}
+use Rattle.layout.specs.declared.refusal.Refusal.{Refusal}
 use Rattle.round_rule.proofs.KindLaws.{known_number, unknown_number}
 
 -- ---- weights, one after the other
@@ -76,9 +76,9 @@ module _ (v : Bytes) (n : ℕ) where
 
   -- ---- and by its number
 
-  pub known_rule : (number : ℕ) (kind : Kind) (r : Rule) (b : Bool) → r ≡ rule_of number → r ≡ Known kind → b ≡ bad11 (kind_number kind) n v → b ≡ bad11 number n v
+  pub known_rule : (number : ℕ) (kind : Kind) (r : Result Kind Refusal) (b : Bool) → r ≡ rule_of number → r ≡ Ok kind → b ≡ bad11 (kind_number kind) n v → b ≡ bad11 number n v
   known_rule number kind r b e q f = f ∙ ap (λ x. bad11 x n v) (sym (known_number number kind (sym e ∙ q)))
 
-  pub unknown_rule : (number : ℕ) (r : Rule) → r ≡ rule_of number → r ≡ Unknown → true ≡ bad11 number n v
+  pub unknown_rule : {e : Refusal} (number : ℕ) (r : Result Kind Refusal) → r ≡ rule_of number → r ≡ Err e → true ≡ bad11 number n v
   unfolding bad11
   unknown_rule number r e q = simp (lt-ltb 2 number (unknown_number number (sym e ∙ q)))

@@ -7,32 +7,29 @@ ghost use Rattle.round_rule.specs.Rules.{too_heavy, bad11};
 ghost use Rattle.round_rule.specs.Kinds.{kind_number, rule_of};
 
 use layout::limits::MOST_WEIGHT;
-use layout::word_at;
+use layout::{Refusal, word_at};
 
 // "The rule kind is 0 hold, 1 mean, 2 shoalest": each chooses another update of a value.
-#[derive(Clone, Copy)]
+#[derive(Clone, Copy, Debug, PartialEq, Eq)]
 pub enum Kind {
     Hold,
     Mean,
     Shoalest,
 }
 
-// What the number of a rule stands for.
-#[derive(Clone, Copy)]
-pub enum Rule {
-    Known(Kind),
-    Unknown,
-}
-
 // The kind by its number. Here alone the number is looked at, and every other is refused.
-pub fn rule_of(number: u32) -> Rule
-    ensures { result ≡ rule_of number }
-{
-    match number {
-        0 => Rule::Known(Kind::Hold),
-        1 => Rule::Known(Kind::Mean),
-        2 => Rule::Known(Kind::Shoalest),
-        3..=4294967295 => Rule::Unknown,
+impl TryFrom<u32> for Kind {
+    type Error = Refusal;
+
+    ghost try_from_gives = { λ number result. result ≡ rule_of number };
+
+    fn try_from(number: u32) -> Result<Kind, Refusal> {
+        match number {
+            0 => Ok(Kind::Hold),
+            1 => Ok(Kind::Mean),
+            2 => Ok(Kind::Shoalest),
+            3..=4294967295 => Err(Refusal::Rule),
+        }
     }
 }
 
@@ -81,8 +78,8 @@ pub fn bad_weights(kind: Kind, steps: usize, weights: &[u8]) -> bool
 pub fn bad_rule(kind: u32, steps: usize, weights: &[u8]) -> bool
     ensures { result ≡ bad11 kind steps weights.now }
 {
-    match rule_of(kind) {
-        Rule::Known(k) => bad_weights(k, steps, weights),
-        Rule::Unknown => true,
+    match Kind::try_from(kind) {
+        Ok(k) => bad_weights(k, steps, weights),
+        Err(_) => true,
     }
 }

@@ -2,8 +2,8 @@
 use Rattle.part_state.proofs.ListChecks.{rule_told, rule_unknown}
 use Rattle.part_state.proofs.lists.valid_rule.Goals as goal
 
-pub returns-in-Known : goal.returns-in-Known
-returns-in-Known c = search rule_told
+pub returns-in-Ok : goal.returns-in-Ok
+returns-in-Ok c = search rule_told
 
-pub returns-in-Unknown : goal.returns-in-Unknown
-returns-in-Unknown c = search rule_unknown
+pub returns-in-Err : goal.returns-in-Err
+returns-in-Err c = search rule_unknown

@@ -1,6 +1,6 @@
--- `round_rule::rule_of` meets its contract. Assumes nothing.
+-- `round_rule::KindTryFromU32::try_from` meets its contract. Assumes nothing.
 use Rattle.round_rule.proofs.KindLaws.{is_hold, is_mean, is_shoalest, is_unknown}
-use Rattle.round_rule.proofs.rule_of.Goals as goal
+use Rattle.round_rule.proofs.KindTryFromU32.try_from.Goals as goal
 
 pub returns-in-0 : goal.returns-in-0
 returns-in-0 c = search is_hold
