@@ -10,7 +10,7 @@ use lib.ListN.{get_or-eq_default, length, get_or, set, take, replicate, length-s
 use lib.Seq.{get_or-set_same, get_or-set_other, ext_get_or}
 use borrow.Author.Tests.{eqb-true, eqb-false, eq-eqb, ne_eqb, ltb-true, ltb-false}
 use Rattle.vocabulary.specs.Bytes.{Bytes, byte_at}
-use Rattle.layout.proofs.Laws.{number_past}
+use Rattle.std.proofs.lemmas.List.{get_or_past}
 use Rattle.vocabulary.proofs.ListLaws.{zeros_at, and_left, and_right}
 use Rattle.vocabulary.specs.Intervals.{some, blocks, total}
 use Rattle.vocabulary.proofs.IntervalLaws.{at_last, blocks_empty, blocks_length, blocks_start, blocks_turn, blocks_cong, some_none, total_cong, total_start, total_turn, total_grows}
@@ -353,7 +353,7 @@ module _ (owners table : Bytes) (ends : List ℕ) (i first cells : ℕ) where
 
         go : (x : ℕ) (t : Bool) → ltb x most_elements ≡ t → byte_at s₁ x ≤ k + 1
         go x true e = omega (arith, reached.each x (ltb-true x most_elements e), most (reached_at owners table ends (k + 1) cells x) (byte_at s x) (F.each x))
-        go x false e = let l : most_elements ≤ x = ltb-false x most_elements e in omega (arith, number_past s₁ x (omega (arith, P.room)))
+        go x false e = let l : most_elements ≤ x = ltb-false x most_elements e in omega (arith, get_or_past s₁ x 0 (omega (arith, P.room)))
 
     -- of the cells that are not its own, part k + 1 imports those from i that part i owns and it reaches
     imports_one : (o : ℕ) (l t r : Bool) → eqb (cond (eqb o (k + 1)) (cond l (cond t 17 18) 0) (cond r o 0)) i ≡ eqb o i && r

@@ -1,17 +1,18 @@
-// The tests 8 and 9, and the number of a call by the tests up to 10.
+// The tests 8 and 9, and a call by the tests up to 10.
 ghost use Rattle.std.specs.Prelude.{◌≡◌, [], ◌∷◌, ◌≤◌, length, replicate};
 ghost use Rattle.vocabulary.specs.Lists.{Zeros};
 ghost use Rattle.vocabulary.specs.Intervals.{is_up_to, every};
+ghost use Rattle.layout.specs.Answers.{refused_as};
 ghost use Rattle.layout.specs.Limits.{element_places, most_records};
 ghost use Rattle.split.specs.Split.{split_of};
 ghost use Rattle.split.specs.Lists.{bad8, bad9, split_number};
 ghost use Rattle.split.specs.Owners.{valid_owner, OwnersSeen};
 
 use crate::owners::owner_of;
-use layout::{byte_at, put_at};
+use layout::{Refusal, byte_at, put_at};
 use layout::limits::MOST_PARTS;
 use mesh::inner::{cell_count, top_of};
-use mesh_valid::inner::mesh_number_in;
+use mesh_valid::inner::test_mesh_in;
 use walk_stencil::bad_stencil;
 
 // The most parts, as the number that calls are given.
@@ -76,9 +77,9 @@ pub fn bad_shares(m: &[u8], parts: u32, owners: &[u8]) -> bool
     false
 }
 
-// The number of the first test up to 10 that refuses a call which names the parts i and j, and 0 where none does. The mesh is tested in lent space; what
-// the lent arrays hold afterwards does not matter.
-pub fn split_number(
+// The first test up to 10 that refuses a call which names the parts i and j. The mesh is tested in lent space; what the lent arrays hold afterwards does
+// not matter.
+pub fn test_split(
     m: &[u8],
     parts: u32,
     owners: &[u8],
@@ -87,28 +88,25 @@ pub fn split_number(
     stencil: &[u8],
     items: &mut [u16],
     ends: &mut [u16],
-) -> u32
+) -> Result<(), Refusal>
     requires { (most_records ≤ length items.old) × Zeros element_places ends.old }
-    ensures { result ≡ split_number m.now parts owners.now (i ∷ j ∷ []) stencil.now }
+    ensures { refused_as result ≡ split_number m.now parts owners.now (i ∷ j ∷ []) stencil.now }
 {
-    let number = mesh_number_in(m, items, ends);
-    if number != 0 {
-        return number;
-    }
+    test_mesh_in(m, items, ends)?;
     if bad_map(m, parts, owners) {
-        return 8;
+        return Err(Refusal::PartMap);
     }
     if !is_part(parts, i) {
-        return 8;
+        return Err(Refusal::PartMap);
     }
     if !is_part(parts, j) {
-        return 8;
+        return Err(Refusal::PartMap);
     }
     if bad_shares(m, parts, owners) {
-        return 9;
+        return Err(Refusal::EmptyPart);
     }
     if bad_stencil(top_of(m), stencil) {
-        return 10;
+        return Err(Refusal::Stencil);
     }
-    0
+    Ok(())
 }

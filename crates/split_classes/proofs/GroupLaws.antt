@@ -14,7 +14,7 @@ use Rattle.vocabulary.specs.Intervals.{picked, some, blocks}
 use Rattle.vocabulary.proofs.IntervalLaws.{picked_all, blocks_cong}
 use Rattle.vocabulary.specs.Lists.{some_of, All}
 use Rattle.vocabulary.proofs.ListLaws.{zeros_at, All_split, or_nothing, some_of_append, map_append}
-use Rattle.layout.proofs.Laws.{number_past}
+use Rattle.std.proofs.lemmas.List.{get_or_past}
 use Rattle.layout.specs.Limits.{most_elements, most_parts}
 use Rattle.split_classes.specs.Classes.{of_class, class_cells, class_order}
 use Rattle.split_classes.specs.Groups.{group, byte_places, Grouped, group_cells, group_order, Linked}
@@ -204,7 +204,7 @@ module _ (row : Bytes) (cells q : ℕ) (start next : List ℕ) (small : cells �
           ap (λ x. get_or start' x 0) (eqb-true k byte e) ∙ get_or-set_same start byte (q + 1) 0 (omega (arith, ltb-true byte 19 f, K.start_room)) in
           inr (omega arith, omega arith)
       begin k true e false f =
-          inl (sym (number_past start' k (omega (arith, ltb-false byte 19 f, eqb-true k byte e, length-set start byte (q + 1), K.start_room))))
+          inl (get_or_past start' k 0 (omega (arith, ltb-false byte 19 f, eqb-true k byte e, length-set start byte (q + 1), K.start_room)))
       begin k false e d f =
           subst (From cells q) (sym (start_there k (eqb-false k byte e))) (from_more cells q (q + 1) (get_or start k 0) (omega arith) (K.begins k))
 

@@ -17,7 +17,7 @@ use Rattle.vocabulary.proofs.CountLaws.{total_swap}
 use Rattle.vocabulary.specs.Lists.{some_of}
 use Rattle.vocabulary.proofs.ListLaws.{and_left, and_right, or_nothing, some_of_append}
 use Rattle.layout.specs.Words.{word_at}
-use Rattle.layout.proofs.Laws.{number_past}
+use Rattle.std.proofs.lemmas.List.{get_or_past}
 use Rattle.layout.specs.Limits.{most_elements, most_parts}
 use Rattle.split.specs.Split.{owner_at}
 use Rattle.split.specs.Owners.{owns_at}
@@ -124,7 +124,7 @@ raised_few k n a b c d p F P = record { room = P.count_room; each = λ x. go x (
   where
     go : (x : ℕ) (t : Bool) → ltb x most_elements ≡ t → byte_at d x ≤ n + 1
     go x true e = omega (arith, P.count x (ltb-true x most_elements e), F.each x, one_few (p x && not (eqb (byte_at a x) k)))
-    go x false e = let l : most_elements ≤ x = ltb-false x most_elements e in omega (arith, number_past d x (omega (arith, P.count_room)))
+    go x false e = let l : most_elements ≤ x = ltb-false x most_elements e in omega (arith, get_or_past d x 0 (omega (arith, P.count_room)))
 
 pub raised_stamps : (k : ℕ) (a b c d : Bytes) (p : ℕ → Bool) → Few k a → Raised (k + 1) a b c d p → Few (k + 1) c
 raised_stamps k a b c d p F P = record { room = P.stamp_room; each = λ x. go x (ltb x most_elements) refl }
@@ -135,7 +135,7 @@ raised_stamps k a b c d p F P = record { room = P.stamp_room; each = λ x. go x 
 
     go : (x : ℕ) (t : Bool) → ltb x most_elements ≡ t → byte_at c x ≤ k + 1
     go x true e = omega (arith, P.stamp x (ltb-true x most_elements e), most (p x) (byte_at a x) (F.each x))
-    go x false e = let l : most_elements ≤ x = ltb-false x most_elements e in omega (arith, number_past c x (omega (arith, P.stamp_room)))
+    go x false e = let l : most_elements ≤ x = ltb-false x most_elements e in omega (arith, get_or_past c x 0 (omega (arith, P.stamp_room)))
 
 pub few_more : (n w : ℕ) (row : Bytes) → n ≤ w → Few n row → Few w row
 few_more n w row h F = record { room = F.room; each = λ x. omega (arith, F.each x) }
@@ -246,7 +246,7 @@ few_start row C = record { room = C.room; each = λ x. low x (ltb x most_element
   where
     low : (x : ℕ) (b : Bool) → ltb x most_elements ≡ b → byte_at row x ≤ 0
     low x true e = omega (arith, C.each x (ltb-true x most_elements e))
-    low x false e = let l : most_elements ≤ x = ltb-false x most_elements e in omega (arith, number_past row x (omega (arith, C.room)))
+    low x false e = let l : most_elements ≤ x = ltb-false x most_elements e in omega (arith, get_or_past row x 0 (omega (arith, C.room)))
 
 module _ (owners table : Bytes) (ends : List ℕ) (cells : ℕ) where
   pub count_start : (holders : Bytes) → RowCleared most_elements holders → Counted owners table ends cells 0 holders

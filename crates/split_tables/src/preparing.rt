@@ -1,6 +1,7 @@
 // What the lists of all parts are read off: the chains turned round, a table of the reaches, and how many parts hold each cell. The tests 12
 // and 13.
-ghost use Rattle.std.specs.Prelude.{◌≡◌, true, false, [], ◌≤◌, length, replicate};
+ghost use Rattle.std.specs.Prelude.{◌≡◌, true, false, [], ◌≤◌, length, replicate, OnOk};
+ghost use Rattle.layout.specs.Answers.{refusal_number, refused_as};
 ghost use Rattle.layout.specs.Limits.{element_places, most_elements, record_places, table_bytes};
 ghost use Rattle.mesh.specs.Mesh.{top};
 ghost use Rattle.mesh.specs.Walks.{bad10, bad13};
@@ -9,6 +10,7 @@ ghost use Rattle.walk_steps.specs.Walking.{Ground, Sized, Arrays};
 ghost use Rattle.split.specs.Lists.{bad8, sizes_number};
 ghost use Rattle.split_classes.specs.Classes.{Prepared};
 
+use layout::Refusal;
 use layout::limits::{ELEMENT_PLACES, MOST_HELD, MOST_REACHED};
 use split_classes::inner::count_holders;
 use walk_incidence::inner::invert;
@@ -44,7 +46,7 @@ pub fn link(
 // Which of the tests 12 and 13 refuses first, where the reaches have too many entries for the table: how many cells the parts hold together is told
 // by walks from whole parts, in lent space.
 #[tactic(auto, using(crate::proofs::PreparedLaws::overflow_twelve, crate::proofs::PreparedLaws::overflow_thirteen))]
-fn overflow_number(
+fn overflow(
     m: &[u8],
     sizes: MeshSizes,
     parts: u32,
@@ -57,10 +59,10 @@ fn overflow_number(
     from: &mut [u16],
     found: &mut [u16],
     layers: &mut [u16],
-) -> u32
+) -> Refusal
     requires { Ground m.now stencil.now cell.now prev.now last.now × Sized m.now sizes × (bad8 m.now parts owners.now [] ≡ false) × (bad13 m.now stencil.now ≡ true)
         × Arrays marks.old from.old found.old layers.old }
-    ensures { (result ≡ sizes_number m.now parts owners.now stencil.now) × (1 ≤ result) }
+    ensures { refusal_number result ≡ sizes_number m.now parts owners.now stencil.now }
 {
     let held = count_all(
         m,
@@ -76,11 +78,15 @@ fn overflow_number(
         found,
         layers,
     );
-    if MOST_HELD < held { 12 } else { 13 }
+    if MOST_HELD < held {
+        Refusal::Held
+    } else {
+        Refusal::Reach
+    }
 }
 
-// Prepares the tables for an accepted mesh, map and stencil, in lent space, of which `last` is cleared: the number of the first of the tests 12 and 13
-// that refuses, and 0 where none does. The row is work space.
+// Prepares the tables for an accepted mesh, map and stencil, in lent space, of which `last` is cleared, unless one of the tests 12 and 13 refuses: then the
+// first of them. The row is work space.
 pub fn prepare(
     m: &[u8],
     parts: u32,
@@ -93,12 +99,12 @@ pub fn prepare(
     ends: &mut [u16],
     holders: &mut [u8],
     class: &mut [u8],
-) -> u32
+) -> Result<(), Refusal>
     requires { Accepted m.now × (bad8 m.now parts owners.now [] ≡ false) × (bad10 (top m.now) stencil.now ≡ false) × (length cell.old ≡ record_places)
         × (length prev.old ≡ record_places) × (last.old ≡ replicate element_places 0) × (length table.old ≡ table_bytes) × (length ends.old ≡ element_places)
         × (length holders.old ≡ most_elements) × (length class.old ≡ most_elements) }
-    ensures { (result ≡ sizes_number m.now parts owners.now stencil.now)
-        × (result ≡ 0 → Prepared m.now parts owners.now stencil.now table.new ends.new holders.new)
+    ensures { (refused_as result ≡ sizes_number m.now parts owners.now stencil.now)
+        × OnOk result (Prepared m.now parts owners.now stencil.now table.new ends.new holders.new)
         × Ground m.now stencil.now cell.new prev.new last.new }
 {
     let sizes = sizes_of(m);
@@ -112,10 +118,10 @@ pub fn prepare(
         ends,
     );
     if MOST_REACHED < entries {
-        return overflow_number(
+        return Err(overflow(
             m, sizes, parts, owners, stencil, cell, prev, last, &mut marks, &mut from, &mut found,
             &mut near,
-        );
+        ));
     }
     if MOST_HELD
         < count_holders(
@@ -129,7 +135,7 @@ pub fn prepare(
             &mut marks,
         )
     {
-        return 12;
+        return Err(Refusal::Held);
     }
-    0
+    Ok(())
 }

@@ -16,8 +16,8 @@ link-requires c = (c.requires.0, c.sizes_of-sizes.ensures, c.requires.2, c.requi
 pub reach_all-entries-requires : goal.reach_all-entries-requires
 reach_all-entries-requires c = (c.link.ensures, c.sizes_of-sizes.ensures, under_none, refl, refl, zeros element_places, c.requires.6, c.requires.7)
 
-pub overflow_number-requires : goal.overflow_number-requires
-overflow_number-requires c = (
+pub overflow-requires : goal.overflow-requires
+overflow-requires c = (
   c.link.ensures,
   c.sizes_of-sizes.ensures,
   c.requires.1,
@@ -26,7 +26,7 @@ overflow_number-requires c = (
 )
 
 pub returns-then-entries-gt-MOST_REACHED : goal.returns-then-entries-gt-MOST_REACHED
-returns-then-entries-gt-MOST_REACHED c = (c.overflow_number.ensures.0, λ z. let n : ⊥ = omega (arith, c.overflow_number.ensures.1) in absurd n, c.link.ensures)
+returns-then-entries-gt-MOST_REACHED c = (c.overflow.ensures, tt, c.link.ensures)
 
 pub count_holders-requires : goal.count_holders-requires
 count_holders-requires c = (
@@ -41,7 +41,7 @@ pub returns-then-count_holders-gt-MOST_HELD : goal.returns-then-count_holders-gt
 returns-then-count_holders-gt-MOST_HELD c = (
   tables_held _ _ _ _ _ _ _ _ c.reach_all-entries.ensures.0 c.requires.1 c.if-entries-gt-MOST_REACHED.false _ c.sizes_of-sizes.ensures.cells_is _ _
       c.count_holders.ensures c.if-count_holders-gt-MOST_HELD.true,
-  λ z. let n : ⊥ = omega arith in absurd n,
+  tt,
   c.link.ensures,
 )
 
@@ -49,7 +49,7 @@ pub returns : goal.returns
 returns c = (
   tables_passed _ _ _ _ _ _ _ _ c.reach_all-entries.ensures.0 c.requires.1 c.if-entries-gt-MOST_REACHED.false _ c.sizes_of-sizes.ensures.cells_is _ _
       c.count_holders.ensures c.if-count_holders-gt-MOST_HELD.false,
-  λ z. tables_prepared _ _ _ _ _ _ _ _ c.reach_all-entries.ensures.0 c.requires.1 c.if-entries-gt-MOST_REACHED.false _ c.sizes_of-sizes.ensures.cells_is _ _
+  tables_prepared _ _ _ _ _ _ _ _ c.reach_all-entries.ensures.0 c.requires.1 c.if-entries-gt-MOST_REACHED.false _ c.sizes_of-sizes.ensures.cells_is _ _
       c.count_holders.ensures c.requires.0 c.requires.2,
   c.link.ensures,
 )

@@ -1,7 +1,7 @@
--- `split_tables::preparing::overflow_number` meets its contract. Assumes nothing.
+-- `split_tables::preparing::overflow` meets its contract. Assumes nothing.
 use mathlib.Core.List.{[]}
 use Rattle.split.proofs.SplitLaws.{map_facts}
-use Rattle.split_tables.proofs.preparing.overflow_number.Goals as goal
+use Rattle.split_tables.proofs.preparing.overflow.Goals as goal
 
 pub count_all-held-requires : goal.count_all-held-requires
 count_all-held-requires c = (c.requires.0, c.requires.1, (map_facts _ _ _ [] c.requires.2).few, c.requires.4)
