@@ -6,7 +6,7 @@ ghost use Rattle.vocabulary.specs.Bytes.{over};
 ghost use Rattle.vocabulary.specs.Intervals.{blocks};
 ghost use Rattle.layout.specs.Words.{word_bytes};
 ghost use Rattle.layout.specs.Limits.{most_elements};
-ghost use Rattle.layout.specs.Answers.{answer_of};
+ghost use Rattle.layout.specs.Answers.{answer_of, refused_as};
 ghost use Rattle.part_state.specs.State.{lists_in, state_length};
 ghost use Rattle.part_state.specs.Checks.{Counts};
 ghost use Rattle.part_calls.specs.Opened.{Opened, advance_rest};
@@ -20,21 +20,21 @@ use part_state::inner::{DEPTHS, LENGTH, Sizes, sizes_of};
 use part_state::is_state;
 use part_update::inner::renew_by;
 
-// The number of the first of advance's tests after 20 that holds, and 0 where none does.
-fn advance_rest(lists: &[u8], b: &[u8], changes: usize) -> u32
+// The first of advance's tests after 20 that refuses.
+fn test_lists(lists: &[u8], b: &[u8], changes: usize) -> Result<(), Refusal>
     requires { Opened lists.now changes b.now }
-    ensures { result ≡ advance_rest (lists_in lists.now) changes b.now }
+    ensures { refused_as result ≡ advance_rest (lists_in lists.now) changes b.now }
 {
     if !all_taken(lists, b, changes) {
-        return 24;
+        return Err(Refusal::NotTaken);
     }
     if !all_written(lists, b, changes) {
-        return 25;
+        return Err(Refusal::NotWritten);
     }
     if LAST_ROUND <= word_in(b, changes) {
-        return 26;
+        return Err(Refusal::LastRound);
     }
-    0
+    Ok(())
 }
 
 // Stores the round, no flag, and the first `owned` depths of `new`.
@@ -47,11 +47,11 @@ fn put_round(b: &mut [u8], changes: usize, round: usize, owned: usize, new: &[u8
     copy(b, changes + DEPTHS, new, 0, 4 * owned);
 }
 
-fn advance_number(b: &[u8], changes: usize) -> u32
+fn test_state(b: &[u8], changes: usize) -> Result<(), Refusal>
     requires { Opened (take changes b.now) changes b.now }
-    ensures { result ≡ advance_rest (lists_in (take changes b.now)) changes b.now }
+    ensures { refused_as result ≡ advance_rest (lists_in (take changes b.now)) changes b.now }
 {
-    advance_rest(&b[0..changes], b, changes)
+    test_lists(&b[0..changes], b, changes)
 }
 
 fn renew_state(b: &[u8], changes: usize, sizes: Sizes, new: &mut [u8])
@@ -92,7 +92,7 @@ fn advance_in(b: &mut [u8], changes: usize) -> Result<u32, Refusal>
     requires { Opened (take changes b.old) changes b.old }
     ensures { (answer_of result ≡ advance_answer b.old) × (b.new ≡ advance_state b.old) }
 {
-    advance_number(b, changes)?;
+    test_state(b, changes)?;
     let sizes = sizes_of(&b[0..changes]);
     next_round(b, changes, sizes);
     Ok(0)

@@ -4,7 +4,7 @@
 ghost use Rattle.std.specs.Prelude.{◌≡◌, false, map, ◌-◌, ◌*◌, ◌≤◌, length};
 ghost use Rattle.vocabulary.specs.Bytes.{over};
 ghost use Rattle.vocabulary.specs.Intervals.{some};
-ghost use Rattle.layout.specs.Answers.{answer_of};
+ghost use Rattle.layout.specs.Answers.{answer_of, refused_as};
 ghost use Rattle.depths.specs.Depths.{deepest, value_bytes, Within};
 ghost use Rattle.round_rule.specs.Rules.{plain_mean};
 ghost use Rattle.part_state.specs.State.{lists_in, local_around, point_cells};
@@ -38,21 +38,21 @@ fn some_outside(lists: &[u8], sizes: Sizes) -> bool
     false
 }
 
-// The number of the first of points' tests after 20 that holds, and 0 where none does. The output has `room` bytes.
-fn points_rest(lists: &[u8], b: &[u8], changes: usize, sizes: Sizes, room: usize) -> u32
+// The first of points' tests after 20 that refuses. The output has `room` bytes.
+fn test_points(lists: &[u8], b: &[u8], changes: usize, sizes: Sizes, room: usize) -> Result<(), Refusal>
     requires { Opened lists.now changes b.now × Counts lists.now sizes }
-    ensures { result ≡ points_rest (lists_in lists.now) changes b.now room }
+    ensures { refused_as result ≡ points_rest (lists_in lists.now) changes b.now room }
 {
     if !all_taken(lists, b, changes) {
-        return 24;
+        return Err(Refusal::NotTaken);
     }
     if some_outside(lists, sizes) {
-        return 29;
+        return Err(Refusal::PointReach);
     }
     if room < POINT_SIZE * sizes.points {
-        return 16;
+        return Err(Refusal::Output);
     }
-    0
+    Ok(())
 }
 
 // The value at the k-th point: a gap where only gaps are around it.
@@ -94,7 +94,7 @@ fn points_from(lists: &[u8], b: &[u8], changes: usize, out: &mut [u8]) -> Result
     ensures { (answer_of result ≡ points_answer b.now out.old) × (out.new ≡ points_out b.now out.old) }
 {
     let sizes = sizes_of(lists);
-    points_rest(lists, b, changes, sizes, out.len())?;
+    test_points(lists, b, changes, sizes, out.len())?;
     put_points(lists, b, changes, sizes, out);
     Ok(sizes.points as u32)
 }

@@ -10,7 +10,7 @@ use layout::Refusal;
 use layout::limits::{ELEMENT_PLACES, MOST_ELEMENTS, RECORD_PLACES, TABLE_BYTES};
 use part_start_plan::inner::draw_plan;
 use part_state::inner::DEPTHS;
-use split::inner::split_number;
+use split::inner::test_split;
 use split_classes::inner::CLASSES;
 use split_tables::inner::prepare;
 
@@ -20,7 +20,7 @@ pub fn state_size(m: &[u8], parts: u32, owners: &[u8], i: u32, stencil: &[u8]) -
 {
     let mut cell = [0u16; RECORD_PLACES];
     let mut ends = [0u16; ELEMENT_PLACES];
-    split_number(m, parts, owners, i, i, stencil, &mut cell, &mut ends)?;
+    test_split(m, parts, owners, i, i, stencil, &mut cell, &mut ends)?;
     let mut prev = [0u16; RECORD_PLACES];
     let mut last = [0u16; ELEMENT_PLACES];
     let mut table = [0u8; TABLE_BYTES];

@@ -14,7 +14,7 @@ use part_start_points::inner::some_outside;
 use part_state::inner::DEPTHS;
 use round::bad_field;
 use round_rule::bad_rule;
-use split::inner::split_number;
+use split::inner::test_split;
 use split_classes::inner::CLASSES;
 use split_tables::inner::prepare;
 use walk_steps::inner::sizes_of;
@@ -38,7 +38,7 @@ pub fn start(
 {
     let mut cell = [0u16; RECORD_PLACES];
     let mut ends = [0u16; ELEMENT_PLACES];
-    split_number(m, parts, owners, i, i, stencil, &mut cell, &mut ends)?;
+    test_split(m, parts, owners, i, i, stencil, &mut cell, &mut ends)?;
     if bad_rule(kind, stencil.len() - 1, weights) {
         return Err(Refusal::Rule);
     }

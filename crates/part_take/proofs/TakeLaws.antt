@@ -14,17 +14,15 @@ use Rattle.vocabulary.specs.Intervals.{is_up_to}
 use Rattle.vocabulary.proofs.IntervalLaws.{up_to_true}
 use Rattle.layout.specs.Words.{word, word_at}
 use Rattle.layout.proofs.AnswerLaws.{refuses, accepts}
-use Rattle.layout.specs.Answers.{Answer}
-use Rattle.layout.specs.Answers.{Done, Refused}
+use Rattle.std.specs.Prelude.{Result, Ok, Err}
+use Rattle.layout.specs.Answers.{Answer, Done, Refused}
+use Rattle.layout.specs.declared.refusal.Refusal.{Refusal}
 use Rattle.layout.specs.Limits.{most_parts}
 use Rattle.messages.specs.Messages.{depths_of, message_size, bad15, from_in, to_in, round_in, count_in, reading}
-use Rattle.messages.specs.Readings.{reading_number, meant_reading}
+use Rattle.messages.specs.Readings.{IsHeader, meant_reading}
 use Rattle.messages.proofs.ReadingLaws.{message_told}
 use Rattle.messages.specs.declared.Header.{Header}
-use Rattle.messages.specs.declared.Reading.{Reading}
-use Rattle.messages.specs.declared.Reading.TheVariants.{Message}
-use Rattle.messages.specs.declared.Reading.TheVariants as answers
-use Rattle.messages.proofs.Else.{meant_as, else_bad, else_number}
+use Rattle.messages.proofs.Else.{meant_as, else_bad}
 use Rattle.part_state.specs.State.{Lists, lists_in, lists_of, dynamic, held_count, is_state, depth_place, state_length, taken_place, import_word, part_number}
 use Rattle.part_calls.specs.Calls.{imports_from, take_tests_in, taken_in, take_number, take_answer, take_state}
 use Rattle.part_calls.proofs.CallLaws.{Room, room_of, Taken, taken_facts}
@@ -104,12 +102,12 @@ pub store_told : (b x y z : Bytes) (i at count : ℕ) → length x ≡ message_s
 store_told b x y z i at count l f e =
     e ∙ ap₂ (λ (u : Bytes) (w : Bytes). over u at w) f (take_all (4 * count) (depths_of x) (omega (arith, length-drop 8 x)))
 
--- ---- the reader's answer is a message
+-- ---- the reader's result is a message
 
-pub message_good : {h : Header} (x : Bytes) (r : Reading) → meant_reading x r ≡ reading x → r ≡ Message h → bad15 x ≡ false
+pub message_good : {h : Header} (x : Bytes) (r : Result Header Refusal) → meant_reading x r ≡ reading x → r ≡ Ok h → bad15 x ≡ false
 message_good {h = h} x r e o = (message_told x h (meant_as x r e o)).0
 
-pub message_header : (x : Bytes) (r : Reading) (h : Header) → meant_reading x r ≡ reading x → r ≡ Message h → (h.from ≡ from_in x) × (h.to ≡ to_in x) × (h.round ≡ round_in x) × (h.count ≡ count_in x)
+pub message_header : (x : Bytes) (r : Result Header Refusal) (h : Header) → meant_reading x r ≡ reading x → r ≡ Ok h → IsHeader x h
 message_header x r h e m = let p = message_told x h (meant_as x r e m) in (p.1, p.2, p.3, p.4)
 
 -- ---- the answer
@@ -131,29 +129,27 @@ module _ (b x : Bytes) where
   here L changes = refl
 
   -- the reader refused
-  pub told_15 : {m : ℕ} (r : Reading) (n : ℕ) → meant_reading x r ≡ reading x → r ≡ answers.Refused m → n ≡ reading_number r → Answered (Refused n) b
+  pub told_15 : {m : Refusal} (r : Result Header Refusal) → meant_reading x r ≡ reading x → r ≡ Err m → Answered (Refused 15) b
   unfolding take_number take_tests_in
-  told_15 r n e o q =
-      let z : n ≡ 15 = else_number x r n e o q in refused n (simp (else_bad x r e o) (sym z)) (λ k. omega (arith, k))
+  told_15 r e o = refused 15 (simp (else_bad x r e o)) (λ k. omega (arith, k))
 
-  pub told_20 : {h : Header} (r : Reading) (u : Bool) → meant_reading x r ≡ reading x → r ≡ Message h → u ≡ is_state b → not u ≡ true → Answered (Refused 20) b
+  pub told_20 : {h : Header} (r : Result Header Refusal) (u : Bool) → meant_reading x r ≡ reading x → r ≡ Ok h → u ≡ is_state b → not u ≡ true → Answered (Refused 20) b
   unfolding take_number take_tests_in
   told_20 r u e o ue ut = refused 20 (simp (message_good x r e o, not_state b u ue ut)) (λ k. omega (arith, k))
 
-  module _ (changes : ℕ) (o : Opened (take changes b) changes b) (fifteen : bad15 x ≡ false) (from to round count : ℕ) (fe : from ≡ from_in x) (te : to ≡ to_in x) (re : round ≡ round_in x)
-      (ce : count ≡ count_in x) where
+  module _ (changes : ℕ) (o : Opened (take changes b) changes b) (fifteen : bad15 x ≡ false) (h : Header) (w : IsHeader x h) where
     number_here : take_number b x ≡ take_rest (lists_of b) (dynamic b) b (from_in x) (to_in x) (round_in x) (count_in x)
     unfolding take_number take_tests_in take_rest bad_sender
     number_here = simp (fifteen, good_state (take changes b) changes b o)
 
-    pub number_is : take_number b x ≡ take_rest (lists_in (take changes b)) changes b from to round count
+    pub number_is : take_number b x ≡ take_rest (lists_in (take changes b)) changes b h.from h.to h.round h.count
     number_is =
         number_here
         ∙ ap₂ (λ (L : Lists) p. take_rest L p b (from_in x) (to_in x) (round_in x) (count_in x)) (lists_is (take changes b) changes b o) (sym o.place_is)
-        ∙ ap₂ (λ f t. take_rest (lists_in (take changes b)) changes b f t (round_in x) (count_in x)) (sym fe) (sym te)
-        ∙ ap₂ (λ r c. take_rest (lists_in (take changes b)) changes b from to r c) (sym re) (sym ce)
+        ∙ ap₂ (λ f t. take_rest (lists_in (take changes b)) changes b f t (round_in x) (count_in x)) (sym w.0) (sym w.1)
+        ∙ ap₂ (λ r c. take_rest (lists_in (take changes b)) changes b h.from h.to r c) (sym w.2) (sym w.3)
 
-    module _ (n : ℕ) (ne : n ≡ take_rest (lists_in (take changes b)) changes b from to round count) where
+    module _ (n : ℕ) (ne : n ≡ take_rest (lists_in (take changes b)) changes b h.from h.to h.round h.count) where
       module _ (nz : n ≡ 0) where
         accepted : take_number b x ≡ 0
         accepted = number_is ∙ sym ne ∙ nz
@@ -164,37 +160,37 @@ module _ (b x : Bytes) where
             taken_facts (lists_in (take changes b)) changes b x
             (ap₂ (λ (L : Lists) p. first_of (take_tests_in L p b x)) (sym (lists_is (take changes b) changes b o)) o.place_is ∙ accepted)
 
-        pub from_few : from ≤ most_parts
+        pub from_few : h.from ≤ most_parts
         from_few = omega (arith, facts.from_most)
 
-        module _ (before : ℕ) (be : before ≡ word_at (take (changes - 0) (drop 0 b)) (before_imports + from)) where
+        module _ (before : ℕ) (be : before ≡ word_at (take (changes - 0) (drop 0 b)) (before_imports + h.from)) where
           before_is : (lists_in (take changes b)).before (from_in x) ≡ before
           unfolding lists_in
           before_is =
-              let p : import_word + (from_in x - 1) ≡ before_imports + from = omega (arith, facts.from_least) in
-              ap (word_at (take changes b)) p ∙ sym (be ∙ ap (λ (y : Bytes). word_at y (before_imports + from)) (cut b changes))
+              let p : import_word + (from_in x - 1) ≡ before_imports + h.from = omega (arith, facts.from_least) in
+              ap (word_at (take changes b)) p ∙ sym (be ∙ ap (λ (y : Bytes). word_at y (before_imports + h.from)) (cut b changes))
 
-          held_room : before + count ≤ held_count (take changes b)
+          held_room : before + h.count ≤ held_count (take changes b)
           unfolding lists_in
           held_room =
-              let w : Room (lists_in (take changes b)) changes b = room_of (take changes b) changes b (whole (take changes b) changes b o) in
-              omega (arith, w.fits (from_in x) facts.from_least facts.from_most, before_is, facts.count_is)
+              let room : Room (lists_in (take changes b)) changes b = room_of (take changes b) changes b (whole (take changes b) changes b o) in
+              omega (arith, room.fits (from_in x) facts.from_least facts.from_most, before_is, facts.count_is, w.3)
 
-          pub store_fits : (changes < 131072) × (from ≤ most_parts) × (before < 65536) × (count < 65536) × (state_length changes (before + count) ≤ length b) × (length x ≡ message_size count)
+          pub store_fits : (changes < 131072) × (h.from ≤ most_parts) × (before < 65536) × (h.count < 65536) × (state_length changes (before + h.count) ≤ length b) × (length x ≡ message_size h.count)
           store_fits = (
             o.place_small,
             from_few,
             omega (arith, held_room, (whole (take changes b) changes b o).few),
             omega (arith, held_room, (whole (take changes b) changes b o).few),
             omega (arith, held_room, long (take changes b) changes b o),
-            facts.size ∙ ap (λ k. message_size k) (sym ce),
+            facts.size ∙ ap (λ k. message_size k) (sym w.3),
           )
 
-          pub told_done : (y : Bytes) → y ≡ over (set b (taken_place changes from) 1) (depth_place changes (before + 1)) (depths_of x) → Answered (Done 0) y
+          pub told_done : (y : Bytes) → y ≡ over (set b (taken_place changes h.from) 1) (depth_place changes (before + 1)) (depths_of x) → Answered (Done 0) y
           told_done y e = let a = done accepted in (a.0, e ∙ taken_is ∙ a.1)
             where
-              taken_is : over (set b (taken_place changes from) 1) (depth_place changes (before + 1)) (depths_of x) ≡ taken_in (lists_of b) (dynamic b) b x
+              taken_is : over (set b (taken_place changes h.from) 1) (depth_place changes (before + 1)) (depths_of x) ≡ taken_in (lists_of b) (dynamic b) b x
               taken_is =
-                  ap₂ (λ f k. over (set b (taken_place changes f) 1) (depth_place changes (k + 1)) (depths_of x)) fe (sym before_is)
+                  ap₂ (λ f k. over (set b (taken_place changes f) 1) (depth_place changes (k + 1)) (depths_of x)) w.0 (sym before_is)
                   ∙ here (lists_in (take changes b)) changes
                   ∙ ap₂ (λ (L : Lists) p. taken_in L p b x) (sym (lists_is (take changes b) changes b o)) o.place_is

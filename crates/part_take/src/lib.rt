@@ -4,8 +4,9 @@
 ghost use Rattle.std.specs.Prelude.{◌≡◌, false, ◌+◌, ◌*◌, ◌<◌, ◌≤◌, length, set, take};
 ghost use Rattle.vocabulary.specs.Bytes.{over};
 ghost use Rattle.layout.specs.Limits.{most_parts};
-ghost use Rattle.layout.specs.Answers.{answer_of};
-ghost use Rattle.messages.specs.Messages.{depths_of, message_size, bad15, from_in, to_in, round_in, count_in};
+ghost use Rattle.layout.specs.Answers.{answer_of, refused_as};
+ghost use Rattle.messages.specs.Messages.{depths_of, message_size, bad15};
+ghost use Rattle.messages.specs.Readings.{IsHeader};
 ghost use Rattle.part_state.specs.State.{lists_in, depth_place, state_length, taken_place};
 ghost use Rattle.part_calls.specs.Opened.{Opened, bad_sender, take_rest};
 ghost use Rattle.part_calls.specs.Calls.{take_answer, take_state};
@@ -13,43 +14,43 @@ ghost use Rattle.part_calls.specs.Calls.{take_answer, take_state};
 use layout::inner::{copy, word_in};
 use layout::limits::MOST_PARTS;
 use layout::{Refusal, byte_at, word_at};
-use messages::{HEADER_SIZE, Reading, read, refusal_of};
+use messages::{HEADER_SIZE, Header, read};
 use part_calls::inner::set_flag;
 use part_state::inner::{BEFORE_IMPORTS, DEPTH, LENGTH, PART, TAKEN, count_between};
 use part_state::{is_state, up_to};
 
 // Whether a message with these words is no message to this part from one that it imports from, with as many depths (21).
-fn bad_sender(lists: &[u8], from: usize, to: usize, count: usize) -> bool
-    ensures { result ≡ bad_sender (lists_in lists.now) from to count }
+fn bad_sender(lists: &[u8], header: Header) -> bool
+    ensures { result ≡ bad_sender (lists_in lists.now) header.from header.to header.count }
 {
-    if to != word_at(lists, PART) {
+    if header.to != word_at(lists, PART) {
         return true;
     }
-    if !up_to(MOST_PARTS, from) {
+    if !up_to(MOST_PARTS, header.from) {
         return true;
     }
-    let n = count_between(lists, BEFORE_IMPORTS + from);
+    let n = count_between(lists, BEFORE_IMPORTS + header.from);
     if n < 1 {
         return true;
     }
-    count != n
+    header.count != n
 }
 
-// The number of the first of take's tests of a message's words that holds, and 0 where none does.
-fn take_rest(b: &[u8], changes: usize, from: usize, to: usize, round: usize, count: usize) -> u32
+// The first of take's tests of a message's words that refuses it.
+fn test_header(b: &[u8], changes: usize, header: Header) -> Result<(), Refusal>
     requires { Opened (take changes b.now) changes b.now }
-    ensures { result ≡ take_rest (lists_in (take changes b.now)) changes b.now from to round count }
+    ensures { refused_as result ≡ take_rest (lists_in (take changes b.now)) changes b.now header.from header.to header.round header.count }
 {
-    if bad_sender(&b[0..changes], from, to, count) {
-        return 21;
+    if bad_sender(&b[0..changes], header) {
+        return Err(Refusal::Sender);
     }
-    if round != word_in(b, changes) {
-        return 22;
+    if header.round != word_in(b, changes) {
+        return Err(Refusal::MessageRound);
     }
-    if byte_at(b, changes + TAKEN + from) == 1 {
-        return 23;
+    if byte_at(b, changes + TAKEN + header.from) == 1 {
+        return Err(Refusal::AlreadyTaken);
     }
-    0
+    Ok(())
 }
 
 // Sets the flag of part `from`, and copies the message's depths to the cells after `before`.
@@ -68,21 +69,13 @@ fn store(b: &mut [u8], changes: usize, from: usize, before: usize, x: &[u8], cou
 }
 
 // Take on a state whose lists end at `changes`, of a message with these words.
-fn take_in(
-    b: &mut [u8],
-    changes: usize,
-    from: usize,
-    to: usize,
-    round: usize,
-    count: usize,
-    x: &[u8],
-) -> Result<u32, Refusal>
-    requires { Opened (take changes b.old) changes b.old × (bad15 x.now ≡ false) × (from ≡ from_in x.now) × (to ≡ to_in x.now) × (round ≡ round_in x.now) × (count ≡ count_in x.now) }
+fn take_in(b: &mut [u8], changes: usize, header: Header, x: &[u8]) -> Result<u32, Refusal>
+    requires { Opened (take changes b.old) changes b.old × (bad15 x.now ≡ false) × IsHeader x.now header }
     ensures { (answer_of result ≡ take_answer b.old x.now) × (b.new ≡ take_state b.old x.now) }
 {
-    take_rest(b, changes, from, to, round, count)?;
-    let before = word_at(&b[0..changes], BEFORE_IMPORTS + from);
-    store(b, changes, from, before, x, count);
+    test_header(b, changes, header)?;
+    let before = word_at(&b[0..changes], BEFORE_IMPORTS + header.from);
+    store(b, changes, header.from, before, x, header.count);
     Ok(0)
 }
 
@@ -90,13 +83,12 @@ fn take_in(
 pub fn take(b: &mut [u8], x: &[u8]) -> Result<u32, Refusal>
     ensures { (answer_of result ≡ take_answer b.old x.now) × (b.new ≡ take_state b.old x.now) }
 {
-    let r = read(x);
-    let Reading::Message(h) = r else {
-        return Answer::Refused(refusal_of(r));
+    let Ok(header) = read(x) else {
+        return Err(Refusal::Message);
     };
     if !is_state(b) {
         return Err(Refusal::State);
     }
     let changes = 2 * word_at(b, LENGTH);
-    take_in(b, changes, h.from, h.to, h.round, h.count, x)
+    take_in(b, changes, header, x)
 }

@@ -7,7 +7,7 @@ use layout::Refusal;
 use layout::limits::{ELEMENT_PLACES, MOST_ELEMENTS, RECORD_PLACES, TABLE_BYTES};
 use mesh::inner::cell_count;
 use split::Wanted;
-use split::inner::split_number;
+use split::inner::test_split;
 use split_classes::inner::classify;
 use split_ranges::inner::{add_range, classify_lowers};
 use split_tables::inner::prepare;
@@ -30,7 +30,7 @@ pub fn list(
 {
     let mut cell = [0u16; RECORD_PLACES];
     let mut ends = [0u16; ELEMENT_PLACES];
-    split_number(
+    test_split(
         m,
         parts,
         owners,

@@ -5,38 +5,37 @@ use native.Mathlib.Omega.{arith}
 use lib.ListN.{length-replicate}
 use Rattle.vocabulary.proofs.ListLaws.{zeros}
 use Rattle.layout.specs.Limits.{element_places, record_places}
+use Rattle.layout.proofs.AnswerLaws.{exit_answer, exit_some}
 use Rattle.split.proofs.PassedLaws.{passed_facts}
 use Rattle.part_start_plan.proofs.PlanLaws.{size_split, size_sizes, size_done}
 use borrow.Author.Rules.{rules}
 use Rattle.part_size.proofs.state_size.Goals as goal
 
-pub split_number-number-requires : goal.split_number-number-requires
-split_number-number-requires c =
+pub test_split-requires : goal.test_split-requires
+test_split-requires c =
     (omega (arith, length-replicate {A = ℕ} record_places 0), zeros element_places)
 
-pub returns-then-number-ne0 : goal.returns-then-number-ne0
-returns-then-number-ne0 c =
-    size_split _ _ _ _ _ _ c.split_number-number.ensures c.if-number-ne0.true
+pub returns-in_err-test_split : goal.returns-in_err-test_split
+returns-in_err-test_split c =
+    exit_answer _ _ _ c.from_residual.ensures.1 refl ∙ size_split _ _ _ _ _ _ c.in_err-test_split.ensures (exit_some _ _ refl)
 
-pub prepare-number-requires : goal.prepare-number-requires
-prepare-number-requires c =
-    let f = passed_facts _ _ _ _ _ _ (sym c.split_number-number.ensures ∙ c.if-number-ne0.false) in
+pub prepare-requires : goal.prepare-requires
+prepare-requires c =
+    let f = passed_facts _ _ _ _ _ _ (sym c.in_ok-test_split.ensures) in
     (f.mesh, f.map, f.stencil, search rules, refl, refl, refl, search rules, refl, refl)
 
-pub returns-then-number-ne0-2 : goal.returns-then-number-ne0-2
-returns-then-number-ne0-2 c =
-    size_sizes _ _ _ _ _ (sym c.split_number-number.ensures ∙ c.if-number-ne0.false) _ c.prepare-number.ensures.0 c.if-number-ne0-2.true
+pub returns-in_err-prepare : goal.returns-in_err-prepare
+returns-in_err-prepare c =
+    exit_answer _ _ _ c.from_residual-in_err-prepare.ensures.1 refl ∙ size_sizes _ _ _ _ _ (sym c.in_ok-test_split.ensures) _ c.in_err-prepare.ensures.0 (exit_some _ _ refl)
 
 pub draw_plan-p-requires : goal.draw_plan-p-requires
 draw_plan-p-requires c =
-    let sn = sym c.split_number-number.ensures ∙ c.if-number-ne0.false in
-    let prepared = c.prepare-number.ensures in
-    let zero = c.if-number-ne0-2.false in
-    (sn, sym prepared.0 ∙ zero, prepared.1 zero, prepared.2, omega arith, omega arith, refl)
+    let sn = sym c.in_ok-test_split.ensures in
+    let prepared = c.in_ok-prepare.ensures in
+    (sn, sym prepared.0, prepared.1, prepared.2, omega arith, omega arith, refl)
 
 pub returns : goal.returns
 returns c =
-    let sn = sym c.split_number-number.ensures ∙ c.if-number-ne0.false in
-    let prepared = c.prepare-number.ensures in
-    let zero = c.if-number-ne0-2.false in
-    size_done _ _ _ _ _ sn (sym prepared.0 ∙ zero) _ _ _ (prepared.1 zero) _ _ _ c.draw_plan-p.ensures
+    let sn = sym c.in_ok-test_split.ensures in
+    let prepared = c.in_ok-prepare.ensures in
+    size_done _ _ _ _ _ sn (sym prepared.0) _ _ _ (prepared.1) _ _ _ c.draw_plan-p.ensures

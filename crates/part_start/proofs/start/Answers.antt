@@ -5,6 +5,7 @@ use native.Mathlib.Omega.{arith}
 use lib.ListN.{length-replicate}
 use Rattle.vocabulary.proofs.ListLaws.{zeros}
 use Rattle.layout.specs.Limits.{element_places, most_parts, record_places}
+use Rattle.layout.proofs.AnswerLaws.{exit_answer, exit_some}
 use Rattle.split.proofs.PassedLaws.{passed_facts}
 use Rattle.round_rule.proofs.RuleLaws.{rule_known}
 use Rattle.mesh.proofs.WalkLaws.{stencil_parts}
@@ -15,46 +16,47 @@ use Rattle.part_start_plan.proofs.PlanLaws.{outside_is, point_room, start_split,
 use borrow.Author.Rules.{rules}
 use Rattle.part_start.proofs.start.Goals as goal
 
-pub split_number-number-requires : goal.split_number-number-requires
-split_number-number-requires c =
+pub test_split-requires : goal.test_split-requires
+test_split-requires c =
     (omega (arith, length-replicate {A = ℕ} record_places 0), zeros element_places)
 
-pub returns-then-number-ne0 : goal.returns-then-number-ne0
-returns-then-number-ne0 c =
-    start_split _ _ _ _ _ _ _ _ _ _ c.split_number-number.ensures c.if-number-ne0.true
+pub returns-in_err-test_split : goal.returns-in_err-test_split
+returns-in_err-test_split c =
+    let told = start_split _ _ _ _ _ _ _ _ _ _ c.in_err-test_split.ensures (exit_some _ _ refl) in
+    (exit_answer _ _ _ c.from_residual.ensures.1 refl ∙ told.0, told.1)
 
 pub overflow_sub-stencil : goal.overflow_sub-stencil
 overflow_sub-stencil c =
-    omega (arith, (stencil_parts _ _ (passed_facts _ _ _ _ _ _ (sym c.split_number-number.ensures ∙ c.if-number-ne0.false)).stencil).0)
+    omega (arith, (stencil_parts _ _ (passed_facts _ _ _ _ _ _ (sym c.in_ok-test_split.ensures)).stencil).0)
 
 pub returns-then-bad_rule : goal.returns-then-bad_rule
 returns-then-bad_rule c =
-    start_11 _ _ _ _ _ _ _ _ _ (sym c.split_number-number.ensures ∙ c.if-number-ne0.false) _ c.bad_rule.ensures c.if-bad_rule.true
+    start_11 _ _ _ _ _ _ _ _ _ (sym c.in_ok-test_split.ensures) _ c.bad_rule.ensures c.if-bad_rule.true
 
-pub prepare-number-requires : goal.prepare-number-requires
-prepare-number-requires c =
-    let sn = sym c.split_number-number.ensures ∙ c.if-number-ne0.false in
+pub prepare-requires : goal.prepare-requires
+prepare-requires c =
+    let sn = sym c.in_ok-test_split.ensures in
     let f = passed_facts _ _ _ _ _ _ sn in
     (f.mesh, f.map, f.stencil, search rules, refl, refl, refl, search rules, refl, refl)
 
-pub returns-then-number-ne0-2 : goal.returns-then-number-ne0-2
-returns-then-number-ne0-2 c =
-    let sn = sym c.split_number-number.ensures ∙ c.if-number-ne0.false in
+pub returns-in_err-prepare : goal.returns-in_err-prepare
+returns-in_err-prepare c =
+    let sn = sym c.in_ok-test_split.ensures in
     let eleven = rule_good _ c.args.stencil.now _ _ c.bad_rule.ensures c.if-bad_rule.false in
-    start_sizes _ _ _ _ _ _ _ _ _ sn eleven _ c.prepare-number.ensures.0 c.if-number-ne0-2.true
+    let told = start_sizes _ _ _ _ _ _ _ _ _ sn eleven _ c.in_err-prepare.ensures.0 (exit_some _ _ refl) in
+    (exit_answer _ _ _ c.from_residual-in_err-prepare.ensures.1 refl ∙ told.0, told.1)
 
 pub returns-then-bad_field : goal.returns-then-bad_field
 returns-then-bad_field c =
-    let sn = sym c.split_number-number.ensures ∙ c.if-number-ne0.false in
-    let prepared = c.prepare-number.ensures in
-    let zero = c.if-number-ne0-2.false in
-    let zn = sym prepared.0 ∙ zero in
+    let sn = sym c.in_ok-test_split.ensures in
+    let prepared = c.in_ok-prepare.ensures in
+    let zn = sym prepared.0 in
     let eleven = rule_good _ c.args.stencil.now _ _ c.bad_rule.ensures c.if-bad_rule.false in
     start_14 _ _ _ _ _ _ _ _ c.args.b.now sn eleven zn _ c.cell_count.ensures.0 _ c.bad_field.ensures c.if-bad_field.true
 
 pub some_outside-outside-requires : goal.some_outside-outside-requires
 some_outside-outside-requires c =
-    let sn = sym c.split_number-number.ensures ∙ c.if-number-ne0.false in
+    let sn = sym c.in_ok-test_split.ensures in
     let sizes = c.sizes_of.ensures in
     ((passed_facts _ _ _ _ _ _ sn).mesh, sizes, c.sought_of-sought.ensures.1 ∙ sym sizes.first_is, omega arith)
 
@@ -72,21 +74,19 @@ slice_bounds-draw_plan-end-7 c =
 
 pub draw_plan-p-requires : goal.draw_plan-p-requires
 draw_plan-p-requires c =
-    let sn = sym c.split_number-number.ensures ∙ c.if-number-ne0.false in
-    let prepared = c.prepare-number.ensures in
-    let zero = c.if-number-ne0-2.false in
-    let zn = sym prepared.0 ∙ zero in
-    (sn, zn, prepared.1 zero, prepared.2, omega arith, omega arith, refl)
+    let sn = sym c.in_ok-test_split.ensures in
+    let prepared = c.in_ok-prepare.ensures in
+    let zn = sym prepared.0 in
+    (sn, zn, prepared.1, prepared.2, omega arith, omega arith, refl)
 
 pub returns-then-b-size : goal.returns-then-b-size
 returns-then-b-size c =
-    let sn = sym c.split_number-number.ensures ∙ c.if-number-ne0.false in
-    let prepared = c.prepare-number.ensures in
-    let zero = c.if-number-ne0-2.false in
-    let zn = sym prepared.0 ∙ zero in
+    let sn = sym c.in_ok-test_split.ensures in
+    let prepared = c.in_ok-prepare.ensures in
+    let zn = sym prepared.0 in
     let eleven = rule_good _ c.args.stencil.now _ _ c.bad_rule.ensures c.if-bad_rule.false in
     let plan = c.draw_plan-p.ensures in
-    start_16 _ _ _ _ _ _ _ _ c.args.b.now sn eleven zn _ c.cell_count.ensures.0 _ c.bad_field.ensures c.if-bad_field.false _ _ _ (prepared.1 zero)
+    start_16 _ _ _ _ _ _ _ _ c.args.b.now sn eleven zn _ c.cell_count.ensures.0 _ c.bad_field.ensures c.if-bad_field.false _ _ _ (prepared.1)
     _ _ _ plan c.if-b-size.true
 
 pub slice_bounds-find_sent-end : goal.slice_bounds-find_sent-end
@@ -122,12 +122,12 @@ find_sent-requires c =
 
 pub overflow_sub-stencil-2 : goal.overflow_sub-stencil-2
 overflow_sub-stencil-2 c =
-    let sn = sym c.split_number-number.ensures ∙ c.if-number-ne0.false in
+    let sn = sym c.in_ok-test_split.ensures in
     omega (arith, (stencil_parts _ _ (passed_facts _ _ _ _ _ _ sn).stencil).0)
 
 pub put_front-s-requires : goal.put_front-s-requires
 put_front-s-requires c =
-    let sn = sym c.split_number-number.ensures ∙ c.if-number-ne0.false in
+    let sn = sym c.in_ok-test_split.ensures in
     let eleven = rule_good _ c.args.stencil.now _ _ c.bad_rule.ensures c.if-bad_rule.false in
     let plan = c.draw_plan-p.ensures in
     let p = c.draw_plan-p.result in (
@@ -167,17 +167,16 @@ slice_bounds-put_rest-end c =
 
 pub put_rest-requires : goal.put_rest-requires
 put_rest-requires c =
-    let sn = sym c.split_number-number.ensures ∙ c.if-number-ne0.false in
-    let prepared = c.prepare-number.ensures in
-    let zero = c.if-number-ne0-2.false in
-    let zn = sym prepared.0 ∙ zero in
+    let sn = sym c.in_ok-test_split.ensures in
+    let prepared = c.in_ok-prepare.ensures in
+    let zn = sym prepared.0 in
     let eleven = rule_good _ c.args.stencil.now _ _ c.bad_rule.ensures c.if-bad_rule.false in
     let plan = c.draw_plan-p.ensures in (
       omega (arith, c.if-b-size.false),
       omega (arith, plan.long_few),
       plan.fit.order_few,
       start_cells _ _ _ _ _ _ _ _ c.args.b.now sn eleven zn _ c.cell_count.ensures.0 _ c.bad_field.ensures c.if-bad_field.false
-          _ _ _ (prepared.1 zero) _ _ _ plan,
+          _ _ _ (prepared.1) _ _ _ plan,
     )
 
 pub slice_bounds-add_points-end-2 : goal.slice_bounds-add_points-end-2
@@ -194,7 +193,7 @@ slice_bounds-add_points-end-4 c =
 
 pub add_points-requires : goal.add_points-requires
 add_points-requires c =
-    let sn = sym c.split_number-number.ensures ∙ c.if-number-ne0.false in
+    let sn = sym c.in_ok-test_split.ensures in
     let plan = c.draw_plan-p.ensures in
     let f = passed_facts _ _ _ _ _ _ sn in
     let sought = c.sought_of-sought.ensures in (
@@ -219,19 +218,18 @@ shape_of-b c =
 
 pub returns : goal.returns
 returns c =
-    let sn = sym c.split_number-number.ensures ∙ c.if-number-ne0.false in
-    let prepared = c.prepare-number.ensures in
-    let zero = c.if-number-ne0-2.false in
-    let zn = sym prepared.0 ∙ zero in
+    let sn = sym c.in_ok-test_split.ensures in
+    let prepared = c.in_ok-prepare.ensures in
+    let zn = sym prepared.0 in
     let eleven = rule_good _ c.args.stencil.now _ _ c.bad_rule.ensures c.if-bad_rule.false in
     let plan = c.draw_plan-p.ensures in
     let sought = c.sought_of-sought.ensures in
     let found = c.find_sent.ensures in
     let added = c.add_points.ensures in
     let outside =
-    outside_is _ _ _ _ _ _ _ (prepared.1 zero) _ _ _ prepared.2 _ _ _ _ _ _ c.some_outside-outside.ensures
+    outside_is _ _ _ _ _ _ _ (prepared.1) _ _ _ prepared.2 _ _ _ _ _ _ c.some_outside-outside.ensures
     sought.0 sought.1 sought.2 c.sizes_of.ensures.cells_is in
     start_written _ _ _ _ _ _ _ _ c.args.b.now sn eleven zn _ c.cell_count.ensures.0 _ c.bad_field.ensures c.if-bad_field.false
-    _ _ _ (prepared.1 zero) _ _ _ plan _ _ _ _ _ _ _ _ _ _ _ _ _ _ _ _ _ _ _ found.1 found.0 (omega (arith, plan.sent_few))
+    _ _ _ (prepared.1) _ _ _ plan _ _ _ _ _ _ _ _ _ _ _ _ _ _ _ _ _ _ _ found.1 found.0 (omega (arith, plan.sent_few))
     c.put_front-s.ensures c.put_entries.ensures
     c.number_order.ensures c.put_rest.ensures added.0 added.1 sought.0 sought.1 sought.2 outside c.if-b-size.false

@@ -5,6 +5,7 @@ use native.Mathlib.Omega.{arith}
 use lib.ListN.{length-replicate}
 use Rattle.vocabulary.proofs.ListLaws.{zeros}
 use Rattle.layout.specs.Limits.{element_places, most_elements, record_places}
+use Rattle.layout.proofs.AnswerLaws.{exit_answer, exit_some}
 use Rattle.mesh.proofs.AcceptedLaws.{cells_few}
 use Rattle.split_ranges.proofs.LowerLaws.{alone}
 use Rattle.split_wanted.proofs.ListedLaws.{added_cells, added_range}
@@ -12,29 +13,30 @@ use Rattle.split_lists.proofs.CallLaws.{number_found, facts, refused_split, refu
 use borrow.Author.Rules.{rules}
 use Rattle.split_lists.proofs.lists.list.Goals as goal
 
-pub split_number-number-requires : goal.split_number-number-requires
-split_number-number-requires c = (omega (arith, length-replicate {A = ℕ} record_places 0), zeros element_places)
+pub test_split-requires : goal.test_split-requires
+test_split-requires c = (omega (arith, length-replicate {A = ℕ} record_places 0), zeros element_places)
 
-pub returns-then-number-ne0 : goal.returns-then-number-ne0
-returns-then-number-ne0 c =
+pub returns-in_err-test_split : goal.returns-in_err-test_split
+returns-in_err-test_split c =
     let wanted = c.args.wanted in
-    let number = number_found _ _ _ _ _ wanted _ _ c.other_of.ensures c.split_number-number.ensures in
-    refused_split _ _ _ _ _ wanted _ _ number c.if-number-ne0.true
+    let number = number_found _ _ _ _ _ wanted _ _ c.other_of.ensures c.in_err-test_split.ensures in
+    let told = refused_split _ _ _ _ _ wanted _ _ number (exit_some _ _ refl) in
+    (exit_answer _ _ _ c.from_residual.ensures.1 refl ∙ told.0, told.1)
 
-pub prepare-number-requires : goal.prepare-number-requires
-prepare-number-requires c =
+pub prepare-requires : goal.prepare-requires
+prepare-requires c =
     let wanted = c.args.wanted in
-    let number = number_found _ _ _ _ _ wanted _ _ c.other_of.ensures c.split_number-number.ensures in
-    let passed = sym number ∙ c.if-number-ne0.false in
+    let number = number_found _ _ _ _ _ wanted _ _ c.other_of.ensures c.in_ok-test_split.ensures in
+    let passed = sym number in
     let f = facts _ _ _ _ _ wanted passed in
     (f.mesh, f.map, f.stencil, search rules, refl, refl, refl, search rules, refl, refl)
 
-pub returns-then-number-ne0-2 : goal.returns-then-number-ne0-2
-returns-then-number-ne0-2 c =
+pub returns-in_err-prepare : goal.returns-in_err-prepare
+returns-in_err-prepare c =
     let wanted = c.args.wanted in
-    let number = number_found _ _ _ _ _ wanted _ _ c.other_of.ensures c.split_number-number.ensures in
-    let passed = sym number ∙ c.if-number-ne0.false in
-    refused_sizes _ _ _ _ _ wanted _ passed _ c.prepare-number.ensures.0 c.if-number-ne0-2.true
+    let number = number_found _ _ _ _ _ wanted _ _ c.other_of.ensures c.in_ok-test_split.ensures in
+    let told = refused_sizes _ _ _ _ _ wanted _ (sym number) _ c.in_err-prepare.ensures.0 (exit_some _ _ refl) in
+    (exit_answer _ _ _ c.from_residual-in_err-prepare.ensures.1 refl ∙ told.0, told.1)
 
 pub classify-requires : goal.classify-requires
 classify-requires c =
@@ -48,69 +50,65 @@ classify-requires c =
 pub cell_words-n-requires : goal.cell_words-n-requires
 cell_words-n-requires c =
     let wanted = c.args.wanted in
-    let number = number_found _ _ _ _ _ wanted _ _ c.other_of.ensures c.split_number-number.ensures in
-    let passed = sym number ∙ c.if-number-ne0.false in
+    let number = number_found _ _ _ _ _ wanted _ _ c.other_of.ensures c.in_ok-test_split.ensures in
+    let passed = sym number in
     let f = facts _ _ _ _ _ wanted passed in
     (f.mesh, f.few, f.i_in.1, f.j_in.1)
 
 pub give-requires : goal.give-requires
 give-requires c =
     let wanted = c.args.wanted in
-    let number = number_found _ _ _ _ _ wanted _ _ c.other_of.ensures c.split_number-number.ensures in
-    let passed = sym number ∙ c.if-number-ne0.false in
-    let zero = c.if-number-ne0-2.false in
-    let told = c.prepare-number.ensures in
+    let number = number_found _ _ _ _ _ wanted _ _ c.other_of.ensures c.in_ok-test_split.ensures in
+    let passed = sym number in
+    let told = c.in_ok-prepare.ensures in
     let added = added_cells wanted _ _ _ _ _ _ _ _ _ c.range_class-wanted_class.ensures c.if-wanted_class-eq0.true c.cell_words-n.ensures in
-    give_fits _ _ _ _ _ wanted c.args.out.now passed (sym told.0 ∙ zero) _ _ _ (told.1 zero) _
+    give_fits _ _ _ _ _ wanted c.args.out.now passed (sym told.0) _ _ _ told.1 _
     c.cell_count.ensures.0 _ _ c.row_of.ensures c.classify.ensures _ _ _ added
     (omega (arith, length-replicate {A = ℕ} element_places 0))
 
 pub returns-then-wanted_class-eq0 : goal.returns-then-wanted_class-eq0
 returns-then-wanted_class-eq0 c =
     let wanted = c.args.wanted in
-    let number = number_found _ _ _ _ _ wanted _ _ c.other_of.ensures c.split_number-number.ensures in
-    let passed = sym number ∙ c.if-number-ne0.false in
-    let zero = c.if-number-ne0-2.false in
-    let told = c.prepare-number.ensures in
+    let number = number_found _ _ _ _ _ wanted _ _ c.other_of.ensures c.in_ok-test_split.ensures in
+    let passed = sym number in
+    let told = c.in_ok-prepare.ensures in
     let added = added_cells wanted _ _ _ _ _ _ _ _ _ c.range_class-wanted_class.ensures c.if-wanted_class-eq0.true c.cell_words-n.ensures in
-    give_list _ _ _ _ _ wanted c.args.out.now passed (sym told.0 ∙ zero) _ _ _ (told.1 zero) _
+    give_list _ _ _ _ _ wanted c.args.out.now passed (sym told.0) _ _ _ told.1 _
     c.cell_count.ensures.0 _ _ c.row_of.ensures c.classify.ensures _ _ _ added
     (omega (arith, length-replicate {A = ℕ} element_places 0)) _ _
     c.give.ensures
 
 pub classify_lowers-requires : goal.classify_lowers-requires
-classify_lowers-requires c = (alone _ _ _ _ _ c.prepare-number.ensures.2, refl)
+classify_lowers-requires c = (alone _ _ _ _ _ c.in_ok-prepare.ensures.2, refl)
 
 pub add_range-n-requires : goal.add_range-n-requires
 add_range-n-requires c =
     let wanted = c.args.wanted in
-    let number = number_found _ _ _ _ _ wanted _ _ c.other_of.ensures c.split_number-number.ensures in
-    let passed = sym number ∙ c.if-number-ne0.false in
+    let number = number_found _ _ _ _ _ wanted _ _ c.other_of.ensures c.in_ok-test_split.ensures in
+    let passed = sym number in
     (facts _ _ _ _ _ wanted passed).mesh
 
 pub give-requires-2 : goal.give-requires-2
 give-requires-2 c =
     let wanted = c.args.wanted in
-    let number = number_found _ _ _ _ _ wanted _ _ c.other_of.ensures c.split_number-number.ensures in
-    let passed = sym number ∙ c.if-number-ne0.false in
-    let zero = c.if-number-ne0-2.false in
-    let told = c.prepare-number.ensures in
+    let number = number_found _ _ _ _ _ wanted _ _ c.other_of.ensures c.in_ok-test_split.ensures in
+    let passed = sym number in
+    let told = c.in_ok-prepare.ensures in
     let added = added_range wanted _ _ _ _ _ _ _ _ _ c.range_class-wanted_class.ensures c.if-wanted_class-eq0.false _ c.dimension_of-k.ensures _
     c.classify_lowers.ensures c.add_range-n.ensures in
-    give_fits _ _ _ _ _ wanted c.args.out.now passed (sym told.0 ∙ zero) _ _ _ (told.1 zero) _
+    give_fits _ _ _ _ _ wanted c.args.out.now passed (sym told.0) _ _ _ told.1 _
     c.cell_count.ensures.0 _ _ c.row_of.ensures c.classify.ensures _ _ _ added
     (omega (arith, length-replicate {A = ℕ} element_places 0))
 
 pub returns : goal.returns
 returns c =
     let wanted = c.args.wanted in
-    let number = number_found _ _ _ _ _ wanted _ _ c.other_of.ensures c.split_number-number.ensures in
-    let passed = sym number ∙ c.if-number-ne0.false in
-    let zero = c.if-number-ne0-2.false in
-    let told = c.prepare-number.ensures in
+    let number = number_found _ _ _ _ _ wanted _ _ c.other_of.ensures c.in_ok-test_split.ensures in
+    let passed = sym number in
+    let told = c.in_ok-prepare.ensures in
     let added = added_range wanted _ _ _ _ _ _ _ _ _ c.range_class-wanted_class.ensures c.if-wanted_class-eq0.false _ c.dimension_of-k.ensures _
     c.classify_lowers.ensures c.add_range-n.ensures in
-    give_list _ _ _ _ _ wanted c.args.out.now passed (sym told.0 ∙ zero) _ _ _ (told.1 zero) _
+    give_list _ _ _ _ _ wanted c.args.out.now passed (sym told.0) _ _ _ told.1 _
     c.cell_count.ensures.0 _ _ c.row_of.ensures c.classify.ensures _ _ _ added
     (omega (arith, length-replicate {A = ℕ} element_places 0)) _ _
     c.give-2.ensures

@@ -1,8 +1,8 @@
--- `part_points::points_rest` meets its contract. Assumes nothing.
+-- `part_points::test_points` meets its contract. Assumes nothing.
 use mathlib.Core.Path.{ap}
 use mathlib.Core.Bool.{not}
 use Rattle.part_points.proofs.PointLaws.{fitting, rest_24, rest_29, rest_16, rest_none}
-use Rattle.part_points.proofs.points_rest.Goals as goal
+use Rattle.part_points.proofs.test_points.Goals as goal
 
 pub all_taken-requires : goal.all_taken-requires
 all_taken-requires c = c.requires.0.place_small

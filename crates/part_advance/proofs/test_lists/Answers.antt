@@ -1,8 +1,8 @@
--- `part_advance::advance_rest` meets its contract. Assumes nothing.
+-- `part_advance::test_lists` meets its contract. Assumes nothing.
 use native.Mathlib.Omega.{arith}
 use Rattle.part_calls.proofs.OpenedLaws.{long}
 use Rattle.part_advance.proofs.AdvanceLaws.{rest_24, rest_25, rest_26, rest_none}
-use Rattle.part_advance.proofs.advance_rest.Goals as goal
+use Rattle.part_advance.proofs.test_lists.Goals as goal
 
 pub all_taken-requires : goal.all_taken-requires
 all_taken-requires c = c.requires.place_small
