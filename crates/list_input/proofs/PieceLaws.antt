@@ -118,14 +118,14 @@ module _ (m : Bytes) (parts : ℕ) (owners st : Bytes) where
       ∙ ap (λ ts. cond (eqb (first_of ts) 0) (first_of (size_tests (split_input m parts owners st))) (first_of ts)) (sym (tests_are m parts owners st))
 
   module _ (a z : Bytes) (t : ℕ) where
-    refused : (n : ℕ) → (n ≡ 0 → ⊥) → pieces_number m parts owners st ≡ n → Printed a z 0 t (line b_refused (n ∷ [])) → Printed a z 0 t (pieces_text m parts owners st)
+    refused : (n : ℕ) → (n ≡ 0 → ⊥) → pieces_number m parts owners st ≡ n → Printed a z 0 t (line (ascii "refused") (n ∷ [])) → Printed a z 0 t (pieces_text m parts owners st)
     unfolding pieces_text ascii
     refused n h e X =
         subst (Printed a z 0 t)
         (sym (ap (λ x. cond (eqb x 0) (split_text m (split_of m parts owners st)) (line b_refused (x ∷ []))) e
         ∙ ap (λ (c : Bool). cond c (split_text m (split_of m parts owners st)) (line b_refused (n ∷ []))) (ne_eqb n 0 h))) X
 
-    pub refused_split : (n : ℕ) → n ≡ split_number m parts owners (1 ∷ 1 ∷ []) st → (n ≡ 0 → ⊥) → Printed a z 0 t (line b_refused (n ∷ [])) → Printed a z 0 t (pieces_text m parts owners st)
+    pub refused_split : (n : ℕ) → n ≡ split_number m parts owners (1 ∷ 1 ∷ []) st → (n ≡ 0 → ⊥) → Printed a z 0 t (line (ascii "refused") (n ∷ [])) → Printed a z 0 t (pieces_text m parts owners st)
     refused_split n e h X =
         refused n h (number_is ∙ ap₂ (λ c x. cond c (sizes_number m parts owners st) x) (ne_eqb (split_number m parts owners (1 ∷ 1 ∷ []) st) 0 (λ q. h (e ∙ q))) (sym e)) X
 
@@ -133,7 +133,7 @@ module _ (m : Bytes) (parts : ℕ) (owners st : Bytes) where
       sizes_left : pieces_number m parts owners st ≡ sizes_number m parts owners st
       sizes_left = number_is ∙ ap (λ c. cond c (sizes_number m parts owners st) (split_number m parts owners (1 ∷ 1 ∷ []) st)) (eq-eqb (split_number m parts owners (1 ∷ 1 ∷ []) st) 0 p)
 
-      pub refused_sizes : (n : ℕ) → n ≡ sizes_number m parts owners st → (n ≡ 0 → ⊥) → Printed a z 0 t (line b_refused (n ∷ [])) → Printed a z 0 t (pieces_text m parts owners st)
+      pub refused_sizes : (n : ℕ) → n ≡ sizes_number m parts owners st → (n ≡ 0 → ⊥) → Printed a z 0 t (line (ascii "refused") (n ∷ [])) → Printed a z 0 t (pieces_text m parts owners st)
       refused_sizes n e h X = refused n h (sizes_left ∙ sym e) X
 
       pub passed_all : (n : ℕ) → n ≡ sizes_number m parts owners st → n ≡ 0 → Printed a z 0 t (split_text m (split_of m parts owners st)) → Printed a z 0 t (pieces_text m parts owners st)

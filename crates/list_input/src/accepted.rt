@@ -1,9 +1,12 @@
 // The text for a mesh, a map and a stencil that the tests up to 10 accept: the one place of the list program where all tables stand together.
 ghost use Rattle.std.specs.Prelude.{◌≡◌, [], ◌∷◌};
 ghost use Rattle.split.specs.Lists.{split_number};
+ghost use Rattle.layout.specs.Answers.{refusal_number};
+ghost use Rattle.list_text.specs.Listing.{ascii, line};
 ghost use Rattle.list_text.specs.Printing.{Printed};
 ghost use Rattle.list_input.specs.Pieces.{pieces_text};
 
+use layout::Refusal;
 use layout::limits::{ELEMENT_PLACES, MOST_ELEMENTS, RECORD_PLACES, TABLE_BYTES};
 use list_parts::inner::{put_exports, put_imports, put_own};
 use list_ranges::inner::put_dimensions;
@@ -11,6 +14,13 @@ use list_text::inner::put_line;
 use mesh::inner::{cell_count, first_cell};
 use split_classes::inner::classify;
 use split_tables::inner::prepare;
+
+// The line of a refusal.
+pub fn put_refusal(refusal: Refusal, out: &mut [u8]) -> usize
+    ensures { Printed out.old out.new 0 result (line (ascii "refused") (refusal_number refusal ∷ [])) }
+{
+    put_line(b"refused", u32::from(refusal) as usize, out, 0)
+}
 
 // The tables are prepared, and the lines of the parts are read off them, rising: of each part the lines of its cells, its imports, its exports and its ranges.
 pub fn list_accepted(m: &[u8], parts: u32, owners: &[u8], stencil: &[u8], out: &mut [u8]) -> usize
@@ -24,7 +34,7 @@ pub fn list_accepted(m: &[u8], parts: u32, owners: &[u8], stencil: &[u8], out: &
     let mut ends = [0u16; ELEMENT_PLACES];
     let mut holders = [0u8; MOST_ELEMENTS];
     let mut class = [0u8; MOST_ELEMENTS];
-    let number = prepare(
+    let prepared = prepare(
         m,
         parts,
         owners,
@@ -37,8 +47,8 @@ pub fn list_accepted(m: &[u8], parts: u32, owners: &[u8], stencil: &[u8], out: &
         &mut holders,
         &mut class,
     );
-    if number != 0 {
-        return put_line(b"refused", number as usize, out, 0);
+    if let Err(refusal) = prepared {
+        return put_refusal(refusal, out);
     }
     let first = first_cell(m);
     let cells = cell_count(m);

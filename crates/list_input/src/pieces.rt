@@ -1,35 +1,35 @@
 // The text of an input: it is cut into its pieces, one function a cut, and cut short they are as long as they are.
 ghost use Rattle.std.specs.Prelude.{◌≡◌, [], ◌∷◌, ◌≤◌, length, take, drop};
+ghost use Rattle.layout.specs.Answers.{refused_as};
 ghost use Rattle.mesh.specs.Mesh.{mesh_length};
 ghost use Rattle.split.specs.Lists.{split_number};
 ghost use Rattle.list_text.specs.Listing.{list_text};
 ghost use Rattle.list_text.specs.Printing.{Printed};
 ghost use Rattle.list_input.specs.Pieces.{Listed, pieces_text, stencil_text, last_text, owners_text, map_text};
 
-use crate::accepted::list_accepted;
-use layout::byte_at;
+use crate::accepted::{list_accepted, put_refusal};
+use layout::{Refusal, byte_at};
 use layout::limits::{ELEMENT_PLACES, RECORD_PLACES};
 use list_text::inner::{put_line, put_text};
 use mesh::inner::{cell_count, elements_of, record_count};
-use split::inner::split_number;
+use split::inner::test_split;
 
 // The first of the tests up to 10 that refuses. They are asked for the parts 1 and 1, which any map has.
-fn tests_number(m: &[u8], parts: u32, owners: &[u8], stencil: &[u8]) -> u32
-    ensures { result ≡ split_number m.now parts owners.now (1 ∷ 1 ∷ []) stencil.now }
+fn test_input(m: &[u8], parts: u32, owners: &[u8], stencil: &[u8]) -> Result<(), Refusal>
+    ensures { refused_as result ≡ split_number m.now parts owners.now (1 ∷ 1 ∷ []) stencil.now }
 {
     let mut cell = [0u16; RECORD_PLACES];
     let mut ends = [0u16; ELEMENT_PLACES];
-    split_number(m, parts, owners, 1, 1, stencil, &mut cell, &mut ends)
+    test_split(m, parts, owners, 1, 1, stencil, &mut cell, &mut ends)
 }
 
 fn list_pieces(m: &[u8], parts: u32, owners: &[u8], stencil: &[u8], out: &mut [u8]) -> usize
     ensures { Printed out.old out.new 0 result (pieces_text m.now parts owners.now stencil.now) }
 {
-    let number = tests_number(m, parts, owners, stencil);
-    if number != 0 {
-        return put_line(b"refused", number as usize, out, 0);
+    match test_input(m, parts, owners, stencil) {
+        Ok(()) => list_accepted(m, parts, owners, stencil, out),
+        Err(refusal) => put_refusal(refusal, out),
     }
-    list_accepted(m, parts, owners, stencil, out)
 }
 
 // With a stencil that should have n bytes.

@@ -1,8 +1,6 @@
 // Reads a mesh from standard input and says how many cells it has, or the number of its refusal. No accepted mesh is longer than 52,012 bytes.
 #![tactic(auto)]
 
-use layout::Refusal;
-
 fn main() {
     let mut buffer = [0u8; 65536];
     let n = io::read_full(0, &mut buffer);
@@ -12,9 +10,9 @@ fn main() {
             io::write_all(1, b"cells ");
             io::print_decimal(1, cells as u64);
         }
-        Answer::Refused(number) => {
+        Err(refusal) => {
             io::write_all(1, b"refused ");
-            io::print_decimal(1, number as u64);
+            io::print_decimal(1, u64::from(u32::from(refusal)));
         }
     }
     io::write_all(1, b"\n");

@@ -8,15 +8,15 @@ ghost use Rattle.mesh.specs.Mesh.{top};
 ghost use Rattle.mesh.specs.Walks.{bad10};
 
 use layout::limits::{ELEMENT_PLACES, MOST_REACHED, RECORD_PLACES, TABLE_BYTES};
-use layout::{byte_at, get_or, word_at};
+use layout::{Refusal, byte_at, get_or, word_at};
 use mesh::inner::{cell_count, first_cell, top_of};
-use mesh_valid::mesh_number;
+use mesh_valid::test_mesh;
 use walk_reach_table::inner::reach_table;
 use walk_stencil::bad_stencil;
 
-fn refuse(number: u32) {
+fn refuse(refusal: Refusal) {
     io::write_all(1, b"refused ");
-    io::print_decimal(1, number as u64);
+    io::print_decimal(1, u64::from(u32::from(refusal)));
     io::write_all(1, b"\n");
 }
 
@@ -58,18 +58,17 @@ fn print_reaches(m: &[u8], stencil: &[u8])
     let mut ends = [0u16; ELEMENT_PLACES];
     let t = reach_table(m, stencil, &mut cell, &mut table, &mut ends);
     if MOST_REACHED < t {
-        refuse(13);
+        refuse(Refusal::Reach);
     } else {
         print_rows(first_cell(m), cell_count(m), &table, &ends);
     }
 }
 
 fn answer(stencil: &[u8], m: &[u8]) {
-    let number = mesh_number(m);
-    if number != 0 {
-        refuse(number);
+    if let Err(refusal) = test_mesh(m) {
+        refuse(refusal);
     } else if bad_stencil(top_of(m), stencil) {
-        refuse(10);
+        refuse(Refusal::Stencil);
     } else {
         print_reaches(m, stencil);
     }

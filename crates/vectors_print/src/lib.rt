@@ -59,7 +59,7 @@ fn print_value(form: Form, out: &[u8], i: u32) {
 }
 
 // Prints the name and the answer; gives the count.
-pub fn print_answer(name: &[u8], a: Answer) -> u32 {
+pub fn print_answer(name: &[u8], a: Result<u32, Refusal>) -> u32 {
     io::write_all(1, name);
     match a {
         Ok(count) => {
@@ -67,15 +67,15 @@ pub fn print_answer(name: &[u8], a: Answer) -> u32 {
             io::print_decimal(1, count as u64);
             count
         }
-        Answer::Refused(number) => {
+        Err(refusal) => {
             io::write_all(1, b": refused ");
-            io::print_decimal(1, number as u64);
+            io::print_decimal(1, u64::from(u32::from(refusal)));
             0
         }
     }
 }
 
-pub fn say(name: &[u8], a: Answer) {
+pub fn say(name: &[u8], a: Result<u32, Refusal>) {
     print_answer(name, a);
     io::write_all(1, b"\n");
 }
@@ -87,7 +87,7 @@ pub fn print_values(form: Form, out: &[u8], n: u32) {
 }
 
 // The answer and the values that it counts.
-pub fn say_all(form: Form, name: &[u8], a: Answer, out: &[u8]) {
+pub fn say_all(form: Form, name: &[u8], a: Result<u32, Refusal>, out: &[u8]) {
     let n = print_answer(name, a);
     if n != 0 {
         io::write_all(1, b":");

@@ -3,6 +3,7 @@ use mathlib.Core.Path.{refl, sym}
 use native.Mathlib.Omega.{arith}
 use lib.ListN.{replicate}
 use Rattle.layout.specs.Limits.{element_places, most_elements, record_places, table_bytes}
+use Rattle.layout.proofs.AnswerLaws.{exit_some}
 use Rattle.mesh.proofs.AcceptedLaws.{cells_few, cells_fit}
 use Rattle.split.proofs.PassedLaws.{passed_facts}
 use Rattle.split_ranges.proofs.LowerLaws.{alone}
@@ -11,8 +12,8 @@ use Rattle.list_input.proofs.PieceLaws.{refused_sizes, passed_all, split_told}
 use borrow.Author.Rules.{rules}
 use Rattle.list_input.proofs.accepted.list_accepted.Goals as goal
 
-pub prepare-number-requires : goal.prepare-number-requires
-prepare-number-requires c =
+pub prepare-prepared-requires : goal.prepare-prepared-requires
+prepare-prepared-requires c =
     let f = passed_facts _ _ _ _ _ _ c.requires in (
       f.mesh,
       f.map,
@@ -26,14 +27,14 @@ prepare-number-requires c =
       refl {a = most_elements},
     )
 
-pub returns-then-number-ne0 : goal.returns-then-number-ne0
-returns-then-number-ne0 c = refused_sizes _ _ _ _ _ _ _ c.requires _ c.prepare-number.ensures.0 c.if-number-ne0.true c.put_line.ensures
+pub returns-in-Err : goal.returns-in-Err
+returns-in-Err c = refused_sizes _ _ _ _ _ _ _ c.requires _ c.in-Err.ensures.0 (exit_some _ _ refl) c.put_refusal.ensures
 
 pub loop-i-init : goal.loop-i-init
 loop-i-init c = (
   record {
-    prepared = c.prepare-number.ensures.1 c.if-number-ne0.false;
-    ground = c.prepare-number.ensures.2;
+    prepared = c.in_default.ensures.1;
+    ground = c.in_default.ensures.2;
     few = (passed_facts _ _ _ _ _ _ c.requires).few;
     cell_places = omega arith;
     prev_places = omega arith;
@@ -144,5 +145,5 @@ shape_of-out c = omega (arith, c.loop-i.invariant.5)
 
 pub returns : goal.returns
 returns c =
-    passed_all _ _ _ _ _ _ _ c.requires _ c.prepare-number.ensures.0 c.if-number-ne0.false
+    passed_all _ _ _ _ _ _ _ c.requires _ c.in_default.ensures.0 refl
     (split_told _ _ _ _ _ _ _ _ _ c.put_line-t.ensures (texts_end _ _ _ _ _ _ _ _ c.loop-i.invariant.3 c.loop-i-test.false c.loop-i.invariant.6))

@@ -41,8 +41,8 @@ returns-in_err-prepare c =
 pub classify-requires : goal.classify-requires
 classify-requires c =
     let wanted = c.args.wanted in
-    let number = number_found _ _ _ _ _ wanted _ _ c.other_of.ensures c.split_number-number.ensures in
-    let passed = sym number ∙ c.if-number-ne0.false in (
+    let number = number_found _ _ _ _ _ wanted _ _ c.other_of.ensures c.in_ok-test_split.ensures in
+    let passed = sym number in (
       cells_few _ _ (facts _ _ _ _ _ wanted passed).mesh c.cell_count.ensures.0,
       omega (arith, length-replicate {A = ℕ} most_elements 0),
     )
