@@ -11,7 +11,7 @@ const CALLS: [(&str, &str); 6] = [
     ("jemlayos", "*"),
     ("part_state", "is_state"),
     ("messages", "read"),
-    ("messages", "refusal_of"),
+    ("c_answer", "pack"),
     ("place_search", "find"),
     ("list_input", "list_text"),
 ];
@@ -43,14 +43,16 @@ fn is_beside(page: &str, read: &Page) -> bool {
 }
 
 /// Definitions that only contracts within the engine and proofs rest on, and that stand on pages of the believed text.
-const INNER_DEFINITIONS: [(&str, &[&str]); 8] = [
+const INNER_DEFINITIONS: [(&str, &[&str]); 10] = [
     ("depths/specs/Depths", &["Within", "Valid"]),
+    ("layout/specs/Answers", &["refused_as"]),
     ("layout/specs/Limits", &["element_places", "record_places", "table_bytes"]),
     (
         "list_input/specs/Pieces",
         &["pieces_number", "pieces_text", "stencil_text", "last_text", "owners_text", "map_text"],
     ),
     ("list_text/specs/Printing", &["numbers"]),
+    ("messages/specs/Readings", &["IsHeader"]),
     ("part_state/specs/State", &["is_state_at"]),
     ("round_rule/specs/Kinds", &["kind_number", "rule_of"]),
     ("split/specs/Lists", &["sizes_number"]),

@@ -8,8 +8,8 @@ ghost use Rattle.list_text.specs.Printing.{Printed};
 ghost use Rattle.list_input.specs.Pieces.{Listed, pieces_text, stencil_text, last_text, owners_text, map_text};
 
 use crate::accepted::{list_accepted, put_refusal};
-use layout::{Refusal, byte_at};
 use layout::limits::{ELEMENT_PLACES, RECORD_PLACES};
+use layout::{Refusal, byte_at};
 use list_text::inner::{put_line, put_text};
 use mesh::inner::{cell_count, elements_of, record_count};
 use split::inner::test_split;

@@ -26,7 +26,13 @@ fn gather(lists: &[u8], b: &[u8], changes: usize, first: usize, owned: usize, f:
 }
 
 // Collect on a state whose lists end at `changes`.
-fn collect_from(lists: &[u8], b: &[u8], changes: usize, k: u32, f: &mut [u8]) -> Result<u32, Refusal>
+fn collect_from(
+    lists: &[u8],
+    b: &[u8],
+    changes: usize,
+    k: u32,
+    f: &mut [u8],
+) -> Result<u32, Refusal>
     requires { Opened lists.now changes b.now }
     ensures { (answer_of result ≡ collect_answer b.now k f.old) × (f.new ≡ collect_out b.now k f.old) }
 {

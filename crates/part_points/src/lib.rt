@@ -39,7 +39,13 @@ fn some_outside(lists: &[u8], sizes: Sizes) -> bool
 }
 
 // The first of points' tests after 20 that refuses. The output has `room` bytes.
-fn test_points(lists: &[u8], b: &[u8], changes: usize, sizes: Sizes, room: usize) -> Result<(), Refusal>
+fn test_points(
+    lists: &[u8],
+    b: &[u8],
+    changes: usize,
+    sizes: Sizes,
+    room: usize,
+) -> Result<(), Refusal>
     requires { Opened lists.now changes b.now × Counts lists.now sizes }
     ensures { refused_as result ≡ points_rest (lists_in lists.now) changes b.now room }
 {

@@ -15,7 +15,13 @@ use split_classes::inner::CLASSES;
 use split_tables::inner::prepare;
 
 // How many bytes the state of part i needs. The mesh is tested in arrays that hold the inverted chains and the ends of the reaches afterwards.
-pub fn state_size(m: &[u8], parts: u32, owners: &[u8], i: u32, stencil: &[u8]) -> Result<u32, Refusal>
+pub fn state_size(
+    m: &[u8],
+    parts: u32,
+    owners: &[u8],
+    i: u32,
+    stencil: &[u8],
+) -> Result<u32, Refusal>
     ensures { answer_of result ≡ size_answer (split_input m.now parts owners.now stencil.now) i }
 {
     let mut cell = [0u16; RECORD_PLACES];

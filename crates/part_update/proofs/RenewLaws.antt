@@ -171,7 +171,8 @@ pub kind_is : (lists : Bytes) (number : ℕ) (r : Result Kind Refusal) (k : Kind
 kind_is lists number r k ne e q = sym (known_number number k (sym e ∙ q)) ∙ ne
 
 -- a state has a known one
-pub kind_known : {x : Refusal} (lists : Bytes) (changes : ℕ) (b : Bytes) → Opened lists changes b → (number : ℕ) (r : Result Kind Refusal) → number ≡ rule_kind lists → r ≡ rule_of number → r ≡ Err x → ⊥
+pub kind_known : {x : Refusal} (lists : Bytes) (changes : ℕ) (b : Bytes) → Opened lists changes b → (number : ℕ) (r : Result Kind Refusal) → number ≡ rule_kind lists
+    → r ≡ rule_of number → r ≡ Err x → ⊥
 kind_known lists changes b o number r ne e q =
     omega (arith, unknown_number number (sym e ∙ q), ne, rule_known (rule_kind lists) (step_count lists) (weights lists) (whole lists changes b o).rule)
 

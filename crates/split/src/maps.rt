@@ -9,8 +9,8 @@ ghost use Rattle.split.specs.Lists.{bad8, bad9, split_number};
 ghost use Rattle.split.specs.Owners.{valid_owner, OwnersSeen};
 
 use crate::owners::owner_of;
-use layout::{Refusal, byte_at, put_at};
 use layout::limits::MOST_PARTS;
+use layout::{Refusal, byte_at, put_at};
 use mesh::inner::{cell_count, top_of};
 use mesh_valid::inner::test_mesh_in;
 use walk_stencil::bad_stencil;

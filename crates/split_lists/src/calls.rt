@@ -24,7 +24,14 @@ pub fn interior(
 }
 
 // The halo of a part: its other cells.
-pub fn halo(m: &[u8], parts: u32, owners: &[u8], i: u32, stencil: &[u8], out: &mut [u8]) -> Result<u32, Refusal>
+pub fn halo(
+    m: &[u8],
+    parts: u32,
+    owners: &[u8],
+    i: u32,
+    stencil: &[u8],
+    out: &mut [u8],
+) -> Result<u32, Refusal>
     ensures { let D = split_input m.now parts owners.now stencil.now in
         (answer_of result ≡ list_answer D i Halo out.old) × (out.new ≡ list_out D i Halo out.old) }
 {
