@@ -2,7 +2,7 @@
 use mathlib.Core.Path.{◌≡◌, refl, sym, ap, ap₂, ◌∙◌}
 use mathlib.Core.Bool.{Bool, true, false, not, ◌||◌, ◌&&◌, cond}
 use mathlib.Core.List.{[], ◌∷◌}
-use Prim.Native.Nat.{ℕ, ◌+◌, ◌-◌, ◌≤◌, ◌<◌}
+use Prim.Native.Nat.{ℕ, zero, suc, ◌+◌, ◌-◌, ◌≤◌, ◌<◌}
 use native.Mathlib.Nat.{zero-add}
 use native.Mathlib.Omega.{arith}
 use lib.Dec.{eqb, leb}
@@ -10,10 +10,10 @@ use lib.ListN.{length, get_or, set, length-set, replicate, length-replicate}
 use lib.Seq.{get_or-set_same, get_or-set_other}
 use borrow.Author.Tests.{le-leb, lt-leb, eq-eqb, ne_eqb, eqb-true, eqb-false, not-true, not-false}
 use Rattle.vocabulary.specs.Bytes.{Bytes, byte_at}
-use Rattle.vocabulary.specs.Intervals.{is_up_to, every, some, picked}
-use Rattle.vocabulary.proofs.IntervalLaws.{every_at, every_intro, some_start, some_next, some_has, some_witness, some_at, some_more, picked_none, picked_at, every_stop, every_turn, at_last}
+use Rattle.vocabulary.specs.Intervals.{is_up_to, some, picked}
+use Rattle.vocabulary.proofs.IntervalLaws.{some_start, some_next, some_cong, some_witness, some_at, picked_none, picked_at, at_last}
 use Rattle.vocabulary.specs.Lists.{every_of}
-use Rattle.vocabulary.proofs.ListLaws.{every_of_at, every_of_fails, every_of_intro, All_intro, same_test, or_right, or_nothing, zeros_at}
+use Rattle.vocabulary.proofs.ListLaws.{every_of_fails, or_right, or_nothing, zeros_at}
 use Rattle.vocabulary.specs.Tests.{first_of}
 use Rattle.layout.specs.Limits.{most_parts}
 use Rattle.mesh.specs.Mesh.{top, first_cell, cell_count, mesh_number}
@@ -21,7 +21,7 @@ use Rattle.mesh.proofs.MeshLaws.{mesh_then, mesh_refuses}
 use Rattle.mesh.specs.Walks.{bad10}
 use Rattle.split.specs.Split.{split_of, owner_at, owns, owned}
 use Rattle.split.specs.Lists.{bad8, bad9, map_tests, split_tests, split_number, split_input}
-use Rattle.split.specs.Owners.{valid_owner, owns_at, OwnersSeen}
+use Rattle.split.specs.Owners.{owns_at, OwnersSeen}
 
 pub part_told : (parts i : ℕ) → 1 ≤ i → leb i parts ≡ is_up_to parts i
 unfolding is_up_to
@@ -33,26 +33,6 @@ part_low parts i h = simp (lt-leb 1 i h)
 
 -- ---- 8
 
-module _ (parts : ℕ) (owners : Bytes) (k w : ℕ) (b : Bool) (q : w ≡ owner_at owners k) (e : b ≡ is_up_to parts w) where
-  right_here : b ≡ valid_owner parts owners k
-  unfolding valid_owner
-  right_here = e ∙ ap (is_up_to parts) q
-
-  pub owner_wrong : (n : ℕ) → k < n → not b ≡ true → false ≡ every 0 n (valid_owner parts owners)
-  owner_wrong n h t = every_stop (valid_owner parts owners) n k b h right_here t
-
-  pub owner_turn : every 0 k (valid_owner parts owners) ≡ true → not b ≡ false → every 0 (k + 1) (valid_owner parts owners) ≡ true
-  owner_turn i t = every_turn (valid_owner parts owners) k k b i right_here t
-
-all_right : (parts : ℕ) (owners : Bytes) → every 0 (length owners) (valid_owner parts owners) ≡ every_of owners (is_up_to parts)
-unfolding valid_owner
-all_right parts owners =
-    same_test _ _
-    (λ e. every_of_intro (is_up_to parts) owners
-    (All_intro (λ x. is_up_to parts x ≡ true) owners 0
-    (λ l h. ap (λ k. is_up_to parts (owner_at owners k)) (sym (zero-add l)) ∙ every_at 0 (λ k. is_up_to parts (owner_at owners k)) (length owners) l e h)))
-    (λ e. every_intro 0 (λ k. is_up_to parts (owner_at owners k)) (length owners) (λ l h. ap (λ k. is_up_to parts (owner_at owners k)) (zero-add l) ∙ every_of_at (is_up_to parts) owners 0 l e h))
-
 module _ (m : Bytes) (parts : ℕ) (owners : Bytes) (a : Bool) (p : a ≡ is_up_to most_parts parts) where
   pub map_parts : not a ≡ true → true ≡ bad8 m parts owners []
   unfolding bad8
@@ -63,9 +43,9 @@ module _ (m : Bytes) (parts : ℕ) (owners : Bytes) (a : Bool) (p : a ≡ is_up_
     unfolding bad8 every_of
     map_length t h = simp (sym p, not-false a t, ne_eqb (length owners) (cell_count m) (λ e. h (e ∙ sym q)))
 
-    pub map_owners : (b : Bool) → not a ≡ false → length owners ≡ n → b ≡ every 0 (length owners) (valid_owner parts owners) → not b ≡ bad8 m parts owners []
+    pub map_owners : (b : Bool) → not a ≡ false → length owners ≡ n → b ≡ every_of owners (is_up_to parts) → not b ≡ bad8 m parts owners []
     unfolding bad8 every_of
-    map_owners b t h e = simp (sym p, not-false a t, eq-eqb (length owners) (cell_count m) (h ∙ q), sym (e ∙ all_right parts owners))
+    map_owners b t h e = simp (sym p, not-false a t, eq-eqb (length owners) (cell_count m) (h ∙ q), sym e)
 
 -- ---- 9
 
@@ -130,35 +110,23 @@ module _ (m : Bytes) (parts : ℕ) (owners : Bytes) where
         let q : 1 + k ≡ k + 1 = omega arith in
         ap (owns_none m parts owners) q ∙ none_told (k + 1) ∙ ap not (ap (λ x. some 0 x (owns_at owners (k + 1))) (sym ce) ∙ sym e)
 
-    share_none : k < parts → not b ≡ true → true ≡ bad9 (split_of m parts owners [])
-    unfolding bad9 owns_none split_of
-    share_none h t = sym (some_has 1 (owns_none m parts owners) parts k h (told ∙ t))
-
-    share_more : some 1 k (owns_none m parts owners) ≡ false → not b ≡ false → some 1 (k + 1) (owns_none m parts owners) ≡ false
-    share_more s t = some_more 1 (owns_none m parts owners) k s (told ∙ t)
-
   -- by the marks
-  module _ (n : ℕ) (ce : n ≡ cell_count m) (seen : Bytes) (M : OwnersSeen owners n seen) (k x : ℕ) (xe : x ≡ byte_at seen (k + 1)) where
-    mark : x ≡ cond (some 0 n (owns_at owners (k + 1))) 1 0
-    mark = xe ∙ M.each (k + 1)
+  pub shares_told : (n : ℕ) → n ≡ cell_count m → (seen : Bytes) → OwnersSeen owners n seen → (b : Bool) → b ≡ some 0 parts (λ k. eqb (byte_at seen (k + 1)) 0)
+      → b ≡ bad9 (split_of m parts owners [])
+  unfolding bad9 owns_none split_of some
+  shares_told n ce seen M b e = e ∙ some_cong 0 (λ k. eqb (byte_at seen (k + 1)) 0) (λ k. owns_none m parts owners (1 + k)) parts (λ i h. marked (0 + i)) ∙ up parts
+    where
+      marked : (k : ℕ) → eqb (byte_at seen (k + 1)) 0 ≡ owns_none m parts owners (1 + k)
+      marked k =
+          let has = some 0 n (owns_at owners (k + 1)) in ap (λ x. eqb x 0) (M.each (k + 1)) ∙ go has ∙ sym (told n ce k has refl)
+        where
+          go : (b : Bool) → eqb (cond b 1 0) 0 ≡ not b
+          go true = refl
+          go false = refl
 
-    pub share_missing : k < parts → x ≡ 0 → true ≡ bad9 (split_of m parts owners [])
-    share_missing h z = share_none n ce k false (go (some 0 n (owns_at owners (k + 1))) (sym z ∙ mark)) h refl
-      where
-        go : (b : Bool) → ◌≡◌ {A = ℕ} 0 (cond b 1 0) → false ≡ b
-        go true e = absurd (let no : ⊥ = omega arith in no)
-        go false e = refl
-
-    pub share_turn : some 1 k (owns_none m parts owners) ≡ false → (x ≡ 0 → ⊥) → some 1 (k + 1) (owns_none m parts owners) ≡ false
-    share_turn s z = share_more n ce k true (go (some 0 n (owns_at owners (k + 1))) mark) s refl
-      where
-        go : (b : Bool) → x ≡ cond b 1 0 → true ≡ b
-        go true e = refl
-        go false e = absurd (z e)
-
-  pub share_end : (k : ℕ) → k ≤ parts → parts ≤ k → some 1 k (owns_none m parts owners) ≡ false → false ≡ bad9 (split_of m parts owners [])
-  unfolding bad9 owns_none split_of
-  share_end k g h s = sym (at_last (λ n. some 1 n (owns_none m parts owners) ≡ false) k parts g h s)
+      up : (n : ℕ) → some 0 n (λ k. owns_none m parts owners (1 + k)) ≡ some 1 n (owns_none m parts owners)
+      up zero = refl
+      up (suc n) = ap₂ ◌||◌ (up n) (ap (λ x. owns_none m parts owners (1 + x)) (zero-add n))
 
 shares_any : (m : Bytes) (parts : ℕ) (owners st : Bytes) → bad9 (split_of m parts owners []) ≡ bad9 (split_of m parts owners st)
 unfolding bad9 owned owns split_of

@@ -1,12 +1,12 @@
 // The tests 8 and 9, and a call by the tests up to 10.
 ghost use Rattle.std.specs.Prelude.{◌≡◌, [], ◌∷◌, ◌≤◌, length, replicate};
-ghost use Rattle.vocabulary.specs.Lists.{Zeros};
-ghost use Rattle.vocabulary.specs.Intervals.{is_up_to, every};
+ghost use Rattle.vocabulary.specs.Lists.{Zeros, every_of};
+ghost use Rattle.vocabulary.specs.Intervals.{is_up_to};
 ghost use Rattle.layout.specs.Answers.{refused_as};
 ghost use Rattle.layout.specs.Limits.{element_places, most_records};
 ghost use Rattle.split.specs.Split.{split_of};
 ghost use Rattle.split.specs.Lists.{bad8, bad9, split_number};
-ghost use Rattle.split.specs.Owners.{valid_owner, OwnersSeen};
+ghost use Rattle.split.specs.Owners.{OwnersSeen};
 
 use crate::owners::owner_of;
 use layout::limits::MOST_PARTS;
@@ -29,14 +29,9 @@ pub fn is_part(parts: u32, i: u32) -> bool
 }
 
 fn valid_owners(parts: u32, owners: &[u8]) -> bool
-    ensures { result ≡ every 0 (length owners.now) (valid_owner parts owners.now) }
+    ensures { result ≡ every_of owners.now (is_up_to parts) }
 {
-    for k in 0..owners.len() {
-        if !is_part(parts, owner_of(owners, k) as u32) {
-            return false;
-        }
-    }
-    true
+    owners.iter().all(|&owner| is_part(parts, u32::from(owner)))
 }
 
 // Whether the number of parts or the map is to be refused, with number 8. A part that a call names is tried by `is_part`.
@@ -69,12 +64,7 @@ pub fn bad_shares(m: &[u8], parts: u32, owners: &[u8]) -> bool
     let cells = cell_count(m);
     let mut seen = [0u8; BYTE_VALUES];
     mark_owners(owners, cells, &mut seen);
-    for k in 0..parts {
-        if byte_at(&seen, (k + 1) as usize) == 0 {
-            return true;
-        }
-    }
-    false
+    (0..parts).any(|k| byte_at(&seen, k as usize + 1) == 0)
 }
 
 // The first test up to 10 that refuses a call which names the parts i and j. The mesh is tested in lent space; what the lent arrays hold afterwards does

@@ -1,6 +1,6 @@
 -- How the code chooses a list. No public contract rests on this page; the laws in proofs/ tie it to the definitions. Assumes
 -- nothing.
-use Rattle.std.specs.Prelude.{cond, List, [], ℕ, eqb}
+use Rattle.std.specs.Prelude.{List, [], ℕ, Option, None, Some}
 use Rattle.vocabulary.specs.Bytes.{Bytes}
 use Rattle.mesh.specs.Mesh.{first_cell, cell_count}
 use Rattle.split_classes.specs.Classes.{class_cells, class_order}
@@ -32,28 +32,17 @@ row_of (Exposed k) i = i
 row_of (Shared k) i = i
 row_of (Copied k) i = i
 
--- the class of the lower elements in it, and their dimension; both are 0 where it is a list of cells
-abbrev pub range_class : Wanted → ℕ
-range_class Interior = 0
-range_class Halo = 0
-range_class Locals = 0
-range_class (Imports j) = 0
-range_class (Exports j) = 0
-range_class (Private k) = 1
-range_class (Exposed k) = 2
-range_class (Shared k) = 3
-range_class (Copied k) = 4
-
-abbrev pub dimension_of : Wanted → ℕ
-dimension_of Interior = 0
-dimension_of Halo = 0
-dimension_of Locals = 0
-dimension_of (Imports j) = 0
-dimension_of (Exports j) = 0
-dimension_of (Private k) = k
-dimension_of (Exposed k) = k
-dimension_of (Shared k) = k
-dimension_of (Copied k) = k
+-- the class of the lower elements in it and their dimension, and nothing where it is a list of cells
+abbrev pub range_wanted : Wanted → Option (ℕ × ℕ)
+range_wanted Interior = None
+range_wanted Halo = None
+range_wanted Locals = None
+range_wanted (Imports j) = None
+range_wanted (Exports j) = None
+range_wanted (Private k) = Some (1, k)
+range_wanted (Exposed k) = Some (2, k)
+range_wanted (Shared k) = Some (3, k)
+range_wanted (Copied k) = Some (4, k)
 
 -- its words from that row, where it is a list of cells
 unfoldable pub cell_words : Wanted → Bytes → ℕ → Bytes → ℕ → List ℕ
@@ -68,5 +57,9 @@ cell_words (Shared k) m parts class i = []
 cell_words (Copied k) m parts class i = []
 
 -- its words, from that row and the parts that hold each cell
+abbrev pub words_by : Option (ℕ × ℕ) → Wanted → Bytes → ℕ → Bytes → Bytes → ℕ → List ℕ
+words_by None w m parts class holders i = cell_words w m parts class i
+words_by (Some range) w m parts class holders i = range_of m class holders range.1 range.0
+
 unfoldable pub chosen : Wanted → Bytes → ℕ → Bytes → Bytes → ℕ → List ℕ
-chosen w m parts class holders i = cond (eqb (range_class w) 0) (cell_words w m parts class i) (range_of m class holders (dimension_of w) (range_class w))
+chosen w m parts class holders i = words_by (range_wanted w) w m parts class holders i

@@ -3,7 +3,7 @@ ghost use Rattle.std.specs.Prelude.{◌≡◌, ◌≤◌};
 ghost use Rattle.layout.specs.Limits.{most_parts};
 ghost use Rattle.mesh.specs.Accepted.{Accepted};
 ghost use Rattle.split_classes.specs.Classes.{Appended};
-ghost use Rattle.split_wanted.specs.Giving.{other_of, row_of, range_class, dimension_of, cell_words};
+ghost use Rattle.split_wanted.specs.Giving.{other_of, row_of, range_wanted, cell_words};
 
 use mesh::inner::{cell_count, first_cell};
 use split::Wanted;
@@ -16,15 +16,8 @@ pub fn other_of(wanted: Wanted, i: u32) -> u32
     ensures { result ≡ other_of wanted i }
 {
     match wanted {
-        Wanted::Interior => i,
-        Wanted::Halo => i,
-        Wanted::Locals => i,
-        Wanted::Imports(j) => j,
-        Wanted::Exports(j) => j,
-        Wanted::Private(_) => i,
-        Wanted::Exposed(_) => i,
-        Wanted::Shared(_) => i,
-        Wanted::Copied(_) => i,
+        Wanted::Imports(j) | Wanted::Exports(j) => j,
+        _ => i,
     }
 }
 
@@ -33,49 +26,21 @@ pub fn row_of(wanted: Wanted, i: u32) -> u32
     ensures { result ≡ row_of wanted i }
 {
     match wanted {
-        Wanted::Interior => i,
-        Wanted::Halo => i,
-        Wanted::Locals => i,
-        Wanted::Imports(_) => i,
         Wanted::Exports(j) => j,
-        Wanted::Private(_) => i,
-        Wanted::Exposed(_) => i,
-        Wanted::Shared(_) => i,
-        Wanted::Copied(_) => i,
+        _ => i,
     }
 }
 
-// The class of the lower elements in a range, and 0 for a list of cells.
-pub fn range_class(wanted: Wanted) -> u8
-    ensures { result ≡ range_class wanted }
+// The class of the lower elements in a range and their dimension, and nothing for a list of cells.
+pub fn range_wanted(wanted: Wanted) -> Option<(u8, u32)>
+    ensures { result ≡ range_wanted wanted }
 {
     match wanted {
-        Wanted::Interior => 0,
-        Wanted::Halo => 0,
-        Wanted::Locals => 0,
-        Wanted::Imports(_) => 0,
-        Wanted::Exports(_) => 0,
-        Wanted::Private(_) => PRIVATE,
-        Wanted::Exposed(_) => EXPOSED,
-        Wanted::Shared(_) => SHARED,
-        Wanted::Copied(_) => COPIED,
-    }
-}
-
-// The dimension of a range, and 0 for a list of cells.
-pub fn dimension_of(wanted: Wanted) -> u32
-    ensures { result ≡ dimension_of wanted }
-{
-    match wanted {
-        Wanted::Interior => 0,
-        Wanted::Halo => 0,
-        Wanted::Locals => 0,
-        Wanted::Imports(_) => 0,
-        Wanted::Exports(_) => 0,
-        Wanted::Private(k) => k,
-        Wanted::Exposed(k) => k,
-        Wanted::Shared(k) => k,
-        Wanted::Copied(k) => k,
+        Wanted::Private(k) => Some((PRIVATE, k)),
+        Wanted::Exposed(k) => Some((EXPOSED, k)),
+        Wanted::Shared(k) => Some((SHARED, k)),
+        Wanted::Copied(k) => Some((COPIED, k)),
+        _ => None,
     }
 }
 
@@ -99,9 +64,6 @@ pub fn cell_words(
         Wanted::Locals => add_order(class, first, cells, parts, list),
         Wanted::Imports(j) => add_class(class, first, cells, j as u8, list, 0),
         Wanted::Exports(_) => add_class(class, first, cells, i as u8, list, 0),
-        Wanted::Private(_) => 0,
-        Wanted::Exposed(_) => 0,
-        Wanted::Shared(_) => 0,
-        Wanted::Copied(_) => 0,
+        _ => 0,
     }
 }

@@ -1,7 +1,7 @@
 -- `split_wanted::inner::cell_words` meets its contract. Assumes nothing.
 use Rattle.split_wanted.specs.Giving.{cell_words}
 use native.Mathlib.Omega.{arith}
-use Rattle.split_wanted.proofs.ListedLaws.{chose_none, chose_cells, chose_order, other_few}
+use Rattle.split_wanted.proofs.ListedLaws.{no_cells, chose_none, chose_cells, chose_order, other_few}
 use Rattle.mesh.proofs.AcceptedLaws.{cells_few, cells_fit}
 use borrow.Author.Rules.{rules}
 use Rattle.split_wanted.proofs.inner.cell_words.Goals as goal
@@ -50,18 +50,6 @@ pub returns-in-Exports : goal.returns-in-Exports
 unfolding cell_words
 returns-in-Exports c = search chose_cells
 
-pub returns-in-Private : goal.returns-in-Private
-unfolding cell_words
-returns-in-Private c = search chose_none
-
-pub returns-in-Exposed : goal.returns-in-Exposed
-unfolding cell_words
-returns-in-Exposed c = search chose_none
-
-pub returns-in-Shared : goal.returns-in-Shared
-unfolding cell_words
-returns-in-Shared c = search chose_none
-
-pub returns-in-Copied : goal.returns-in-Copied
-unfolding cell_words
-returns-in-Copied c = search chose_none
+pub returns-in_default : goal.returns-in_default
+returns-in_default c =
+    let e = c.in_default in chose_none _ _ _ _ _ _ (no_cells _ _ _ _ _ e.not-Interior e.not-Halo e.not-Locals e.not-Imports e.not-Exports)
