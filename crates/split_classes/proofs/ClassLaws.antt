@@ -7,14 +7,14 @@ use Prim.Native.Nat.{ℕ, suc, ◌+◌, ◌-◌, ◌*◌, ◌≤◌, ◌<◌}
 use native.Mathlib.Nat.{zero-add, not-suc-le-zero}
 use native.Mathlib.Omega.{arith}
 use lib.Dec.{eqb, ltb}
-use lib.ListN.{length, get_or, set, length-set}
+use lib.ListN.{length, get_or, set, length-set, replicate, length-replicate}
 use lib.Seq.{get_or-set_same, get_or-set_other}
 use borrow.Author.Tests.{eqb-true, eqb-false, eq-eqb, ne_eqb, lt-ltb, le-ltb, ltb-true, ltb-false}
 use Rattle.split.specs.Split.{owner_at}
 use Rattle.vocabulary.specs.Bytes.{Bytes, byte_at}
 use Rattle.vocabulary.specs.Intervals.{every, some}
 use Rattle.vocabulary.proofs.IntervalLaws.{last_or, some_next, at_last}
-use Rattle.vocabulary.proofs.ListLaws.{and_left, and_right, or_nothing, not_both}
+use Rattle.vocabulary.proofs.ListLaws.{zeros_at, and_left, and_right, or_nothing, not_both}
 use Rattle.layout.specs.Words.{word_at}
 use Rattle.layout.specs.Limits.{most_elements}
 use Rattle.split.specs.Owners.{owns_at}
@@ -22,23 +22,11 @@ use Rattle.split_classes.specs.Classes.{entry_owned, inside_at, has_entry, reach
 
 -- ---- a cleared row
 
-pub clear_start : (class : Bytes) → length class ≡ most_elements → RowCleared 0 class
-clear_start class l = record { room = l; each = λ x h. absurd (not-suc-le-zero h) }
-
-pub clear_turn : (q : ℕ) (a b : Bytes) → q < most_elements → RowCleared q a → b ≡ set a q 0 → RowCleared (q + 1) b
-clear_turn q a b h C e = record {
-  room = ap length e ∙ length-set a q 0 ∙ C.room;
-  each = λ x l. ap (λ (c : Bytes). byte_at c x) e ∙ go x l (eqb x q) refl;
+pub cleared : (before class : Bytes) → length before ≡ most_elements → class ≡ replicate (length before) 0 → RowCleared most_elements class
+cleared before class l e = record {
+  room = ap length e ∙ length-replicate {A = ℕ} (length before) 0 ∙ l;
+  each = λ x h. ap (λ (b : Bytes). byte_at b x) e ∙ zeros_at (length before) x;
 }
-  where
-    go : (x : ℕ) → x < q + 1 → (b : Bool) → eqb x q ≡ b → byte_at (set a q 0) x ≡ 0
-    go x l true w = ap (byte_at (set a q 0)) (eqb-true x q w) ∙ get_or-set_same a q 0 0 (omega (arith, C.room))
-    go x l false w =
-        let ne : x ≡ q → ⊥ = eqb-false x q w in
-        get_or-set_other a q x 0 0 ne ∙ C.each x (⊎_elim (λ g. g) (λ g. absurd (ne g)) (last_or x q (omega arith)))
-
-pub clear_end : (q : ℕ) (class : Bytes) → q ≤ most_elements → most_elements ≤ q → RowCleared q class → RowCleared most_elements class
-clear_end q class g h C = at_last (λ k. RowCleared k class) q most_elements g h C
 
 -- ---- one entry
 

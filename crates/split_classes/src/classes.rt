@@ -3,7 +3,6 @@ ghost use Rattle.std.specs.Prelude.{◌≡◌, ◌&&◌, cond, ◌+◌, ◌≤�
 ghost use Rattle.layout.specs.Limits.{most_elements};
 ghost use Rattle.split_classes.specs.Classes.{entry_owned, inside_at, entry_is, reach_has, Classed, RowCleared, OwnersMarked};
 
-use layout::limits::MOST_ELEMENTS;
 use layout::{get_or, put_at, word_at};
 use split::inner::owner_of;
 
@@ -20,9 +19,7 @@ pub fn clear_row(class: &mut [u8])
     requires { length class.old ≡ most_elements }
     ensures { RowCleared most_elements class.new }
 {
-    for q in 0..MOST_ELEMENTS {
-        class[q] = 0;
-    }
+    class.fill(0);
 }
 
 // Marks the cell of entry t with its owner, unless that is part i: whether all entries so far are cells of part i.
