@@ -1,6 +1,6 @@
 -- How the code writes the chains down as it follows them, so that they are followed once. No public contract rests on this page; the laws in
 -- proofs/ tie it to the definitions. Assumes nothing.
-use Rattle.std.specs.Prelude.{◌≡◌, Bool, true, false, List, [], ◌∷◌, ℕ, ◌+◌, ◌-◌, ◌≤◌, ◌<◌, eqb, length, get_or, set, take, drop}
+use Rattle.std.specs.Prelude.{◌≡◌, Option, MatchOption, Bool, true, false, List, [], ◌∷◌, ℕ, ◌+◌, ◌-◌, ◌≤◌, ◌<◌, eqb, length, get_or, set, take, drop}
 use Rattle.vocabulary.specs.Bytes.{Bytes}
 use Rattle.vocabulary.specs.Intervals.{is_up_to, blocks}
 use Rattle.mesh.specs.Mesh.{top, elements, record_count, element_in, chain, bad4}
@@ -18,6 +18,10 @@ note m r s t items (i ∷ is) =
       | true ↦ elim (eqb (get_or s i 0) 1) [ true ↦ noted true s t items | false ↦ note m r (set s i 1) (t + 1) (set items t (element_in m i)) is ]
       | false ↦ noted true s t items
     ]
+
+-- what noting the records of a chain came to: the place after the last element, and none where something was amiss
+abbrev pub HasNoted : Option ℕ → List ℕ → List ℕ → ChainNotes → Type 0
+HasNoted end s items w = MatchOption end ((t : ℕ) × (noted true s t items ≡ w)) (λ t. noted false s t items ≡ w)
 
 -- the items from place a up to place b
 unfoldable pub stretch : List ℕ → ℕ → ℕ → List ℕ

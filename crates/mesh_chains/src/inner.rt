@@ -5,7 +5,7 @@ ghost use Rattle.vocabulary.specs.Lists.{repeats, some_of};
 ghost use Rattle.layout.specs.Limits.{most_elements, most_records};
 ghost use Rattle.mesh.specs.Mesh.{top, counted, below, elements, follow, all_records, headed, bad_chain, bad4, bad5};
 ghost use Rattle.mesh.specs.Meet.{Met, meet, Sizes};
-ghost use Rattle.mesh_chains.specs.Written.{ChainNotes, note, stretch, Places, MarksBelow, Wrote, Written};
+ghost use Rattle.mesh_chains.specs.Written.{HasNoted, note, stretch, Places, MarksBelow, Wrote, Written};
 
 use layout::limits::RECORD_PLACES;
 use layout::put_at;
@@ -20,23 +20,11 @@ fn point_headed(m: &[u8], points: usize) -> bool
     requires { points < 65536 }
     ensures { result ≡ some 1 points (headed m.now) }
 {
-    for e in 1..1 + points {
-        if !is_empty(m, e) {
-            return true;
-        }
-    }
-    false
+    (1..1 + points).any(|e| !is_empty(m, e))
 }
 
-// What following a chain tells: whether something is amiss, and the place after its last element.
-#[derive(Clone, Copy)]
-struct Followed {
-    amiss: bool,
-    end: usize,
-}
-
-// Follows the chain from record h on, marks what it meets and writes its elements down from place `from` on; amiss is a record above r or a
-// marked one. Where nothing is amiss there is a place for every element.
+// Follows the chain from record h on, marks what it meets and writes its elements down from place `from` on. Gives the place after the last of
+// them, and none where something is amiss: a record above r, or a marked one. Where nothing is amiss there is a place for every element.
 fn write_chain(
     m: &[u8],
     n: usize,
@@ -45,40 +33,27 @@ fn write_chain(
     from: usize,
     seen: &mut [u8],
     items: &mut [u16],
-) -> Followed
+) -> Option<usize>
     requires { (n ≡ elements m.now) × (n ≤ most_elements) × (r ≤ most_records) × (h < 65536) × (from ≤ most_records) × (r < length seen.old) }
-    ensures { ChainNotes.noted result.amiss seen.new result.end items.new
-        ≡ note m.now r seen.old from items.old (follow m.now (r + 1) h) }
+    ensures { HasNoted result seen.new items.new (note m.now r seen.old from items.old (follow m.now (r + 1) h)) }
 {
     let mut i = h;
     for t in from..from + r + 1 {
         if i < 1 {
-            return Followed {
-                amiss: false,
-                end: t,
-            };
+            return Some(t);
         }
         if r < i {
-            return Followed {
-                amiss: true,
-                end: t,
-            };
+            return None;
         }
         if seen[i] == 1 {
-            return Followed {
-                amiss: true,
-                end: t,
-            };
+            return None;
         }
         seen[i] = 1;
         let here = read_record(m, n, i);
         put_at(items, t, here.element as u16);
         i = here.next;
     }
-    Followed {
-        amiss: false,
-        end: from + r + 1,
-    }
+    Some(from + r + 1)
 }
 
 // Whether some chain meets a record above r, or one that it or another chain met before. Where none does, all chains are written down.
@@ -99,11 +74,10 @@ fn write_marked(
     let mut end = 0;
     for e in 1..1 + n {
         let h = head_of(m, e);
-        let chain = write_chain(m, n, r, h, end, seen, items);
-        if chain.amiss {
+        let Some(after) = write_chain(m, n, r, h, end, seen, items) else {
             return true;
-        }
-        end = chain.end;
+        };
+        end = after;
         ends[e] = end as u16;
     }
     false

@@ -14,7 +14,7 @@ use Rattle.vocabulary.specs.Bytes.{Bytes}
 use Rattle.vocabulary.specs.Lists.{is_in, Rises}
 use Rattle.vocabulary.proofs.ListLaws.{At as Stands, is_in_not, not_is_in}
 use Rattle.layout.proofs.WordLaws.{length_words}
-use Rattle.place_search.specs.declared.Found.TheVariants.{At, Nothing}
+use Rattle.std.specs.Prelude.{Option, Some, None}
 use Rattle.place_search.specs.Places.{lower_bound, place_in, read_for, words_in, place_number, found_at, saturated, PlaceTheorem}
 
 -- ---- the first number not below x
@@ -207,7 +207,7 @@ pub number_back : (p : ℕ) → place_number (found_at p) ≡ p
 unfolding found_at
 number_back p = go (eqb p 0) refl
   where
-    go : (b : Bool) → eqb p 0 ≡ b → place_number (cond b Nothing (At p)) ≡ p
+    go : (b : Bool) → eqb p 0 ≡ b → place_number (cond b None (Some p)) ≡ p
     go true q = sym (eqb-true p 0 q)
     go false q = refl
 

@@ -3,13 +3,15 @@ use mathlib.Core.Path.{◌≡◌, refl, sym, ap, ◌∙◌}
 use Prim.Native.Nat.{ℕ, ◌+◌, ◌*◌, ◌/◌, ◌<◌, ◌≤◌}
 use native.Mathlib.Nat.{zero-add}
 use native.Mathlib.Omega.{arith}
+use mathlib.Core.Bool.{Bool, true, false}
+use lib.Dec.{eqb}
 use lib.ListN.{length, get_or}
-use borrow.Author.Tests.{lt-ltb, le-ltb, ne_eqb}
+use Rattle.std.specs.Bool.{then_some}
+use borrow.Author.Tests.{lt-ltb, le-ltb, ne_eqb, eqb-true, eqb-false}
 use Rattle.vocabulary.specs.Bytes.{Bytes}
 use Rattle.layout.specs.Words.{word, word_at}
 use Rattle.layout.proofs.WordLaws.{length_words, words_at}
-use Rattle.place_search.specs.declared.Found.{Found}
-use Rattle.place_search.specs.declared.Found.TheVariants.{At, Nothing}
+use Rattle.std.specs.Prelude.{Option, Some, None}
 use Rattle.place_search.specs.Places.{lower_bound, place_in, read_for, words_in, place_number, found_at, saturated}
 use Rattle.place_search.proofs.PlaceLaws.{lower_more, lower_here, lower_end, read_here, read_all, place_here, place_other, place_none, number_back}
 
@@ -21,11 +23,11 @@ words_word : (b : Bytes) (k : ℕ) → k < length b / 2 → get_or (words_in b) 
 unfolding words_in word_at
 words_word b k h = words_at b 0 (length b / 2) k h ∙ ap (λ i. word_at b i) (zero-add k)
 
-found_place : (p : ℕ) → At (p + 1) ≡ found_at (p + 1)
+found_place : (p : ℕ) → Some (p + 1) ≡ found_at (p + 1)
 unfolding found_at
 found_place p = simp (ne_eqb (p + 1) 0 (λ e. let z : ⊥ = omega arith in z))
 
-found_none : Nothing ≡ found_at 0
+found_none : None ≡ found_at 0
 unfolding found_at
 found_none = refl
 
@@ -42,11 +44,18 @@ module _ (b : Bytes) (x n : ℕ) (many : n ≡ length b / 2) where
     inside : k < length (words_in b)
     inside = omega (arith, words_count b)
 
-    pub search_found : x ≡ y → At (k + 1) ≡ found_at (place_in x (words_in b))
+    search_found : x ≡ y → Some (k + 1) ≡ found_at (place_in x (words_in b))
     search_found s = found_place k ∙ ap found_at (sym (place_here x (words_in b) k here inside (words_word b k (omega arith) ∙ sym e ∙ sym s)))
 
-    pub search_absent : (x ≡ y → ⊥) → Nothing ≡ found_at (place_in x (words_in b))
+    search_absent : (x ≡ y → ⊥) → None ≡ found_at (place_in x (words_in b))
     search_absent s = found_none ∙ ap found_at (sym (place_other x (words_in b) k here inside (λ r. s (sym r ∙ words_word b k (omega arith) ∙ sym e))))
+
+    pub search_told : then_some (eqb x y) (k + 1) ≡ found_at (place_in x (words_in b))
+    search_told = go (eqb x y) refl
+      where
+        go : (t : Bool) → eqb x y ≡ t → then_some t (k + 1) ≡ found_at (place_in x (words_in b))
+        go true s = search_found (eqb-true x y s)
+        go false s = search_absent (eqb-false x y s)
 
     pub search_read : k + 1 ≡ read_for x (words_in b)
     search_read = sym (read_here x (words_in b) k here inside)
@@ -55,7 +64,7 @@ module _ (b : Bytes) (x n : ℕ) (many : n ≡ length b / 2) where
     past : lower_bound x (words_in b) ≡ length (words_in b)
     past = lower_end x (words_in b) k h (omega (arith, words_count b))
 
-    pub search_ended : Nothing ≡ found_at (place_in x (words_in b))
+    pub search_ended : None ≡ found_at (place_in x (words_in b))
     search_ended = found_none ∙ ap found_at (sym (place_none x (words_in b) (length (words_in b)) past (omega arith)))
 
     pub search_all : n ≡ read_for x (words_in b)
@@ -63,19 +72,12 @@ module _ (b : Bytes) (x n : ℕ) (many : n ≡ length b / 2) where
 
 -- ---- the answer as numbers
 
-pub place_told : (found : Found) (p q : ℕ) → found ≡ At p → found ≡ found_at q → p ≡ q
+pub place_told : (found : Option ℕ) (p q : ℕ) → found ≡ Some p → found ≡ found_at q → p ≡ q
 place_told found p q e f = ap place_number (sym e ∙ f) ∙ number_back q
 
-pub none_told : (found : Found) (q : ℕ) → found ≡ Nothing → found ≡ found_at q → 0 ≡ q
+pub none_told : (found : Option ℕ) (q : ℕ) → found ≡ None → found ≡ found_at q → 0 ≡ q
 none_told found q e f = ap place_number (sym e ∙ f) ∙ number_back q
 
 pub count_told : (r n m : ℕ) → r ≡ saturated n → n ≡ m → r ≡ saturated m
 count_told r n m e f = e ∙ ap saturated f
 
-pub count_fits : (n : ℕ) → n < 4294967296 → n ≡ saturated n
-unfolding saturated
-count_fits n h = simp (lt-ltb n 4294967296 h)
-
-pub count_full : (n : ℕ) → 4294967296 ≤ n → 4294967295 ≡ saturated n
-unfolding saturated
-count_full n h = simp (le-ltb n 4294967296 h)

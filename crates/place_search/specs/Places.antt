@@ -1,12 +1,10 @@
 -- Where a number stands in a list, and how many numbers are read to find it (F-3): for any list, rising or not. Assumes nothing.
 --
 -- "finding a cell's place in an import list is to end at the first number not below the one sought, as lists rise."
-use Rattle.std.specs.Prelude.{◌≡◌, ◌↔◌, false, ◌&&◌, cond, List, [], ◌∷◌, ℕ, suc, ◌+◌, ◌/◌, ◌<◌, ◌≤◌, eqb, ltb, length, get_or, take}
+use Rattle.std.specs.Prelude.{◌≡◌, ◌↔◌, Option, Some, None, false, ◌&&◌, cond, List, [], ◌∷◌, ℕ, suc, ◌+◌, ◌/◌, ◌<◌, ◌≤◌, eqb, ltb, length, get_or, take}
 use Rattle.vocabulary.specs.Bytes.{Bytes}
 use Rattle.vocabulary.specs.Lists.{is_in, Rises}
 use Rattle.layout.specs.Words.{words}
-use Rattle.place_search.specs.declared.Found.{Found}
-use Rattle.place_search.specs.declared.Found.TheVariants.{At, Nothing}
 
 -- how many numbers stand before "the first number not below the one sought", x; all of them where there is none. Its usual name is the lower bound.
 unfoldable pub lower_bound : ℕ → List ℕ → ℕ
@@ -27,13 +25,13 @@ read_for x ys = cond (ltb (lower_bound x ys) (length ys)) (lower_bound x ys + 1)
 unfoldable pub words_in : Bytes → List ℕ
 words_in b = words b 0 (length b / 2)
 
--- `Found`, which the code declares, as a number: a place, from 1, or 0 for none; and what the code answers for such a number
-abbrev pub place_number : Found → ℕ
-place_number (At p) = p
-place_number Nothing = 0
+-- what the code answers as a number: a place, from 1, or 0 for none; and what the code answers for such a number
+abbrev pub place_number : Option ℕ → ℕ
+place_number (Some p) = p
+place_number None = 0
 
-unfoldable pub found_at : ℕ → Found
-found_at p = cond (eqb p 0) Nothing (At p)
+unfoldable pub found_at : ℕ → Option ℕ
+found_at p = cond (eqb p 0) None (Some p)
 
 -- a count in 32 bits: the greatest number there stands for itself and for every greater one
 unfoldable pub saturated : ℕ → ℕ

@@ -6,17 +6,10 @@ ghost use Rattle.place_search.specs.Places.{place_in, read_for, words_in, found_
 
 use layout::inner::word_in;
 
-// The place of a number in a list, from 1, or none (F-3).
-#[derive(Clone, Copy)]
-pub enum Found {
-    At(usize),
-    Nothing,
-}
-
-// What a search answers (F-3): the place, and how many numbers it read.
-#[derive(Clone, Copy)]
+// What a search answers (F-3): the number's place, from 1, or none, and how many numbers it read.
+#[derive(Clone, Copy, Debug, PartialEq, Eq)]
 pub struct Search {
-    pub found: Found,
+    pub found: Option<usize>,
     pub read: usize,
 }
 
@@ -25,24 +18,18 @@ pub fn find(list: &[u8], sought: usize) -> Search
     ensures { let ws = words_in list.now in (result.found ≡ found_at (place_in sought ws)) × (result.read ≡ read_for sought ws) }
 {
     let n = list.len() / 2;
+    // a loop and not `position`, which would have the number at which it stops read once more
     for k in 0..n {
         let y = word_in(list, 2 * k);
         if sought <= y {
-            let read = k + 1;
-            if sought == y {
-                return Search {
-                    found: Found::At(k + 1),
-                    read,
-                };
-            }
             return Search {
-                found: Found::Nothing,
-                read,
+                found: (sought == y).then_some(k + 1),
+                read: k + 1,
             };
         }
     }
     Search {
-        found: Found::Nothing,
+        found: None,
         read: n,
     }
 }
@@ -51,7 +38,7 @@ pub fn find(list: &[u8], sought: usize) -> Search
 fn saturate(n: usize) -> u32
     ensures { result ≡ saturated n }
 {
-    if n < 4294967296 { n as u32 } else { 4294967295 }
+    u32::try_from(n).unwrap_or(u32::MAX)
 }
 
 // The place of a cell in a list of words, from 1, and 0 for none. How many numbers were read goes to `read`.
@@ -60,9 +47,8 @@ pub fn place(list: &[u8], cell: u32, read: &mut u32) -> u64
 {
     let s = find(list, cell as usize);
     *read = saturate(s.read);
-    let found = s.found;
-    match found {
-        Found::At(p) => p as u64,
-        Found::Nothing => 0,
+    match s.found {
+        Some(p) => p as u64,
+        None => 0,
     }
 }

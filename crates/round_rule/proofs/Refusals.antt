@@ -1,16 +1,14 @@
 -- What the test 11 answers, by the tests that the code makes one after the other. Assumes nothing.
 use mathlib.Core.Path.{◌≡◌, refl, sym, ap, ◌∙◌}
 use mathlib.Core.Bool.{Bool, true, false, not, ◌||◌}
-use Prim.Native.Nat.{ℕ, ◌+◌, ◌*◌, ◌/◌, ◌%◌, ◌≤◌, ◌<◌}
+use Prim.Native.Nat.{ℕ, ◌+◌, ◌*◌, ◌/◌, ◌%◌}
 use native.Mathlib.Omega.{arith}
 use lib.Dec.{eqb}
 use lib.ListN.{length}
-use borrow.Author.Tests.{lt-ltb, le-ltb, eq-eqb, ne_eqb}
+use borrow.Author.Tests.{lt-ltb, eq-eqb, ne_eqb}
 use Rattle.vocabulary.specs.Bytes.{Bytes}
 use Rattle.vocabulary.specs.Intervals.{some}
-use Rattle.vocabulary.proofs.IntervalLaws.{some_stop, some_turn}
 use Rattle.layout.specs.Words.{word_at}
-use Rattle.layout.specs.Limits.{most_weight}
 use Rattle.round_rule.specs.Rules.{weight_count, too_heavy, bad11}
 use Rattle.round_rule.specs.Kinds.{kind_number, rule_of}
 use Rattle.round_rule.specs.declared.Kind.{Kind}
@@ -18,17 +16,6 @@ use Rattle.round_rule.specs.declared.Kind.TheVariants.{Hold, Mean, Shoalest}
 use Rattle.std.specs.Prelude.{Result, Ok, Err}
 use Rattle.layout.specs.declared.refusal.Refusal.{Refusal}
 use Rattle.round_rule.proofs.KindLaws.{known_number, unknown_number}
-
--- ---- weights, one after the other
-
-module _ (v : Bytes) (k w : ℕ) (q : w ≡ word_at v k) where
-  pub heavy_found : (count : ℕ) → k < count → most_weight < w → true ≡ some 0 count (too_heavy v)
-  unfolding too_heavy
-  heavy_found count h z = some_stop (too_heavy v) count k (too_heavy v k) h refl (simp (sym q, lt-ltb _ _ z))
-
-  pub heavy_turn : some 0 k (too_heavy v) ≡ false → w ≤ most_weight → some 0 (k + 1) (too_heavy v) ≡ false
-  unfolding too_heavy
-  heavy_turn i z = some_turn (too_heavy v) k k (too_heavy v k) i refl (simp (sym q, le-ltb _ _ z))
 
 -- ---- the weights of a mean
 

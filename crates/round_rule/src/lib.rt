@@ -37,12 +37,7 @@ impl TryFrom<u32> for Kind {
 fn too_heavy(weights: &[u8], count: usize) -> bool
     ensures { result ≡ some 0 count (too_heavy weights.now) }
 {
-    for k in 0..count {
-        if MOST_WEIGHT < word_at(weights, k) {
-            return true;
-        }
-    }
-    false
+    (0..count).any(|k| MOST_WEIGHT < word_at(weights, k))
 }
 
 // Whether the weights of a mean are wrong under a stencil of `steps` steps.

@@ -1,5 +1,5 @@
--- What `all` and `any` answer over the numbers of a range and over a list, in the words of specs/: `every`, `some`, `every_of`, `some_of`;
--- and the sum over a range as `total`. Each begins with the test. The last fact of a law is `λ x t q k. search (rules, tests)`. Assumes nothing.
+-- What the library's `all`, `any`, `sum` and `map` over a range or a slice give, in the words of specs/: `every`, `some`, `total`, `listed`, and
+-- `every_of`, `some_of`. The last four laws answer the goal of a function that returns such a call. Assumes nothing.
 use Rattle.std.specs.Prelude.{◌≡◌, refl, Option, Bool, true, false, ◌&&◌, ◌||◌, List, [], ◌∷◌, ◌++◌, ℕ, zero, suc, ◌+◌, ◌-◌, map, MatchOption, sum_by}
 use Rattle.std.proofs.Common.{sym, ap, ap₂, ◌∙◌, zero-add}
 use native.Mathlib.Omega.{arith}

@@ -19,12 +19,7 @@ fn valid_at(d: usize, stencil: &[u8], k: usize) -> bool
 fn all_valid(d: usize, stencil: &[u8]) -> bool
     ensures { result ≡ every 0 (length stencil.now) (valid_at d stencil.now) }
 {
-    for k in 0..stencil.len() {
-        if !valid_at(d, stencil, k) {
-            return false;
-        }
-    }
-    true
+    (0..stencil.len()).all(|k| valid_at(d, stencil, k))
 }
 
 // Whether the bytes are no stencil for cells of dimension d.

@@ -11,10 +11,10 @@ pub returns-then-i-lt1 : goal.returns-then-i-lt1
 returns-then-i-lt1 c = search note_done
 
 pub returns-then-r-i : goal.returns-then-r-i
-returns-then-r-i c = search note_above
+returns-then-r-i c = (c.loop-t.t, search note_above)
 
 pub returns-then-seen-i-eq1 : goal.returns-then-seen-i-eq1
-returns-then-seen-i-eq1 c = search note_again
+returns-then-seen-i-eq1 c = (c.loop-t.t, search note_again)
 
 pub loop-t-preserved : goal.loop-t-preserved
 loop-t-preserved c = (search rules, search rules, search rules, search rules, search rules, search note_turn)

@@ -9,14 +9,21 @@ use Rattle.mesh_chains.proofs.inner.write_marked.Goals as goal
 pub loop-e-init : goal.loop-e-init
 loop-e-init c = (search rules, search rules, refl, refl, refl, refl, search noting_start)
 
-pub write_chain-chain-requires : goal.write_chain-chain-requires
-write_chain-chain-requires c = search (noting_room, rules)
+pub write_chain-requires : goal.write_chain-requires
+write_chain-requires c = search (noting_room, rules)
 
-pub returns-then-chain : goal.returns-then-chain
-returns-then-chain c = (search noting_found, λ q. absurd (not_both true refl q))
+pub returns-in_default : goal.returns-in_default
+returns-in_default c = (
+  noting_found _ _ _ _ c.requires.0 _ c.requires.2 _ c.loop-e.invariant.0 _ _ _ _ c.loop-e.invariant.6 _ c.head_of-h.ensures.0
+      _ _ _ _ c.in_default.ensures.1 refl (search rules),
+  λ q. absurd (not_both true refl q),
+)
 
 pub overflow_cast-ends : goal.overflow_cast-ends
-overflow_cast-ends c = search noting_fits
+overflow_cast-ends c =
+    let few = noting_fits _ _ _ _ c.requires.0 _ c.requires.2 _ c.loop-e.invariant.0 _ _ _ _ c.loop-e.invariant.6 _ c.head_of-h.ensures.0
+    _ _ _ _ c.in-Some.ensures refl in
+    search rules
 
 pub loop-e-preserved : goal.loop-e-preserved
 loop-e-preserved c = (
@@ -27,7 +34,7 @@ loop-e-preserved c = (
   search rules,
   search rules,
   noting_turn _ _ _ _ c.requires.0 _ c.requires.2 _ c.loop-e.invariant.0 _ _ _ _ c.loop-e.invariant.6 _ c.head_of-h.ensures.0
-      _ _ _ _ c.write_chain-chain.ensures c.if-chain.false (search rules),
+      _ _ _ _ c.in-Some.ensures refl (search rules),
 )
 
 pub returns : goal.returns
