@@ -24,9 +24,5 @@ pub fn is_cell(c: Global, first: usize, cells: usize) -> bool
     requires { (first < 65536) × (cells < 65536) }
     ensures { result ≡ leb first c.0 && ltb c.0 (first + cells) }
 {
-    let number = c.0 as usize;
-    if number < first {
-        return false;
-    }
-    number < first + cells
+    (first..first + cells).contains(&(c.0 as usize))
 }

@@ -5,9 +5,9 @@
 pub mod inner;
 
 // A cell's number in the mesh.
-#[derive(Clone, Copy)]
+#[derive(Clone, Copy, Debug, PartialEq, Eq)]
 pub struct Global(pub u16);
 
 // A cell's number in a part's local order.
-#[derive(Clone, Copy)]
+#[derive(Clone, Copy, Debug, PartialEq, Eq)]
 pub struct Local(pub u16);

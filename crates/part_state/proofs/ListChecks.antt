@@ -1,23 +1,22 @@
 -- What the tests of a state's lists answer, by the tests that the code makes one after the other. Assumes nothing.
-use mathlib.Core.Path.{◌≡◌, refl, sym, ap, ap₂, ◌∙◌, subst}
-use mathlib.Core.Logic.{⊎_elim}
+use mathlib.Core.Path.{◌≡◌, refl, sym, ap, ap₂, ◌∙◌}
 use mathlib.Core.Bool.{Bool, true, false, not, ◌&&◌}
 use mathlib.Core.List.{List, [], ◌∷◌, ◌++◌}
-use Prim.Native.Nat.{ℕ, zero, suc, ◌+◌, ◌-◌, ◌*◌, ◌/◌, ◌%◌, ◌≤◌, ◌<◌}
+use Prim.Native.Nat.{ℕ, zero, suc, ◌+◌, ◌-◌, ◌*◌, ◌/◌, ◌≤◌, ◌<◌}
 use native.Mathlib.Nat.{zero-add}
+use Rattle.std.proofs.Math.Numerals.{add-one}
 use native.Mathlib.Omega.{arith}
 use lib.Dec.{eqb, ltb, leb}
 use lib.ListN.{length, take, drop}
-use borrow.Author.Tests.{eqb-true, le-leb, lt-leb, lt-ltb, le-ltb, eq-eqb, ne_eqb, not-true, not-false}
+use borrow.Author.Tests.{eqb-true, le-leb, lt-leb}
 use Rattle.vocabulary.specs.Bytes.{Bytes}
-use Rattle.vocabulary.proofs.ListLaws.{and_all, and_true, and_false, and_left, and_right, and_assoc}
+use Rattle.vocabulary.proofs.ListLaws.{and_all, and_true, and_left, and_right, and_assoc}
 use Rattle.vocabulary.specs.Intervals.{is_up_to, every, some}
-use Rattle.vocabulary.proofs.IntervalLaws.{every_stop, every_turn, some_of_listed}
-use Rattle.vocabulary.proofs.ScanLaws.{some_stop_from, some_end_from, every_stop_from, every_turn_from, every_end_from}
+use Rattle.vocabulary.proofs.IntervalLaws.{every_stop, every_turn, every_cong, some_of_listed}
+use Rattle.vocabulary.proofs.ScanLaws.{some_stop_from, some_end_from, every_stop_from, every_turn_from}
 use Rattle.vocabulary.specs.Tests.{all_of}
 use Rattle.vocabulary.proofs.TestLaws.{all_of_true}
 use Rattle.layout.specs.Words.{word_at}
-use Rattle.layout.specs.Limits.{most_elements, most_parts, most_steps}
 use Rattle.round_rule.specs.Rules.{weight_count, bad11}
 use Rattle.round_rule.specs.Kinds.{kind_number, rule_of}
 use Rattle.round_rule.specs.declared.Kind.{Kind}
@@ -26,89 +25,49 @@ use Rattle.std.specs.Prelude.{Result, Ok, Err}
 use Rattle.layout.specs.declared.refusal.Refusal.{Refusal}
 use Rattle.round_rule.proofs.KindLaws.{known_number}
 use Rattle.round_rule.proofs.Refusals.{unknown_rule}
-use Rattle.part_state.specs.State.{LocalNear, part_number, step_count, rule_kind, weights, owned_count, held_count, reach_end, reach_count, rises, entry_at}
-use Rattle.part_state.specs.State.{first_of_mesh, cells_of_mesh, weights_place, export_count, climbs, point_count, point_end, point_cells, point_cell_at}
-use Rattle.part_state.specs.State.{valid_point_cell, point_ends_word, point_cells_word, export_at, local_reach, global_at, valid_global, valid_entry, own_found}
+use Rattle.part_state.specs.State.{LocalNear, step_count, owned_count, held_count, reach_end, reach_count, rises, entry_at}
+use Rattle.part_state.specs.State.{weights_place, export_count, climbs, point_count, point_end, point_cells, point_cell_at}
+use Rattle.part_state.specs.State.{valid_point_cell, point_ends_word, point_cells_word, export_at, local_reach, valid_global, valid_entry, own_found}
 use Rattle.part_state.specs.State.{valid_export, lists_tests, exports_word, entry_word, reach_word}
 use Rattle.part_state.proofs.StateLaws.{rises_grow}
 use Rattle.part_state.specs.declared.places.Sizes.{Sizes}
-use Rattle.part_state.specs.Checks.{reach_start, entry_start, export_start, point_end_start, point_cell_start, Counts, Fitting, Tested, rise_at, climb_at}
-use Rattle.part_state.specs.Checks.{own_entry, valid_row, header_tests, end_tests, entry_tests, point_tests}
+use Rattle.part_state.specs.Checks.{reach_start, entry_start, export_start, point_end_start, point_cell_start, Counts, Fitting, Tested, rise_at}
+use Rattle.part_state.specs.Checks.{own_entry, within_at, valid_row, header_tests, end_tests, entry_tests, point_tests}
 
 -- ---- a test of a range, asked with the count that stands in the lists
 
-pub counted_by : (a n c : ℕ) (p : ℕ → Bool) (r : Bool) → n ≡ c → r ≡ every a n p → r ≡ every a c p
-counted_by a n c p r e q = q ∙ ap (λ k. every a k p) e
-
--- ---- a number from 1 to n
-
-module _ (n x : ℕ) where
-  pub up_low : x < 1 → false ≡ is_up_to n x
-  unfolding is_up_to
-  up_low h = simp (lt-leb _ _ h)
-
-  pub up_rest : 1 ≤ x → leb x n ≡ is_up_to n x
-  unfolding is_up_to
-  up_rest h = simp (le-leb _ _ h)
-
 -- ---- a table of ends
 
-module _ (b : Bytes) (a n j end next : ℕ) (ee : end ≡ word_at b (a + j)) (ne : next ≡ word_at b (a + (j + 1))) where
-  pub ends_fall : j < n → next < end → false ≡ every 0 n (rise_at b a)
+module _ (b : Bytes) (a n by j end next : ℕ) (ee : end ≡ word_at b (a + j)) (ne : next ≡ word_at b (a + (j + 1))) where
+  pub ends_fall : j < n → next < end + by → false ≡ every 0 n (rise_at b a by)
   unfolding rise_at
-  ends_fall h k = every_stop (rise_at b a) n j false h (simp (sym ee, sym ne, lt-leb _ _ k)) refl
+  ends_fall h k = every_stop (rise_at b a by) n j false h (simp (sym ee, sym ne, lt-leb _ _ k)) refl
 
-  pub ends_turn : every 0 j (rise_at b a) ≡ true → end ≤ next → every 0 (j + 1) (rise_at b a) ≡ true
+  pub ends_turn : every 0 j (rise_at b a by) ≡ true → end + by ≤ next → every 0 (j + 1) (rise_at b a by) ≡ true
   unfolding rise_at
-  ends_turn i k = every_turn (rise_at b a) n j true i (simp (sym ee, sym ne, le-leb _ _ k)) refl
+  ends_turn i k = every_turn (rise_at b a by) n j true i (simp (sym ee, sym ne, le-leb _ _ k)) refl
 
-module _ (b : Bytes) (a n j end next : ℕ) (ee : end ≡ word_at b (a + j)) (ne : next ≡ word_at b (a + (j + 1))) where
-  pub climb_stops : j < n → next ≤ end → false ≡ every 0 n (climb_at b a)
-  unfolding climb_at
-  climb_stops h k = every_stop (climb_at b a) n j false h (simp (sym ee, sym ne, le-ltb _ _ k)) refl
+-- with 0 they rise, with 1 they climb
+over_ltb : (x y : ℕ) → leb (x + 1) y ≡ ltb x y
+over_ltb x y = ap (λ n. leb n y) (add-one x)
 
-  pub climb_turn : every 0 j (climb_at b a) ≡ true → end < next → every 0 (j + 1) (climb_at b a) ≡ true
-  unfolding climb_at
-  climb_turn i k = every_turn (climb_at b a) n j true i (simp (sym ee, sym ne, lt-ltb _ _ k)) refl
+pub rises_told : (b : Bytes) (a n : ℕ) → every 0 n (rise_at b a 0) ≡ rises n (λ j. word_at b (a + j))
+unfolding rise_at rises
+rises_told b a n =
+    every_cong 0 (rise_at b a 0) (λ j. leb (word_at b (a + j)) (word_at b (a + (j + 1)))) n
+    (λ i h. ap (λ x. leb x (word_at b (a + (0 + i + 1)))) (let e : word_at b (a + (0 + i)) + 0 ≡ word_at b (a + (0 + i)) = omega arith in e))
+
+pub climbs_told : (b : Bytes) (a n : ℕ) → every 0 n (rise_at b a 1) ≡ climbs n (λ j. word_at b (a + j))
+unfolding rise_at climbs
+climbs_told b a n =
+    every_cong 0 (rise_at b a 1) (λ j. ltb (word_at b (a + j)) (word_at b (a + (j + 1)))) n (λ i h. over_ltb (word_at b (a + (0 + i))) (word_at b (a + (0 + i + 1))))
 
 pub ends_start : (b : Bytes) (a end : ℕ) → end ≡ word_at b a → end ≡ word_at b (a + 0)
 ends_start b a end e = e ∙ ap (word_at b) (let p : a ≡ a + 0 = omega arith in p)
 
 -- ---- the held cells
 
-pub global_told : (b : Bytes) (l c first cells : ℕ) (r : Bool) → c ≡ global_at b l → first ≡ first_of_mesh b → cells ≡ cells_of_mesh b → r ≡ leb first c && ltb c (first + cells) → r ≡ valid_global b l
-global_told b l c first cells r ce fe ke e = e ∙ ap₂ (λ f n. leb f c && ltb c (f + n)) fe ke ∙ ap (λ x. leb (first_of_mesh b) x && ltb x (first_of_mesh b + cells_of_mesh b)) ce
-
 -- ---- an entry of the reaches
-
-module _ (b : Bytes) (at held n : ℕ) (T : Tested b at held n) (t l : ℕ) (le : l ≡ word_at b (at + 2 * t)) where
-  entry_local : (entry_at b t).local ≡ l
-  entry_local = ap (λ a. word_at b (a + 2 * t)) (sym T.at_is) ∙ sym le
-
-  module _ (layer : ℕ) (ye : layer ≡ word_at b (at + 2 * t + 1)) where
-    entry_layer : (entry_at b t).layer ≡ layer
-    entry_layer = let p : entry_word (held_count b) (owned_count b) + 2 * t + 1 ≡ at + 2 * t + 1 = omega (arith, T.at_is) in ap (word_at b) p ∙ sym ye
-
-    module _ (u : Bool) (ue : u ≡ is_up_to held l) where
-      entry_held : is_up_to (held_count b) (entry_at b t).local ≡ u
-      entry_held = ap₂ is_up_to (sym T.held_is) entry_local ∙ sym ue
-
-      pub entry_outside : not u ≡ true → false ≡ valid_entry b t
-      entry_outside z = simp (entry_held, not-true u z)
-
-      pub entry_odd : not u ≡ false → (layer % 2 ≡ 0 → ⊥) → false ≡ valid_entry b t
-      entry_odd z o = simp (entry_held, not-false u z, entry_layer, ne_eqb _ _ o)
-
-      pub entry_rest : not u ≡ false → layer % 2 ≡ 0 → leb layer n ≡ valid_entry b t
-      entry_rest z o = simp (entry_held, not-false u z, entry_layer, eq-eqb _ _ o, sym T.n_is)
-
-  pub own_other : (c : ℕ) → (l ≡ c → ⊥) → false ≡ own_entry b c t
-  unfolding own_entry
-  own_other c h = simp (entry_local, ne_eqb _ _ h)
-
-  pub own_same : (c layer : ℕ) → l ≡ c → layer ≡ word_at b (at + 2 * t + 1) → eqb layer 0 ≡ own_entry b c t
-  unfolding own_entry
-  own_same c layer h e = simp (entry_local, entry_layer layer e, eq-eqb _ _ h)
 
 -- ---- a row: p of all its entries, and q of some
 
@@ -124,9 +83,6 @@ every_split a p k (suc j) =
 module _ (p : ℕ → Bool) (from to t : ℕ) (low : from ≤ t) where
   pub rest_wrong : (r : Bool) → t < to → r ≡ p t → not r ≡ true → false ≡ every from (to - from) p
   rest_wrong r h e z = every_stop_from from p (to - from) t r e z low (omega arith)
-
-  pub rest_end : t ≤ to → to ≤ t → every from (t - from) p ≡ true → true ≡ every from (to - from) p
-  rest_end g h i = every_end_from from p (to - from) t i (omega arith) (omega arith)
 
 module _ (p q : ℕ → Bool) (from to : ℕ) where
   pub row_wrong : (t : ℕ) (r : Bool) → r ≡ p t → not r ≡ true → from ≤ t → t < to → false ≡ every from (to - from) p && some from (to - from) q
@@ -190,10 +146,8 @@ module _ (b : Bytes) (good : all_of (end_tests b) ≡ true) where
       rows_are (reach_end b) (valid_entry b) (own_found b) (eqb-true _ _ reach_tests.0) (owned_count b)
       (λ j h. reach_grow j (j + 1) (omega arith) (omega arith))
 
-  pub rows_last : (owned : ℕ) → owned ≡ owned_count b → (r : Bool) → r ≡ every 1 owned (valid_row b)
-      → r ≡ every 0 (reach_count b) (valid_entry b) && (every 1 (owned_count b) (own_found b) && true)
-  rows_last owned oe r e =
-      e ∙ ap (λ k. every 1 k (valid_row b)) oe ∙ rows_tests ∙ ap (λ t. every 0 (reach_count b) (valid_entry b) && t) (sym (and_all (every 1 (owned_count b) (own_found b))))
+  pub rows_told : (owned : ℕ) → owned ≡ owned_count b → every 1 owned (valid_row b) ≡ every 0 (reach_count b) (valid_entry b) && every 1 (owned_count b) (own_found b)
+  rows_told owned oe = ap (λ k. every 1 k (valid_row b)) oe ∙ rows_tests
 
   module _ (z : Sizes) (F : Fitting b z) (ends : ℕ) (ee : ends ≡ reach_start z) (l from to : ℕ) (low : 1 ≤ l) (high : l < 1 + z.owned) (te : to ≡ word_at b (ends + l)) where
     to_is : to ≡ reach_end b l
@@ -222,13 +176,6 @@ module _ (b : Bytes) (good : all_of (end_tests b) ≡ true) where
 
 -- ---- the end of a row, as the greater of two numbers
 
-module _ (b : Bytes) (i from end : ℕ) (e : end ≡ word_at b i) (h : from ≤ word_at b i) where
-  pub end_fallen : end < from → from ≡ word_at b i
-  end_fallen g = let z : ⊥ = omega arith in absurd z
-
-  pub end_bounded : end < from → from < 65536
-  end_bounded g = let z : ⊥ = omega arith in absurd z
-
 -- ---- the exports
 
 module _ (b : Bytes) (z : Sizes) (C : Counts b z) (at : ℕ) (ae : at ≡ export_start z) (t l : ℕ) (le : l ≡ word_at b (at + t)) where
@@ -252,40 +199,60 @@ module _ (b : Bytes) (z : Sizes) (C : Counts b z) (at : ℕ) (ae : at ≡ point_
   point_held : valid_point_cell b t ≡ leb l z.held
   point_held = ap₂ leb point_local (sym C.held_is)
 
-  pub point_unheld : t < z.around → z.held < l → false ≡ every 0 z.around (valid_point_cell b)
-  point_unheld h k = every_stop (valid_point_cell b) z.around t false h (sym (point_held ∙ lt-leb _ _ k)) refl
+-- four at a time
+and_four : (x a b c d : Bool) → x && (a && b && c && d) ≡ x && a && b && c && d
+and_four true a b c d = refl
+and_four false a b c d = refl
 
-  pub point_turn : every 0 t (valid_point_cell b) ≡ true → l ≤ z.held → every 0 (t + 1) (valid_point_cell b) ≡ true
-  point_turn i k = every_turn (valid_point_cell b) z.around t true i (sym (point_held ∙ le-leb _ _ k)) refl
+every_fours : (p : ℕ → Bool) (n : ℕ) → every 0 n (λ k. p (4 * k) && p (4 * k + 1) && p (4 * k + 2) && p (4 * k + 3)) ≡ every 0 (4 * n) p
+unfolding every
+every_fours p zero = refl
+every_fours p (suc n) =
+    let m : ℕ = 4 * n in
+    let e : 4 * suc n ≡ suc (suc (suc (suc m))) = omega arith in
+    let q₀ : m ≡ 0 + m = omega arith in
+    let q₁ : m + 1 ≡ 0 + suc m = omega arith in
+    let q₂ : m + 2 ≡ 0 + suc (suc m) = omega arith in
+    let q₃ : m + 3 ≡ 0 + suc (suc (suc m)) = omega arith in
+    ap₂ (λ x k. x && (p (4 * k) && p (4 * k + 1) && p (4 * k + 2) && p (4 * k + 3))) (every_fours p n) (zero-add n)
+    ∙ and_four (every 0 m p) (p m) (p (m + 1)) (p (m + 2)) (p (m + 3))
+    ∙ ap₂ (λ x y. every 0 m p && p x && p y && p (m + 2) && p (m + 3)) q₀ q₁
+    ∙ ap₂ (λ x y. every 0 m p && p (0 + m) && p (0 + suc m) && p x && p y) q₂ q₃
+    ∙ sym (ap (λ k. every 0 k p) e)
 
--- two of them, from word i on
-module _ (b : Bytes) (z : Sizes) (C : Counts b z) (at : ℕ) (ae : at ≡ point_cell_start z) (t i : ℕ) (ie : i ≡ at + t) (r : Bool)
-    (re : r ≡ leb (word_at b i) z.held && leb (word_at b (i + 1)) z.held) where
-  two_are : r ≡ valid_point_cell b t && valid_point_cell b (t + 1)
-  two_are =
-      let j : i + 1 ≡ at + (t + 1) = omega arith in
-      re ∙ ap₂ ◌&&◌ (sym (point_held b z C at ae t (word_at b i) (ap (word_at b) ie))) (sym (point_held b z C at ae (t + 1) (word_at b (i + 1)) (ap (word_at b) j)))
+-- the cells at the points, four at a time and then the rest
+module _ (b : Bytes) (z : Sizes) (C : Counts b z) (at fours : ℕ) (ae : at ≡ point_cell_start z) (fe : fours ≡ z.around / 4) (r : Bool)
+    (re : r ≡ every 0 fours (λ k. within_at b z.held (at + 4 * k) && within_at b z.held (at + 4 * k + 1) && within_at b z.held (at + 4 * k + 2) && within_at b z.held (at + 4 * k + 3))) where
+  abbrev held_at : ℕ → Bool
+  held_at t = within_at b z.held (at + t)
 
-  pub two_stop : t + 1 < z.around → not r ≡ true → false ≡ every 0 z.around (valid_point_cell b)
-  two_stop h f =
-      ⊎_elim
-      (λ p. every_stop (valid_point_cell b) z.around t false (omega arith) (sym p) refl)
-      (λ p. every_stop (valid_point_cell b) z.around (t + 1) false h (sym p) refl)
-      (and_false (valid_point_cell b t) (valid_point_cell b (t + 1)) (sym two_are ∙ not-true r f))
+  fours_told : r ≡ every 0 (4 * fours) held_at
+  fours_told =
+      re
+      ∙ every_cong 0 (λ k. within_at b z.held (at + 4 * k) && within_at b z.held (at + 4 * k + 1) && within_at b z.held (at + 4 * k + 2) && within_at b z.held (at + 4 * k + 3))
+      (λ k. held_at (4 * k) && held_at (4 * k + 1) && held_at (4 * k + 2) && held_at (4 * k + 3)) fours
+      (λ i h.
+      let m : ℕ = 4 * (0 + i) in
+      let q₁ : at + m + 1 ≡ at + (m + 1) = omega arith in
+      let q₂ : at + m + 2 ≡ at + (m + 2) = omega arith in
+      let q₃ : at + m + 3 ≡ at + (m + 3) = omega arith in
+      ap₂ (λ x y. held_at m && within_at b z.held x && within_at b z.held y && within_at b z.held (at + m + 3)) q₁ q₂
+      ∙ ap (λ x. held_at m && held_at (m + 1) && held_at (m + 2) && within_at b z.held x) q₃)
+      ∙ every_fours held_at fours
 
-  pub two_turn : every 0 t (valid_point_cell b) ≡ true → not r ≡ false → (u : ℕ) → u ≡ t + 2 → every 0 u (valid_point_cell b) ≡ true
-  two_turn e f u ue =
-      let q = and_true (valid_point_cell b t) (valid_point_cell b (t + 1)) (sym two_are ∙ not-false r f) in
-      let w : t + 1 + 1 ≡ u = omega arith in
-      subst (λ n. every 0 n (valid_point_cell b) ≡ true) w
-      (every_turn (valid_point_cell b) z.around (t + 1) true (every_turn (valid_point_cell b) z.around t true e (sym q.0) refl) (sym q.1) refl)
+  cells_told : every 0 (4 * fours) held_at && every (4 * fours) (z.around - 4 * fours) held_at ≡ every 0 (point_cells b) (valid_point_cell b)
+  cells_told =
+      let n : 4 * fours + (z.around - 4 * fours) ≡ point_cells b = omega (arith, fe, C.around_is) in
+      ap (λ a. every 0 (4 * fours) held_at && every a (z.around - 4 * fours) held_at) (sym (zero-add (4 * fours)))
+      ∙ sym (every_split 0 held_at (4 * fours) (z.around - 4 * fours))
+      ∙ ap (λ k. every 0 k held_at) n
+      ∙ every_cong 0 held_at (valid_point_cell b) (point_cells b) (λ i h. sym (point_held b z C at ae (0 + i) (word_at b (at + (0 + i))) refl))
 
-module _ (b : Bytes) (i n w : ℕ) (e : w ≡ word_at b i) where
-  pub two_first : n < w → false ≡ leb (word_at b i) n && leb (word_at b (i + 1)) n
-  two_first h = simp (sym e, lt-leb _ _ h)
+  pub points_stop : r ≡ false → r ≡ every 0 (point_cells b) (valid_point_cell b)
+  points_stop f = f ∙ ap (λ x. x && every (4 * fours) (z.around - 4 * fours) held_at) (sym f ∙ fours_told) ∙ cells_told
 
-  pub two_second : w ≤ n → (x : ℕ) → x ≡ word_at b (i + 1) → leb x n ≡ leb (word_at b i) n && leb (word_at b (i + 1)) n
-  two_second h x f = simp (sym e, sym f, le-leb _ _ h)
+  pub points_rest : r ≡ true → (s : Bool) → s ≡ every (4 * fours) (z.around - 4 * fours) (λ t. within_at b z.held (at + t)) → s ≡ every 0 (point_cells b) (valid_point_cell b)
+  points_rest f s e = e ∙ ap (λ x. x && every (4 * fours) (z.around - 4 * fours) held_at) (sym f ∙ fours_told) ∙ cells_told
 
 -- ---- the rule and the header
 
@@ -314,72 +281,24 @@ module _ (b : Bytes) (number n : ℕ) (r : Result Kind Refusal) (re : r ≡ rule
   pub rule_unknown : {e : Refusal} → r ≡ Err e → false ≡ not (bad11 number n (take (2 * weight_count number n) (drop weights_place b)))
   rule_unknown q = ap not (unknown_rule (take (2 * weight_count number n) (drop weights_place b)) n number r re q)
 
-module _ (b : Bytes) where
-  pub header_part : (part : ℕ) (u : Bool) → part ≡ part_number b → u ≡ is_up_to most_parts part → u ≡ is_up_to most_parts (part_number b)
-  header_part part u pe ue = ue ∙ ap (is_up_to most_parts) pe
+-- ---- the tables of ends, by the words at which they begin
 
-  module _ (n : ℕ) (ne : n ≡ step_count b) where
-    pub steps_odd : (x : Bool) → (n % 2 ≡ 0 → ⊥) → false ≡ (eqb (step_count b % 2) 0 && leb (step_count b) most_steps) && x
-    steps_odd x o = simp (sym ne, ne_eqb _ _ o)
+module _ (b : Bytes) (z : Sizes) (C : Counts b z) (ends : ℕ) where
+  pub reach_first : ends ≡ reach_start z → word_at b ends ≡ reach_end b 0
+  reach_first ee = ap (word_at b) (let p : ends ≡ reach_word (held_count b) + 0 = omega (arith, ee, C.held_is) in p)
 
-    pub steps_many : (x : Bool) → most_steps < n → false ≡ (eqb (step_count b % 2) 0 && leb (step_count b) most_steps) && x
-    steps_many x h = simp (sym ne, lt-leb _ _ h, and_right)
+  pub reach_rises : ends ≡ reach_start z → every 0 z.owned (rise_at b ends 0) ≡ rises (owned_count b) (reach_end b)
+  reach_rises ee = rises_told b ends z.owned ∙ ap₂ (λ k n. rises n (λ j. word_at b (k + j))) (ee ∙ ap reach_word C.held_is) C.owned_is
 
-    pub steps_fine : (x y : Bool) → n % 2 ≡ 0 → n ≤ most_steps → y ≡ x → y ≡ (eqb (step_count b % 2) 0 && leb (step_count b) most_steps) && x
-    steps_fine x y e h q = simp (sym ne, eq-eqb _ _ e, le-leb _ _ h, q)
+  module _ (ee : ends ≡ point_end_start z) where
+    ends_at : ends ≡ point_ends_word (held_count b) (owned_count b) (reach_count b) (export_count b) (point_count b)
+    ends_at = omega (arith, ee, C.held_is, C.owned_is, C.reached_is, C.sent_is, C.points_is)
 
-    pub header_rule : (kind : ℕ) (w : Bool) → kind ≡ rule_kind b → w ≡ not (bad11 kind n (take (2 * weight_count kind n) (drop weights_place b)))
-        → w ≡ not (bad11 (rule_kind b) (step_count b) (weights b))
-    unfolding weights
-    header_rule kind w ke we = we ∙ ap₂ (λ k m. not (bad11 k m (take (2 * weight_count k m) (drop weights_place b)))) ke ne
+    pub point_first : word_at b ends ≡ point_end b 0
+    point_first = ap (word_at b) (let p : ends ≡ point_ends_word (held_count b) (owned_count b) (reach_count b) (export_count b) (point_count b) + 0 = omega (arith, ends_at) in p)
 
-  pub header_held : (held : ℕ) → held ≡ held_count b → leb held most_elements ≡ leb (held_count b) most_elements && true
-  header_held held e = simp (sym e, and_all)
-
--- ---- the tables of ends, and the entries
-
--- the first end e: not 0, and 0
-module _ (e x : ℕ) (c : x ≡ e) (r y : Bool) where
-  pub first_wrong : (x ≡ 0 → ⊥) → false ≡ (eqb e 0 && r) && y
-  first_wrong z = simp (sym c, ne_eqb _ _ z)
-
-  pub first_right : (t : Bool) → x ≡ 0 → t ≡ r && y → t ≡ (eqb e 0 && r) && y
-  first_right t z q = simp (sym c, eq-eqb _ _ z, q)
-
-module _ (b : Bytes) (z : Sizes) (C : Counts b z) (ends : ℕ) (ee : ends ≡ reach_start z) where
-  module _ (y : ℕ) (ye : y ≡ word_at b ends) where
-    reach_end_lem : y ≡ reach_end b 0
-    reach_end_lem = ye ∙ ap (word_at b) (let p : ends ≡ reach_word (held_count b) + 0 = omega (arith, ee, C.held_is) in p)
-
-    pub reach_wrong : (r x : Bool) → (y ≡ 0 → ⊥) → false ≡ (eqb (reach_end b 0) 0 && r) && x
-    reach_wrong = first_wrong (reach_end b 0) y reach_end_lem
-
-    pub reach_right : (r : Bool) → y ≡ 0 → r ≡ every 0 z.owned (rise_at b ends) → r ≡ (eqb (reach_end b 0) 0 && rises (owned_count b) (reach_end b)) && true
-    unfolding rise_at rises
-    reach_right r w e =
-        first_right (reach_end b 0) y reach_end_lem (rises (owned_count b) (reach_end b)) true r w
-        (e ∙ ap₂ (λ k n. every 0 n (rise_at b k)) (ee ∙ ap reach_word C.held_is) C.owned_is ∙ sym (and_all (rises (owned_count b) (reach_end b))))
-
-module _ (b : Bytes) (z : Sizes) (C : Counts b z) (ends : ℕ) (ee : ends ≡ point_end_start z) (y : ℕ) (ye : y ≡ word_at b ends) where
-  ends_at : ends ≡ point_ends_word (held_count b) (owned_count b) (reach_count b) (export_count b) (point_count b)
-  ends_at = omega (arith, ee, C.held_is, C.owned_is, C.reached_is, C.sent_is, C.points_is)
-
-  point_first : point_end b 0 ≡ y
-  point_first = ap (word_at b) (let p : point_ends_word (held_count b) (owned_count b) (reach_count b) (export_count b) (point_count b) + 0 ≡ ends = omega (arith, ends_at) in p) ∙ sym ye
-
-  pub points_1 : (y ≡ 0 → ⊥) → false ≡ all_of (point_tests b)
-  points_1 n = simp (point_first, ne_eqb _ _ n)
-
-  module _ (yz : y ≡ 0) (r : Bool) (re : r ≡ every 0 z.points (climb_at b ends)) where
-    climbs_here : climbs (point_count b) (point_end b) ≡ r
-    unfolding climb_at climbs
-    climbs_here = sym (re ∙ ap₂ (λ k n. every 0 n (climb_at b k)) ends_at C.points_is)
-
-    pub points_2 : not r ≡ true → false ≡ all_of (point_tests b)
-    points_2 t = simp (point_first, eq-eqb _ _ yz, climbs_here, not-true r t)
-
-    pub points_3 : (s : Bool) → not r ≡ false → s ≡ every 0 (point_cells b) (valid_point_cell b) → s ≡ all_of (point_tests b)
-    points_3 s t e = simp (point_first, eq-eqb _ _ yz, climbs_here, not-false r t, sym e, and_all)
+    pub points_climb : every 0 z.points (rise_at b ends 1) ≡ climbs (point_count b) (point_end b)
+    points_climb = climbs_told b ends z.points ∙ ap₂ (λ k n. climbs n (λ j. word_at b (k + j))) ends_at C.points_is
 
 -- ---- the four groups
 
@@ -401,7 +320,7 @@ and_swap true y = sym (and_all y)
 and_swap false true = refl
 and_swap false false = refl
 
-in_groups : (b : Bytes) → all_of (lists_tests b) ≡ all_of (header_tests b) && (all_of (end_tests b) && (all_of (point_tests b) && all_of (entry_tests b)))
+pub in_groups : (b : Bytes) → all_of (lists_tests b) ≡ all_of (header_tests b) && (all_of (end_tests b) && (all_of (point_tests b) && all_of (entry_tests b)))
 unfolding lists_tests
 in_groups b =
     let globals : Bool = every 1 (held_count b) (valid_global b) in
@@ -413,18 +332,3 @@ in_groups b =
     ∙ ap (λ t. all_of (header_tests b) && t) (all_of_append (end_tests b) (middle ++ point_tests b))
     ∙ ap (λ t. all_of (header_tests b) && (all_of (end_tests b) && t))
     (all_of_append middle (point_tests b) ∙ and_swap (all_of middle) (all_of (point_tests b)) ∙ ap (λ t. all_of (point_tests b) && (globals && t)) (third_first entries own sent))
-
-module _ (b : Bytes) (r : Bool) (re : r ≡ all_of (header_tests b)) where
-  pub lists_1 : not r ≡ true → false ≡ all_of (lists_tests b)
-  lists_1 z = simp (in_groups b, sym re, not-true r z)
-
-  module _ (rt : not r ≡ false) (s : Bool) (se : s ≡ all_of (end_tests b)) where
-    pub lists_2 : not s ≡ true → false ≡ all_of (lists_tests b)
-    lists_2 z = simp (in_groups b, sym re, not-false r rt, sym se, not-true s z)
-
-    module _ (st : not s ≡ false) (t : Bool) (te : t ≡ all_of (point_tests b)) where
-      pub lists_3 : not t ≡ true → false ≡ all_of (lists_tests b)
-      lists_3 z = simp (in_groups b, sym re, not-false r rt, sym se, not-false s st, sym te, not-true t z)
-
-      pub lists_4 : (u : Bool) → not t ≡ false → u ≡ all_of (entry_tests b) → u ≡ all_of (lists_tests b)
-      lists_4 u z e = simp (in_groups b, sym re, not-false r rt, sym se, not-false s st, sym te, not-false t z, sym e)

@@ -39,17 +39,17 @@ entry_tests b =
 abbrev pub point_tests : Bytes → List Bool
 point_tests b = (eqb (point_end b 0) 0 && climbs (point_count b) (point_end b)) ∷ every 0 (point_cells b) (valid_point_cell b) ∷ []
 
--- the end after the one at word a + j is at least as great
-unfoldable pub rise_at : Bytes → ℕ → ℕ → Bool
-rise_at b a j = leb (word_at b (a + j)) (word_at b (a + (j + 1)))
-
--- and it is greater
-unfoldable pub climb_at : Bytes → ℕ → ℕ → Bool
-climb_at b a j = ltb (word_at b (a + j)) (word_at b (a + (j + 1)))
+-- the end after the one at word a + j is at least `by` more
+unfoldable pub rise_at : Bytes → ℕ → ℕ → ℕ → Bool
+rise_at b a by j = leb (word_at b (a + j) + by) (word_at b (a + (j + 1)))
 
 -- entry t is that of cell l itself
 unfoldable pub own_entry : Bytes → ℕ → ℕ → Bool
 own_entry b l t = eqb (entry_at b t).local l && eqb (entry_at b t).layer 0
+
+-- word i is at most n
+abbrev pub within_at : Bytes → ℕ → ℕ → Bool
+within_at b n i = leb (word_at b i) n
 
 -- the row of the owned cell l: its entries are valid, and its own is among them
 unfoldable pub valid_row : Bytes → ℕ → Bool

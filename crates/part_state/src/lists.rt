@@ -7,7 +7,7 @@ ghost use Rattle.layout.specs.Limits.{most_steps};
 ghost use Rattle.round_rule.specs.Rules.{weight_count, bad11};
 ghost use Rattle.round_rule.specs.Kinds.{kind_number};
 ghost use Rattle.part_state.specs.State.{weights_place, export_count, point_cells, global_at, valid_global, valid_entry, valid_export, valid_point_cell, lists_tests, reach_word};
-ghost use Rattle.part_state.specs.Checks.{Fitting, Tested, rise_at, climb_at, own_entry, valid_row, header_tests, end_tests, entry_tests, point_tests};
+ghost use Rattle.part_state.specs.Checks.{Fitting, Tested, rise_at, own_entry, within_at, valid_row, header_tests, end_tests, entry_tests, point_tests};
 
 use crate::places::{
     CELLS, EXPORT_ENDS, FIRST, GLOBALS, HELD, KIND, OWNED, PART, STEPS, Sizes, WEIGHTS,
@@ -20,13 +20,11 @@ use layout::word_at;
 use round_rule::{Kind, bad_weights};
 
 // Whether x is a number from 1 to n.
+#[tactic(auto, unfolding(vocabulary::specs::Intervals::is_up_to))]
 pub fn up_to(n: usize, x: usize) -> bool
     ensures { result ≡ is_up_to n x }
 {
-    if x < 1 {
-        return false;
-    }
-    x <= n
+    (1..=n).contains(&x)
 }
 
 // The word of index i, which is there.
@@ -42,9 +40,7 @@ pub fn count_between(lists: &[u8], k: usize) -> usize
     requires { k < 1000000 }
     ensures { (result ≡ word_at lists.now (k + 1) - word_at lists.now k) × (result < 65536) }
 {
-    let from = word_at(lists, k);
-    let to = word_at(lists, k + 1);
-    if to < from { 0 } else { to - from }
+    word_at(lists, k + 1).saturating_sub(word_at(lists, k))
 }
 
 // The cell of a local number, through the list of the held cells.
@@ -54,31 +50,16 @@ pub fn global_of(lists: &[u8], l: Local) -> Global
     Global(word_at(lists, GLOBALS + l.0 as usize) as u16)
 }
 
-// Whether the n + 1 ends from word a on never fall.
-fn ends_rise(lists: &[u8], a: usize, n: usize) -> bool
-    requires { 2 * (a + n) + 1 < length lists.now }
-    ensures { result ≡ every 0 n (rise_at lists.now a) }
+// Whether each of the n + 1 ends from word a on is at least `BY` more than the one before it: with 0 they never fall, with 1 they climb. A loop, and not
+// `all`, so that each word is read once.
+fn ends_rise<const BY: usize>(lists: &[u8], a: usize, n: usize) -> bool
+    requires { (2 * (a + n) + 1 < length lists.now) × (BY ≤ 1) }
+    ensures { result ≡ every 0 n (rise_at lists.now a BY) }
 {
     let mut end = word_there(lists, a);
     for j in 0..n {
         let next = word_there(lists, a + (j + 1));
-        if next < end {
-            return false;
-        }
-        end = next;
-    }
-    true
-}
-
-// Whether each of the n + 1 ends from word a on is greater than the one before it.
-fn ends_climb(lists: &[u8], a: usize, n: usize) -> bool
-    requires { 2 * (a + n) + 1 < length lists.now }
-    ensures { result ≡ every 0 n (climb_at lists.now a) }
-{
-    let mut end = word_there(lists, a);
-    for j in 0..n {
-        let next = word_there(lists, a + (j + 1));
-        if next <= end {
+        if next < end + BY {
             return false;
         }
         end = next;
@@ -93,13 +74,7 @@ fn valid_globals(lists: &[u8], held: usize) -> bool
 {
     let first = word_there(lists, FIRST);
     let cells = word_there(lists, CELLS);
-    for l in 1..1 + held {
-        let number = word_there(lists, GLOBALS + l);
-        if !is_cell(Global(number as u16), first, cells) {
-            return false;
-        }
-    }
-    true
+    (1..1 + held).all(|l| is_cell(Global(word_there(lists, GLOBALS + l) as u16), first, cells))
 }
 
 // Entry t of the reaches, whose entries begin at word `at`: a held cell, at an even layer of at most `steps`.
@@ -108,24 +83,16 @@ fn valid_entry(lists: &[u8], at: usize, held: usize, steps: usize, t: usize) -> 
     ensures { result ≡ valid_entry lists.now t }
 {
     let layer = word_there(lists, at + 2 * t + 1);
-    if !up_to(held, word_there(lists, at + 2 * t)) {
-        return false;
-    }
-    if layer % 2 != 0 {
-        return false;
-    }
-    layer <= steps
+    up_to(held, word_there(lists, at + 2 * t)) && layer % 2 == 0 && layer <= steps
 }
 
 // Whether entry t is that of cell l itself.
+#[tactic(auto, unfolding(crate::specs::Checks::own_entry))]
 fn own_entry(lists: &[u8], at: usize, held: usize, steps: usize, l: usize, t: usize) -> bool
     requires { Tested lists.now at held steps × (2 * (at + 2 * t) + 3 < length lists.now) }
     ensures { result ≡ own_entry lists.now l t }
 {
-    if word_there(lists, at + 2 * t) != l {
-        return false;
-    }
-    word_there(lists, at + 2 * t + 1) == 0
+    word_there(lists, at + 2 * t) == l && word_there(lists, at + 2 * t + 1) == 0
 }
 
 // Whether the entries from `from` up to `to` are valid.
@@ -133,12 +100,7 @@ fn valid_rest(lists: &[u8], at: usize, held: usize, steps: usize, from: usize, t
     requires { Tested lists.now at held steps × (from ≤ to) × (2 * (at + 2 * to) ≤ length lists.now) }
     ensures { result ≡ every from (to - from) (valid_entry lists.now) }
 {
-    for t in from..to {
-        if !valid_entry(lists, at, held, steps, t) {
-            return false;
-        }
-    }
-    true
+    (from..to).all(|t| valid_entry(lists, at, held, steps, t))
 }
 
 // The same, and whether the entry of cell l itself is among them. Where it is found, only the entries after it are left to test.
@@ -171,8 +133,7 @@ fn end_there(lists: &[u8], i: usize, from: usize) -> usize
     requires { (2 * i + 1 < length lists.now) × (from ≤ word_at lists.now i) }
     ensures { (result ≡ word_at lists.now i) × (result < 65536) }
 {
-    let end = word_there(lists, i);
-    if end < from { from } else { end }
+    word_there(lists, i).max(from)
 }
 
 // The reaches of the owned cells, row by row. Their ends rise from 0 to the count of all, so the rows have all the entries.
@@ -200,23 +161,18 @@ fn valid_exports(lists: &[u8], sizes: Sizes) -> bool
     ensures { result ≡ every 0 (export_count lists.now) (valid_export lists.now) }
 {
     let at = sizes.exports_word();
-    for t in 0..sizes.sent {
-        if !up_to(sizes.owned, word_there(lists, at + t)) {
-            return false;
-        }
-    }
-    true
+    (0..sizes.sent).all(|t| up_to(sizes.owned, word_there(lists, at + t)))
 }
 
-// Whether words i and i + 1 are at most n.
-fn two_within(lists: &[u8], n: usize, i: usize) -> bool
-    requires { 2 * (i + 1) + 1 < length lists.now }
-    ensures { result ≡ leb (word_at lists.now i) n && leb (word_at lists.now (i + 1)) n }
+// Whether the four words from word i on are at most n.
+fn four_within(lists: &[u8], n: usize, i: usize) -> bool
+    requires { 2 * (i + 3) + 1 < length lists.now }
+    ensures { result ≡ within_at lists.now n i && within_at lists.now n (i + 1) && within_at lists.now n (i + 2) && within_at lists.now n (i + 3) }
 {
-    if n < word_there(lists, i) {
-        return false;
-    }
-    word_there(lists, i + 1) <= n
+    word_there(lists, i) <= n
+        && word_there(lists, i + 1) <= n
+        && word_there(lists, i + 2) <= n
+        && word_there(lists, i + 3) <= n
 }
 
 // Whether the cells at the points are held, but for those that are not to be read. A state can have many, so they are tested four at a time, which takes fewer
@@ -227,20 +183,8 @@ fn valid_point_cells(lists: &[u8], sizes: Sizes) -> bool
 {
     let at = sizes.point_cells_word();
     let fours = sizes.around / 4;
-    for k in 0..fours {
-        if !two_within(lists, sizes.held, at + 4 * k) {
-            return false;
-        }
-        if !two_within(lists, sizes.held, at + 4 * k + 2) {
-            return false;
-        }
-    }
-    for t in 4 * fours..sizes.around {
-        if sizes.held < word_there(lists, at + t) {
-            return false;
-        }
-    }
-    true
+    (0..fours).all(|k| four_within(lists, sizes.held, at + 4 * k))
+        && (4 * fours..sizes.around).all(|t| word_there(lists, at + t) <= sizes.held)
 }
 
 // How many weights a rule of this kind has under a stencil of `steps` steps.
@@ -270,24 +214,17 @@ fn valid_rule(lists: &[u8], kind: usize, steps: usize) -> bool
 }
 
 // The part's number, the stencil's steps, the rule and the count of held cells.
+#[tactic(auto, unfolding(crate::specs::State::weights))]
 fn valid_header(lists: &[u8]) -> bool
     requires { weights_place + 10 ≤ length lists.now }
     ensures { result ≡ all_of (header_tests lists.now) }
 {
-    if !up_to(MOST_PARTS, word_at(lists, PART)) {
-        return false;
-    }
     let steps = word_at(lists, STEPS);
-    if steps % 2 != 0 {
-        return false;
-    }
-    if MOST_STEPS < steps {
-        return false;
-    }
-    if !valid_rule(lists, word_at(lists, KIND), steps) {
-        return false;
-    }
-    word_at(lists, HELD) <= MOST_ELEMENTS
+    up_to(MOST_PARTS, word_at(lists, PART))
+        && steps % 2 == 0
+        && steps <= MOST_STEPS
+        && valid_rule(lists, word_at(lists, KIND), steps)
+        && word_at(lists, HELD) <= MOST_ELEMENTS
 }
 
 // The ends of the imports, the exports and the reaches.
@@ -295,20 +232,12 @@ fn valid_ends(lists: &[u8], sizes: Sizes) -> bool
     requires { Fitting lists.now sizes }
     ensures { result ≡ all_of (end_tests lists.now) }
 {
-    if !ends_rise(lists, OWNED, MOST_PARTS) {
-        return false;
-    }
-    if word_there(lists, EXPORT_ENDS) != 0 {
-        return false;
-    }
-    if !ends_rise(lists, EXPORT_ENDS, MOST_PARTS) {
-        return false;
-    }
     let ends = sizes.reach_word();
-    if word_there(lists, ends) != 0 {
-        return false;
-    }
-    ends_rise(lists, ends, sizes.owned)
+    ends_rise::<0>(lists, OWNED, MOST_PARTS)
+        && word_there(lists, EXPORT_ENDS) == 0
+        && ends_rise::<0>(lists, EXPORT_ENDS, MOST_PARTS)
+        && word_there(lists, ends) == 0
+        && ends_rise::<0>(lists, ends, sizes.owned)
 }
 
 // The held cells, the exports and the reaches.
@@ -316,13 +245,7 @@ fn valid_entries(lists: &[u8], sizes: Sizes) -> bool
     requires { Fitting lists.now sizes × (all_of (end_tests lists.now) ≡ true) }
     ensures { result ≡ all_of (entry_tests lists.now) }
 {
-    if !valid_globals(lists, sizes.held) {
-        return false;
-    }
-    if !valid_exports(lists, sizes) {
-        return false;
-    }
-    valid_rows(lists, sizes)
+    valid_globals(lists, sizes.held) && valid_exports(lists, sizes) && valid_rows(lists, sizes)
 }
 
 // The points: the ends of the cells at them, and these cells.
@@ -331,28 +254,19 @@ fn valid_points(lists: &[u8], sizes: Sizes) -> bool
     ensures { result ≡ all_of (point_tests lists.now) }
 {
     let ends = sizes.point_ends_word();
-    if word_there(lists, ends) != 0 {
-        return false;
-    }
-    if !ends_climb(lists, ends, sizes.points) {
-        return false;
-    }
-    valid_point_cells(lists, sizes)
+    word_there(lists, ends) == 0
+        && ends_rise::<1>(lists, ends, sizes.points)
+        && valid_point_cells(lists, sizes)
 }
 
 // Whether the lists pass all their tests. The reaches have the most entries and come last: so few numbers have to be kept beside their loop.
+#[tactic(auto, using(crate::proofs::ListChecks::in_groups))]
 pub fn valid_lists(lists: &[u8], sizes: Sizes) -> bool
     requires { Fitting lists.now sizes }
     ensures { result ≡ all_of (lists_tests lists.now) }
 {
-    if !valid_header(lists) {
-        return false;
-    }
-    if !valid_ends(lists, sizes) {
-        return false;
-    }
-    if !valid_points(lists, sizes) {
-        return false;
-    }
-    valid_entries(lists, sizes)
+    valid_header(lists)
+        && valid_ends(lists, sizes)
+        && valid_points(lists, sizes)
+        && valid_entries(lists, sizes)
 }

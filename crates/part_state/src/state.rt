@@ -17,39 +17,26 @@ fn valid_flag(b: &[u8], changes: usize, j: usize) -> bool
     requires { (changes < 1000000) × (j < 65536) }
     ensures { result ≡ valid_flags b.now changes j }
 {
-    if 1 < byte_at(b, changes + TAKEN + j) {
-        return false;
-    }
-    byte_at(b, changes + WRITTEN + j) <= 1
+    byte_at(b, changes + TAKEN + j) <= 1 && byte_at(b, changes + WRITTEN + j) <= 1
 }
 
 fn valid_flags(b: &[u8], changes: usize) -> bool
     requires { changes < 1000000 }
     ensures { result ≡ every 1 most_parts (valid_flags b.now changes) }
 {
-    for j in 1..MOST_PARTS + 1 {
-        if !valid_flag(b, changes, j) {
-            return false;
-        }
-    }
-    true
+    (1..MOST_PARTS + 1).all(|j| valid_flag(b, changes, j))
 }
 
 // What calls change, from `changes` on, where n cells are held.
+#[tactic(auto, unfolding(crate::specs::State::dynamic_tests))]
 fn valid_changes(b: &[u8], changes: usize, n: usize) -> bool
     requires { (changes < 1000000) × (n < 65536) }
     ensures { result ≡ all_of (dynamic_tests b.now changes n) }
 {
-    if b.len() < changes + DEPTHS + 4 * n {
-        return false;
-    }
-    if LAST_ROUND < word_in(b, changes) {
-        return false;
-    }
-    if !valid_flags(b, changes) {
-        return false;
-    }
-    values_valid(b, changes + DEPTHS, n)
+    changes + DEPTHS + 4 * n <= b.len()
+        && word_in(b, changes) <= LAST_ROUND
+        && valid_flags(b, changes)
+        && values_valid(b, changes + DEPTHS, n)
 }
 
 // The state b, whose lists end at `changes`.
@@ -58,22 +45,16 @@ fn valid_state(lists: &[u8], b: &[u8], changes: usize) -> bool
     ensures { result ≡ is_state_at lists.now changes b.now }
 {
     let sizes = sizes_of(lists);
-    if changes != 2 * sizes.words() {
-        return false;
-    }
-    if !valid_lists(lists, sizes) {
-        return false;
-    }
-    valid_changes(b, changes, sizes.held)
+    changes == 2 * sizes.words()
+        && valid_lists(lists, sizes)
+        && valid_changes(b, changes, sizes.held)
 }
 
 // Whether the bytes begin with a part's state.
+#[tactic(auto, unfolding(crate::specs::State::is_state), using(crate::proofs::StateChecks::cut_lists, crate::proofs::StateChecks::state_short))]
 pub fn is_state(b: &[u8]) -> bool
     ensures { result ≡ is_state b.now }
 {
     let changes = 2 * word_at(b, LENGTH);
-    if b.len() < changes {
-        return false;
-    }
-    valid_state(&b[0..changes], b, changes)
+    changes <= b.len() && valid_state(&b[..changes], b, changes)
 }

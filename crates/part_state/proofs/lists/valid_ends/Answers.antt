@@ -1,26 +1,17 @@
 -- `part_state::lists::valid_ends` meets its contract. Assumes nothing.
-use Rattle.part_state.specs.Checks.{rise_at}
-use Rattle.part_state.specs.State.{rises}
-use Rattle.vocabulary.proofs.TestLaws.{fails_here, passes_here}
-use Rattle.part_state.proofs.ListChecks.{first_wrong, first_right, reach_wrong, reach_right}
+use Rattle.std.proofs.Common.{arith}
+use Rattle.std.proofs.lemmas.Grind.{common_steps}
+use Rattle.part_state.proofs.ListChecks.{rises_told, reach_first, reach_rises}
 use Rattle.part_state.proofs.lists.valid_ends.Goals as goal
 
-pub returns-then-not-ends_rise : goal.returns-then-not-ends_rise
-unfolding rise_at rises
-returns-then-not-ends_rise c = search fails_here
+pub returns-then-word_there-eq0-2 : goal.returns-then-word_there-eq0-2
+returns-then-word_there-eq0-2 c =
+    let b = c.args.lists.now in
+    let ends = c.reach_word-ends.ensures in
+    grind (arith, common_steps, rises_told b 11 16, rises_told b 28 16, reach_first _ _ c.requires.counts _ ends, reach_rises _ _ c.requires.counts _ ends)
 
-pub returns-then-word_there-ne0 : goal.returns-then-word_there-ne0
-unfolding rise_at rises
-returns-then-word_there-ne0 c = search (passes_here, first_wrong)
-
-pub returns-then-not-ends_rise-2 : goal.returns-then-not-ends_rise-2
-unfolding rise_at rises
-returns-then-not-ends_rise-2 c = search (passes_here, first_right, fails_here)
-
-pub returns-then-word_there-ne0-2 : goal.returns-then-word_there-ne0-2
-unfolding rise_at rises
-returns-then-word_there-ne0-2 c = search (passes_here, first_right, reach_wrong) depth 8 fits 4000
-
-pub returns : goal.returns
-unfolding rise_at rises
-returns c = search (passes_here, first_right, reach_right) depth 8 fits 4000
+pub returns-else-word_there-eq0-2 : goal.returns-else-word_there-eq0-2
+returns-else-word_there-eq0-2 c =
+    let b = c.args.lists.now in
+    let ends = c.reach_word-ends.ensures in
+    grind (arith, common_steps, rises_told b 11 16, rises_told b 28 16, reach_first _ _ c.requires.counts _ ends, reach_rises _ _ c.requires.counts _ ends)

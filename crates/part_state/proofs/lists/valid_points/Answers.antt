@@ -1,12 +1,15 @@
 -- `part_state::lists::valid_points` meets its contract. Assumes nothing.
-use Rattle.part_state.proofs.ListChecks.{points_1, points_2, points_3}
+use Rattle.std.proofs.Common.{arith}
+use Rattle.std.proofs.lemmas.Grind.{common_steps}
+use Rattle.part_state.proofs.ListChecks.{point_first, points_climb}
 use Rattle.part_state.proofs.lists.valid_points.Goals as goal
 
-pub returns-then-word_there-ne0 : goal.returns-then-word_there-ne0
-returns-then-word_there-ne0 c = search points_1
+pub returns-then-ends_rise : goal.returns-then-ends_rise
+returns-then-ends_rise c =
+    let ends = c.point_ends_word-ends.ensures in
+    grind (arith, common_steps, point_first _ _ c.requires.counts _ ends, points_climb _ _ c.requires.counts _ ends)
 
-pub returns-then-not-ends_climb : goal.returns-then-not-ends_climb
-returns-then-not-ends_climb c = search points_2
-
-pub returns : goal.returns
-returns c = search points_3
+pub returns-else-ends_rise : goal.returns-else-ends_rise
+returns-else-ends_rise c =
+    let ends = c.point_ends_word-ends.ensures in
+    grind (arith, common_steps, point_first _ _ c.requires.counts _ ends, points_climb _ _ c.requires.counts _ ends)
