@@ -6,10 +6,15 @@ use Rattle.std.specs.Prelude.{Bool, true, false, cond, List, [], ◌∷◌, ℕ,
 use Rattle.vocabulary.specs.Bytes.{Bytes}
 use Rattle.vocabulary.specs.Lists.{is_in}
 use Rattle.mesh.specs.Mesh.{chain}
+use Rattle.walk_incidence.specs.declared.inner.Incidence.{Incidence}
 
 -- the count of entries, the cell of each, the entry before each, and the last entry of each element
 pub data Links : Type 0 where
   links : ℕ → List ℕ → List ℕ → List ℕ → Links
+
+-- the first t entries of the code's arrays
+abbrev pub linked : ℕ → Incidence → Links
+linked t x = links t x.cell x.prev x.last
 
 -- one entry more: element g in the chain of cell c
 unfoldable pub link : ℕ → ℕ → Links → Links
