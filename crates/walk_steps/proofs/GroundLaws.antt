@@ -18,7 +18,8 @@ use Rattle.mesh.specs.Walks.{incident, cells_at, bad10, steps}
 use Rattle.mesh.specs.Accepted.{Accepted, Element}
 use Rattle.mesh.proofs.DimensionLaws.{dimension_le}
 use Rattle.mesh.proofs.WalkLaws.{below_grows, chains_few, point_incident}
-use Rattle.walk_incidence.specs.Links.{links, link_cells, trail, cells_with}
+use Rattle.walk_incidence.specs.declared.inner.Incidence.{Incidence}
+use Rattle.walk_incidence.specs.Links.{linked, link_cells, trail, cells_with}
 use Rattle.walk_steps.specs.Walking.{is_cell_number, Ground}
 use Rattle.walk_incidence.proofs.TrailLaws.{Linked, LinkedAs, empty, linked_cells, cells_with_lem, trail_same, count_cells, picked_down_lem}
 use Rattle.walk_incidence.proofs.LinkLaws.{entries}
@@ -54,8 +55,8 @@ module _ (m : Bytes) (A : Accepted m) (first cells : ℕ) (fe : first ≡ first_
       All_map (chain m (first + j)) (λ g w. omega (arith, w.1, below_grows m (dimension m (first + j)) 4 (omega (arith, dimension_le m (first + j), A.sizes.d_high)), A.sizes.n_high))
       (A.chain_lower (first + j) (element j h))
 
-  module _ (st : Bytes) (bad : bad10 (top m) st ≡ false) (cell₀ prev₀ : List ℕ) (cl : length cell₀ ≡ record_places) (pl : length prev₀ ≡ record_places) (s : ℕ) (cell prev last : List ℕ)
-      (e : links s cell prev last ≡ link_cells m first cells (empty cell₀ prev₀)) where
+  module _ (st : Bytes) (bad : bad10 (top m) st ≡ false) (cell₀ prev₀ : List ℕ) (cl : length cell₀ ≡ record_places) (pl : length prev₀ ≡ record_places) (s : ℕ) (w : Incidence)
+      (e : linked s w ≡ link_cells m first cells (empty cell₀ prev₀)) where
     -- the entries of all cells' chains
     turned : LinkedAs (link_cells m first cells (empty cell₀ prev₀)) (cells_with m first cells)
     turned = linked_cells cell₀ prev₀ cl pl m first cells room (λ j h. (small j h, A.chain_once (first + j) (element j h)))
@@ -63,18 +64,18 @@ module _ (m : Bytes) (A : Accepted m) (first cells : ℕ) (fe : first ≡ first_
     few : entries (link_cells m first cells (empty cell₀ prev₀)) ≤ most_records
     few = omega (arith, count_cells cell₀ prev₀ m first cells, room)
 
-    K : Linked s cell prev last (cells_with m first cells)
+    K : Linked s w.cell w.prev w.last (cells_with m first cells)
     K = subst (λ L. LinkedAs L (cells_with m first cells)) (sym e) turned
 
     short : s ≤ most_records
     short = subst (λ L. entries L ≤ most_records) (sym e) few
 
     -- the trail of an element, whatever the bound on its length
-    whole : (x : ℕ) → x ≤ most_elements → trail cell prev record_places (get_or last x 0) ≡ cells_with m first cells x
+    whole : (x : ℕ) → x ≤ most_elements → trail w.cell w.prev record_places (get_or w.last x 0) ≡ cells_with m first cells x
     whole x h =
-        trail_same cell prev cell prev s K.falls (λ i a b. (refl, refl)) s record_places (get_or last x 0) (K.within x) (omega (arith, K.within x, short)) (K.within x) ∙ K.told x h
+        trail_same w.cell w.prev w.cell w.prev s K.falls (λ i a b. (refl, refl)) s record_places (get_or w.last x 0) (K.within x) (omega (arith, K.within x, short)) (K.within x) ∙ K.told x h
 
-    pub grounded : Ground m st cell prev last
+    pub grounded : Ground m st w
     unfolding is_cell_number
     grounded = record {
       mesh = A;
@@ -98,9 +99,9 @@ unfolding below
 point_small m A p high = omega (arith, below_grows m 1 4 (omega arith), A.sizes.n_high)
 
 -- so the trail of a point has the cells at it, falling
-pub point_trail : (m st : Bytes) (cell prev last : List ℕ) → Ground m st cell prev last → (p : ℕ) → 1 ≤ p → p ≤ counted m 0
-    → trail cell prev record_places (get_or last p 0) ≡ reverse (cells_at m p)
-point_trail m st cell prev last G p low high = G.trail_is p (point_small m G.mesh p high) ∙ point_cells m G.mesh p low high
+pub point_trail : (m st : Bytes) (w : Incidence) → Ground m st w → (p : ℕ) → 1 ≤ p → p ≤ counted m 0
+    → trail w.cell w.prev record_places (get_or w.last p 0) ≡ reverse (cells_at m p)
+point_trail m st w G p low high = G.trail_is p (point_small m G.mesh p high) ∙ point_cells m G.mesh p low high
 
 pub steps_is : (st : Bytes) (n : ℕ) → n + 1 ≡ length st → n ≡ steps st
 unfolding steps

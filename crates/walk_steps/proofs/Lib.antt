@@ -1,4 +1,4 @@
-pub mod StepLaws
 pub mod NoteLaws
+pub mod StepLaws
 pub mod WalkLaws
 pub mod GroundLaws
