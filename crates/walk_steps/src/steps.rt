@@ -201,11 +201,11 @@ impl<'a> Walker<'a> {
     pub fn walk_down(
         self,
         a: usize,
-        from: &[u16],
         mark: u16,
         marks: &mut [u16],
         found: &mut [u16],
         base: usize,
+        from: &[u16],
     ) -> usize
         requires { Ready self × (a < top self.mesh.now) × All (Cell self.mesh.now) from.now × Frontier mark marks.old found.old base × (base ≤ most_elements) }
         ensures { Added mark marks.new found.old base found.new result
@@ -221,11 +221,11 @@ impl<'a> Walker<'a> {
     // Up from the lower elements in `from` to their cells.
     pub fn walk_up(
         self,
-        from: &[u16],
         mark: u16,
         marks: &mut [u16],
         found: &mut [u16],
         base: usize,
+        from: &[u16],
     ) -> usize
         requires { Ready self × All (Lower self.mesh.now) from.now × Frontier mark marks.old found.old base × (base ≤ most_elements) }
         ensures { Added mark marks.new found.old base found.new result
@@ -250,9 +250,9 @@ impl<'a> Walker<'a> {
     {
         if k % 2 == 1 {
             let a = byte_at(self.stencil, k) as usize;
-            return self.walk_down(a, from, mark, marks, found, base);
+            return self.walk_down(a, mark, marks, found, base, from);
         }
-        self.walk_up(from, mark, marks, found, base)
+        self.walk_up(mark, marks, found, base, from)
     }
 
     // Where the walks of k steps from the first s cells of `from` end: a walk of k - 1 steps, and one step more. Each cell met bears its layer. Where the
