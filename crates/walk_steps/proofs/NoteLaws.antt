@@ -1,19 +1,19 @@
 -- Steps and layers as the code makes them. Assumes nothing.
-use mathlib.Core.Path.{◌≡◌, refl, sym, ap, ◌∙◌}
+use mathlib.Core.Path.{subst, ◌≡◌, refl, sym, ap, ◌∙◌}
 use mathlib.Core.Bool.{Bool, true, false, not, ◌||◌, ◌&&◌, cond}
 use mathlib.Core.List.{List, [], ◌∷◌, ◌++◌}
 use Prim.Native.Nat.{ℕ, ◌+◌, ◌≤◌, ◌<◌}
 use native.Mathlib.Numerals.{add-one}
 use native.Mathlib.Omega.{arith}
 use lib.Dec.{eqb}
-use lib.ListN.{length, get_or, set, take, length-set}
+use lib.ListN.{length, replicate, get_or, set, take, length-set}
 use lib.Seq.{get_or-set_same, get_or-set_other, take-suc}
 use borrow.Author.Tests.{eqb-true, eqb-false, eq-eqb, ne_eqb, not-true, not-false}
 use Rattle.mesh.specs.Meet.{Under}
 use Rattle.vocabulary.specs.Bytes.{Bytes}
 use Rattle.vocabulary.specs.Intervals.{blocks}
-use Rattle.vocabulary.specs.Lists.{is_in, repeats, All}
-use Rattle.vocabulary.proofs.ListLaws.{or_nothing, eqb_swap, is_in_append, All_get_or}
+use Rattle.vocabulary.specs.Lists.{is_in, repeats, All, Zeros}
+use Rattle.vocabulary.proofs.ListLaws.{or_nothing, eqb_swap, is_in_append, All_get_or, zeros}
 use Rattle.mesh.specs.Mesh.{top, below}
 use Rattle.mesh.specs.Accepted.{Accepted, Cell}
 use Rattle.walk_frontier.specs.Visits.{Frontier, Toward, with, down, up, Upward}
@@ -123,3 +123,7 @@ low_enough m a hi A h e = omega (arith, below_grows m (a + 1) 4 (omega (arith, A
 
 pub upwards : (m st : Bytes) (w : Incidence) (from : List ℕ) → Ground m st w → All (Lower m) from → Upward w from
 upwards m st w from G L = upward m G.mesh st w from G L
+
+-- a list that was filled with zeros
+pub filled : (n : ℕ) (list after : List ℕ) → length list ≡ n → after ≡ replicate (length list) 0 → Zeros n after
+filled n list after e f = subst (Zeros n) (sym (f ∙ ap (λ k. replicate k 0) e)) (zeros n)
