@@ -1,9 +1,9 @@
 // The chains of the cells turned round: from an element to its cells.
 ghost use Rattle.std.specs.Prelude.{◌≡◌, map, ◌+◌, ◌<◌, ◌≤◌, length};
 ghost use Rattle.layout.specs.Limits.{most_elements, most_records};
-ghost use Rattle.mesh.specs.Mesh.{elements, record_count, first_cell, cell_count, element_in, follow};
+ghost use Rattle.mesh.specs.Mesh.{elements, element_in, follow};
 ghost use Rattle.mesh.specs.Accepted.{Accepted};
-ghost use Rattle.walk_incidence.specs.Links.{linked, link, link_all, link_cells};
+ghost use Rattle.walk_incidence.specs.Links.{linked, link, link_all, Turned};
 ghost use Rattle.walk_incidence.specs.Sizes.{Sized};
 
 use layout::limits::{ELEMENT_PLACES, RECORD_PLACES};
@@ -71,16 +71,17 @@ impl Incidence {
         s
     }
 
-    // The entries of all cells' chains. Only `last` has to be cleared before.
-    pub fn invert(&mut self, m: &[u8], sizes: MeshSizes) -> usize
-        requires { Accepted m.now × Sized m.now sizes }
-        ensures { linked result self.new ≡ link_cells m.now sizes.first sizes.cells (linked 0 self.old) }
+    // Turns the chains of all cells round.
+    pub fn invert(&mut self, m: &[u8])
+        requires { Accepted m.now }
+        ensures { Turned m.now self.new }
     {
+        let sizes = sizes_of(m);
+        self.last.fill(0);
         let mut s = 0;
         for e in sizes.first..sizes.first + sizes.cells {
             let h = head_of(m, e);
             s = self.link_chain(m, sizes, h, e as u16, s);
         }
-        s
     }
 }

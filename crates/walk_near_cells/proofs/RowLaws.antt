@@ -257,7 +257,7 @@ ready_rows k a w s G t e fit R U K = record {
   marks_low = U;
   rows = λ v i. subst (λ w. NearGround k.mesh.now k.stencil.now s.layers w × Zeros element_places s.from) (same_Some w v i) (
     record {
-      mesh = G.ground.mesh;
+      mesh = G.ground.turned.mesh;
       stencil = G.ground.stencil;
       one = sym G.single_is ∙ t;
       rows = subst (λ x. NearRows k.mesh.now x s.layers w (cell_count k.mesh.now)) e R;

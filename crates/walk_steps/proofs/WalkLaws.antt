@@ -20,7 +20,7 @@ use Rattle.vocabulary.proofs.ListLaws.{or_nothing, and_true, and_intro, and_righ
 use Rattle.vocabulary.proofs.ListLaws.{All_append, All_split, is_in_at, at_is_in, at_all, All_intro}
 use Rattle.layout.specs.Limits.{element_places, most_elements}
 use Rattle.mesh.specs.Mesh.{top, elements, counted, below, first_cell, cell_count}
-use Rattle.mesh.specs.Walks.{bad10, incident, step_to}
+use Rattle.mesh.specs.Walks.{bad10, incident, step_to, steps}
 use Rattle.mesh.proofs.WalkLaws.{stencil_parts, stencil_odd, stencil_even, below_grows}
 use Rattle.mesh.specs.Accepted.{Accepted, Cell}
 use Rattle.mesh.proofs.DimensionLaws.{below_more}
@@ -168,7 +168,7 @@ module _ (m st : Bytes) (A : Accepted m) (bad : bad10 (top m) st ≡ false) (cs 
 
 pub walk_sides : (m st : Bytes) (w : Incidence) (cs : List ℕ) (single : Bool) (k v n met : ℕ) (s : Space) → Ground m st w → All (Cell m) cs → (k ≡ 0 → ⊥)
     → k < length st → WalkDone m st single cs (k - 1) v s n met → Sided m k (take n s.from)
-walk_sides m st w cs single k v n met s G C z h W = sides m st G.mesh G.stencil cs C single k v n met s (omega arith) h W
+walk_sides m st w cs single k v n met s G C z h W = sides m st G.turned.mesh G.stencil cs C single k v n met s (omega arith) h W
 
 -- ---- layers
 
@@ -211,7 +211,7 @@ cell_layer m st w cs n z G C h c = ap first_mark (picked_cong 0 _ _ (n + 1) (λ 
     go j l true q = ap (λ b. b && true) (eq-eqb (j % 2) 0 (even (eqb (j % 2) 1) refl))
       where
         even : (b : Bool) → eqb (j % 2) 1 ≡ b → j % 2 ≡ 0
-        even true o = let w = walked_odd m st G.mesh G.stencil cs C j z l (eqb-true (j % 2) 1 o) q in let n : ⊥ = omega (arith, w.1, c.low) in absurd n
+        even true o = let w = walked_odd m st G.turned.mesh G.stencil cs C j z l (eqb-true (j % 2) 1 o) q in let n : ⊥ = omega (arith, w.1, c.low) in absurd n
         even false o = let n : j % 2 ≡ 1 → ⊥ = eqb-false (j % 2) 1 o in omega arith
     go j l false q = and_right (eqb (j % 2) 0) false refl
 
@@ -305,7 +305,7 @@ module _ (m st : Bytes) (w : Incidence) (cs : List ℕ) (single : Bool) (j v n b
   reaches : (z : ℕ) (b c : Bool) → single ≡ b → M z ≡ c → ((b && c) || is_in z (step_to m (byte_at st (suc j)) (take n a.from))) && not (b && c) ≡ R z && not (b && c)
   unfolding walked_from newly
   reaches z true true p q = sym (and_right (R z) false refl)
-  reaches z true false p q = ap (λ b. b && true) (new_step m st G.mesh G.stencil cs C (sym se ∙ p) j z (take n a.from) h (λ x. W.ends x ∙ ap (λ b. newly b m st cs j x) p) q)
+  reaches z true false p q = ap (λ b. b && true) (new_step m st G.turned.mesh G.stencil cs C (sym se ∙ p) j z (take n a.from) h (λ x. W.ends x ∙ ap (λ b. newly b m st cs j x) p) q)
   reaches z false c p q =
       ap (λ b. b && true) (ap (is_in z) (step_like m (byte_at st (suc j)) (take n a.from) (walked_from m st cs j)
       (λ x. W.ends x ∙ ap (λ b. is_in x (walked_from m st cs j) && not (b && met_before m st cs j x)) p ∙ and_all (is_in x (walked_from m st cs j)))))
@@ -347,7 +347,7 @@ module _ (m st : Bytes) (w : Incidence) (cs : List ℕ) (single : Bool) (j v n b
   layers_are : (z : ℕ) (a b c : Bool) → eqb (suc j % 2) 0 ≡ a → R z ≡ b → M z ≡ c
       → noted (suc j) (a && (b && not (single && c))) (layer_mark m st cs j z) ≡ noted (suc j) (a && b) (layer_mark m st cs j z)
   layers_are z true true true p q r =
-      let c : Cell m z = walked_even m st G.mesh G.stencil cs C (suc j) z h (eqb-true (suc j % 2) 0 p) q in
+      let c : Cell m z = walked_even m st G.turned.mesh G.stencil cs C (suc j) z h (eqb-true (suc j % 2) 0 p) q in
       let o = met_layer m st w cs j z G C (omega arith) c r in
       unfold noted in ap (λ b. cond (not (single && true) && b) (suc j + 1) (layer_mark m st cs j z)) o
       ∙ ap (λ b. cond b (suc j + 1) (layer_mark m st cs j z)) (and_right (not (single && true)) false refl ∙ sym o)
@@ -394,10 +394,10 @@ notes_room v s marks found layers e G = All_map (take s found) (λ y h. omega (a
 
 module _ (m st : Bytes) (w : Incidence) (cs : List ℕ) (G : Ground m st w) (C : All (Cell m) cs) where
   pub cells_fit : (layers : List ℕ) → length layers ≡ element_places → All (λ y. y < length layers) cs
-  cells_fit layers e = All_map cs (λ y h. omega (arith, h.high, G.mesh.cells_in, G.mesh.sizes.n_high)) C
+  cells_fit layers e = All_map cs (λ y h. omega (arith, h.high, G.turned.mesh.cells_in, G.turned.mesh.sizes.n_high)) C
 
   pub cells_small : All (λ y. (1 ≤ y) × (y ≤ most_elements)) cs
-  cells_small = All_map cs (λ y h. (omega (arith, h.low), omega (arith, h.high, G.mesh.cells_in, G.mesh.sizes.n_high))) C
+  cells_small = All_map cs (λ y h. (omega (arith, h.low), omega (arith, h.high, G.turned.mesh.cells_in, G.turned.mesh.sizes.n_high))) C
 
 -- ---- the bounds of the cells met
 
@@ -451,7 +451,7 @@ within_none : (m st : Bytes) (w : Incidence) (e low high : ℕ) (cs layers layer
     → Noted 0 layers layers' (among cs) → Widened (e + 1) 0 low high cs → Within m layers' low high
 within_none m st w e low high cs layers layers' G ee C K N U =
     within_cells m 0 (e + 1) 0 low high (among cs) cs layers layers' N (λ z q. unfold among in q)
-    (record { starts = omega (arith, G.mesh.cells_in); ends = omega (arith, G.mesh.cells_in); stops = omega arith; before = λ z l. K.each z; after = λ z l. K.each z })
+    (record { starts = omega (arith, G.turned.mesh.cells_in); ends = omega (arith, G.turned.mesh.cells_in); stops = omega arith; before = λ z l. K.each z; after = λ z l. K.each z })
     C U
 
 -- ---- what a walk answers
@@ -486,7 +486,7 @@ ends_more m st w cs single k v n base s n' low high low' high' met' a b G C se h
     inside false q =
         let o = eqb-false (k % 2) 1 q in
         within_cells m k low high low' high' (cells_among k new) new a.layers b.layers A.notes (λ z q. unfold cells_among in (and_true (eqb (k % 2) 0) (is_in z new) q).1) W.1
-        (subst (All (Cell m)) A.moved (each_of m st G.mesh G.stencil cs C _ single k n' b.from here.ends (λ z e. walked_even m st G.mesh G.stencil cs C k z h (omega arith) e))) (A.even o)
+        (subst (All (Cell m)) A.moved (each_of m st G.turned.mesh G.stencil cs C _ single k n' b.from here.ends (λ z e. walked_even m st G.turned.mesh G.stencil cs C k z h (omega arith) e))) (A.even o)
 
 -- a walk from one cell, put in front of `from`
 pub front : (from after : List ℕ) (c : ℕ) → length from ≡ element_places → after ≡ set from 0 c → take 1 after ≡ c ∷ []
@@ -534,3 +534,7 @@ module _ (k : ℕ) (single : Bool) (base : ℕ) (found new from from' layers : L
 -- what is copied to the front of a list stands there
 pub copied : (xs ys from : List ℕ) (n : ℕ) → n ≡ length xs → ys ≡ xs → take n (ys ++ drop n from) ≡ xs
 copied xs ys from n h e = take_at ys (drop n from) n (ap length e ∙ sym h) ∙ e
+
+pub steps_is : (st : Bytes) (n : ℕ) → n + 1 ≡ length st → n ≡ steps st
+unfolding steps
+steps_is st n e = omega arith

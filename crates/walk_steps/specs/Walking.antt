@@ -1,29 +1,23 @@
 -- What a step of a walk stands on, and what it gathers. No public contract rests on this page. Assumes nothing.
-use Rattle.std.specs.Prelude.{◌≡◌, Bool, false, not, ◌&&◌, ◌||◌, cond, List, [], ◌∷◌, ℕ, zero, suc, ◌+◌, ◌*◌, ◌/◌, ◌%◌, ◌≤◌, ◌<◌, eqb, leb, ltb, length, get_or, take, drop}
+use Rattle.std.specs.Prelude.{◌≡◌, Bool, false, not, ◌&&◌, ◌||◌, cond, List, [], ◌∷◌, ℕ, zero, suc, ◌+◌, ◌*◌, ◌/◌, ◌%◌, ◌≤◌, ◌<◌, eqb, length, get_or, take, drop}
 use Rattle.vocabulary.specs.Bytes.{Bytes, byte_at}
 use Rattle.vocabulary.specs.Intervals.{picked, some, every}
 use Rattle.vocabulary.specs.Lists.{is_in, All}
-use Rattle.layout.specs.Limits.{element_places, most_elements, record_places}
-use Rattle.mesh.specs.Mesh.{top, below, first_cell, cell_count, chain}
+use Rattle.layout.specs.Limits.{element_places}
+use Rattle.mesh.specs.Mesh.{top, below, first_cell, cell_count}
 use Rattle.mesh.specs.Walks.{bad10, step_to}
-use Rattle.mesh.specs.Accepted.{Accepted, Cell}
-use Rattle.walk_incidence.specs.Links.{trail, cells_with}
+use Rattle.mesh.specs.Accepted.{Cell}
+use Rattle.walk_incidence.specs.Links.{Turned}
 use Rattle.walk_frontier.specs.Visits.{Frontier}
 use Rattle.walk_incidence.specs.declared.inner.Incidence.{Incidence}
 use Rattle.walk_incidence.specs.Sizes.{Sized}
 use Rattle.walk_steps.specs.declared.steps.Space.{Space}
 use Rattle.walk_steps.specs.declared.steps.Walker.{Walker}
 
--- y is a cell
-unfoldable pub is_cell_number : Bytes → ℕ → Bool
-is_cell_number m y = leb (first_cell m) y && ltb y (first_cell m + cell_count m)
-
--- an accepted mesh and stencil, with its inverted chains
+-- the chains of an accepted mesh turned round, and an accepted stencil
 pub record Ground (m st : Bytes) (w : Incidence) : Type 0 where
-  pub mesh : Accepted m
+  pub turned : Turned m w
   pub stencil : bad10 (top m) st ≡ false
-  pub told : (x y : ℕ) → x ≤ most_elements → is_in y (trail w.cell w.prev record_places (get_or w.last x 0)) ≡ is_cell_number m y && is_in x (chain m y)
-  pub trail_is : (x : ℕ) → x ≤ most_elements → trail w.cell w.prev record_places (get_or w.last x 0) ≡ cells_with m (first_cell m) (cell_count m) x
 
 -- the first n numbers of `from` are all cells
 pub record AllCells (m : Bytes) (from : List ℕ) (n : ℕ) : Type 0 where

@@ -1,5 +1,5 @@
 // One step of a walk, down to lower elements or up to cells, and the layers of what is reached.
-ghost use Rattle.std.specs.Prelude.{◌≡◌, cond, [], ◌∷◌, ℕ, ◌+◌, ◌<◌, ◌≤◌, eqb, length, take};
+ghost use Rattle.std.specs.Prelude.{◌≡◌, false, cond, [], ◌∷◌, ℕ, ◌+◌, ◌<◌, ◌≤◌, eqb, length, take};
 ghost use Rattle.mesh.specs.Meet.{Under};
 ghost use Rattle.vocabulary.specs.Bytes.{byte_at};
 ghost use Rattle.vocabulary.specs.Lists.{All, Zeros};
@@ -8,6 +8,7 @@ ghost use Rattle.mesh.specs.Mesh.{top};
 ghost use Rattle.mesh.specs.Accepted.{Accepted, Cell};
 ghost use Rattle.mesh.specs.Walks.{bad10};
 ghost use Rattle.walk_frontier.specs.Visits.{Frontier, Toward, Added};
+ghost use Rattle.walk_incidence.specs.Links.{Turned};
 ghost use Rattle.walk_incidence.specs.Sizes.{Sized};
 ghost use Rattle.walk_steps.specs.Walking.{Ground, Ready, AllCells, Sided, Lower, stepped, alike, through_one, mark_at, starts_among, or_among, among, Noted};
 ghost use Rattle.walk_steps.specs.Walking.{WalkDone, Within, Widened, Departed, Arrived};
@@ -185,7 +186,7 @@ fn arrive(
 impl<'a> Walker<'a> {
     // A walker over an accepted mesh, by its chains turned round.
     pub fn new(mesh: &'a [u8], stencil: &'a [u8], incidence: &'a Incidence) -> Walker<'a>
-        requires { Ground mesh.now stencil.now incidence.now }
+        requires { Turned mesh.now incidence.now × (bad10 (top mesh.now) stencil.now ≡ false) }
         ensures { Ready result × (result.mesh ≡ mesh.entry) × (result.stencil ≡ stencil.entry) × (result.incidence ≡ incidence.entry) }
     {
         Walker {

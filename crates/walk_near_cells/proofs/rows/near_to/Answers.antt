@@ -14,8 +14,8 @@ pub visit-own-requires : goal.visit-own-requires
 visit-own-requires c = (
   begin_next _ _ _ _ _ c.walk_down-n.ensures.gathered (search rules),
   search rules,
-  (cell_small _ _ c.requires.0.ground.mesh c.requires.2).0,
-  (cell_small _ _ c.requires.0.ground.mesh c.requires.2).1,
+  (cell_small _ _ c.requires.0.ground.turned.mesh c.requires.2).0,
+  (cell_small _ _ c.requires.0.ground.turned.mesh c.requires.2).1,
 )
 
 pub walk_up-requires : goal.walk_up-requires
