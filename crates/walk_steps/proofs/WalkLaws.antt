@@ -251,6 +251,7 @@ walk_none m st single k v met cs layers s r z C K T N = subst (λ x. WalkDone m 
   room = r;
   count = ap length C;
   ends = λ z. ap (is_in z) C ∙ sym (ap (λ b. is_in z cs && not b) (and_right single false refl) ∙ and_all (is_in z cs));
+  size = N.size ∙ K.size;
   layered = λ z. N.each z ∙ ap (noted 0 (among cs z)) (K.each z) ∙ first z (among cs z) refl;
 })
   where
@@ -363,6 +364,7 @@ module _ (m st : Bytes) (w : Incidence) (cs : List ℕ) (single : Bool) (j v n b
     room = r;
     count = ap length A.moved ∙ sym A.count;
     ends = ends;
+    size = A.notes.size ∙ W.size;
     layered = λ z.
         A.notes.each z
         ∙ ap₂ (noted (suc j)) (ap (λ b. eqb (suc j % 2) 0 && b) (ap (is_in z) (sym A.moved) ∙ ends z)) (W.layered z)
@@ -496,11 +498,11 @@ pub one_cell : (m : Bytes) (from after : List ℕ) (c : ℕ) → Cell m c → le
 one_cell m from after c C r f = record { each = rw (front from after c r f) (C, tt); count = ap length (front from after c r f) }
 
 -- what a walk leaves for the next
-pub walk_fresh : (m st : Bytes) (cs : List ℕ) (single : Bool) (k v n met : ℕ) (s : Space) → WalkDone m st single cs k v s n met → Under (v + (k + 1)) s.marks
+pub walk_fresh : (m st : Bytes) (cs : List ℕ) (single : Bool) (k v n met i : ℕ) (s : Space) → k < i → WalkDone m st single cs k v s n met → Under (v + i) s.marks
 unfolding mark_at
-walk_fresh m st cs single k v n met s W = record { size = W.gathered.size; each = λ y. go single (W.gathered.top y) }
+walk_fresh m st cs single k v n met i s h W = record { size = W.gathered.size; each = λ y. go single (W.gathered.top y) }
   where
-    go : {x : ℕ} (b : Bool) → x ≤ mark_at b v k → x < v + (k + 1)
+    go : {x : ℕ} (b : Bool) → x ≤ mark_at b v k → x < v + i
     go true l = omega arith
     go false l = omega arith
 

@@ -101,6 +101,7 @@ pub record WalkDone (m st : Bytes) (single : Bool) (cs : List ℕ) (k v : ℕ) (
   pub room : length s.from ≡ element_places
   pub count : length (take n s.from) ≡ n
   pub ends : (z : ℕ) → is_in z (take n s.from) ≡ newly single m st cs k z
+  pub size : length s.layers ≡ element_places
   pub layered : (z : ℕ) → get_or s.layers z 0 ≡ layer_mark m st cs k z
 
 -- what has a layer stands from `low` on and before `high`, among the cells

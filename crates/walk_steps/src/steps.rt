@@ -51,6 +51,7 @@ pub struct Walker<'a> {
 }
 
 // The arrays that walks are made in: the marks of the elements met, where the walks so far end, what the next step finds, and the layers of the cells met.
+#[derive(Drop)]
 pub struct Space {
     pub marks: [u16; ELEMENT_PLACES],
     pub from: [u16; ELEMENT_PLACES],
