@@ -1,135 +1,72 @@
 // What the lists of all parts are read off: the chains turned round, a table of the reaches, and how many parts hold each cell. The tests 12
 // and 13.
-ghost use Rattle.std.specs.Prelude.{◌≡◌, true, false, [], ◌≤◌, length, replicate};
-ghost use Rattle.layout.specs.Limits.{element_places, most_elements, record_places, table_bytes};
+ghost use Rattle.std.specs.Prelude.{◌≡◌, true, false, [], ◌≤◌, length};
+ghost use Rattle.layout.specs.Limits.{element_places, most_elements, table_bytes};
 ghost use Rattle.mesh.specs.Mesh.{top};
 ghost use Rattle.mesh.specs.Walks.{bad10, bad13};
 ghost use Rattle.mesh.specs.Accepted.{Accepted};
-ghost use Rattle.walk_steps.specs.Walking.{Ground, Sized, Arrays};
+ghost use Rattle.walk_incidence.specs.Links.{Turned};
+ghost use Rattle.walk_steps.specs.Walking.{Ready};
 ghost use Rattle.split.specs.Lists.{bad8, sizes_number};
 ghost use Rattle.split_classes.specs.Classes.{Prepared};
 
-use layout::limits::{ELEMENT_PLACES, MOST_HELD, MOST_REACHED};
+use layout::limits::{ELEMENT_PLACES, MOST_HELD};
 use split_classes::inner::count_holders;
-use walk_incidence::inner::invert;
+use walk_incidence::inner::Incidence;
 use walk_part_reach::inner::count_all;
 use walk_reach_table::inner::reach_all;
-use walk_steps::inner::{MeshSizes, sizes_of};
-
-// Inverts the chains of all cells. Only `last` has to be cleared.
-pub fn link(
-    m: &[u8],
-    sizes: MeshSizes,
-    stencil: &[u8],
-    cell: &mut [u16],
-    prev: &mut [u16],
-    last: &mut [u16],
-)
-    requires { Accepted m.now × Sized m.now sizes × (bad10 (top m.now) stencil.now ≡ false) × (length cell.old ≡ record_places)
-        × (length prev.old ≡ record_places) × (last.old ≡ replicate element_places 0) }
-    ensures { Ground m.now stencil.now cell.new prev.new last.new }
-{
-    invert(
-        m,
-        sizes.elements,
-        sizes.records,
-        sizes.first,
-        sizes.cells,
-        cell,
-        prev,
-        last,
-    );
-}
+use walk_steps::inner::{Space, Walker};
 
 // Which of the tests 12 and 13 refuses first, where the reaches have too many entries for the table: how many cells the parts hold together is told
 // by walks from whole parts, in lent space.
 #[tactic(auto, using(crate::proofs::PreparedLaws::overflow_twelve, crate::proofs::PreparedLaws::overflow_thirteen))]
-fn overflow_number(
-    m: &[u8],
-    sizes: MeshSizes,
-    parts: u32,
-    owners: &[u8],
-    stencil: &[u8],
-    cell: &[u16],
-    prev: &[u16],
-    last: &[u16],
-    marks: &mut [u16],
-    from: &mut [u16],
-    found: &mut [u16],
-    layers: &mut [u16],
-) -> u32
-    requires { Ground m.now stencil.now cell.now prev.now last.now × Sized m.now sizes × (bad8 m.now parts owners.now [] ≡ false) × (bad13 m.now stencil.now ≡ true)
-        × Arrays marks.old from.old found.old layers.old }
-    ensures { (result ≡ sizes_number m.now parts owners.now stencil.now) × (1 ≤ result) }
+fn overflow_number(walker: Walker, parts: u32, owners: &[u8], space: &mut Space) -> u32
+    requires { Ready walker × (bad8 walker.mesh.now parts owners.now [] ≡ false) × (bad13 walker.mesh.now walker.stencil.now ≡ true) }
+    ensures { (result ≡ sizes_number walker.entry.mesh.now parts owners.now walker.entry.stencil.now) × (1 ≤ result) }
 {
-    let held = count_all(
-        m,
-        sizes,
-        stencil,
-        cell,
-        prev,
-        last,
-        owners,
-        parts as usize,
-        marks,
-        from,
-        found,
-        layers,
-    );
+    let held = count_all(walker, owners, parts as usize, space);
     if MOST_HELD < held { 12 } else { 13 }
 }
 
-// Prepares the tables for an accepted mesh, map and stencil, in lent space, of which `last` is cleared: the number of the first of the tests 12 and 13
-// that refuses, and 0 where none does. The row is work space.
+// Prepares the tables for an accepted mesh, map and stencil, in lent space: the number of the first of the tests 12 and 13 that refuses, and 0 where none does.
+// The row is work space.
 pub fn prepare(
     m: &[u8],
     parts: u32,
     owners: &[u8],
     stencil: &[u8],
-    cell: &mut [u16],
-    prev: &mut [u16],
-    last: &mut [u16],
+    incidence: &mut Incidence,
     table: &mut [u8],
     ends: &mut [u16],
     holders: &mut [u8],
     class: &mut [u8],
 ) -> u32
-    requires { Accepted m.now × (bad8 m.now parts owners.now [] ≡ false) × (bad10 (top m.now) stencil.now ≡ false) × (length cell.old ≡ record_places)
-        × (length prev.old ≡ record_places) × (last.old ≡ replicate element_places 0) × (length table.old ≡ table_bytes) × (length ends.old ≡ element_places)
-        × (length holders.old ≡ most_elements) × (length class.old ≡ most_elements) }
+    requires { Accepted m.now × (bad8 m.now parts owners.now [] ≡ false) × (bad10 (top m.now) stencil.now ≡ false) × (length table.old ≡ table_bytes)
+        × (length ends.old ≡ element_places) × (length holders.old ≡ most_elements) × (length class.old ≡ most_elements) }
     ensures { (result ≡ sizes_number m.now parts owners.now stencil.now)
         × (result ≡ 0 → Prepared m.now parts owners.now stencil.now table.new ends.new holders.new)
-        × Ground m.now stencil.now cell.new prev.new last.new }
+        × Turned m.now incidence.new }
 {
-    let sizes = sizes_of(m);
-    link(m, sizes, stencil, cell, prev, last);
-    let mut marks = [0u16; ELEMENT_PLACES];
-    let mut from = [0u16; ELEMENT_PLACES];
-    let mut found = [0u16; ELEMENT_PLACES];
-    let mut near = [0u16; ELEMENT_PLACES];
-    let entries = reach_all(
-        m, sizes, stencil, cell, prev, last, &mut marks, &mut from, &mut found, &mut near, table,
+    incidence.invert(m);
+    let walker = Walker::new(m, stencil, incidence);
+    let mut space = Space {
+        marks: [0; ELEMENT_PLACES],
+        from: [0; ELEMENT_PLACES],
+        found: [0; ELEMENT_PLACES],
+        layers: [0; ELEMENT_PLACES],
+    };
+    if reach_all(walker, &mut space, table, ends).is_none() {
+        return overflow_number(walker, parts, owners, &mut space);
+    }
+    let held = count_holders(
+        owners,
+        table,
         ends,
+        walker.sizes.cells,
+        parts as usize,
+        class,
+        holders,
+        &mut space.marks,
     );
-    if MOST_REACHED < entries {
-        return overflow_number(
-            m, sizes, parts, owners, stencil, cell, prev, last, &mut marks, &mut from, &mut found,
-            &mut near,
-        );
-    }
-    if MOST_HELD
-        < count_holders(
-            owners,
-            table,
-            ends,
-            sizes.cells,
-            parts as usize,
-            class,
-            holders,
-            &mut marks,
-        )
-    {
-        return 12;
-    }
-    0
+    if MOST_HELD < held { 12 } else { 0 }
 }

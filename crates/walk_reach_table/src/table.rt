@@ -112,7 +112,7 @@ pub fn reach_all(
 ) -> Option<usize>
     requires { Ready walker × Under 1 space.old.marks × Zeros element_places space.old.layers × (length table.old ≡ table_bytes) × (length ends.old ≡ element_places) }
     ensures { MatchOption result (bad13 walker.entry.mesh.now walker.entry.stencil.now ≡ true)
-        (Tabled walker.entry.mesh.now walker.entry.stencil.now table.old table.new ends.new) }
+        (λ t. Tabled walker.entry.mesh.now walker.entry.stencil.now table.old table.new ends.new t × (length space.new.marks ≡ element_places)) }
 {
     let rows = near_rows(walker, space);
     let mut t = 0;

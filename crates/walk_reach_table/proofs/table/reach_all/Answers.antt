@@ -36,4 +36,7 @@ loop-q-preserved c =
     )
 
 pub returns : goal.returns
-returns c = table_end _ _ _ _ _ _ _ _ c.requires.0.sized.cells_is c.loop-q.invariant.0 c.loop-q-test.false c.loop-q.invariant.3 c.loop-q.invariant.4
+returns c = (
+  table_end _ _ _ _ _ _ _ _ c.requires.0.sized.cells_is c.loop-q.invariant.0 c.loop-q-test.false c.loop-q.invariant.3 c.loop-q.invariant.4,
+  c.loop-q.invariant.2.marks_low.size,
+)
