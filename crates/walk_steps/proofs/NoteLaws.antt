@@ -47,7 +47,7 @@ gone_down m a lo hi base s from found found' A h le he C t = toward_as found' s 
 pub gone_up : (m st : Bytes) (w : Incidence) (from found found' : List ℕ) (base s : ℕ) → Ground m st w → All (Lower m) from
     → Toward found' s [] (with found base (blocks 0 (length from) (up w from))) → Toward found' s [] (or_among found base (stepped m (top m) from))
 unfolding with or_among
-gone_up m st w from found found' base s G L t = toward_as found' s _ _ (λ z. ap (λ b. is_in z (take base found) || b) (up_told m G.turned.mesh st w from G L z)) t
+gone_up m st w from found found' base s G L t = toward_as found' s _ _ (λ z. ap (λ b. is_in z (take base found) || b) (up_told m G.turned.mesh w from G.turned L z)) t
 
 -- ---- before the first step
 
@@ -122,7 +122,7 @@ pub low_enough : (m : Bytes) (a hi : ℕ) → Accepted m → a < top m → hi �
 low_enough m a hi A h e = omega (arith, below_grows m (a + 1) 4 (omega (arith, A.sizes.d_high)), A.sizes.n_high)
 
 pub upwards : (m st : Bytes) (w : Incidence) (from : List ℕ) → Ground m st w → All (Lower m) from → Upward w from
-upwards m st w from G L = upward m G.turned.mesh st w from G L
+upwards m st w from G L = upward m G.turned.mesh w from G.turned L
 
 -- a list that was filled with zeros
 pub filled : (n : ℕ) (list after : List ℕ) → length list ≡ n → after ≡ replicate (length list) 0 → Zeros n after

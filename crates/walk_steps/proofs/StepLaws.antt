@@ -19,10 +19,9 @@ use Rattle.mesh.specs.Accepted.{Accepted, Cell}
 use Rattle.mesh.proofs.DimensionLaws.{below_next, dimension_le}
 use Rattle.mesh.proofs.WalkLaws.{below_grows}
 use Rattle.walk_incidence.specs.declared.inner.Incidence.{Incidence}
-use Rattle.walk_incidence.specs.Links.{trail}
 use Rattle.walk_frontier.specs.Visits.{between, down, up, Upward}
-use Rattle.walk_incidence.specs.Links.{is_cell_number}
-use Rattle.walk_steps.specs.Walking.{Ground, Lower, stepped}
+use Rattle.walk_incidence.specs.Links.{trail, is_cell_number, Turned}
+use Rattle.walk_steps.specs.Walking.{Lower, stepped}
 
 -- ---- lists by what stands in them
 
@@ -167,7 +166,7 @@ module _ (m : Bytes) (A : Accepted m) where
 
   -- ---- up
 
-  module _ (st : Bytes) (w : Incidence) (from : List ℕ) (G : Ground m st w) (L : All (Lower m) from) where
+  module _ (w : Incidence) (from : List ℕ) (T : Turned m w) (L : All (Lower m) from) where
     lower_at : (j : ℕ) → j < length from → Lower m (get_or from j 0)
     lower_at j h = All_get_or (Lower m) from j 0 L h
 
@@ -186,7 +185,7 @@ module _ (m : Bytes) (A : Accepted m) where
       where
         told : (i : ℕ) → i < length from
             → is_in z (trail w.cell w.prev record_places (get_or w.last (get_or from (0 + i) 0) 0)) ≡ is_cell_number m z && is_in (get_or from (0 + i) 0) (chain m z)
-        told i h = let q : 0 + i ≡ i = omega arith in rw q (G.turned.told (get_or from i 0) z (lower_small i h))
+        told i h = let q : 0 + i ≡ i = omega arith in rw q (T.told (get_or from i 0) z (lower_small i h))
 
         go : (b : Bool) → is_cell_number m z ≡ b → is_cell_number m z && some_of from (λ x. is_in x (chain m z)) ≡ is_cell_number m z && some_of from (λ x. incident m x z)
         go true e =
@@ -206,7 +205,7 @@ module _ (m : Bytes) (A : Accepted m) where
         fits : (x : ℕ) → x ≤ most_elements → (l : ℕ) → l < length (cells x) → (1 ≤ get_or (cells x) l 0) × (get_or (cells x) l 0 ≤ most_elements)
         fits x h l k =
             let y = get_or (cells x) l 0 in
-            let t = sym (G.turned.told x y h) ∙ at_is_in y (cells x) (record { place = l; place_lt = k; place_is = refl }) in
+            let t = sym (T.told x y h) ∙ at_is_in y (cells x) (record { place = l; place_lt = k; place_is = refl }) in
             let w = and_true (leb (first_cell m) y && ltb y (first_cell m + cell_count m)) (is_in x (chain m y)) t in
             let u = and_true (leb (first_cell m) y) (ltb y (first_cell m + cell_count m)) w.0 in
             (omega (arith, leb-true (first_cell m) y u.0), omega (arith, ltb-true y (first_cell m + cell_count m) u.1, A.cells_in, A.sizes.n_high))
