@@ -1,18 +1,17 @@
 -- The prepared tables say what the definitions say. Assumes nothing.
-use mathlib.Core.Path.{◌≡◌, refl, sym, ap, ap₂, ◌∙◌}
+use mathlib.Core.Path.{◌≡◌, sym, ap, ap₂, ◌∙◌}
 use mathlib.Core.Bool.{Bool, true, false, cond}
 use mathlib.Core.List.{List, []}
 use Prim.Native.Nat.{ℕ, ◌+◌, ◌-◌, ◌*◌, ◌≤◌, ◌<◌}
 use native.Mathlib.Omega.{arith}
 use lib.Dec.{eqb, ltb}
 use lib.ListN.{length, get_or}
-use Rattle.std.proofs.Common.{Option, None, Some, MatchOption, is_some}
 use borrow.Author.Tests.{lt-ltb, le-ltb}
 use Rattle.vocabulary.specs.Bytes.{Bytes, over}
 use Rattle.vocabulary.specs.Intervals.{every, total}
 use Rattle.vocabulary.proofs.IntervalLaws.{every_at, every_intro}
 use Rattle.vocabulary.specs.Lists.{every_of}
-use Rattle.vocabulary.proofs.ListLaws.{not_both, same_test, every_of_at, every_of_intro, All_intro}
+use Rattle.vocabulary.proofs.ListLaws.{same_test, every_of_at, every_of_intro, All_intro}
 use Rattle.layout.specs.Words.{word_at, bytes_of}
 use Rattle.layout.specs.Limits.{most_held}
 use Rattle.mesh.specs.Mesh.{top, first_cell, cell_count}
@@ -47,11 +46,6 @@ module _ (m st before table : Bytes) (e : table ≡ over before 0 (bytes_of (tab
       ap₂ (λ x y. every x y (λ t. eqb (owner_at owners (word_at table (2 * t))) i)) a n
       ∙ every_list (entry_count m st q) (λ t. eqb (owner_at owners (word_at table (2 * t))) i) (reach m st (first_cell m + q)) d (λ e. eqb (owner_at owners (e.cell - first_cell m)) i)
       (λ t k. ap (λ x. eqb (owner_at owners x) i) (entry_is m st before table e q t d h k).0)
-
--- what there is
-pub present : (o : Option ℕ) (P : Type 0) (Q : ℕ → Type 0) → is_some o ≡ true → MatchOption o P Q → (t : ℕ) × Q t
-present None P Q e h = absurd (not_both false e refl)
-present (Some t) P Q e h = (t, h)
 
 -- ---- the tests 12 and 13, and the tables, where the reaches are found first
 

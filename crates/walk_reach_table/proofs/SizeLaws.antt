@@ -1,5 +1,7 @@
 -- Test 13 as the table tells it: the reaches are too many where there is no table. Assumes nothing.
-use mathlib.Core.Path.{◌≡◌}
+use mathlib.Core.Path.{◌≡◌, refl}
+use Rattle.std.proofs.Common.{Option, None, Some, MatchOption, is_some}
+use Rattle.vocabulary.proofs.ListLaws.{not_both}
 use mathlib.Core.Bool.{true, false}
 use mathlib.Core.List.{List}
 use Prim.Native.Nat.{ℕ, ◌≤◌, ◌<◌}
@@ -18,3 +20,12 @@ table_refused m st h = lt-ltb most_reached _ h
 pub table_made : (m st before after : Bytes) (ends : List ℕ) (r : ℕ) → Tabled m st before after ends r → bad13 m st ≡ false
 unfolding bad13 entry_count
 table_made m st before after ends r t = le-ltb most_reached _ (let h : entry_count m st (cell_count m) ≤ most_reached = omega (arith, t.count, t.few) in unfold entry_count in h)
+
+-- what a test for None tells
+pub present : (o : Option ℕ) (P : Type 0) (Q : ℕ → Type 0) → is_some o ≡ true → MatchOption o P Q → (t : ℕ) × Q t
+present None P Q e h = absurd (not_both false e refl)
+present (Some t) P Q e h = (t, h)
+
+pub absent : (o : Option ℕ) (P : Type 0) (Q : ℕ → Type 0) → is_some o ≡ false → MatchOption o P Q → P
+absent None P Q e h = h
+absent (Some t) P Q e h = absurd (not_both true refl e)

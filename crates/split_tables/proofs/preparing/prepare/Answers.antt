@@ -8,7 +8,8 @@ use Rattle.layout.specs.Limits.{element_places}
 use Rattle.mesh.proofs.AcceptedLaws.{cells_few}
 use Rattle.mesh.proofs.MeetLaws.{under_none}
 use Rattle.split.proofs.SplitLaws.{map_facts}
-use Rattle.split_tables.proofs.PreparedLaws.{present, tables_held, tables_passed, tables_prepared}
+use Rattle.walk_reach_table.proofs.SizeLaws.{present}
+use Rattle.split_tables.proofs.PreparedLaws.{tables_held, tables_passed, tables_prepared}
 use Rattle.split_tables.proofs.preparing.prepare.Goals as goal
 
 pub reach_all-requires : goal.reach_all-requires
