@@ -3,7 +3,7 @@ ghost use Rattle.std.specs.Prelude.{[], ◌∷◌, length, take, ◌≤◌};
 ghost use Rattle.list_text.specs.Listing.{decimal, spaced, line};
 ghost use Rattle.list_text.specs.Printing.{Printed, numbers};
 
-use layout::number_at;
+use layout::get_or;
 
 fn put_byte(x: u8, out: &mut [u8], at: usize) -> usize
     ensures { Printed out.old out.new at result (x ∷ []) }
@@ -50,7 +50,7 @@ pub fn put_numbers(list: &[u16], n: usize, out: &mut [u8], at: usize) -> usize
 {
     let mut t = at;
     for k in 0..n {
-        t = put_spaced(number_at(list, k) as usize, out, t);
+        t = put_spaced(get_or(list, k, 0) as usize, out, t);
     }
     put_byte(10, out, t)
 }

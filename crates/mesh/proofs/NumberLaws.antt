@@ -11,7 +11,7 @@ use borrow.Author.Tests.{ltb-false, le-leb, lt-leb, eqb-false, ne_eqb}
 use Rattle.vocabulary.specs.Bytes.{Bytes}
 use Rattle.vocabulary.proofs.ListLaws.{or_false}
 use Rattle.layout.specs.Answers.{answer}
-use Rattle.layout.specs.declared.Answer.TheVariants.{Done, Refused}
+use Rattle.layout.specs.Answers.{Done, Refused}
 use Rattle.layout.specs.Limits.{most_elements, most_records}
 use Rattle.mesh.specs.Mesh.{top, counted, below, elements, record_count, cell_count, bad_count, bad1, bad2, mesh_number, check_answer}
 use Rattle.mesh.specs.Meet.{Sizes}

@@ -9,7 +9,7 @@ use Rattle.vocabulary.specs.Tests.{Test, refuse, first_of}
 use Rattle.vocabulary.specs.Bytes.{Bytes}
 use Rattle.layout.specs.Words.{word_at}
 use Rattle.layout.specs.Answers.{answer}
-use Rattle.layout.specs.declared.Answer.{Answer}
+use Rattle.layout.specs.Answers.{Answer}
 use Rattle.layout.specs.Limits.{most_elements, most_records}
 
 module _ (m : Bytes) where

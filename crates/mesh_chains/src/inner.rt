@@ -8,7 +8,7 @@ ghost use Rattle.mesh.specs.Meet.{Met, meet, Sizes};
 ghost use Rattle.mesh_chains.specs.Written.{ChainNotes, note, stretch, Places, MarksBelow, Wrote, Written};
 
 use layout::limits::RECORD_PLACES;
-use layout::put_number_at;
+use layout::put_at;
 use mesh::inner::{count_of, head_of, is_empty, read_record};
 
 // What a small mesh has at most: its arrays are small, since to clear them costs time at every call.
@@ -72,7 +72,7 @@ fn write_chain(
         }
         seen[i] = 1;
         let here = read_record(m, n, i);
-        put_number_at(items, t, here.element as u16);
+        put_at(items, t, here.element as u16);
         i = here.next;
     }
     Followed {

@@ -14,8 +14,8 @@ use Rattle.layout.specs.Words.{word, word_bytes}
 use Rattle.layout.proofs.WordLaws.{length_word_bytes}
 use Rattle.depths.proofs.DepthLaws.{fours_length}
 use Rattle.layout.proofs.AnswerLaws.{refuses, accepts}
-use Rattle.layout.specs.declared.Answer.{Answer}
-use Rattle.layout.specs.declared.Answer.TheVariants.{Done, Refused}
+use Rattle.layout.specs.Answers.{Answer}
+use Rattle.layout.specs.Answers.{Done, Refused}
 use Rattle.part_state.specs.State.{Lists, lists_in, lists_of, dynamic, owned_count, state_length, depths_place}
 use Rattle.part_state.specs.Checks.{Counts}
 use Rattle.part_state.specs.declared.places.Sizes.{Sizes}

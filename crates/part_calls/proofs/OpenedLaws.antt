@@ -12,7 +12,7 @@ use Rattle.vocabulary.proofs.IntervalLaws.{up_to_true}
 use Rattle.layout.specs.Words.{word_at}
 use Rattle.layout.specs.Answers.{answer}
 use Rattle.layout.proofs.AnswerLaws.{refuses}
-use Rattle.layout.specs.declared.Answer.TheVariants.{Refused}
+use Rattle.layout.specs.Answers.{Refused}
 use Rattle.layout.specs.Limits.{most_parts}
 use Rattle.depths.specs.Depths.{four}
 use Rattle.depths.proofs.DepthLaws.{fours_of}

@@ -10,7 +10,7 @@ use Rattle.vocabulary.specs.Tests.{Test, refuse, first_of}
 use Rattle.vocabulary.specs.Bytes.{Bytes, byte_at, over}
 use Rattle.layout.specs.Words.{word_bytes}
 use Rattle.layout.specs.Answers.{answer, if_accepted}
-use Rattle.layout.specs.declared.Answer.{Answer}
+use Rattle.layout.specs.Answers.{Answer}
 use Rattle.layout.specs.Limits.{most_parts, last_round}
 use Rattle.depths.specs.Depths.{four}
 use Rattle.round_rule.specs.Rules.{plain_mean}

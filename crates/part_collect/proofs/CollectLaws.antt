@@ -10,8 +10,8 @@ use Rattle.vocabulary.specs.Bytes.{Bytes, over}
 use Rattle.layout.specs.Words.{word}
 use Rattle.depths.specs.Depths.{four}
 use Rattle.layout.proofs.AnswerLaws.{refuses, accepts}
-use Rattle.layout.specs.declared.Answer.{Answer}
-use Rattle.layout.specs.declared.Answer.TheVariants.{Done, Refused}
+use Rattle.layout.specs.Answers.{Answer}
+use Rattle.layout.specs.Answers.{Done, Refused}
 use Rattle.part_state.specs.State.{Lists, lists_in, lists_of, dynamic, round_at, first_of_mesh, cells_of_mesh, global_at, owned_count, depth_place}
 use Rattle.part_calls.specs.Calls.{scatter, collected_in, collect_tests_in, collect_number, collect_answer, collect_out}
 use Rattle.part_calls.specs.Opened.{Opened}

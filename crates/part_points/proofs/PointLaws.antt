@@ -20,8 +20,8 @@ use Rattle.vocabulary.proofs.TestLaws.{passed_by}
 use Rattle.layout.specs.Words.{word, word_at, word_bytes}
 use Rattle.layout.proofs.WordLaws.{length_word_bytes}
 use Rattle.layout.proofs.AnswerLaws.{refuses, accepts}
-use Rattle.layout.specs.declared.Answer.{Answer}
-use Rattle.layout.specs.declared.Answer.TheVariants.{Done, Refused}
+use Rattle.layout.specs.Answers.{Answer}
+use Rattle.layout.specs.Answers.{Done, Refused}
 use Rattle.depths.specs.Depths.{Valid, value_bytes}
 use Rattle.depths.proofs.DepthLaws.{ranged_valid}
 use Rattle.depths.specs.declared.Value.{Value}

@@ -3,7 +3,7 @@ ghost use Rattle.std.specs.Prelude.{◌≡◌, ◌≤◌, ◌<◌, replicate};
 ghost use Rattle.layout.specs.Limits.{most_elements};
 ghost use Rattle.part_start_lists.specs.Starting.{Tallied, exported_at, export_tally};
 
-use layout::{byte_at, number_at, put_number_at};
+use layout::{byte_at, get_or, put_at};
 use split::inner::owner_of;
 
 // Counts the cells of each class in a row, in a cleared array.
@@ -13,8 +13,8 @@ pub fn count_classes(class: &[u8], cells: usize, counts: &mut [u16])
 {
     for q in 0..cells {
         let k = byte_at(class, q) as usize;
-        let n = number_at(counts, k);
-        put_number_at(counts, k, n + 1);
+        let n = get_or(counts, k, 0);
+        put_at(counts, k, n + 1);
     }
 }
 

@@ -7,8 +7,7 @@ ghost use Rattle.split_classes.specs.Groups.{group};
 ghost use Rattle.part_start_lists.specs.Starting.{Stamped, reached_from, Below, class_among, sent_ends, sent_list, OwnersFew, Sent};
 
 use crate::inner::Plan;
-use layout::{number_at, put_number_at, word_at};
-use split::inner::put_class;
+use layout::{get_or, put_at, word_at};
 use split_cells::inner::add_place;
 use split_classes::inner::{CLASSES, clear_row, group_cells};
 
@@ -17,10 +16,10 @@ pub fn stamp_reach(table: &[u8], ends: &[u16], q: usize, k: u8, stamps: &mut [u8
     requires { (q < 65536) × (length stamps.old ≡ most_elements) }
     ensures { Stamped k stamps.old stamps.new (reach_has table.now ends.now q) }
 {
-    let from = number_at(ends, q) as usize;
-    let to = number_at(ends, q + 1) as usize;
+    let from = get_or(ends, q, 0) as usize;
+    let to = get_or(ends, q + 1, 0) as usize;
     for t in from..to {
-        put_class(stamps, word_at(table, 2 * t), k);
+        put_at(stamps, word_at(table, 2 * t), k);
     }
 }
 
@@ -44,7 +43,7 @@ fn stamp_group(
         }
         let q = link as usize - 1;
         stamp_reach(table, ends, q, k, stamps);
-        link = number_at(next, q);
+        link = get_or(next, q, 0);
     }
 }
 
@@ -71,7 +70,7 @@ fn add_stamped(
         }
         let q = link as usize - 1;
         t = add_place(stamps, first, k, q, list, t);
-        link = number_at(next, q);
+        link = get_or(next, q, 0);
     }
     t
 }
@@ -105,7 +104,7 @@ pub fn find_sent(
     let mut start = [0u16; CLASSES];
     group_cells(owners, plan.cells, &mut start, next);
     clear_row(stamps);
-    let own = number_at(&start, plan.part);
+    let own = get_or(&start, plan.part, 0);
     let mut n = 0;
     for j in 0..plan.parts {
         if n == plan.sent {
@@ -115,10 +114,10 @@ pub fn find_sent(
             continue;
         }
         let k = (j + 1) as u8;
-        let other = number_at(&start, j + 1);
+        let other = get_or(&start, j + 1, 0);
         stamp_group(table, ends, next, other, plan.cells, k, stamps);
         let t = add_stamped(next, own, stamps, plan.first, plan.cells, k, list, n);
-        put_number_at(sent, j + 1, (t - n) as u16);
+        put_at(sent, j + 1, (t - n) as u16);
         n = t;
     }
     n

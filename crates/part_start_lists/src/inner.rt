@@ -15,7 +15,7 @@ use cell_numbers::inner::{cell_at, index_of};
 use cell_numbers::{Global, Local};
 use layout::inner::copy;
 use layout::limits::MOST_PARTS;
-use layout::{number_at, word_at};
+use layout::{get_or, word_at};
 use part_state::inner::{CELLS, FIRST, KIND, LENGTH, PART, STEPS, Sizes, WEIGHT_WORDS};
 use split::inner::{number_cells, to_global, to_local};
 use split_cells::inner::add_order;
@@ -69,8 +69,8 @@ fn row_size(table: &[u8], ends: &[u16], first: usize, order: &[u16], l: Local) -
     ensures { (result ≡ row_size table.now ends.now first order.now l.0) × (result < 65536) }
 {
     let q = place_at(order, first, l);
-    let from = number_at(ends, q) as usize;
-    let to = number_at(ends, q + 1) as usize;
+    let from = get_or(ends, q, 0) as usize;
+    let to = get_or(ends, q + 1, 0) as usize;
     if to < from { 0 } else { to - from }
 }
 
@@ -95,7 +95,7 @@ fn put_ends(b: &mut [u8], s: usize, counts: &[u16], base: usize) -> usize
     let mut t = s;
     for k in 0..MOST_PARTS {
         t = put_one(b, t, e);
-        e += number_at(counts, k + 1) as usize;
+        e += get_or(counts, k + 1, 0) as usize;
     }
     put_one(b, t, e)
 }
@@ -151,8 +151,8 @@ fn put_row(
     ensures { Put b.old b.new s result (row_words table.now ends.now first order.now local.now l.0) }
 {
     let q = place_at(order, first, l);
-    let from = number_at(ends, q) as usize;
-    let to = number_at(ends, q + 1) as usize;
+    let from = get_or(ends, q, 0) as usize;
+    let to = get_or(ends, q + 1, 0) as usize;
     let mut u = s;
     for t in from..to {
         u = put_entry(b, u, table, first, local, t);
@@ -191,7 +191,7 @@ fn put_locals(b: &mut [u8], s: usize, list: &[u16], n: usize, local: &[u16]) -> 
 {
     let mut t = s;
     for k in 0..n {
-        let c = Global(number_at(list, k));
+        let c = Global(get_or(list, k, 0));
         t = put_local(b, t, to_local(local, c));
     }
     t
@@ -304,8 +304,8 @@ pub fn make_plan(
     classify(owners, table, ends, asked.cells, asked.part, class);
     let held = add_order(class, asked.first, asked.cells, asked.parts, order);
     count_classes(class, asked.cells, got);
-    let inner = number_at(got, INTERIOR as usize) as usize;
-    let owned = inner + number_at(got, HALO as usize) as usize;
+    let inner = get_or(got, INTERIOR as usize, 0) as usize;
+    let owned = inner + get_or(got, HALO as usize, 0) as usize;
     let sizes = Sizes {
         held,
         owned,

@@ -18,8 +18,8 @@ use Rattle.layout.proofs.WordLaws.{length_bytes_of, bytes_of_append}
 use Rattle.depths.specs.Depths.{four}
 use Rattle.layout.specs.Answers.{answer}
 use Rattle.layout.proofs.AnswerLaws.{answer_done, answer_refused, refuses, accepts}
-use Rattle.layout.specs.declared.Answer.{Answer}
-use Rattle.layout.specs.declared.Answer.TheVariants.{Done, Refused}
+use Rattle.layout.specs.Answers.{Answer}
+use Rattle.layout.specs.Answers.{Done, Refused}
 use Rattle.layout.specs.Limits.{most_elements, most_parts, most_records}
 use Rattle.split.proofs.PointLaws.{points_few, point_cells_few}
 use Rattle.mesh.specs.Mesh.{first_cell, cell_count, counted}

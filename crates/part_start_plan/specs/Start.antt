@@ -9,7 +9,7 @@ use Rattle.vocabulary.specs.Bytes.{Bytes, over}
 use Rattle.layout.specs.Words.{word_at, word_bytes, bytes_of}
 use Rattle.layout.specs.Answers.{answer, if_accepted}
 use Rattle.layout.specs.Limits.{most_parts}
-use Rattle.layout.specs.declared.Answer.{Answer}
+use Rattle.layout.specs.Answers.{Answer}
 use Rattle.mesh.specs.Mesh.{cell_count}
 use Rattle.mesh.specs.Walks.{Near, steps}
 use Rattle.round_rule.specs.Rules.{RuleInput, bad11}

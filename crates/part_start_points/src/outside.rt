@@ -9,7 +9,7 @@ ghost use Rattle.part_start_points.specs.Outside.{unstamped_at, chain_unstamped,
 
 use crate::points::Sought;
 use crate::trails::some_at;
-use layout::number_at;
+use layout::get_or;
 use mesh::inner::{head_of, read_record};
 use part_start_lists::inner::stamp_reach;
 use split::inner::owner_of;
@@ -28,7 +28,7 @@ fn unstamped_at(
     if sought.points < g {
         return false;
     }
-    let t = number_at(&incidence.last, g) as usize;
+    let t = get_or(&incidence.last, g, 0) as usize;
     some_at(stamps, sought.first, 0, incidence, t)
 }
 

@@ -7,7 +7,7 @@ ghost use Rattle.part_start_points.specs.Points.{points_on, Found, size_at, size
 
 use crate::trails::{put_trail, some_at, trail_length};
 use layout::limits::ELEMENT_PLACES;
-use layout::{number_at, put_number_at};
+use layout::{get_or, put_at};
 use walk_incidence::inner::Incidence;
 use word_lists::inner::{put_list, put_one};
 
@@ -40,11 +40,11 @@ fn find_points(
 {
     let mut n = 0;
     for p in 1..sought.points + 1 {
-        let t = number_at(&incidence.last, p) as usize;
+        let t = get_or(&incidence.last, p, 0) as usize;
         if !some_at(owners, sought.first, sought.part, incidence, t) {
             continue;
         }
-        put_number_at(list, n, p as u16);
+        put_at(list, n, p as u16);
         n += 1;
     }
     n
@@ -55,8 +55,8 @@ fn size_at(list: &[u16], k: usize, incidence: &Incidence) -> usize
     requires { 1 ≤ k }
     ensures { (result ≡ size_at incidence.now list.now k) × (result ≤ record_places) }
 {
-    let p = number_at(list, k - 1) as usize;
-    trail_length(incidence, number_at(&incidence.last, p) as usize)
+    let p = get_or(list, k - 1, 0) as usize;
+    trail_length(incidence, get_or(&incidence.last, p, 0) as usize)
 }
 
 // How many cells there are at the first n points of a list together.
@@ -119,8 +119,8 @@ fn put_around(
 {
     let mut t = s;
     for k in 1..n + 1 {
-        let p = number_at(list, k - 1) as usize;
-        t = put_trail(b, t, incidence, number_at(&incidence.last, p) as usize, local);
+        let p = get_or(list, k - 1, 0) as usize;
+        t = put_trail(b, t, incidence, get_or(&incidence.last, p, 0) as usize, local);
     }
     t
 }

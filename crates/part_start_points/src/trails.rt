@@ -8,7 +8,7 @@ ghost use Rattle.part_start_points.specs.Points.{some_at, trail_count};
 
 use cell_numbers::Global;
 use layout::limits::RECORD_PLACES;
-use layout::{byte_at, number_at};
+use layout::{byte_at, get_or};
 use split::inner::{place_from, to_local};
 use walk_incidence::inner::Incidence;
 use word_lists::inner::put_one;
@@ -22,11 +22,11 @@ pub fn some_at(row: &[u8], first: usize, k: usize, incidence: &Incidence, t: usi
         if s < 1 {
             return false;
         }
-        let q = place_from(first, number_at(&incidence.cell, s) as usize);
+        let q = place_from(first, get_or(&incidence.cell, s, 0) as usize);
         if byte_at(row, q) as usize == k {
             return true;
         }
-        s = number_at(&incidence.prev, s) as usize;
+        s = get_or(&incidence.prev, s, 0) as usize;
     }
     false
 }
@@ -42,7 +42,7 @@ pub fn trail_length(incidence: &Incidence, t: usize) -> usize
             return n;
         }
         n += 1;
-        s = number_at(&incidence.prev, s) as usize;
+        s = get_or(&incidence.prev, s, 0) as usize;
     }
     n
 }
@@ -65,9 +65,9 @@ pub fn put_trail(
         if e < 1 {
             return u;
         }
-        let l = to_local(local, Global(number_at(&incidence.cell, e)));
+        let l = to_local(local, Global(get_or(&incidence.cell, e, 0)));
         u = put_one(b, u, l.0 as usize);
-        e = number_at(&incidence.prev, e) as usize;
+        e = get_or(&incidence.prev, e, 0) as usize;
     }
     u
 }

@@ -14,8 +14,8 @@ use Rattle.vocabulary.specs.Intervals.{is_up_to}
 use Rattle.vocabulary.proofs.IntervalLaws.{up_to_true}
 use Rattle.layout.specs.Words.{word, word_at}
 use Rattle.layout.proofs.AnswerLaws.{refuses, accepts}
-use Rattle.layout.specs.declared.Answer.{Answer}
-use Rattle.layout.specs.declared.Answer.TheVariants.{Done, Refused}
+use Rattle.layout.specs.Answers.{Answer}
+use Rattle.layout.specs.Answers.{Done, Refused}
 use Rattle.layout.specs.Limits.{most_parts}
 use Rattle.messages.specs.Messages.{depths_of, message_size, bad15, from_in, to_in, round_in, count_in, reading}
 use Rattle.messages.specs.Readings.{reading_number, meant_reading}

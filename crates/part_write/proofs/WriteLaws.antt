@@ -17,8 +17,8 @@ use Rattle.layout.proofs.WordLaws.{length_bytes_of}
 use Rattle.depths.specs.Depths.{four}
 use Rattle.depths.proofs.DepthLaws.{length_four, fours_store}
 use Rattle.layout.proofs.AnswerLaws.{refuses, accepts}
-use Rattle.layout.specs.declared.Answer.{Answer}
-use Rattle.layout.specs.declared.Answer.TheVariants.{Done, Refused}
+use Rattle.layout.specs.Answers.{Answer}
+use Rattle.layout.specs.Answers.{Done, Refused}
 use Rattle.layout.specs.Limits.{most_parts}
 use Rattle.messages.specs.Messages.{header_size, depth_start, message_size, encode}
 use Rattle.part_state.specs.State.{Lists, lists_in, lists_of, dynamic, export_end, export_count, export_at, local_exports, held_count, owned_count, reach_count}

@@ -8,7 +8,7 @@ ghost use Rattle.mesh.specs.Mesh.{top};
 ghost use Rattle.mesh.specs.Walks.{bad10};
 
 use layout::limits::{ELEMENT_PLACES, RECORD_PLACES, TABLE_BYTES};
-use layout::{byte_at, number_at, word_at};
+use layout::{byte_at, get_or, word_at};
 use mesh::inner::{cell_count, first_cell, top_of};
 use mesh_valid::mesh_number;
 use walk_incidence::inner::Incidence;
@@ -45,8 +45,8 @@ fn print_rows(first: usize, cells: usize, table: &[u8], ends: &[u16])
             first,
             first + j,
             table,
-            number_at(ends, j),
-            number_at(ends, j + 1),
+            get_or(ends, j, 0),
+            get_or(ends, j + 1, 0),
         );
     }
 }

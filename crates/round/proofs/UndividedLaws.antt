@@ -17,8 +17,8 @@ use Rattle.depths.specs.Depths.{four, value_bytes}
 use Rattle.depths.proofs.DepthLaws.{length_four, fours_store}
 use Rattle.depths.specs.declared.Value.{Value}
 use Rattle.layout.proofs.AnswerLaws.{refuses, accepts}
-use Rattle.layout.specs.declared.Answer.{Answer}
-use Rattle.layout.specs.declared.Answer.TheVariants.{Done, Refused}
+use Rattle.layout.specs.Answers.{Answer}
+use Rattle.layout.specs.Answers.{Done, Refused}
 use Rattle.layout.specs.Limits.{table_bytes}
 use Rattle.mesh.specs.Mesh.{top, first_cell, cell_count, mesh_number}
 use Rattle.mesh.proofs.MeshLaws.{mesh_then, mesh_refuses}

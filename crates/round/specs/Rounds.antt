@@ -5,7 +5,7 @@ use Rattle.vocabulary.specs.Tests.{Test, refuse, first_of}
 use Rattle.vocabulary.specs.Bytes.{Bytes, over}
 use Rattle.depths.specs.Depths.{four, ranged_at}
 use Rattle.layout.specs.Answers.{answer, if_accepted}
-use Rattle.layout.specs.declared.Answer.{Answer}
+use Rattle.layout.specs.Answers.{Answer}
 use Rattle.mesh.specs.Mesh.{top, first_cell, cell_count, mesh_tests}
 use Rattle.mesh.specs.Walks.{Near, reach, cells_at, steps, bad10, bad13}
 use Rattle.round_rule.specs.Rules.{RuleInput, Old, new_depth, plain_mean, bad11}

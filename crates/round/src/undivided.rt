@@ -15,7 +15,7 @@ use crate::bad_field;
 use depths::Value;
 use depths::inner::put_value;
 use layout::limits::{ELEMENT_PLACES, RECORD_PLACES, TABLE_BYTES};
-use layout::{Answer, number_at};
+use layout::{Answer, get_or};
 use mesh::inner::{cell_count, top_of};
 use mesh_valid::inner::mesh_number_in;
 use round_rule::{Kind, Rule, bad_weights, rule_of};
@@ -29,8 +29,8 @@ fn new_at(kind: Kind, weights: &[u8], table: &[u8], ends: &[u16], f: &[u8], j: u
     requires { (j ≤ 65535) × Row (kind_number kind) weights.now table.now ends.now f.now j }
     ensures { (value_bytes result ≡ row_new (kind_number kind) weights.now table.now ends.now f.now j) × Within deepest result }
 {
-    let from = number_at(ends, j) as usize;
-    let to = number_at(ends, j + 1) as usize;
+    let from = get_or(ends, j, 0) as usize;
+    let to = get_or(ends, j + 1, 0) as usize;
     new_depth(kind, weights, table, 4 * from, to - from, f, 0, j)
 }
 

@@ -6,7 +6,7 @@ use Rattle.vocabulary.specs.Tests.{Test, refuse, first_of}
 use Rattle.vocabulary.specs.Bytes.{Bytes, over}
 use Rattle.layout.specs.Words.{bytes_of}
 use Rattle.layout.specs.Answers.{answer, if_accepted}
-use Rattle.layout.specs.declared.Answer.{Answer}
+use Rattle.layout.specs.Answers.{Answer}
 use Rattle.layout.specs.Limits.{most_parts, most_held}
 use Rattle.mesh.specs.Mesh.{top, cell_count, mesh_tests}
 use Rattle.mesh.specs.Walks.{bad10, bad13}

@@ -4,7 +4,6 @@
 pub mod inner;
 mod maps;
 mod owners;
-mod rows;
 mod units;
 
 pub use maps::{bad_map, bad_shares, is_part};

@@ -8,8 +8,7 @@ ghost use Rattle.split.specs.Lists.{bad8, bad9, split_number};
 ghost use Rattle.split.specs.Owners.{valid_owner, OwnersSeen};
 
 use crate::owners::owner_of;
-use crate::rows::put_class;
-use layout::byte_at;
+use layout::{byte_at, put_at};
 use layout::limits::MOST_PARTS;
 use mesh::inner::{cell_count, top_of};
 use mesh_valid::inner::mesh_number_in;
@@ -58,7 +57,7 @@ fn mark_owners(owners: &[u8], cells: usize, seen: &mut [u8])
     ensures { OwnersSeen owners.now cells seen.new }
 {
     for q in 0..cells {
-        put_class(seen, owner_of(owners, q) as usize, 1);
+        put_at(seen, owner_of(owners, q) as usize, 1);
     }
 }
 

@@ -5,14 +5,14 @@ ghost use Rattle.split.specs.Split.{global_of};
 ghost use Rattle.split.specs.Numbering.{numbering};
 
 use cell_numbers::{Global, Local};
-use layout::{number_at, put_number_at};
+use layout::{get_or, put_at};
 
 // The cell of a local number.
 pub fn to_global(order: &[u16], l: Local) -> Global
     requires { 1 ≤ l.0 }
     ensures { result.0 ≡ global_of order.now l.0 }
 {
-    Global(number_at(order, l.0 as usize - 1))
+    Global(get_or(order, l.0 as usize - 1, 0))
 }
 
 // Turns the n cells of the part's list round: at each cell's number its local number is stored. It goes from the last cell to the first, so
@@ -24,7 +24,7 @@ pub fn number_cells(order: &[u16], n: usize, local: &mut [u16])
     for k in 0..n {
         let l = Local((n - k) as u16);
         let c = to_global(order, l);
-        put_number_at(local, c.0 as usize, l.0);
+        put_at(local, c.0 as usize, l.0);
     }
 }
 
@@ -32,7 +32,7 @@ pub fn number_cells(order: &[u16], n: usize, local: &mut [u16])
 pub fn to_local(local: &[u16], c: Global) -> Local
     ensures { result.0 ≡ get_or local.now c.0 0 }
 {
-    Local(number_at(local, c.0 as usize))
+    Local(get_or(local, c.0 as usize, 0))
 }
 
 // The place of a cell, and 0 for a number before the first cell.

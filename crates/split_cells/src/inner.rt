@@ -6,7 +6,7 @@ ghost use Rattle.split_classes.specs.Classes.{of_class, class_cells, class_order
 ghost use Rattle.split_classes.specs.Groups.{group_cells, group_order, Linked};
 
 use layout::limits::MOST_ELEMENTS;
-use layout::{byte_at, number_at, put_number_at};
+use layout::{byte_at, get_or, put_at};
 use split_classes::inner::{CLASSES, HALO, INTERIOR, group_cells};
 
 // Adds the number of place q, counted from `first`, to the list, if the row has the class k there.
@@ -17,7 +17,7 @@ pub fn add_place(class: &[u8], first: usize, k: u8, q: usize, list: &mut [u16], 
     if byte_at(class, q) != k {
         return s;
     }
-    put_number_at(list, s, (first + q) as u16);
+    put_at(list, s, (first + q) as u16);
     s + 1
 }
 
@@ -55,14 +55,14 @@ fn add_group(
         × (result ≤ s + cells) }
 {
     let mut t = s;
-    let mut i = number_at(start, k) as usize;
+    let mut i = get_or(start, k, 0) as usize;
     for _n in 0..cells {
         if i < 1 {
             return t;
         }
-        put_number_at(list, t, (first + (i - 1)) as u16);
+        put_at(list, t, (first + (i - 1)) as u16);
         t += 1;
-        i = number_at(next, i - 1) as usize;
+        i = get_or(next, i - 1, 0) as usize;
     }
     t
 }

@@ -4,8 +4,8 @@ ghost use Rattle.layout.specs.Limits.{most_elements};
 ghost use Rattle.split_classes.specs.Classes.{entry_owned, inside_at, entry_is, reach_has, Classed, RowCleared, OwnersMarked};
 
 use layout::limits::MOST_ELEMENTS;
-use layout::{number_at, word_at};
-use split::inner::{owner_of, put_class};
+use layout::{get_or, put_at, word_at};
+use split::inner::owner_of;
 
 // The classes of owned cells. A part's number is at most 16, so these are free.
 pub const INTERIOR: u8 = 17;
@@ -43,7 +43,7 @@ fn mark_entry(
     if owner as usize == i {
         return inside;
     }
-    put_class(class, x, owner);
+    put_at(class, x, owner);
     false
 }
 
@@ -60,8 +60,8 @@ fn mark_reach(
     ensures { (result ≡ inside_at owners.now table.now ends.now i q)
         × OwnersMarked owners.now i class.old class.new (reach_has table.now ends.now q) }
 {
-    let from = number_at(ends, q) as usize;
-    let to = number_at(ends, q + 1) as usize;
+    let from = get_or(ends, q, 0) as usize;
+    let to = get_or(ends, q + 1, 0) as usize;
     let mut inside = true;
     for t in from..to {
         inside = mark_entry(owners, table, i, t, inside, class);
@@ -85,7 +85,7 @@ fn classify_cell(owners: &[u8], table: &[u8], ends: &[u16], i: usize, q: usize, 
         return;
     }
     let inside = mark_reach(owners, table, ends, i, q, class);
-    put_class(class, q, owned_class(inside));
+    put_at(class, q, owned_class(inside));
 }
 
 // The classes of all cells for part i: interior, halo, the number of the part that a cell is imported from, and 0 for a cell that is not held.

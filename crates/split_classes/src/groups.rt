@@ -3,7 +3,7 @@ ghost use Rattle.std.specs.Prelude.{◌≡◌, ◌≤◌, length, replicate};
 ghost use Rattle.layout.specs.Limits.{most_elements};
 ghost use Rattle.split_classes.specs.Groups.{Grouped};
 
-use layout::{byte_at, number_at, put_number_at};
+use layout::{byte_at, get_or, put_at};
 
 // Links the cells of a row by their byte, in a cleared array of starts. It goes from the last cell to the first, so that each is put before those that it
 // precedes. A byte that has no start is linked to nothing.
@@ -14,7 +14,7 @@ pub fn group_cells(row: &[u8], cells: usize, start: &mut [u16], next: &mut [u16]
     for t in 0..cells {
         let q = cells - 1 - t;
         let k = byte_at(row, q) as usize;
-        put_number_at(next, q, number_at(start, k));
-        put_number_at(start, k, (q + 1) as u16);
+        put_at(next, q, get_or(start, k, 0));
+        put_at(start, k, (q + 1) as u16);
     }
 }

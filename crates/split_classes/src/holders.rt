@@ -8,8 +8,7 @@ ghost use Rattle.split_classes.specs.Groups.{group_reach};
 
 use crate::classes::{CLASSES, clear_row};
 use crate::groups::group_cells;
-use layout::{byte_at, number_at, word_at};
-use split::inner::put_class;
+use layout::{byte_at, get_or, put_at, word_at};
 
 // Counts part k at the cell at place x, unless the stamp there says that it is.
 fn add_holder(x: usize, k: u8, stamps: &mut [u8], holders: &mut [u8])
@@ -19,9 +18,9 @@ fn add_holder(x: usize, k: u8, stamps: &mut [u8], holders: &mut [u8])
     if byte_at(stamps, x) == k {
         return;
     }
-    put_class(stamps, x, k);
+    put_at(stamps, x, k);
     let count = byte_at(holders, x);
-    put_class(holders, x, count + 1);
+    put_at(holders, x, count + 1);
 }
 
 // Counts part k at the cells in the reach of the cell at place q.
@@ -29,8 +28,8 @@ fn add_reach(table: &[u8], ends: &[u16], q: usize, k: u8, stamps: &mut [u8], hol
     requires { (q < 65536) × (length stamps.old ≡ most_elements) × Few most_parts holders.old }
     ensures { Raised k stamps.old holders.old stamps.new holders.new (reach_has table.now ends.now q) }
 {
-    let from = number_at(ends, q) as usize;
-    let to = number_at(ends, q + 1) as usize;
+    let from = get_or(ends, q, 0) as usize;
+    let to = get_or(ends, q + 1, 0) as usize;
     for t in from..to {
         add_holder(word_at(table, 2 * t), k, stamps, holders);
     }
@@ -51,13 +50,13 @@ fn count_part(
     ensures { Raised k stamps.old holders.old stamps.new holders.new (group_reach start.now next.now
         table.now ends.now cells k) }
 {
-    let mut s = number_at(start, k as usize) as usize;
+    let mut s = get_or(start, k as usize, 0) as usize;
     for _t in 0..cells {
         if s < 1 {
             return;
         }
         add_reach(table, ends, s - 1, k, stamps, holders);
-        s = number_at(next, s - 1) as usize;
+        s = get_or(next, s - 1, 0) as usize;
     }
 }
 

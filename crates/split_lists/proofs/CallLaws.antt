@@ -13,8 +13,8 @@ use Rattle.vocabulary.proofs.TestLaws.{first_of_append}
 use Rattle.layout.specs.Words.{bytes_of}
 use Rattle.layout.specs.Answers.{answer}
 use Rattle.layout.proofs.AnswerLaws.{refuses}
-use Rattle.layout.specs.declared.Answer.{Answer}
-use Rattle.layout.specs.declared.Answer.TheVariants.{Refused}
+use Rattle.layout.specs.Answers.{Answer}
+use Rattle.layout.specs.Answers.{Refused}
 use Rattle.layout.specs.Limits.{most_elements}
 use Rattle.split.specs.Lists.{SplitInput, split_tests, size_tests, split_number, sizes_number, others, list_words, list_number, list_answer, list_out, split_input}
 use Rattle.split.proofs.PassedLaws.{Passed, twice, passed_facts}

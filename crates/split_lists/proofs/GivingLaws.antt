@@ -4,7 +4,7 @@ use mathlib.Core.List.{List}
 use Prim.Native.Nat.{ℕ, ◌≤◌}
 use lib.ListN.{length, take}
 use Rattle.vocabulary.specs.Bytes.{Bytes}
-use Rattle.layout.specs.declared.Answer.{Answer}
+use Rattle.layout.specs.Answers.{Answer}
 use Rattle.layout.specs.Limits.{most_elements}
 use Rattle.split_classes.specs.Classes.{Appended}
 use Rattle.split_cells.proofs.AddLaws.{added_take}

@@ -7,7 +7,7 @@ ghost use Rattle.split_classes.specs.Classes.{held_one, Appended};
 ghost use Rattle.split_ranges.specs.Lowers.{side_at, some_side, trail_class, Lowered, row_range};
 
 use layout::limits::RECORD_PLACES;
-use layout::{byte_at, number_at};
+use layout::{byte_at, get_or};
 use mesh::inner::{below_of, count_of, first_cell, top_of};
 use split::inner::place_from;
 use split_cells::inner::add_class;
@@ -70,11 +70,11 @@ fn some_cell(
         if s < 1 {
             return false;
         }
-        let q = place_from(first, number_at(&incidence.cell, s) as usize);
+        let q = place_from(first, get_or(&incidence.cell, s, 0) as usize);
         if has_side(side, class, holders, q) {
             return true;
         }
-        s = number_at(&incidence.prev, s) as usize;
+        s = get_or(&incidence.prev, s, 0) as usize;
     }
     false
 }
@@ -83,7 +83,7 @@ fn some_cell(
 fn lower_class(incidence: &Incidence, first: usize, class: &[u8], holders: &[u8], e: usize) -> u8
     ensures { result ≡ trail_class incidence.now first class.now holders.now e }
 {
-    let t = number_at(&incidence.last, e) as usize;
+    let t = get_or(&incidence.last, e, 0) as usize;
     if some_cell(incidence, t, first, Side::Mine, class, holders) {
         if some_cell(incidence, t, first, Side::Anothers, class, holders) {
             return SHARED;

@@ -9,7 +9,7 @@ ghost use Rattle.layout.specs.Limits.{most_elements, most_records, record_places
 ghost use Rattle.mesh.specs.Mesh.{elements, element_in, follow};
 
 use layout::limits::RECORD_PLACES;
-use layout::{number_at, put_number_at};
+use layout::{get_or, put_at};
 use mesh::inner::{head_of, read_record};
 use walk_incidence::inner::{Incidence, MeshSizes};
 
@@ -17,7 +17,7 @@ use walk_incidence::inner::{Incidence, MeshSizes};
 pub fn index_at(list: &[u16], i: usize) -> usize
     ensures { (result ≡ get_or list.now i 0) × (result < 65536) }
 {
-    number_at(list, i) as usize
+    get_or(list, i, 0) as usize
 }
 
 // Gathers y, unless it bears the mark.
@@ -26,11 +26,11 @@ pub fn visit(mark: u16, y: usize, marks: &mut [u16], found: &mut [u16], count: u
     ensures { Added mark marks.new found.old count found.new result
         (with found.old count (y ∷ [])) }
 {
-    if number_at(marks, y) == mark {
+    if get_or(marks, y, 0) == mark {
         return count;
     }
-    put_number_at(marks, y, mark);
-    put_number_at(found, count, y as u16);
+    put_at(marks, y, mark);
+    put_at(found, count, y as u16);
     count + 1
 }
 

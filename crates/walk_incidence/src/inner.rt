@@ -7,7 +7,7 @@ ghost use Rattle.walk_incidence.specs.Links.{linked, link, link_all, Turned};
 ghost use Rattle.walk_incidence.specs.Sizes.{Sized};
 
 use layout::limits::{ELEMENT_PLACES, RECORD_PLACES};
-use layout::{number_at, put_number_at};
+use layout::{get_or, put_at};
 use mesh::inner::{cell_count, elements_of, first_cell, head_of, read_record, record_count};
 
 // The sizes of a mesh: how many elements, records and cells it has, and its first cell.
@@ -47,9 +47,9 @@ impl Incidence {
         ensures { (linked result self.new ≡ link c g (linked t self.old)) × (result ≡ t + 1) }
     {
         let s = t + 1;
-        put_number_at(&mut self.cell, s, c);
-        put_number_at(&mut self.prev, s, number_at(&self.last, g));
-        put_number_at(&mut self.last, g, s as u16);
+        put_at(&mut self.cell, s, c);
+        put_at(&mut self.prev, s, get_or(&self.last, g, 0));
+        put_at(&mut self.last, g, s as u16);
         s
     }
 

@@ -6,7 +6,7 @@ ghost use Rattle.mesh.specs.Accepted.{Cell};
 ghost use Rattle.walk_steps.specs.Walking.{Ready, Within};
 ghost use Rattle.walk_near_cells.specs.NearCells.{in_row, from_level, NearGround, LayerList, Spread, RowFits, LevelFits, Layered};
 
-use layout::{number_at, put_number_at};
+use layout::{get_or, put_at};
 use walk_frontier::inner::index_at;
 use walk_steps::inner::{Ends, Space, Walker, widen};
 
@@ -15,11 +15,11 @@ fn reach_cell(k: u16, y: usize, layers: &mut [u16], found: &mut [u16], count: us
     requires { (k < 65535) × (1 ≤ y) × (y ≤ most_elements) × LayerList layers.old found.old count }
     ensures { Spread k layers.old found.old count layers.new found.new result (eqb y) }
 {
-    if number_at(layers, y) != 0 {
+    if get_or(layers, y, 0) != 0 {
         return count;
     }
-    put_number_at(layers, y, k + 1);
-    put_number_at(found, count, y as u16);
+    put_at(layers, y, k + 1);
+    put_at(found, count, y as u16);
     count + 1
 }
 

@@ -6,7 +6,7 @@ ghost use Rattle.mesh.specs.Meet.{Under};
 ghost use Rattle.walk_steps.specs.Walking.{Ready};
 ghost use Rattle.walk_part_reach.specs.Rows.{Rowed, layer_one, layer_count, row_reach_count};
 
-use layout::{byte_at, put_number_at};
+use layout::{byte_at, put_at};
 use walk_frontier::inner::index_at;
 use walk_incidence::inner::MeshSizes;
 use walk_steps::inner::{Space, Walker};
@@ -19,7 +19,7 @@ fn add_cell(rows: &[u8], i: usize, first: usize, q: usize, list: &mut [u16], k: 
     if byte_at(rows, q) as usize != i {
         return k;
     }
-    put_number_at(list, k, (first + q) as u16);
+    put_at(list, k, (first + q) as u16);
     k + 1
 }
 

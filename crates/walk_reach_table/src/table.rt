@@ -15,7 +15,7 @@ ghost use Rattle.mesh.specs.Accepted.{Accepted, Cell};
 
 use layout::inner::put_word;
 use layout::limits::{ELEMENT_PLACES, MOST_ELEMENTS, MOST_REACHED};
-use layout::put_number_at;
+use layout::put_at;
 use walk_frontier::inner::index_at;
 use walk_incidence::inner::Incidence;
 use walk_near_cells::inner::{near_rows, walk_near};
@@ -40,7 +40,7 @@ fn emit_one(layers: &mut [u16], first: usize, q: usize, table: &mut [u8], t: usi
         × (layers.new ≡ set layers.old (first + q) 0) }
 {
     let x = index_at(layers, first + q);
-    put_number_at(layers, first + q, 0);
+    put_at(layers, first + q, 0);
     if x == 0 {
         return Some(t);
     }

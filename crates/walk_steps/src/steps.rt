@@ -14,7 +14,7 @@ ghost use Rattle.walk_steps.specs.Walking.{Ground, Ready, AllCells, Sided, Lower
 ghost use Rattle.walk_steps.specs.Walking.{WalkDone, Within, Widened, Departed, Arrived};
 
 use layout::limits::ELEMENT_PLACES;
-use layout::{byte_at, number_at, put_number_at};
+use layout::{byte_at, get_or, put_at};
 use mesh::inner::below_of;
 use walk_frontier::inner::{step_down, step_up, visit_all};
 use walk_incidence::inner::{Incidence, MeshSizes, sizes_of};
@@ -74,8 +74,8 @@ fn note(k: u16, y: usize, layers: &mut [u16])
     requires { (k < 65535) × (y < length layers.old) }
     ensures { Noted k layers.old layers.new (eqb y) }
 {
-    if number_at(layers, y) == 0 {
-        put_number_at(layers, y, k + 1);
+    if get_or(layers, y, 0) == 0 {
+        put_at(layers, y, k + 1);
     }
 }
 

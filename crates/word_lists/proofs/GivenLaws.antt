@@ -11,7 +11,7 @@ use borrow.Author.Tests.{lt-ltb, le-ltb}
 use Rattle.vocabulary.specs.Bytes.{over}
 use Rattle.layout.specs.Words.{bytes_of}
 use Rattle.layout.specs.Answers.{answer}
-use Rattle.layout.specs.declared.Answer.TheVariants.{Done, Refused}
+use Rattle.layout.specs.Answers.{Done, Refused}
 use Rattle.word_lists.specs.Putting.{Put, given_number, given_answer, given_out}
 
 module _ (list out : List ℕ) (n : ℕ) (fits : n ≤ length list) where

@@ -4,7 +4,7 @@ use Rattle.vocabulary.specs.Bytes.{Bytes, over}
 use Rattle.vocabulary.specs.Tests.{refuse, first_of}
 use Rattle.layout.specs.Words.{bytes_of}
 use Rattle.layout.specs.Answers.{answer, if_accepted}
-use Rattle.layout.specs.declared.Answer.{Answer}
+use Rattle.layout.specs.Answers.{Answer}
 
 -- the words ws stand in b from word s on, which makes t of them, and nothing else has changed
 pub record Put (before after : Bytes) (s t : ℕ) (ws : List ℕ) : Type 0 where

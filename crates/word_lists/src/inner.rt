@@ -5,7 +5,7 @@ ghost use Rattle.layout.specs.Words.{word_at};
 ghost use Rattle.word_lists.specs.Putting.{Put, given_answer, given_out};
 
 use layout::inner::put_word;
-use layout::{Answer, number_at, word_at};
+use layout::{Answer, get_or, word_at};
 
 // Writes w as word s, and gives how many words there are then.
 pub fn put_one(b: &mut [u8], s: usize, w: usize) -> usize
@@ -23,7 +23,7 @@ pub fn put_list(b: &mut [u8], s: usize, list: &[u16], n: usize) -> usize
 {
     let mut t = s;
     for k in 0..n {
-        t = put_one(b, t, number_at(list, k) as usize);
+        t = put_one(b, t, get_or(list, k, 0) as usize);
     }
     t
 }

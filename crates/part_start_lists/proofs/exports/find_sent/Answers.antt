@@ -45,7 +45,7 @@ add_stamped-t-requires c =
       pre.2,
       pre.3,
       omega (arith, c.loop-j.invariant.2, c.loop-j-test.true, pre.4),
-      group_below _ _ _ _ links _ _ (omega (arith, pre.1)) c.number_at-own.ensures,
+      group_below _ _ _ _ links _ _ (omega (arith, pre.1)) c.get_or-own.ensures,
     )
 
 pub overflow_sub-t : goal.overflow_sub-t
@@ -61,8 +61,8 @@ loop-j-preserved c =
     let taken = c.loop-j-test.true in
     let other = c.if-j-plan.false in
     let links = c.group_cells.ensures in
-    let here = c.number_at-own.ensures in
-    let there = c.number_at-other.ensures in
+    let here = c.get_or-own.ensures in
+    let there = c.get_or-other.ensures in
     let stamped = c.stamp_group.ensures in
     let told = c.add_stamped-t.ensures in (
       search rules,
@@ -72,7 +72,7 @@ loop-j-preserved c =
       search rules,
       sent_more _ _ _ _ _ _ pre.0 pre.1 pre.3 _ (omega (arith, taken, pre.4)) other _ _ links _ _ here there _ _ inv.1 stamped _ _ _ _ told.0 _ inv.5,
       sent_counted _ _ _ _ _ _ pre.0 pre.1 pre.3 _ (omega (arith, taken, pre.4)) other _ _ links _ _ here there _ _ inv.1 stamped _ _ _ _ told.0
-          _ _ _ taken pre.4 inv.6 c.put_number_at.ensures,
+          _ _ _ taken pre.4 inv.6 c.put_at.ensures,
     )
 
 pub returns : goal.returns

@@ -11,7 +11,7 @@ loop-t-init c = (search rules, inr refl, search entries_start)
 pub loop-t-preserved : goal.loop-t-preserved
 loop-t-preserved c =
     let inv = c.loop-t.invariant in
-    (search rules, inl (search rules), entries_turn _ _ _ _ _ _ _ _ inv.0 inv.2 c.word_at.ensures.0 c.put_class.ensures)
+    (search rules, inl (search rules), entries_turn _ _ _ _ _ _ _ _ inv.0 inv.2 c.word_at.ensures.0 c.put_at.ensures)
 
 pub returns : goal.returns
 returns c = search entries_end

@@ -11,7 +11,7 @@ row_total-requires c =
     let row = c.classify.ensures in
     let order = c.add_order-held.ensures in
     let tally = c.count_classes.ensures in
-    let fit = plan_fit _ _ _ _ _ _ _ pre.0 _ row _ _ _ order pre.5 _ tally _ _ c.number_at-inner.ensures c.number_at.ensures in
+    let fit = plan_fit _ _ _ _ _ _ _ pre.0 _ row _ _ _ order pre.5 _ tally _ _ c.get_or-inner.ensures c.get_or.ensures in
     (fit.near, omega (arith, fit.long), omega (arith, fit.owned_few, fit.order_few))
 
 pub points_word-requires : goal.points_word-requires
@@ -20,7 +20,7 @@ points_word-requires c =
     let row = c.classify.ensures in
     let order = c.add_order-held.ensures in
     let tally = c.count_classes.ensures in
-    let fit = plan_fit _ _ _ _ _ _ _ pre.0 _ row _ _ _ order pre.5 _ tally _ _ c.number_at-inner.ensures c.number_at.ensures in
+    let fit = plan_fit _ _ _ _ _ _ _ pre.0 _ row _ _ _ order pre.5 _ tally _ _ c.get_or-inner.ensures c.get_or.ensures in
     plan_small _ fit.order_few fit.owned_few (omega (arith, fit.long, c.row_total.ensures)) pre.1 pre.2 pre.3
 
 pub words-requires : goal.words-requires
@@ -29,7 +29,7 @@ words-requires c =
     let row = c.classify.ensures in
     let order = c.add_order-held.ensures in
     let tally = c.count_classes.ensures in
-    let fit = plan_fit _ _ _ _ _ _ _ pre.0 _ row _ _ _ order pre.5 _ tally _ _ c.number_at-inner.ensures c.number_at.ensures in
+    let fit = plan_fit _ _ _ _ _ _ _ pre.0 _ row _ _ _ order pre.5 _ tally _ _ c.get_or-inner.ensures c.get_or.ensures in
     plan_small _ fit.order_few fit.owned_few (omega (arith, fit.long, c.row_total.ensures)) pre.1 pre.2 pre.3
 
 pub returns : goal.returns
@@ -43,7 +43,7 @@ returns c =
       refl,
       refl,
       refl,
-      plan_drawn _ _ _ _ _ _ _ pre.0 _ row _ _ _ order pre.5 _ tally _ _ c.number_at-inner.ensures c.number_at.ensures _ refl refl
+      plan_drawn _ _ _ _ _ _ _ pre.0 _ row _ _ _ order pre.5 _ tally _ _ c.get_or-inner.ensures c.get_or.ensures _ refl refl
           c.row_total.ensures _ _ c.points_word.ensures c.words.ensures,
       got_told _ _ _ _ _ _ _ pre.0.cells_few row tally,
     )

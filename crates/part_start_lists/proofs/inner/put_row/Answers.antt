@@ -13,11 +13,11 @@ loop-t-init c = (search rules, search rules, search rules, search rules, search 
 pub put_entry-u-requires : goal.put_entry-u-requires
 put_entry-u-requires c =
     let pre = c.requires in (
-      row_room _ _ _ _ _ _ _ _ c.place_at-q.ensures.0 c.number_at-from.ensures c.number_at-to.ensures _ _ _ _ _ pre.0 c.loop-t.invariant.5
+      row_room _ _ _ _ _ _ _ _ c.place_at-q.ensures.0 c.get_or-from.ensures c.get_or-to.ensures _ _ _ _ _ pre.0 c.loop-t.invariant.5
           c.loop-t.invariant.4 c.loop-t.invariant.0 c.loop-t-test.true,
       search rules,
       search rules,
-      row_near _ _ _ _ _ _ _ _ c.place_at-q.ensures.0 c.number_at-from.ensures c.number_at-to.ensures _ pre.3 c.loop-t.invariant.0 c.loop-t-test.true,
+      row_near _ _ _ _ _ _ _ _ c.place_at-q.ensures.0 c.get_or-from.ensures c.get_or-to.ensures _ pre.3 c.loop-t.invariant.0 c.loop-t-test.true,
     )
 
 pub loop-t-preserved : goal.loop-t-preserved
@@ -29,11 +29,11 @@ loop-t-preserved c =
       search rules,
       row_count _ _ _ _ _ _ _ _ _ _ c.put_entry-u.ensures c.loop-t.invariant.4 c.loop-t.invariant.0,
       search rules,
-      row_turn _ _ _ _ _ _ _ _ c.place_at-q.ensures.0 c.number_at-from.ensures c.number_at-to.ensures _ _ _ _ _ _ _ _ pre.0
+      row_turn _ _ _ _ _ _ _ _ c.place_at-q.ensures.0 c.get_or-from.ensures c.get_or-to.ensures _ _ _ _ _ _ _ _ pre.0
           c.loop-t.invariant.0 c.loop-t-test.true c.loop-t.invariant.4 c.loop-t.invariant.6 c.put_entry-u.ensures,
     )
 
 pub returns : goal.returns
 returns c =
-    row_end _ _ _ _ _ _ _ _ c.place_at-q.ensures.0 c.number_at-from.ensures c.number_at-to.ensures _ _ _ _ _ _ c.loop-t.invariant.0
+    row_end _ _ _ _ _ _ _ _ c.place_at-q.ensures.0 c.get_or-from.ensures c.get_or-to.ensures _ _ _ _ _ _ c.loop-t.invariant.0
     c.loop-t.invariant.1 c.loop-t-test.false c.loop-t.invariant.6

@@ -26,8 +26,8 @@ loop-j-preserved c =
     cells_turn _ _ _ _ _ _ _ _ _ _ c.loop-j.invariant c.requires.0
     c.loop-j-test.true
     c.if-e-lt1.false _ _ _ _ _
-    c.number_at.ensures c.to_local-l.ensures
-    c.put_one-u.ensures c.number_at-e.ensures
+    c.get_or.ensures c.to_local-l.ensures
+    c.put_one-u.ensures c.get_or-e.ensures
 
 pub shape_of-b : goal.shape_of-b
 shape_of-b c = search cells_same

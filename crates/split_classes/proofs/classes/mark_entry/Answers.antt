@@ -10,4 +10,4 @@ returns c =
     entry_other _ _ _ _ _ _ c.word_at-x.ensures.0
     c.owner_of-owner.ensures
     c.args.inside _ _ c.if-owner-i.false
-    c.put_class.ensures
+    c.put_at.ensures

@@ -13,5 +13,5 @@ loop-t-preserved c = (search rules, inl (search rules), search rules, search pas
 
 pub returns : goal.returns
 returns c =
-    pass_end _ _ _ _ _ _ _ _ _ _ _ c.number_at-from.ensures c.number_at-to.ensures c.loop-t-test.false c.loop-t.invariant.1
+    pass_end _ _ _ _ _ _ _ _ _ _ _ c.get_or-from.ensures c.get_or-to.ensures c.loop-t-test.false c.loop-t.invariant.1
     c.loop-t.invariant.3

@@ -11,14 +11,14 @@ returns-then-s-lt1 c = search rest_end
 pub returns-then-has_side : goal.returns-then-has_side
 returns-then-has_side c =
     rest_found _ _ _ _ _ _ _ _ _ c.loop-k-test.true c.if-s-lt1.false _ _
-    c.number_at.ensures c.place_from-q.ensures.0 _ c.has_side.ensures c.loop-k.invariant
+    c.get_or.ensures c.place_from-q.ensures.0 _ c.has_side.ensures c.loop-k.invariant
     c.if-has_side.true
 
 pub loop-k-preserved : goal.loop-k-preserved
 loop-k-preserved c =
     rest_turn _ _ _ _ _ _ _ _ _ c.loop-k-test.true c.if-s-lt1.false _ _
-    c.number_at.ensures c.place_from-q.ensures.0 _ c.has_side.ensures _
-    c.loop-k.invariant c.if-has_side.false c.number_at-s.ensures
+    c.get_or.ensures c.place_from-q.ensures.0 _ c.has_side.ensures _
+    c.loop-k.invariant c.if-has_side.false c.get_or-s.ensures
 
 pub returns : goal.returns
 returns c = search rest_spent

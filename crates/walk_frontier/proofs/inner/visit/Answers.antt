@@ -3,8 +3,8 @@ use Rattle.walk_frontier.proofs.VisitLaws.{visit_old, visit_new, visit_adds, vis
 use borrow.Author.Rules.{rules}
 use Rattle.walk_frontier.proofs.inner.visit.Goals as goal
 
-pub returns-then-number_at-mark : goal.returns-then-number_at-mark
-returns-then-number_at-mark c = record { gathered = search rules; all = search visit_old; few = search rules; grown = search grown_none }
+pub returns-then-get_or-mark : goal.returns-then-get_or-mark
+returns-then-get_or-mark c = record { gathered = search rules; all = search visit_old; few = search rules; grown = search grown_none }
 
 pub returns : goal.returns
 returns c = record { gathered = search visit_new; all = search visit_adds; few = search visit_few; grown = search grown_new }

@@ -2,8 +2,8 @@
 use Rattle.walk_near_cells.proofs.LevelLaws.{reach_old, reach_new}
 use Rattle.walk_near_cells.proofs.levels.reach_cell.Goals as goal
 
-pub returns-then-number_at-ne0 : goal.returns-then-number_at-ne0
-returns-then-number_at-ne0 c = search reach_old
+pub returns-then-get_or-ne0 : goal.returns-then-get_or-ne0
+returns-then-get_or-ne0 c = search reach_old
 
 pub returns : goal.returns
 returns c = search reach_new

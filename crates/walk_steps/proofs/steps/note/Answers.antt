@@ -2,8 +2,8 @@
 use Rattle.walk_steps.proofs.NoteLaws.{note_new, note_old}
 use Rattle.walk_steps.proofs.steps.note.Goals as goal
 
-pub returns-then-number_at-eq0 : goal.returns-then-number_at-eq0
-returns-then-number_at-eq0 c = search note_new
+pub returns-then-get_or-eq0 : goal.returns-then-get_or-eq0
+returns-then-get_or-eq0 c = search note_new
 
-pub returns-else-number_at-eq0 : goal.returns-else-number_at-eq0
-returns-else-number_at-eq0 c = search note_old
+pub returns-else-get_or-eq0 : goal.returns-else-get_or-eq0
+returns-else-get_or-eq0 c = search note_old
