@@ -1,10 +1,10 @@
 // The lines of a part's ranges, and the lines of lists by a row of classes.
-ghost use Rattle.std.specs.Prelude.{[], ◌∷◌, ◌+◌, ◌≤◌, ◌<◌};
+ghost use Rattle.std.specs.Prelude.{◌+◌, ◌≤◌, ◌<◌};
 ghost use Rattle.vocabulary.specs.Intervals.{blocks};
 ghost use Rattle.layout.specs.Limits.{most_elements};
 ghost use Rattle.mesh.specs.Mesh.{top};
 ghost use Rattle.mesh.specs.Accepted.{Accepted};
-ghost use Rattle.walk_steps.specs.Walking.{Ground};
+ghost use Rattle.walk_incidence.specs.Links.{Turned};
 ghost use Rattle.split_classes.specs.Classes.{class_cells};
 ghost use Rattle.list_text.specs.Printing.{Printed, numbers};
 ghost use Rattle.list_ranges.specs.Lines.{range_line, row_lines, dimension_lines};
@@ -14,6 +14,7 @@ use list_text::inner::{put_numbers, put_spaced, put_text};
 use mesh::inner::{below_of, count_of, top_of};
 use split_cells::inner::add_class;
 use split_ranges::inner::{COPIED, EXPOSED, PRIVATE, SHARED, classify_lowers};
+use walk_incidence::inner::Incidence;
 
 // The numbers of class k, and the end of their line.
 pub fn put_class(
@@ -77,21 +78,19 @@ fn put_ranges(m: &[u8], lower: &[u8], dimension: usize, out: &mut [u8], at: usiz
 // The ranges of the dimensions, rising, for the part that the row of cells is of.
 pub fn put_dimensions(
     m: &[u8],
-    cell: &[u16],
-    prev: &[u16],
-    last: &[u16],
+    incidence: &Incidence,
     class: &[u8],
     holders: &[u8],
     out: &mut [u8],
     at: usize,
 ) -> usize
-    requires { Ground m.now (top m.now ∷ []) cell.now prev.now last.now }
+    requires { Turned m.now incidence.now }
     ensures { Printed out.old out.new at result (blocks 0 (top m.now) (dimension_lines m.now class.now holders.now)) }
 {
     let mut t = at;
     for dimension in 0..top_of(m) {
         let mut lower = [0u8; MOST_ELEMENTS];
-        classify_lowers(m, cell, prev, last, class, holders, dimension, &mut lower);
+        classify_lowers(m, incidence, class, holders, dimension, &mut lower);
         t = put_ranges(m, &lower, dimension, out, t);
     }
     t

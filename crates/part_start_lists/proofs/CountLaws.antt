@@ -7,7 +7,7 @@ use native.Mathlib.Nat.{zero-add, add-zero}
 use native.Mathlib.Omega.{arith}
 use lib.Dec.{eqb, ltb}
 use lib.ListN.{get_or-eq_default, length, get_or, set, take, replicate, length-set, length-replicate}
-use lib.Seq.{get_or-set_same, get_or-set_other, ext_get_or}
+use lib.Seq.{get_or-set_same, get_or-set_other}
 use borrow.Author.Tests.{eqb-true, eqb-false, eq-eqb, ne_eqb, ltb-true, ltb-false}
 use Rattle.vocabulary.specs.Bytes.{Bytes, byte_at}
 use Rattle.std.proofs.lemmas.List.{get_or_past}
@@ -19,7 +19,6 @@ use Rattle.split.specs.Numbering.{numbering}
 use Rattle.split.specs.Owners.{owns_at}
 use Rattle.split_classes.specs.Classes.{inside_at, reach_has, reached_at, class_at, class_count, part_cells, Classed, Few, Appended}
 use Rattle.split_classes.specs.Groups.{group, Grouped}
-use Rattle.vocabulary.specs.Lists.{Zeros}
 use Rattle.layout.specs.Limits.{element_places, most_elements, most_parts}
 use Rattle.split_cells.proofs.AddLaws.{add_none, add_both, count_start, count_turn, place_one, place_none, class_count_lem, class_few}
 use Rattle.split_cells.proofs.ClassLists.{row_cells}
@@ -408,13 +407,8 @@ module _ (owners table : Bytes) (ends : List ℕ) (i first cells : ℕ) where
           sent_turn owners table ends i cells k parts (t - n) sent after l most X
           (omega (arith, Y.count, ap length stamped_cells, cells_many owners table ends i cells (k + 1) first i)) e
 
--- ---- a cleared array
+-- ---- local numbers, from a cleared array
 
-pub zero_list : (list : List ℕ) → Zeros element_places list → list ≡ replicate element_places 0
-zero_list list Z =
-    let r : length (replicate {A = ℕ} element_places 0) ≡ element_places = length-replicate {A = ℕ} element_places 0 in
-    ext_get_or 0 list (replicate element_places 0) (Z.size ∙ sym r) (λ x l. Z.each x ∙ sym (zeros_at element_places x))
-
--- local numbers, from a cleared array
-pub order_numbered : (order : List ℕ) (n : ℕ) (empty local : List ℕ) → Zeros element_places empty → local ≡ numbering 0 (take n order) empty → local ≡ numbers_of order n
-order_numbered order n empty local Z e = e ∙ ap (numbering 0 (take n order)) (zero_list empty Z)
+pub order_numbered : (order : List ℕ) (n : ℕ) (list empty local : List ℕ) → length list ≡ element_places → empty ≡ replicate (length list) 0 → local ≡ numbering 0 (take n order) empty
+    → local ≡ numbers_of order n
+order_numbered order n list empty local l f e = e ∙ ap (numbering 0 (take n order)) (f ∙ ap (λ k. replicate k 0) l)

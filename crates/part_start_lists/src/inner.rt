@@ -20,7 +20,6 @@ use part_state::inner::{CELLS, FIRST, KIND, LENGTH, PART, STEPS, Sizes, WEIGHT_W
 use split::inner::{number_cells, to_global, to_local};
 use split_cells::inner::add_order;
 use split_classes::inner::{HALO, INTERIOR, classify};
-use walk_steps::inner::clear;
 use word_lists::inner::{put_list, put_one, put_words};
 
 // Whose lists are made: the part, how many parts there are, the mesh's cells, how many points touch the part, and how many cells stand at these together.
@@ -333,7 +332,7 @@ pub fn number_order(order: &[u16], n: usize, local: &mut [u16])
     requires { (n ≤ length order.now) × (n < 65536) × (length local.old ≡ element_places) }
     ensures { local.new ≡ numbers_of order.now n }
 {
-    clear(local);
+    local.fill(0);
     number_cells(order, n, local);
 }
 

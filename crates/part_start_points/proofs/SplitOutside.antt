@@ -16,7 +16,8 @@ use Rattle.layout.specs.Limits.{most_elements}
 use Rattle.mesh.specs.Mesh.{counted, first_cell, cell_count, chain}
 use Rattle.mesh.specs.Walks.{incident, cells_at}
 use Rattle.mesh.specs.Accepted.{Element}
-use Rattle.walk_steps.specs.Walking.{Ground}
+use Rattle.walk_incidence.specs.declared.inner.Incidence.{Incidence}
+use Rattle.walk_incidence.specs.Links.{Turned}
 use Rattle.split.specs.Split.{Split, split_of, owns, owned, reaches, cell_points, bad29}
 use Rattle.split.specs.Owners.{owns_at}
 use Rattle.split_classes.specs.Classes.{reach_has, Prepared}
@@ -26,8 +27,8 @@ use Rattle.part_start_points.specs.Points.{cells_on}
 use Rattle.part_start_points.specs.Outside.{stamped_at, outside_at, cell_outside, some_outside}
 use Rattle.part_start_points.proofs.SplitPoints.{some_of_reverse, cells_are}
 
-module _ (m : Bytes) (parts : ℕ) (owners st table : Bytes) (ends : List ℕ) (holders : Bytes) (R : Prepared m parts owners st table ends holders) (cell prev last : List ℕ)
-    (G : Ground m st cell prev last) where
+module _ (m : Bytes) (parts : ℕ) (owners st table : Bytes) (ends : List ℕ) (holders : Bytes) (R : Prepared m parts owners st table ends holders) (inc : Incidence)
+    (G : Turned m inc) where
   abbrev S : Split
   S = split_of m parts owners st
 
@@ -53,9 +54,9 @@ module _ (m : Bytes) (parts : ℕ) (owners st table : Bytes) (ends : List ℕ) (
         ∙ reach_told m parts owners st table ends R.ended R.entries q (y - first_cell m) h
         ∙ ap (reaches S c) z
 
-    beyond_is : (p : ℕ) → 1 ≤ p → p ≤ counted m 0 → some_of (cells_on cell prev last p) (λ y. not (stamped_at table ends q (y - first_cell m))) ≡ beyond p
+    beyond_is : (p : ℕ) → 1 ≤ p → p ≤ counted m 0 → some_of (cells_on inc p) (λ y. not (stamped_at table ends q (y - first_cell m))) ≡ beyond p
     beyond_is p low high =
-        ap (λ xs. some_of xs (λ y. not (stamped_at table ends q (y - first_cell m)))) (cells_are m parts owners st cell prev last G p low high)
+        ap (λ xs. some_of xs (λ y. not (stamped_at table ends q (y - first_cell m)))) (cells_are m parts owners st inc G p low high)
         ∙ some_of_reverse (λ y. not (stamped_at table ends q (y - first_cell m))) (S.around p)
         ∙ some_of_cong (λ y. not (stamped_at table ends q (y - first_cell m))) (λ x. not (reaches S c x)) (S.around p)
         (All_map (S.around p) (λ y w. ap not (reach_is y w.0 w.1)) (around_cells p))
@@ -75,15 +76,15 @@ module _ (m : Bytes) (parts : ℕ) (owners st table : Bytes) (ends : List ℕ) (
     in_point p e =
         at_is_in c (cells_at m p) (picked_in (first_cell m) (incident m p) (cell_count m) c (omega arith) (omega arith) (or_left (is_in p (chain m c)) (is_in c (chain m p)) e))
 
-    outside_is : some_of (chain m c) (outside_at cell prev last table ends (first_cell m) (counted m 0) q) ≡ some_of (cell_points S c) beyond
+    outside_is : some_of (chain m c) (outside_at inc table ends (first_cell m) (counted m 0) q) ≡ some_of (cell_points S c) beyond
     unfolding outside_at cell_points
     outside_is = same_test _ _ there back
       where
-        there : some_of (chain m c) (outside_at cell prev last table ends (first_cell m) (counted m 0) q) ≡ true → some_of (cell_points S c) beyond ≡ true
+        there : some_of (chain m c) (outside_at inc table ends (first_cell m) (counted m 0) q) ≡ true → some_of (cell_points S c) beyond ≡ true
         there e =
-            let w = some_of_witness (outside_at cell prev last table ends (first_cell m) (counted m 0) q) (chain m c) 0 e in
+            let w = some_of_witness (outside_at inc table ends (first_cell m) (counted m 0) q) (chain m c) 0 e in
             let g : ℕ = get_or (chain m c) w.0 0 in
-            let u = and_true (leb g (counted m 0)) (some_of (cells_on cell prev last g) (λ y. not (stamped_at table ends q (y - first_cell m)))) w.2 in
+            let u = and_true (leb g (counted m 0)) (some_of (cells_on inc g) (λ y. not (stamped_at table ends q (y - first_cell m)))) w.2 in
             let low : 1 ≤ g = (All_get_or _ (chain m c) w.0 0 (R.mesh.chain_lower c element) w.1).0 in
             let high : g ≤ counted m 0 = leb-true g (counted m 0) u.0 in
             let a : is_in g (chain m c) ≡ true = at_is_in g (chain m c) (record { place = w.0; place_lt = w.1; place_is = refl }) in
@@ -93,36 +94,36 @@ module _ (m : Bytes) (parts : ℕ) (owners st table : Bytes) (ends : List ℕ) (
             points_up : (g : ℕ) → g ≤ counted m 0 → g < 1 + S.points
             points_up g h = unfold split_of in omega arith
 
-        back : some_of (cell_points S c) beyond ≡ true → some_of (chain m c) (outside_at cell prev last table ends (first_cell m) (counted m 0) q) ≡ true
+        back : some_of (cell_points S c) beyond ≡ true → some_of (chain m c) (outside_at inc table ends (first_cell m) (counted m 0) q) ≡ true
         back e =
             let w = some_of_witness beyond (cell_points S c) 0 e in
             let p : ℕ = get_or (cell_points S c) w.0 0 in
             let t = picked_passes 1 (λ p. is_in c (S.around p)) S.points p (record { place = w.0; place_lt = w.1; place_is = refl }) in
             let high : p ≤ counted m 0 = points_low p t.1 in
             let a = is_in_at p (chain m c) (point_in p t.0 high t.2) in
-            some_of_has (outside_at cell prev last table ends (first_cell m) (counted m 0) q) (chain m c) 0 a.place a.place_lt
-            (subst (λ g. outside_at cell prev last table ends (first_cell m) (counted m 0) q g ≡ true) (sym a.place_is)
-            (and_intro (leb p (counted m 0)) (some_of (cells_on cell prev last p) (λ y. not (stamped_at table ends q (y - first_cell m)))) (le-leb p (counted m 0) high) (beyond_is p t.0 high ∙ w.2)))
+            some_of_has (outside_at inc table ends (first_cell m) (counted m 0) q) (chain m c) 0 a.place a.place_lt
+            (subst (λ g. outside_at inc table ends (first_cell m) (counted m 0) q g ≡ true) (sym a.place_is)
+            (and_intro (leb p (counted m 0)) (some_of (cells_on inc p) (λ y. not (stamped_at table ends q (y - first_cell m)))) (le-leb p (counted m 0) high) (beyond_is p t.0 high ∙ w.2)))
           where
             points_low : (p : ℕ) → p < 1 + S.points → p ≤ counted m 0
             points_low p h = unfold split_of in omega arith
 
   pub outside_told : (first n cells i : ℕ) → first ≡ first_cell m → n ≡ counted m 0 → cells ≡ cell_count m
-      → some_outside m cell prev last owners table ends first n i cells ≡ bad29 S i
+      → some_outside m inc owners table ends first n i cells ≡ bad29 S i
   unfolding some_outside cell_outside bad29 owned
   outside_told first n cells i fe ne ce =
-      (λ x. some (fe x) (ce x) (λ c. owns_at owners i (c - fe x) && some_of (chain m c) (outside_at cell prev last table ends (fe x) (ne x) (c - fe x))))
+      (λ x. some (fe x) (ce x) (λ c. owns_at owners i (c - fe x) && some_of (chain m c) (outside_at inc table ends (fe x) (ne x) (c - fe x))))
       ∙ some_cong (first_cell m) _ (λ c. owns S i c && some_of (cell_points S c) (λ p. some_of (S.around p) (λ x. not (reaches S c x)))) (cell_count m) each
       ∙ sym (some_of_picked (first_cell m) (cell_count m) (owns S i) (λ c. some_of (cell_points S c) (λ p. some_of (S.around p) (λ x. not (reaches S c x)))))
       ∙ whole
     where
       each : (q : ℕ) → q < cell_count m
           → owns_at owners i (first_cell m + q - first_cell m)
-          && some_of (chain m (first_cell m + q)) (outside_at cell prev last table ends (first_cell m) (counted m 0) (first_cell m + q - first_cell m))
+          && some_of (chain m (first_cell m + q)) (outside_at inc table ends (first_cell m) (counted m 0) (first_cell m + q - first_cell m))
           ≡ owns S i (first_cell m + q) && some_of (cell_points S (first_cell m + q)) (λ p. some_of (S.around p) (λ x. not (reaches S (first_cell m + q) x)))
       each q h =
           let z : first_cell m + q - first_cell m ≡ q = omega arith in
-          ap₂ (λ a b. a && b) mine (ap (λ k. some_of (chain m (first_cell m + q)) (outside_at cell prev last table ends (first_cell m) (counted m 0) k)) z ∙ outside_is q h)
+          ap₂ (λ a b. a && b) mine (ap (λ k. some_of (chain m (first_cell m + q)) (outside_at inc table ends (first_cell m) (counted m 0) k)) z ∙ outside_is q h)
         where
           mine : owns_at owners i (first_cell m + q - first_cell m) ≡ owns S i (first_cell m + q)
           mine = unfold owns_at owns split_of in refl

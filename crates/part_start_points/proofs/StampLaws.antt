@@ -16,6 +16,7 @@ use Rattle.vocabulary.proofs.ScanLaws.{some_start_from, some_turn_from, some_sto
 use Rattle.layout.specs.Limits.{most_elements, record_places}
 use Rattle.mesh.specs.Mesh.{record_count, head_of, element_in, next_of, follow, records, chain}
 use Rattle.mesh.proofs.FollowLaws.{chain_ended, chain_spent, chain_more}
+use Rattle.walk_incidence.specs.declared.inner.Incidence.{Incidence}
 use Rattle.walk_incidence.specs.Links.{trail}
 use Rattle.split.specs.Split.{owner_at}
 use Rattle.split.specs.Owners.{owns_at}
@@ -26,55 +27,55 @@ use Rattle.part_start_points.specs.Outside.{unstamped_at, chain_unstamped, stamp
 
 -- ---- one element
 
-module _ (cell prev last : List ℕ) (stamps : Bytes) (first n g : ℕ) where
-  pub unstamped_lower : n < g → false ≡ unstamped_at cell prev last stamps first n g
+module _ (inc : Incidence) (stamps : Bytes) (first n g : ℕ) where
+  pub unstamped_lower : n < g → false ≡ unstamped_at inc stamps first n g
   unfolding unstamped_at
-  unstamped_lower h = sym (ap (λ b. b && some_at stamps first 0 (cells_on cell prev last g)) (lt-leb g n h))
+  unstamped_lower h = sym (ap (λ b. b && some_at stamps first 0 (cells_on inc g)) (lt-leb g n h))
 
-  pub unstamped_point : (t : ℕ) (b : Bool) → g ≤ n → t ≡ get_or last g 0 → b ≡ some_at stamps first 0 (trail cell prev record_places t) → b ≡ unstamped_at cell prev last stamps first n g
+  pub unstamped_point : (t : ℕ) (b : Bool) → g ≤ n → t ≡ get_or inc.last g 0 → b ≡ some_at stamps first 0 (trail inc.cell inc.prev record_places t) → b ≡ unstamped_at inc stamps first n g
   unfolding unstamped_at cells_on
   unstamped_point t b h te be =
       be
-      ∙ ap (λ x. some_at stamps first 0 (trail cell prev record_places x)) te
-      ∙ sym (ap (λ b. b && some_at stamps first 0 (trail cell prev record_places (get_or last g 0))) (le-leb g n h))
+      ∙ ap (λ x. some_at stamps first 0 (trail inc.cell inc.prev record_places x)) te
+      ∙ sym (ap (λ b. b && some_at stamps first 0 (trail inc.cell inc.prev record_places (get_or inc.last g 0))) (le-leb g n h))
 
 -- ---- a chain
 
-module _ (m : Bytes) (cell prev last : List ℕ) (stamps : Bytes) (first n : ℕ) where
+module _ (m : Bytes) (inc : Incidence) (stamps : Bytes) (first n : ℕ) where
   -- after k turns, at record i, what is left of the chain tells what the whole does
   pub record ChainLeft (r h k i : ℕ) : Type 0 where
-    pub same : chain_unstamped m cell prev last stamps first n (r + 1 - k) i ≡ chain_unstamped m cell prev last stamps first n (r + 1) h
+    pub same : chain_unstamped m inc stamps first n (r + 1 - k) i ≡ chain_unstamped m inc stamps first n (r + 1) h
 
   pub chain_begin : (r h : ℕ) → ChainLeft r h 0 h
-  chain_begin r h = let z : r + 1 - 0 ≡ r + 1 = omega arith in record { same = ap (λ k. chain_unstamped m cell prev last stamps first n k h) z }
+  chain_begin r h = let z : r + 1 - 0 ≡ r + 1 = omega arith in record { same = ap (λ k. chain_unstamped m inc stamps first n k h) z }
 
-  none : (k i : ℕ) → follow m k i ≡ [] → false ≡ chain_unstamped m cell prev last stamps first n k i
+  none : (k i : ℕ) → follow m k i ≡ [] → false ≡ chain_unstamped m inc stamps first n k i
   unfolding chain_unstamped some_of
-  none k i e = sym (ap (λ xs. some_of (map (element_in m) xs) (unstamped_at cell prev last stamps first n)) e)
+  none k i e = sym (ap (λ xs. some_of (map (element_in m) xs) (unstamped_at inc stamps first n)) e)
 
   module _ (r h k i : ℕ) (C : ChainLeft r h k i) where
-    pub chain_over : i < 1 → false ≡ chain_unstamped m cell prev last stamps first n (r + 1) h
+    pub chain_over : i < 1 → false ≡ chain_unstamped m inc stamps first n (r + 1) h
     chain_over l = none (r + 1 - k) i (chain_ended m (r + 1) k i l) ∙ C.same
 
-    pub chain_run : (e : ℕ) → e ≡ r + 1 → e ≤ k → false ≡ chain_unstamped m cell prev last stamps first n (r + 1) h
+    pub chain_run : (e : ℕ) → e ≡ r + 1 → e ≤ k → false ≡ chain_unstamped m inc stamps first n (r + 1) h
     chain_run e ee l = none (r + 1 - k) i (chain_spent m (r + 1) k i (omega arith)) ∙ C.same
 
-    module _ (e : ℕ) (ee : e ≡ r + 1) (l : k < e) (low : 1 ≤ i) (g : ℕ) (ge : g ≡ element_in m i) (b : Bool) (be : b ≡ unstamped_at cell prev last stamps first n g) where
-      next : chain_unstamped m cell prev last stamps first n (r + 1 - k) i ≡ b || chain_unstamped m cell prev last stamps first n (r + 1 - (k + 1)) (next_of m i)
+    module _ (e : ℕ) (ee : e ≡ r + 1) (l : k < e) (low : 1 ≤ i) (g : ℕ) (ge : g ≡ element_in m i) (b : Bool) (be : b ≡ unstamped_at inc stamps first n g) where
+      next : chain_unstamped m inc stamps first n (r + 1 - k) i ≡ b || chain_unstamped m inc stamps first n (r + 1 - (k + 1)) (next_of m i)
       unfolding chain_unstamped some_of
       next =
-          ap (λ xs. some_of (map (element_in m) xs) (unstamped_at cell prev last stamps first n)) (chain_more m (r + 1) k i (omega arith) low)
-          ∙ ap (λ c. c || some_of (map (element_in m) (follow m (r + 1 - (k + 1)) (next_of m i))) (unstamped_at cell prev last stamps first n))
-          (ap (unstamped_at cell prev last stamps first n) (sym ge) ∙ sym be)
+          ap (λ xs. some_of (map (element_in m) xs) (unstamped_at inc stamps first n)) (chain_more m (r + 1) k i (omega arith) low)
+          ∙ ap (λ c. c || some_of (map (element_in m) (follow m (r + 1 - (k + 1)) (next_of m i))) (unstamped_at inc stamps first n))
+          (ap (unstamped_at inc stamps first n) (sym ge) ∙ sym be)
 
-      pub chain_here : b ≡ true → true ≡ chain_unstamped m cell prev last stamps first n (r + 1) h
-      chain_here t = sym (ap (λ c. c || chain_unstamped m cell prev last stamps first n (r + 1 - (k + 1)) (next_of m i)) t) ∙ sym next ∙ C.same
+      pub chain_here : b ≡ true → true ≡ chain_unstamped m inc stamps first n (r + 1) h
+      chain_here t = sym (ap (λ c. c || chain_unstamped m inc stamps first n (r + 1 - (k + 1)) (next_of m i)) t) ∙ sym next ∙ C.same
 
       pub chain_turn : (j : ℕ) → b ≡ false → j ≡ next_of m i → ChainLeft r h (k + 1) j
       chain_turn j f je = record {
         same =
-            ap (chain_unstamped m cell prev last stamps first n (r + 1 - (k + 1))) je
-            ∙ sym (ap (λ c. c || chain_unstamped m cell prev last stamps first n (r + 1 - (k + 1)) (next_of m i)) f)
+            ap (chain_unstamped m inc stamps first n (r + 1 - (k + 1))) je
+            ∙ sym (ap (λ c. c || chain_unstamped m inc stamps first n (r + 1 - (k + 1)) (next_of m i)) f)
             ∙ sym next
             ∙ C.same;
       }
@@ -108,50 +109,50 @@ module _ (table : Bytes) (ends : List ℕ) (q : ℕ) (a b : Bytes) (R : RowClear
       go true z e = refl
       go false z e = e
 
-  module _ (m : Bytes) (cell prev last : List ℕ) (owners : Bytes) (first n i c o : ℕ) (qe : q ≡ c - first) (oe : o ≡ owner_at owners q) where
-    pub cell_outside_lem : (r h : ℕ) (t : Bool) → o ≡ i → r ≡ record_count m → h ≡ head_of m c → t ≡ chain_unstamped m cell prev last b first n (r + 1) h
-        → t ≡ cell_outside m cell prev last owners table ends first n i c
+  module _ (m : Bytes) (inc : Incidence) (owners : Bytes) (first n i c o : ℕ) (qe : q ≡ c - first) (oe : o ≡ owner_at owners q) where
+    pub cell_outside_lem : (r h : ℕ) (t : Bool) → o ≡ i → r ≡ record_count m → h ≡ head_of m c → t ≡ chain_unstamped m inc b first n (r + 1) h
+        → t ≡ cell_outside m inc owners table ends first n i c
     unfolding cell_outside owns_at chain_unstamped chain records unstamped_at outside_at some_at
     cell_outside_lem r h t own re he te =
         te
-        ∙ ap₂ (λ k x. some_of (map (element_in m) (follow m (k + 1) x)) (unstamped_at cell prev last b first n)) re he
-        ∙ some_of_cong (unstamped_at cell prev last b first n) (outside_at cell prev last table ends first n q) (chain m c) (All_intro _ (chain m c) 0 (λ l k. same (get_or (chain m c) l 0)))
-        ∙ ap (λ x. some_of (chain m c) (outside_at cell prev last table ends first n x)) qe
-        ∙ sym (ap (λ z. z && some_of (chain m c) (outside_at cell prev last table ends first n (c - first))) mine)
+        ∙ ap₂ (λ k x. some_of (map (element_in m) (follow m (k + 1) x)) (unstamped_at inc b first n)) re he
+        ∙ some_of_cong (unstamped_at inc b first n) (outside_at inc table ends first n q) (chain m c) (All_intro _ (chain m c) 0 (λ l k. same (get_or (chain m c) l 0)))
+        ∙ ap (λ x. some_of (chain m c) (outside_at inc table ends first n x)) qe
+        ∙ sym (ap (λ z. z && some_of (chain m c) (outside_at inc table ends first n (c - first))) mine)
       where
         mine : eqb (owner_at owners (c - first)) i ≡ true
         mine = eq-eqb (owner_at owners (c - first)) i (ap (owner_at owners) (sym qe) ∙ sym oe ∙ own)
 
-        same : (g : ℕ) → unstamped_at cell prev last b first n g ≡ outside_at cell prev last table ends first n q g
+        same : (g : ℕ) → unstamped_at inc b first n g ≡ outside_at inc table ends first n q g
         same g =
             ap (λ z. leb g n && z)
-            (some_of_cong (λ y. eqb (byte_at b (y - first)) 0) (λ y. not (stamped_at table ends q (y - first))) (cells_on cell prev last g)
-            (All_intro _ (cells_on cell prev last g) 0 (λ l k. stamp_told (get_or (cells_on cell prev last g) l 0 - first))))
+            (some_of_cong (λ y. eqb (byte_at b (y - first)) 0) (λ y. not (stamped_at table ends q (y - first))) (cells_on inc g)
+            (All_intro _ (cells_on inc g) 0 (λ l k. stamp_told (get_or (cells_on inc g) l 0 - first))))
 
-pub cell_anothers : (m : Bytes) (cell prev last : List ℕ) (owners table : Bytes) (ends : List ℕ) (first n i c q o : ℕ) → q ≡ c - first → o ≡ owner_at owners q → (o ≡ i → ⊥)
-    → false ≡ cell_outside m cell prev last owners table ends first n i c
+pub cell_anothers : (m : Bytes) (inc : Incidence) (owners table : Bytes) (ends : List ℕ) (first n i c q o : ℕ) → q ≡ c - first → o ≡ owner_at owners q → (o ≡ i → ⊥)
+    → false ≡ cell_outside m inc owners table ends first n i c
 unfolding cell_outside owns_at
-cell_anothers m cell prev last owners table ends first n i c q o qe oe ne =
-    sym (ap (λ z. z && some_of (chain m c) (outside_at cell prev last table ends first n (c - first)))
+cell_anothers m inc owners table ends first n i c q o qe oe ne =
+    sym (ap (λ z. z && some_of (chain m c) (outside_at inc table ends first n (c - first)))
     (ne_eqb (owner_at owners (c - first)) i (λ z. ne (oe ∙ ap (owner_at owners) qe ∙ z))))
 
 -- ---- the cells, one after another
 
-module _ (m : Bytes) (cell prev last : List ℕ) (owners table : Bytes) (ends : List ℕ) (first n i : ℕ) where
-  pub outside_begin : some first (first - first) (cell_outside m cell prev last owners table ends first n i) ≡ false
-  outside_begin = some_start_from first (cell_outside m cell prev last owners table ends first n i)
+module _ (m : Bytes) (inc : Incidence) (owners table : Bytes) (ends : List ℕ) (first n i : ℕ) where
+  pub outside_begin : some first (first - first) (cell_outside m inc owners table ends first n i) ≡ false
+  outside_begin = some_start_from first (cell_outside m inc owners table ends first n i)
 
-  pub outside_turn : (c : ℕ) (t : Bool) → first ≤ c → some first (c - first) (cell_outside m cell prev last owners table ends first n i) ≡ false
-      → t ≡ cell_outside m cell prev last owners table ends first n i c → t ≡ false → some first (c + 1 - first) (cell_outside m cell prev last owners table ends first n i) ≡ false
-  outside_turn c t low none e f = some_turn_from first (cell_outside m cell prev last owners table ends first n i) c t low none e f
+  pub outside_turn : (c : ℕ) (t : Bool) → first ≤ c → some first (c - first) (cell_outside m inc owners table ends first n i) ≡ false
+      → t ≡ cell_outside m inc owners table ends first n i c → t ≡ false → some first (c + 1 - first) (cell_outside m inc owners table ends first n i) ≡ false
+  outside_turn c t low none e f = some_turn_from first (cell_outside m inc owners table ends first n i) c t low none e f
 
   module _ (cells c end : ℕ) (ee : end ≡ first + cells) where
-    pub outside_found : (t : Bool) → first ≤ c → c < end → t ≡ cell_outside m cell prev last owners table ends first n i c → t ≡ true
-        → true ≡ some_outside m cell prev last owners table ends first n i cells
+    pub outside_found : (t : Bool) → first ≤ c → c < end → t ≡ cell_outside m inc owners table ends first n i c → t ≡ true
+        → true ≡ some_outside m inc owners table ends first n i cells
     unfolding some_outside
-    outside_found t low high e f = some_stop_from first (cell_outside m cell prev last owners table ends first n i) cells c t e f low (omega arith)
+    outside_found t low high e f = some_stop_from first (cell_outside m inc owners table ends first n i) cells c t e f low (omega arith)
 
-    pub outside_none : c ≤ end → end ≤ c → some first (c - first) (cell_outside m cell prev last owners table ends first n i) ≡ false
-        → false ≡ some_outside m cell prev last owners table ends first n i cells
+    pub outside_none : c ≤ end → end ≤ c → some first (c - first) (cell_outside m inc owners table ends first n i) ≡ false
+        → false ≡ some_outside m inc owners table ends first n i cells
     unfolding some_outside
-    outside_none low high none = some_end_from first (cell_outside m cell prev last owners table ends first n i) cells c none (omega arith) (omega arith)
+    outside_none low high none = some_end_from first (cell_outside m inc owners table ends first n i) cells c none (omega arith) (omega arith)

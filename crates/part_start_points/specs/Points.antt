@@ -5,6 +5,7 @@ use Rattle.vocabulary.specs.Bytes.{Bytes, byte_at}
 use Rattle.vocabulary.specs.Lists.{some_of}
 use Rattle.vocabulary.specs.Intervals.{picked, listed, blocks, total}
 use Rattle.layout.specs.Limits.{record_places}
+use Rattle.walk_incidence.specs.declared.inner.Incidence.{Incidence}
 use Rattle.walk_incidence.specs.Links.{trail}
 use Rattle.split.specs.Split.{Split, points_of, points_in, around_of, point_ends}
 use Rattle.part_start_lists.specs.Starting.{local_in}
@@ -19,12 +20,12 @@ trail_count prev zero s = 0
 trail_count prev (suc n) s = elim (eqb s 0) [ true ↦ 0 | false ↦ suc (trail_count prev n (get_or prev s 0)) ]
 
 -- the cells on the trail of point p
-unfoldable pub cells_on : List ℕ → List ℕ → List ℕ → ℕ → List ℕ
-cells_on cell prev last p = trail cell prev record_places (get_or last p 0)
+unfoldable pub cells_on : Incidence → ℕ → List ℕ
+cells_on inc p = trail inc.cell inc.prev record_places (get_or inc.last p 0)
 
 -- the points up to n with one of their cells in part i, rising
-unfoldable pub points_on : List ℕ → List ℕ → List ℕ → Bytes → ℕ → ℕ → ℕ → List ℕ
-points_on cell prev last owners first i n = picked 1 n (λ p. some_at owners first i (cells_on cell prev last p))
+unfoldable pub points_on : Incidence → Bytes → ℕ → ℕ → ℕ → List ℕ
+points_on inc owners first i n = picked 1 n (λ p. some_at owners first i (cells_on inc p))
 
 -- they stand at the front of a list
 pub record Found (list : List ℕ) (n : ℕ) (points : List ℕ) : Type 0 where
@@ -32,24 +33,24 @@ pub record Found (list : List ℕ) (n : ℕ) (points : List ℕ) : Type 0 where
   pub there : n ≤ length list
 
 -- how many cells there are at the k-th of some points, from 1 on, and at all up to it
-unfoldable pub size_at : List ℕ → List ℕ → List ℕ → ℕ → ℕ
-size_at prev last points k = trail_count prev record_places (get_or last (get_or points (k - 1) 0) 0)
+unfoldable pub size_at : Incidence → List ℕ → ℕ → ℕ
+size_at inc points k = trail_count inc.prev record_places (get_or inc.last (get_or points (k - 1) 0) 0)
 
-unfoldable pub size_ends : List ℕ → List ℕ → List ℕ → ℕ → ℕ
-size_ends prev last points k = total 1 k (size_at prev last points)
+unfoldable pub size_ends : Incidence → List ℕ → ℕ → ℕ
+size_ends inc points k = total 1 k (size_at inc points)
 
 -- the cells at the k-th in local numbers, by an array of them
-unfoldable pub around_on : List ℕ → List ℕ → List ℕ → List ℕ → List ℕ → ℕ → List ℕ
-around_on cell prev last local points k = map (local_in local) (cells_on cell prev last (get_or points (k - 1) 0))
+unfoldable pub around_on : Incidence → List ℕ → List ℕ → ℕ → List ℕ
+around_on inc local points k = map (local_in local) (cells_on inc (get_or points (k - 1) 0))
 
 -- the words of the first n of some points: how many there are, which, the ends of the cells at them, and these cells
-unfoldable pub point_words : List ℕ → List ℕ → List ℕ → List ℕ → List ℕ → ℕ → List ℕ
-point_words cell prev last local points n =
-    (n ∷ take n points) ++ (listed 0 (n + 1) (size_ends prev last points) ++ blocks 1 n (around_on cell prev last local points))
+unfoldable pub point_words : Incidence → List ℕ → List ℕ → ℕ → List ℕ
+point_words inc local points n =
+    (n ∷ take n points) ++ (listed 0 (n + 1) (size_ends inc points) ++ blocks 1 n (around_on inc local points))
 
 -- how many words these are
-unfoldable pub word_count : List ℕ → List ℕ → List ℕ → ℕ → ℕ
-word_count prev last points n = 2 * n + 2 + size_ends prev last points n
+unfoldable pub word_count : Incidence → List ℕ → ℕ → ℕ
+word_count inc points n = 2 * n + 2 + size_ends inc points n
 
 -- the cells at the k-th point of part i by the definitions, falling by global number: in local numbers by an array of them, or zeros
 unfoldable pub cell_words : Split → ℕ → List ℕ → Bool → ℕ → List ℕ

@@ -3,7 +3,7 @@
 ghost use Rattle.std.specs.Prelude.{◌≡◌, ◌+◌, ◌<◌, ◌≤◌, length};
 ghost use Rattle.layout.specs.Limits.{most_elements};
 ghost use Rattle.mesh.specs.Accepted.{Accepted};
-ghost use Rattle.walk_steps.specs.Walking.{Sized};
+ghost use Rattle.walk_incidence.specs.Sizes.{Sized};
 ghost use Rattle.split_classes.specs.Classes.{RowCleared};
 ghost use Rattle.part_start_points.specs.Outside.{unstamped_at, chain_unstamped, cell_outside, some_outside};
 
@@ -14,24 +14,22 @@ use mesh::inner::{head_of, read_record};
 use part_start_lists::inner::stamp_reach;
 use split::inner::owner_of;
 use split_classes::inner::clear_row;
-use walk_steps::inner::MeshSizes;
+use walk_incidence::inner::{Incidence, MeshSizes};
 
 // Whether element g is a point at which some cell bears no stamp.
 fn unstamped_at(
     sought: Sought,
     stamps: &[u8],
-    cell: &[u16],
-    prev: &[u16],
-    last: &[u16],
+    incidence: &Incidence,
     g: usize,
 ) -> bool
-    ensures { result ≡ unstamped_at cell.now prev.now last.now stamps.now sought.first sought.points g }
+    ensures { result ≡ unstamped_at incidence.now stamps.now sought.first sought.points g }
 {
     if sought.points < g {
         return false;
     }
-    let t = get_or(last, g, 0) as usize;
-    some_at(stamps, sought.first, 0, cell, prev, t)
+    let t = get_or(&incidence.last, g, 0) as usize;
+    some_at(stamps, sought.first, 0, incidence, t)
 }
 
 // Whether there is such a point in the chain from record h on.
@@ -41,12 +39,10 @@ fn chain_unstamped(
     h: usize,
     sought: Sought,
     stamps: &[u8],
-    cell: &[u16],
-    prev: &[u16],
-    last: &[u16],
+    incidence: &Incidence,
 ) -> bool
     requires { Accepted m.now × Sized m.now sizes × (h < 65536) }
-    ensures { result ≡ chain_unstamped m.now cell.now prev.now last.now stamps.now sought.first
+    ensures { result ≡ chain_unstamped m.now incidence.now stamps.now sought.first
         sought.points (sizes.records + 1) h }
 {
     let mut i = h;
@@ -55,7 +51,7 @@ fn chain_unstamped(
             return false;
         }
         let here = read_record(m, sizes.elements, i);
-        if unstamped_at(sought, stamps, cell, prev, last, here.element) {
+        if unstamped_at(sought, stamps, incidence, here.element) {
             return true;
         }
         i = here.next;
@@ -73,12 +69,10 @@ fn cell_outside(
     ends: &[u16],
     c: usize,
     stamps: &mut [u8],
-    cell: &[u16],
-    prev: &[u16],
-    last: &[u16],
+    incidence: &Incidence,
 ) -> bool
     requires { Accepted m.now × Sized m.now sizes × (sought.first ≤ c) × (c < 65536) × RowCleared most_elements stamps.old }
-    ensures { (result ≡ cell_outside m.now cell.now prev.now last.now owners.now table.now
+    ensures { (result ≡ cell_outside m.now incidence.now owners.now table.now
         ends.now sought.first sought.points sought.part c)
         × RowCleared most_elements stamps.new }
 {
@@ -88,7 +82,7 @@ fn cell_outside(
     }
     stamp_reach(table, ends, q, 1, stamps);
     let h = head_of(m, c);
-    let outside = chain_unstamped(m, sizes, h, sought, stamps, cell, prev, last);
+    let outside = chain_unstamped(m, sizes, h, sought, stamps, incidence);
     stamp_reach(table, ends, q, 0, stamps);
     outside
 }
@@ -102,18 +96,16 @@ pub fn some_outside(
     table: &[u8],
     ends: &[u16],
     stamps: &mut [u8],
-    cell: &[u16],
-    prev: &[u16],
-    last: &[u16],
+    incidence: &Incidence,
 ) -> bool
     requires { Accepted m.now × Sized m.now sizes × (sought.first ≡ sizes.first) × (length stamps.old ≡ most_elements) }
-    ensures { result ≡ some_outside m.now cell.now prev.now last.now owners.now table.now
+    ensures { result ≡ some_outside m.now incidence.now owners.now table.now
         ends.now sought.first sought.points sought.part sizes.cells }
 {
     clear_row(stamps);
     for c in sought.first..sought.first + sizes.cells {
         if cell_outside(
-            m, sizes, sought, owners, table, ends, c, stamps, cell, prev, last,
+            m, sizes, sought, owners, table, ends, c, stamps, incidence,
         ) {
             return true;
         }

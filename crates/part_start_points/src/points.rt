@@ -8,6 +8,7 @@ ghost use Rattle.part_start_points.specs.Points.{points_on, Found, size_at, size
 use crate::trails::{put_trail, some_at, trail_length};
 use layout::limits::ELEMENT_PLACES;
 use layout::{get_or, put_at};
+use walk_incidence::inner::Incidence;
 use word_lists::inner::{put_list, put_one};
 
 // Whose points are sought: the part, the mesh's first cell, and how many points the mesh has.
@@ -29,20 +30,18 @@ pub struct PointCounts {
 fn find_points(
     sought: Sought,
     owners: &[u8],
-    cell: &[u16],
-    prev: &[u16],
-    last: &[u16],
+    incidence: &Incidence,
     list: &mut [u16],
 ) -> usize
     requires { (sought.points ≤ most_elements) × (sought.points ≤ length list.old) }
-    ensures { Found list.new result (points_on cell.now prev.now last.now owners.now sought.first sought.part
+    ensures { Found list.new result (points_on incidence.now owners.now sought.first sought.part
         sought.points)
         × (result ≤ sought.points) }
 {
     let mut n = 0;
     for p in 1..sought.points + 1 {
-        let t = get_or(last, p, 0) as usize;
-        if !some_at(owners, sought.first, sought.part, cell, prev, t) {
+        let t = get_or(&incidence.last, p, 0) as usize;
+        if !some_at(owners, sought.first, sought.part, incidence, t) {
             continue;
         }
         put_at(list, n, p as u16);
@@ -52,22 +51,22 @@ fn find_points(
 }
 
 // How many cells there are at the k-th point of a list, from 1 on.
-fn size_at(list: &[u16], k: usize, prev: &[u16], last: &[u16]) -> usize
+fn size_at(list: &[u16], k: usize, incidence: &Incidence) -> usize
     requires { 1 ≤ k }
-    ensures { (result ≡ size_at prev.now last.now list.now k) × (result ≤ record_places) }
+    ensures { (result ≡ size_at incidence.now list.now k) × (result ≤ record_places) }
 {
     let p = get_or(list, k - 1, 0) as usize;
-    trail_length(prev, get_or(last, p, 0) as usize)
+    trail_length(incidence, get_or(&incidence.last, p, 0) as usize)
 }
 
 // How many cells there are at the first n points of a list together.
-fn total_size(list: &[u16], n: usize, prev: &[u16], last: &[u16]) -> usize
+fn total_size(list: &[u16], n: usize, incidence: &Incidence) -> usize
     requires { n ≤ most_elements }
-    ensures { result ≡ size_ends prev.now last.now list.now n }
+    ensures { result ≡ size_ends incidence.now list.now n }
 {
     let mut e = 0;
     for k in 0..n {
-        e += size_at(list, k + 1, prev, last);
+        e += size_at(list, k + 1, incidence);
     }
     e
 }
@@ -76,32 +75,30 @@ fn total_size(list: &[u16], n: usize, prev: &[u16], last: &[u16]) -> usize
 pub fn count_points(
     sought: Sought,
     owners: &[u8],
-    cell: &[u16],
-    prev: &[u16],
-    last: &[u16],
+    incidence: &Incidence,
 ) -> PointCounts
     requires { sought.points ≤ most_elements }
-    ensures { let points = points_on cell.now prev.now last.now owners.now sought.first sought.part sought.points in
-        (result.points ≡ length points) × (result.cells ≡ size_ends prev.now last.now points (length points)) }
+    ensures { let points = points_on incidence.now owners.now sought.first sought.part sought.points in
+        (result.points ≡ length points) × (result.cells ≡ size_ends incidence.now points (length points)) }
 {
     let mut list = [0u16; ELEMENT_PLACES];
-    let points = find_points(sought, owners, cell, prev, last, &mut list);
+    let points = find_points(sought, owners, incidence, &mut list);
     PointCounts {
         points,
-        cells: total_size(&list, points, prev, last),
+        cells: total_size(&list, points, incidence),
     }
 }
 
 // Writes where the cells at each of the first n points of a list end.
-fn put_sizes(b: &mut [u8], s: usize, list: &[u16], n: usize, prev: &[u16], last: &[u16]) -> usize
-    requires { (2 * (s + n + 1) ≤ length b.old) × (s < 65536) × (n < 65535) × (size_ends prev.now last.now list.now n < 65536) }
-    ensures { Put b.old b.new s result (listed 0 (n + 1) (size_ends prev.now last.now list.now)) }
+fn put_sizes(b: &mut [u8], s: usize, list: &[u16], n: usize, incidence: &Incidence) -> usize
+    requires { (2 * (s + n + 1) ≤ length b.old) × (s < 65536) × (n < 65535) × (size_ends incidence.now list.now n < 65536) }
+    ensures { Put b.old b.new s result (listed 0 (n + 1) (size_ends incidence.now list.now)) }
 {
     let mut e = 0;
     let mut t = s;
     for k in 0..n {
         t = put_one(b, t, e);
-        e += size_at(list, k + 1, prev, last);
+        e += size_at(list, k + 1, incidence);
     }
     put_one(b, t, e)
 }
@@ -113,19 +110,17 @@ fn put_around(
     list: &[u16],
     n: usize,
     local: &[u16],
-    cell: &[u16],
-    prev: &[u16],
-    last: &[u16],
+    incidence: &Incidence,
 ) -> usize
-    requires { (2 * (s + size_ends prev.now last.now list.now n) ≤ length b.old)
-        × (s + size_ends prev.now last.now list.now n < 65536)
+    requires { (2 * (s + size_ends incidence.now list.now n) ≤ length b.old)
+        × (s + size_ends incidence.now list.now n < 65536)
         × (n < 65535) }
-    ensures { Put b.old b.new s result (blocks 1 n (around_on cell.now prev.now last.now local.now list.now)) }
+    ensures { Put b.old b.new s result (blocks 1 n (around_on incidence.now local.now list.now)) }
 {
     let mut t = s;
     for k in 1..n + 1 {
         let p = get_or(list, k - 1, 0) as usize;
-        t = put_trail(b, t, cell, prev, get_or(last, p, 0) as usize, local);
+        t = put_trail(b, t, incidence, get_or(&incidence.last, p, 0) as usize, local);
     }
     t
 }
@@ -137,19 +132,17 @@ fn put_listed(
     list: &[u16],
     n: usize,
     local: &[u16],
-    cell: &[u16],
-    prev: &[u16],
-    last: &[u16],
+    incidence: &Incidence,
 ) -> usize
-    requires { (2 * (s + word_count prev.now last.now list.now n) ≤ length b.old)
-        × (s + word_count prev.now last.now list.now n < 65536)
+    requires { (2 * (s + word_count incidence.now list.now n) ≤ length b.old)
+        × (s + word_count incidence.now list.now n < 65536)
         × (n ≤ length list.now) }
-    ensures { Put b.old b.new s result (point_words cell.now prev.now last.now local.now list.now n) }
+    ensures { Put b.old b.new s result (point_words incidence.now local.now list.now n) }
 {
     let t = put_one(b, s, n);
     let u = put_list(b, t, list, n);
-    let w = put_sizes(b, u, list, n, prev, last);
-    put_around(b, w, list, n, local, cell, prev, last)
+    let w = put_sizes(b, u, list, n, incidence);
+    put_around(b, w, list, n, local, incidence)
 }
 
 // Writes the part's points with the cells at them. Where one of these cells is outside a reach, zeros stand for all of them.
@@ -160,23 +153,21 @@ pub fn put_points(
     outside: bool,
     owners: &[u8],
     local: &[u16],
-    cell: &[u16],
-    prev: &[u16],
-    last: &[u16],
+    incidence: &Incidence,
 ) -> usize
-    requires { let points = points_on cell.now prev.now last.now owners.now sought.first sought.part sought.points in
+    requires { let points = points_on incidence.now owners.now sought.first sought.part sought.points in
         (sought.points ≤ most_elements)
-        × (2 * (s + word_count prev.now last.now points (length points)) ≤ length b.old)
-        × (s + word_count prev.now last.now points (length points) < 65536) }
-    ensures { let points = points_on cell.now prev.now last.now owners.now sought.first sought.part sought.points in
-        Put b.old b.new s result (point_words cell.now prev.now last.now (cond outside [] local.now)
+        × (2 * (s + word_count incidence.now points (length points)) ≤ length b.old)
+        × (s + word_count incidence.now points (length points) < 65536) }
+    ensures { let points = points_on incidence.now owners.now sought.first sought.part sought.points in
+        Put b.old b.new s result (point_words incidence.now (cond outside [] local.now)
         points (length points)) }
 {
     let mut list = [0u16; ELEMENT_PLACES];
-    let n = find_points(sought, owners, cell, prev, last, &mut list);
+    let n = find_points(sought, owners, incidence, &mut list);
     if outside {
         let none = [0u16; 0];
-        return put_listed(b, s, &list, n, &none, cell, prev, last);
+        return put_listed(b, s, &list, n, &none, incidence);
     }
-    put_listed(b, s, &list, n, local, cell, prev, last)
+    put_listed(b, s, &list, n, local, incidence)
 }

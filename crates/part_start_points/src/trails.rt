@@ -10,29 +10,30 @@ use cell_numbers::Global;
 use layout::limits::RECORD_PLACES;
 use layout::{byte_at, get_or};
 use split::inner::{place_from, to_local};
+use walk_incidence::inner::Incidence;
 use word_lists::inner::put_one;
 
 // Whether one of the cells from entry t on has the byte k in a row of one byte a cell.
-pub fn some_at(row: &[u8], first: usize, k: usize, cell: &[u16], prev: &[u16], t: usize) -> bool
-    ensures { result ≡ some_at row.now first k (trail cell.now prev.now record_places t) }
+pub fn some_at(row: &[u8], first: usize, k: usize, incidence: &Incidence, t: usize) -> bool
+    ensures { result ≡ some_at row.now first k (trail incidence.now.cell incidence.now.prev record_places t) }
 {
     let mut s = t;
     for _j in 0..RECORD_PLACES {
         if s < 1 {
             return false;
         }
-        let q = place_from(first, get_or(cell, s, 0) as usize);
+        let q = place_from(first, get_or(&incidence.cell, s, 0) as usize);
         if byte_at(row, q) as usize == k {
             return true;
         }
-        s = get_or(prev, s, 0) as usize;
+        s = get_or(&incidence.prev, s, 0) as usize;
     }
     false
 }
 
 // How many cells there are from entry t on.
-pub fn trail_length(prev: &[u16], t: usize) -> usize
-    ensures { (result ≡ trail_count prev.now record_places t) × (result ≤ record_places) }
+pub fn trail_length(incidence: &Incidence, t: usize) -> usize
+    ensures { (result ≡ trail_count incidence.now.prev record_places t) × (result ≤ record_places) }
 {
     let mut s = t;
     let mut n = 0;
@@ -41,7 +42,7 @@ pub fn trail_length(prev: &[u16], t: usize) -> usize
             return n;
         }
         n += 1;
-        s = get_or(prev, s, 0) as usize;
+        s = get_or(&incidence.prev, s, 0) as usize;
     }
     n
 }
@@ -50,14 +51,13 @@ pub fn trail_length(prev: &[u16], t: usize) -> usize
 pub fn put_trail(
     b: &mut [u8],
     s: usize,
-    cell: &[u16],
-    prev: &[u16],
+    incidence: &Incidence,
     t: usize,
     local: &[u16],
 ) -> usize
-    requires { (2 * (s + length (trail cell.now prev.now record_places t)) ≤ length b.old)
-        × (s + length (trail cell.now prev.now record_places t) < 65536) }
-    ensures { Put b.old b.new s result (map (local_in local.now) (trail cell.now prev.now record_places t)) }
+    requires { (2 * (s + length (trail incidence.now.cell incidence.now.prev record_places t)) ≤ length b.old)
+        × (s + length (trail incidence.now.cell incidence.now.prev record_places t) < 65536) }
+    ensures { Put b.old b.new s result (map (local_in local.now) (trail incidence.now.cell incidence.now.prev record_places t)) }
 {
     let mut u = s;
     let mut e = t;
@@ -65,9 +65,9 @@ pub fn put_trail(
         if e < 1 {
             return u;
         }
-        let l = to_local(local, Global(get_or(cell, e, 0)));
+        let l = to_local(local, Global(get_or(&incidence.cell, e, 0)));
         u = put_one(b, u, l.0 as usize);
-        e = get_or(prev, e, 0) as usize;
+        e = get_or(&incidence.prev, e, 0) as usize;
     }
     u
 }

@@ -7,10 +7,11 @@ ghost use Rattle.mesh.specs.Accepted.{Accepted};
 ghost use Rattle.mesh.specs.Mesh.{top};
 ghost use Rattle.mesh.specs.Walks.{bad10};
 
-use layout::limits::{ELEMENT_PLACES, MOST_REACHED, RECORD_PLACES, TABLE_BYTES};
+use layout::limits::{ELEMENT_PLACES, RECORD_PLACES, TABLE_BYTES};
 use layout::{Refusal, byte_at, get_or, word_at};
 use mesh::inner::{cell_count, first_cell, top_of};
 use mesh_valid::test_mesh;
+use walk_incidence::inner::Incidence;
 use walk_reach_table::inner::reach_table;
 use walk_stencil::bad_stencil;
 
@@ -53,11 +54,14 @@ fn print_rows(first: usize, cells: usize, table: &[u8], ends: &[u16])
 fn print_reaches(m: &[u8], stencil: &[u8])
     requires { Accepted m.now × (bad10 (top m.now) stencil.now ≡ false) }
 {
-    let mut cell = [0u16; RECORD_PLACES];
+    let mut incidence = Incidence {
+        cell: [0; RECORD_PLACES],
+        prev: [0; RECORD_PLACES],
+        last: [0; ELEMENT_PLACES],
+    };
     let mut table = [0u8; TABLE_BYTES];
     let mut ends = [0u16; ELEMENT_PLACES];
-    let t = reach_table(m, stencil, &mut cell, &mut table, &mut ends);
-    if MOST_REACHED < t {
+    if reach_table(m, stencil, &mut incidence, &mut table, &mut ends).is_none() {
         refuse(Refusal::Reach);
     } else {
         print_rows(first_cell(m), cell_count(m), &table, &ends);

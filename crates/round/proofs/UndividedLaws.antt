@@ -19,13 +19,13 @@ use Rattle.depths.specs.declared.Value.{Value}
 use Rattle.layout.proofs.AnswerLaws.{refuses, accepts}
 use Rattle.layout.specs.Answers.{Answer}
 use Rattle.layout.specs.Answers.{Done, Refused}
-use Rattle.layout.specs.Limits.{most_reached, table_bytes}
+use Rattle.layout.specs.Limits.{table_bytes}
 use Rattle.mesh.specs.Mesh.{top, first_cell, cell_count, mesh_number}
 use Rattle.mesh.proofs.MeshLaws.{mesh_then, mesh_refuses}
 use Rattle.mesh.specs.Walks.{Near, reach, steps, bad10, bad13}
 use Rattle.mesh.proofs.WalkLaws.{steps_few, reach_in, reach_layers}
 use Rattle.walk_reach_table.specs.Tables.{Tabled}
-use Rattle.walk_reach_table.proofs.SizeLaws.{table_refused}
+use Rattle.walk_reach_table.proofs.SizeLaws.{table_made}
 use Rattle.walk_reach_table.proofs.EntryLaws.{row_fits, row_size, row_cell, row_layer, table_length}
 use Rattle.round_rule.specs.Rules.{new_depth, bad11}
 use Rattle.round_rule.specs.Kinds.{kind_number, rule_of}
@@ -74,17 +74,17 @@ module _ (kind : ℕ) (v table : Bytes) (ends : List ℕ) (f : Bytes) (b : Bytes
 
 -- ---- the rows of the table that the walks made
 
-module _ (m st : Bytes) (kind : ℕ) (v f before table : Bytes) (ends : List ℕ) (r : ℕ) (made : Tabled m st before table ends r) (few : r ≤ most_reached) (room : length before ≡ table_bytes) where
+module _ (m st : Bytes) (kind : ℕ) (v f before table : Bytes) (ends : List ℕ) (r : ℕ) (made : Tabled m st before table ends r) (room : length before ≡ table_bytes) where
   module _ (j : ℕ) (h : j < cell_count m) where
     size : get_or ends (j + 1) 0 - get_or ends j 0 ≡ length (reach m st (first_cell m + j))
-    size = omega (arith, row_size m st before table ends r made few room j h)
+    size = omega (arith, row_size m st before table ends r made room j h)
 
     entry_is : (t : ℕ) → t < length (reach m st (first_cell m + j))
         → table_entry table (4 * get_or ends j 0) t ≡ placed (first_cell m) (get_or (reach m st (first_cell m + j)) t (record { cell = 0; layer = 0 }))
     entry_is t k =
         ap₂ (λ a b. record { cell = a; layer = b })
-        (row_cell m st before table ends r made few room j t (record { cell = 0; layer = 0 }) h k)
-        (row_layer m st before table ends r made few room j t (record { cell = 0; layer = 0 }) h k)
+        (row_cell m st before table ends r made room j t (record { cell = 0; layer = 0 }) h k)
+        (row_layer m st before table ends r made room j t (record { cell = 0; layer = 0 }) h k)
 
     row_entries : table_entries table (4 * get_or ends j 0) (get_or ends (j + 1) 0 - get_or ends j 0) ≡ map (placed (first_cell m)) (reach m st (first_cell m + j))
     unfolding table_entries
@@ -119,21 +119,21 @@ module _ (m st : Bytes) (kind : ℕ) (v f before table : Bytes) (ends : List ℕ
         let es : List Near = reach m st (first_cell m + j) in
         let z : get_or ends (j + 1) 0 - get_or ends j 0 ≡ length es = size j h in
         record {
-          rises = omega (arith, row_size m st before table ends r made few room j h);
+          rises = omega (arith, row_size m st before table ends r made room j h);
           ready = ready_from kind v table (4 * get_or ends j 0) (get_or ends (j + 1) 0 - get_or ends j 0) f 0 j (cell_count m) (steps st) rule (steps_few (top m) st stencil)
-              (omega (arith, row_fits m st before table ends r made few room j h))
-              (omega (arith, row_fits m st before table ends r made few room j h, table_length m st before table ends r made few room))
+              (omega (arith, row_fits m st before table ends r made room j h))
+              (omega (arith, row_fits m st before table ends r made room j h, table_length m st before table ends r made room))
               (omega (arith, field_length (cell_count m) f field))
               (field_ranged (cell_count m) f field)
               h
               (λ t k.
               let q : t < length es = omega arith in
               let w = All_get_or (λ (e : Near). (first_cell m ≤ e.cell) × (e.cell < first_cell m + cell_count m)) es t (record { cell = 0; layer = 0 }) (reach_in m st (first_cell m + j)) q in
-              omega (arith, row_cell m st before table ends r made few room j t (record { cell = 0; layer = 0 }) h q, w.0, w.1))
+              omega (arith, row_cell m st before table ends r made room j t (record { cell = 0; layer = 0 }) h q, w.0, w.1))
               (λ t k.
               let q : t < length es = omega arith in
               let w = All_get_or (λ (e : Near). (e.layer % 2 ≡ 0) × (e.layer ≤ steps st)) es t (record { cell = 0; layer = 0 }) (reach_layers m st (first_cell m + j) stencil) q in
-              omega (arith, row_layer m st before table ends r made few room j t (record { cell = 0; layer = 0 }) h q, w.1));
+              omega (arith, row_layer m st before table ends r made room j t (record { cell = 0; layer = 0 }) h q, w.1));
         }
 
     pub rows_ready : (cells : ℕ) → cells ≡ cell_count m → cells < 65536 → (b : Bool) → b ≡ bad14 cells f → b ≡ false → Rows kind v table ends cells f
@@ -214,16 +214,13 @@ module _ (m st : Bytes) (kind : ℕ) (v f out : Bytes) where
       unfolding steps
       told_11 r k e q b f t = refused 11 (number_11 mesh ten (sym (known_rule v (length st - 1) kind k r b e q f) ∙ t)) (λ z. omega (arith, z))
 
-      module _ (eleven : bad11 kind (steps st) v ≡ false) (before table : Bytes) (ends : List ℕ) (r : ℕ) (made : Tabled m st before table ends r) where
-        thirteen : bad13 m st ≡ ltb most_reached r
-        thirteen = sym (table_refused m st before table ends r made)
+      module _ (eleven : bad11 kind (steps st) v ≡ false) where
+        pub told_13 : bad13 m st ≡ true → Answered (Refused 13) out
+        told_13 h = refused 13 (number_13 mesh ten eleven h) (λ z. omega (arith, z))
 
-        pub told_13 : most_reached < r → Answered (Refused 13) out
-        told_13 h = refused 13 (number_13 mesh ten eleven (thirteen ∙ lt-ltb _ _ h)) (λ z. omega (arith, z))
-
-        module _ (few : r ≤ most_reached) (cells : ℕ) (ce : cells ≡ cell_count m) (b : Bool) (be : b ≡ bad14 cells f) where
+        module _ (before table : Bytes) (ends : List ℕ) (r : ℕ) (made : Tabled m st before table ends r) (cells : ℕ) (ce : cells ≡ cell_count m) (b : Bool) (be : b ≡ bad14 cells f) where
           in_size : bad13 m st ≡ false
-          in_size = thirteen ∙ le-ltb _ _ few
+          in_size = table_made m st before table ends r made
 
           fourteen : bad14 (cell_count m) f ≡ b
           fourteen = ap (λ n. bad14 n f) (sym ce) ∙ sym be
@@ -238,4 +235,4 @@ module _ (m st : Bytes) (kind : ℕ) (v f out : Bytes) where
             pub told_done : length before ≡ table_bytes → 4 * cells ≤ length out → (x : Bytes) → x ≡ over out 0 (blocks 0 cells (row_new kind v table ends f)) → Answered (Done cells) x
             told_done room h x e =
                 let a = done (number_last mesh ten eleven in_size (fourteen ∙ bf) false (le-ltb (length out) (4 * cell_count m) (omega arith))) in
-                (ap Done ce ∙ a.0, e ∙ ap (λ n. over out 0 (blocks 0 n (row_new kind v table ends f))) ce ∙ ap (over out 0) (rows_round m st kind v f before table ends r made few room) ∙ a.1)
+                (ap Done ce ∙ a.0, e ∙ ap (λ n. over out 0 (blocks 0 n (row_new kind v table ends f))) ce ∙ ap (over out 0) (rows_round m st kind v f before table ends r made room) ∙ a.1)

@@ -2,8 +2,8 @@
 ghost use Rattle.std.specs.Prelude.{◌≡◌, false, ◌*◌, ◌≤◌, length};
 ghost use Rattle.vocabulary.specs.Bytes.{over};
 ghost use Rattle.vocabulary.specs.Intervals.{blocks};
-ghost use Rattle.layout.specs.Limits.{element_places, record_places};
 ghost use Rattle.layout.specs.Answers.{answer_of};
+ghost use Rattle.layout.specs.Limits.{element_places};
 ghost use Rattle.depths.specs.Depths.{deepest, value_bytes, Within};
 ghost use Rattle.mesh.specs.Mesh.{top, mesh_number};
 ghost use Rattle.mesh.specs.Walks.{steps, bad10};
@@ -15,12 +15,13 @@ ghost use Rattle.round.specs.Rows.{row_new, Row, Rows};
 use crate::bad_field;
 use depths::Value;
 use depths::inner::put_value;
-use layout::limits::{ELEMENT_PLACES, MOST_REACHED, RECORD_PLACES, TABLE_BYTES};
+use layout::limits::{ELEMENT_PLACES, RECORD_PLACES, TABLE_BYTES};
 use layout::{Refusal, get_or};
 use mesh::inner::{cell_count, top_of};
 use mesh_valid::inner::test_mesh_in;
 use round_rule::{Kind, bad_weights};
 use round_update::inner::new_depth;
+use walk_incidence::inner::Incidence;
 use walk_reach_table::inner::reach_table;
 use walk_stencil::bad_stencil;
 
@@ -53,7 +54,7 @@ fn renew(
     }
 }
 
-// The round on an accepted mesh, stencil and rule. The arrays `cell` and `ends` are work space.
+// The round on an accepted mesh, stencil and rule. The incidence and the ends are work space.
 fn round_on(
     m: &[u8],
     stencil: &[u8],
@@ -61,18 +62,17 @@ fn round_on(
     weights: &[u8],
     f: &[u8],
     out: &mut [u8],
-    cell: &mut [u16],
+    incidence: &mut Incidence,
     ends: &mut [u16],
 ) -> Result<u32, Refusal>
     requires { (mesh_number m.now ≡ 0) × (bad10 (top m.now) stencil.now ≡ false) × (bad11 (kind_number kind) (steps stencil.now) weights.now ≡ false)
-        × (length cell.old ≡ record_places) × (length ends.old ≡ element_places) }
+        × (length ends.old ≡ element_places) }
     ensures { let I = round_input m.now stencil.now (kind_number kind) weights.now f.now in
         (answer_of result ≡ round_answer I out.old) × (out.new ≡ round_out I out.old) }
 {
     // the table is written even where the reaches are too many, so it stands in an array of our own
     let mut table = [0u8; TABLE_BYTES];
-    let t = reach_table(m, stencil, cell, &mut table, ends);
-    if MOST_REACHED < t {
+    if reach_table(m, stencil, incidence, &mut table, ends).is_none() {
         return Err(Refusal::Reach);
     }
     let cells = cell_count(m);
@@ -99,9 +99,13 @@ pub fn undivided_round(
     ensures { let I = round_input m.now stencil.now kind weights.now f.now in
         (answer_of result ≡ round_answer I out.old) × (out.new ≡ round_out I out.old) }
 {
-    let mut cell = [0u16; RECORD_PLACES];
+    let mut incidence = Incidence {
+        cell: [0; RECORD_PLACES],
+        prev: [0; RECORD_PLACES],
+        last: [0; ELEMENT_PLACES],
+    };
     let mut ends = [0u16; ELEMENT_PLACES];
-    test_mesh_in(m, &mut cell, &mut ends)?;
+    test_mesh_in(m, &mut incidence.cell, &mut ends)?;
     if bad_stencil(top_of(m), stencil) {
         return Err(Refusal::Stencil);
     }
@@ -109,5 +113,14 @@ pub fn undivided_round(
     if bad_weights(kind, stencil.len() - 1, weights) {
         return Err(Refusal::Rule);
     }
-    round_on(m, stencil, kind, weights, f, out, &mut cell, &mut ends)
+    round_on(
+        m,
+        stencil,
+        kind,
+        weights,
+        f,
+        out,
+        &mut incidence,
+        &mut ends,
+    )
 }

@@ -11,19 +11,20 @@ use mathlib.Core.Logic.{⊎_elim}
 use Rattle.vocabulary.proofs.CountLaws.{total_add, total_single, picked_count}
 use borrow.Author.Tests.{eq-eqb, lt-leb, lt-ltb, le-ltb, eqb-true, eqb-false, ne_eqb, not-true, ltb-true}
 use Rattle.vocabulary.specs.Bytes.{Bytes, byte_at}
-use Rattle.vocabulary.specs.Intervals.{picked, every, blocks, some, total}
+use Rattle.vocabulary.specs.Intervals.{picked, blocks, some, total}
 use Rattle.vocabulary.proofs.IntervalLaws.{at_last, picked_cong, some_cong, some_swap, picked_some, last_or, total_cong, blocks_cong, picked_all}
 use Rattle.vocabulary.proofs.IntervalLaws.{picked_length_le, some_in, some_witness, blocks_picked}
 use Rattle.vocabulary.specs.Lists.{is_in, some_of, All}
 use Rattle.vocabulary.proofs.ListLaws.{or_nothing, and_true, and_intro, same_test, All_map, All_get_or, some_of_has, some_of_witness, some_of_cong, some_of_and, cond_has}
 use Rattle.layout.specs.Limits.{most_elements, most_parts, record_places}
 use Rattle.mesh.specs.Mesh.{top, counted, below, first_cell, cell_count}
-use Rattle.mesh.specs.Walks.{incident, valid_at, bad10, step_to, cells_at}
+use Rattle.mesh.specs.Walks.{incident, step_to, cells_at}
 use Rattle.mesh.specs.Accepted.{Accepted}
 use Rattle.mesh.proofs.WalkLaws.{below_grows}
-use Rattle.walk_incidence.specs.Links.{trail}
+use Rattle.walk_incidence.specs.declared.inner.Incidence.{Incidence}
+use Rattle.walk_incidence.specs.Links.{trail, Turned}
 use Rattle.walk_frontier.specs.Visits.{up}
-use Rattle.walk_steps.specs.Walking.{Ground, stepped}
+use Rattle.walk_steps.specs.Walking.{stepped}
 use Rattle.walk_steps.proofs.StepLaws.{some_of_like, up_told}
 use Rattle.mesh.proofs.DimensionLaws.{below_next}
 use Rattle.split.specs.Split.{range, Split, split_of, owner_at, owns, holds, inside, holds_lower, touches, another}
@@ -36,77 +37,69 @@ use Rattle.split_ranges.specs.declared.inner.Side.{Side}
 use Rattle.split_ranges.specs.declared.inner.Side.TheVariants.{Mine, Anothers, Held, HeldByAnother}
 use Rattle.split_ranges.specs.Lowers.{side_at, some_side, lower_class, trail_class, element_class, Lowered, range_of, row_range}
 
--- the stencil (d), which is always right: the inverted chains do not depend on the stencil
-alone_right : (d : ℕ) → bad10 d (d ∷ []) ≡ false
-unfolding bad10 valid_at every
-alone_right d = ap (λ b. not b) (eq-eqb d d refl)
-
-pub alone : (m st : Bytes) (cell prev last : List ℕ) → Ground m st cell prev last → Ground m (top m ∷ []) cell prev last
-alone m st cell prev last G = record { mesh = G.mesh; stencil = alone_right (top m); told = G.told; trail_is = G.trail_is }
-
 -- ---- a row of classes
 
 -- the first n elements after lo have their classes in a row
-pub record Trailed (cell prev last : List ℕ) (first : ℕ) (class holders : Bytes) (lo n : ℕ) (lower : Bytes) : Type 0 where
+pub record Trailed (w : Incidence) (first : ℕ) (class holders : Bytes) (lo n : ℕ) (lower : Bytes) : Type 0 where
   pub room : length lower ≡ most_elements
-  pub each : (q : ℕ) → q < n → byte_at lower q ≡ trail_class cell prev last first class holders (lo + 1 + q)
+  pub each : (q : ℕ) → q < n → byte_at lower q ≡ trail_class w first class holders (lo + 1 + q)
 
-pub trailed_start : (cell prev last : List ℕ) (first : ℕ) (class holders : Bytes) (lo : ℕ) (lower : Bytes) → length lower ≡ most_elements → Trailed cell prev last first class holders lo 0 lower
-trailed_start cell prev last first class holders lo lower l = record { room = l; each = λ q h. let n : ⊥ = omega arith in absurd n }
+pub trailed_start : (w : Incidence) (first : ℕ) (class holders : Bytes) (lo : ℕ) (lower : Bytes) → length lower ≡ most_elements → Trailed w first class holders lo 0 lower
+trailed_start w first class holders lo lower l = record { room = l; each = λ q h. let n : ⊥ = omega arith in absurd n }
 
-pub trailed_turn : (cell prev last : List ℕ) (first : ℕ) (class holders : Bytes) (lo q n : ℕ) (a b : Bytes) (x : ℕ) → q < n → n ≤ most_elements → Trailed cell prev last first class holders lo q a
-    → x ≡ trail_class cell prev last first class holders (lo + 1 + q) → b ≡ set a q x → Trailed cell prev last first class holders lo (q + 1) b
-trailed_turn cell prev last first class holders lo q n a b x h nl T xe e = record {
+pub trailed_turn : (w : Incidence) (first : ℕ) (class holders : Bytes) (lo q n : ℕ) (a b : Bytes) (x : ℕ) → q < n → n ≤ most_elements → Trailed w first class holders lo q a
+    → x ≡ trail_class w first class holders (lo + 1 + q) → b ≡ set a q x → Trailed w first class holders lo (q + 1) b
+trailed_turn w first class holders lo q n a b x h nl T xe e = record {
   room = ap length e ∙ length-set a q x ∙ T.room;
   each = λ y l. ap (λ (c : Bytes). byte_at c y) e ∙ go y l (eqb y q) refl;
 }
   where
-    go : (y : ℕ) → y < q + 1 → (t : Bool) → eqb y q ≡ t → byte_at (set a q x) y ≡ trail_class cell prev last first class holders (lo + 1 + y)
-    go y l true w =
-        let z : y ≡ q = eqb-true y q w in
-        ap (byte_at (set a q x)) z ∙ get_or-set_same a q x 0 (omega (arith, T.room)) ∙ xe ∙ ap (λ k. trail_class cell prev last first class holders (lo + 1 + k)) (sym z)
-    go y l false w =
-        let ne : y ≡ q → ⊥ = eqb-false y q w in
+    go : (y : ℕ) → y < q + 1 → (t : Bool) → eqb y q ≡ t → byte_at (set a q x) y ≡ trail_class w first class holders (lo + 1 + y)
+    go y l true t =
+        let z : y ≡ q = eqb-true y q t in
+        ap (byte_at (set a q x)) z ∙ get_or-set_same a q x 0 (omega (arith, T.room)) ∙ xe ∙ ap (λ k. trail_class w first class holders (lo + 1 + k)) (sym z)
+    go y l false t =
+        let ne : y ≡ q → ⊥ = eqb-false y q t in
         get_or-set_other a q y x 0 ne ∙ T.each y (⊎_elim (λ g. g) (λ g. absurd (ne g)) (last_or y q (omega arith)))
 
-pub trailed_end : (cell prev last : List ℕ) (first : ℕ) (class holders : Bytes) (lo q n : ℕ) (lower : Bytes) → q ≤ n → n ≤ q → Trailed cell prev last first class holders lo q lower
-    → Trailed cell prev last first class holders lo n lower
-trailed_end cell prev last first class holders lo q n lower g h T = at_last (λ k. Trailed cell prev last first class holders lo k lower) q n g h T
+pub trailed_end : (w : Incidence) (first : ℕ) (class holders : Bytes) (lo q n : ℕ) (lower : Bytes) → q ≤ n → n ≤ q → Trailed w first class holders lo q lower
+    → Trailed w first class holders lo n lower
+trailed_end w first class holders lo q n lower g h T = at_last (λ k. Trailed w first class holders lo k lower) q n g h T
 
-module _ (m : Bytes) (cell prev last : List ℕ) (G : Ground m (top m ∷ []) cell prev last) where
+module _ (m : Bytes) (w : Incidence) (T : Turned m w) where
   -- the cells on a lower element's trail are those incident to it
-  trail_told : (e z : ℕ) → 1 ≤ e → e ≤ below m (top m) → is_in z (trail cell prev record_places (get_or last e 0)) ≡ is_in z (picked (first_cell m) (cell_count m) (incident m e))
+  trail_told : (e z : ℕ) → 1 ≤ e → e ≤ below m (top m) → is_in z (trail w.cell w.prev record_places (get_or w.last e 0)) ≡ is_in z (picked (first_cell m) (cell_count m) (incident m e))
   trail_told e z low high =
       turned
       ∙ stepping
       ∙ ap (is_in z) (picked_cong (first_cell m) (λ x. some_of (e ∷ []) (λ y. incident m y x)) (incident m e) (cell_count m) (λ k h. unfold some_of in or_nothing (incident m e (first_cell m + k))))
     where
-      turned : is_in z (trail cell prev record_places (get_or last e 0)) ≡ is_in z (blocks 0 1 (up cell prev last (e ∷ [])))
+      turned : is_in z (trail w.cell w.prev record_places (get_or w.last e 0)) ≡ is_in z (blocks 0 1 (up w (e ∷ [])))
       turned = unfold blocks up in refl
 
-      stepping : is_in z (blocks 0 1 (up cell prev last (e ∷ []))) ≡ is_in z (picked (first_cell m) (cell_count m) (λ x. some_of (e ∷ []) (λ y. incident m y x)))
+      stepping : is_in z (blocks 0 1 (up w (e ∷ []))) ≡ is_in z (picked (first_cell m) (cell_count m) (λ x. some_of (e ∷ []) (λ y. incident m y x)))
       stepping =
-          up_told m G.mesh (top m ∷ []) cell prev last (e ∷ []) 1 G (record { each = ((low, high), tt); count = refl }) z
+          up_told m T.mesh w (e ∷ []) T ((low, high), tt) z
           ∙ (unfold stepped step_to in refl)
 
   module _ (first : ℕ) (fe : first ≡ first_cell m) (class holders : Bytes) where
-    class_like : (e : ℕ) → 1 ≤ e → e ≤ below m (top m) → trail_class cell prev last first class holders e ≡ element_class m class holders e
+    class_like : (e : ℕ) → 1 ≤ e → e ≤ below m (top m) → trail_class w first class holders e ≡ element_class m class holders e
     unfolding trail_class element_class lower_class cells_at
     class_like e low high = λ x. cond (side Mine x) (cond (side Anothers x) 3 (cond (side HeldByAnother x) 2 1)) (cond (side Held x) 4 0)
       where
-        side : (k : Side) → some_side (trail cell prev record_places (get_or last e 0)) first k class holders
+        side : (k : Side) → some_side (trail w.cell w.prev record_places (get_or w.last e 0)) first k class holders
             ≡ some_side (picked (first_cell m) (cell_count m) (incident m e)) (first_cell m) k class holders
         side k =
-            unfold some_side in some_of_like (trail cell prev record_places (get_or last e 0)) (picked (first_cell m) (cell_count m) (incident m e))
+            unfold some_side in some_of_like (trail w.cell w.prev record_places (get_or w.last e 0)) (picked (first_cell m) (cell_count m) (incident m e))
             (λ y. side_at k class holders (y - first)) (λ z. trail_told e z low high)
             ∙ ap (λ f. some_of (picked (first_cell m) (cell_count m) (incident m e)) (λ y. side_at k class holders (y - f))) fe
 
-    pub lowered : (k d lo n : ℕ) (lower : Bytes) → d ≡ top m → k < d → lo ≡ below m k → n ≡ counted m k → Trailed cell prev last first class holders lo n lower → Lowered m class holders k lower
-    lowered k d lo n lower de h loe ne T = record {
-      room = T.room;
+    pub lowered : (k d lo n : ℕ) (lower : Bytes) → d ≡ top m → k < d → lo ≡ below m k → n ≡ counted m k → Trailed w first class holders lo n lower → Lowered m class holders k lower
+    lowered k d lo n lower de h loe ne R = record {
+      room = R.room;
       each = λ q a b.
-          T.each q (omega arith)
-          ∙ ap (λ l. trail_class cell prev last first class holders (l + 1 + q)) loe
+          R.each q (omega arith)
+          ∙ ap (λ l. trail_class w first class holders (l + 1 + q)) loe
           ∙ class_like (below m k + 1 + q) (omega arith) (omega (arith, below_grows m (k + 1) (top m) (omega arith), below_next m k));
     }
 

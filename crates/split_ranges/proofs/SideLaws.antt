@@ -10,6 +10,7 @@ use lib.ListN.{get_or}
 use Rattle.vocabulary.specs.Bytes.{Bytes, byte_at}
 use Rattle.vocabulary.specs.Lists.{some_of}
 use Rattle.layout.specs.Limits.{record_places}
+use Rattle.walk_incidence.specs.declared.inner.Incidence.{Incidence}
 use Rattle.walk_incidence.specs.Links.{trail}
 use Rattle.walk_incidence.proofs.TrailLaws.{trail_end, trail_more}
 use Rattle.split_classes.specs.Classes.{held_one}
@@ -97,23 +98,23 @@ module _ (cell prev : List ℕ) (first : ℕ) (side : Side) (class holders : Byt
 
 -- ---- classes, by the last answer y
 
-module _ (y : Bool) (cell prev last : List ℕ) (first : ℕ) (class holders : Bytes) (e t : ℕ) (te : t ≡ get_or last e 0) (a : Bool)
-    (ae : a ≡ some_side (trail cell prev record_places t) first Mine class holders) (b : Bool) where
+module _ (y : Bool) (w : Incidence) (first : ℕ) (class holders : Bytes) (e t : ℕ) (te : t ≡ get_or w.last e 0) (a : Bool)
+    (ae : a ≡ some_side (trail w.cell w.prev record_places t) first Mine class holders) (b : Bool) where
   abbrev told : Side → Bool
-  told side = some_side (trail cell prev record_places t) first side class holders
+  told side = some_side (trail w.cell w.prev record_places t) first side class holders
 
-  range_class_is : trail_class cell prev last first class holders e ≡ cond (told Mine) (cond (told Anothers) 3 (cond (told HeldByAnother) 2 1)) (cond (told Held) 4 0)
+  range_class_is : trail_class w first class holders e ≡ cond (told Mine) (cond (told Anothers) 3 (cond (told HeldByAnother) 2 1)) (cond (told Held) 4 0)
   unfolding trail_class lower_class
-  range_class_is = ap (λ u. lower_class (trail cell prev record_places u) first class holders) (sym te)
+  range_class_is = ap (λ u. lower_class (trail w.cell w.prev record_places u) first class holders) (sym te)
 
-  pub is_shared : a ≡ true → b ≡ some_side (trail cell prev record_places t) first Anothers class holders → b ≡ true → 3 ≡ trail_class cell prev last first class holders e
+  pub is_shared : a ≡ true → b ≡ some_side (trail w.cell w.prev record_places t) first Anothers class holders → b ≡ true → 3 ≡ trail_class w first class holders e
   is_shared at be bt = sym (range_class_is ∙ ap₂ (λ x z. cond x (cond z 3 (cond (told HeldByAnother) 2 1)) (cond (told Held) 4 0)) (sym ae ∙ at) (sym be ∙ bt))
 
-  pub is_alone : (c : Bool) → a ≡ true → b ≡ some_side (trail cell prev record_places t) first Anothers class holders → b ≡ false
-      → c ≡ some_side (trail cell prev record_places t) first HeldByAnother class holders
-      → c ≡ y → cond y 2 1 ≡ trail_class cell prev last first class holders e
+  pub is_alone : (c : Bool) → a ≡ true → b ≡ some_side (trail w.cell w.prev record_places t) first Anothers class holders → b ≡ false
+      → c ≡ some_side (trail w.cell w.prev record_places t) first HeldByAnother class holders
+      → c ≡ y → cond y 2 1 ≡ trail_class w first class holders e
   is_alone c at be bf ce ct =
       sym (range_class_is ∙ ap₂ (λ x z. cond x (cond z 3 (cond (told HeldByAnother) 2 1)) (cond (told Held) 4 0)) (sym ae ∙ at) (sym be ∙ bf) ∙ ap (λ x. cond x 2 1) (sym ce ∙ ct))
 
-  pub is_theirs : a ≡ false → b ≡ some_side (trail cell prev record_places t) first Held class holders → b ≡ y → cond y 4 0 ≡ trail_class cell prev last first class holders e
+  pub is_theirs : a ≡ false → b ≡ some_side (trail w.cell w.prev record_places t) first Held class holders → b ≡ y → cond y 4 0 ≡ trail_class w first class holders e
   is_theirs af be bt = sym (range_class_is ∙ ap₂ (λ x z. cond x (cond (told Anothers) 3 (cond (told HeldByAnother) 2 1)) (cond z 4 0)) (sym ae ∙ af) (sym be ∙ bt))

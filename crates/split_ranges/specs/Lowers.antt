@@ -6,6 +6,7 @@ use Rattle.vocabulary.specs.Lists.{some_of}
 use Rattle.layout.specs.Limits.{most_elements, record_places}
 use Rattle.mesh.specs.Mesh.{top, counted, below, first_cell}
 use Rattle.mesh.specs.Walks.{cells_at}
+use Rattle.walk_incidence.specs.declared.inner.Incidence.{Incidence}
 use Rattle.walk_incidence.specs.Links.{trail}
 use Rattle.split.specs.Split.{range}
 use Rattle.split_classes.specs.Classes.{held_one, class_cells}
@@ -31,8 +32,8 @@ lower_class cells first class holders =
     (cond (some_side cells first Held class holders) 4 0)
 
 -- by the cells on an element's trail, or by those incident to it
-unfoldable pub trail_class : List ℕ → List ℕ → List ℕ → ℕ → Bytes → Bytes → ℕ → ℕ
-trail_class cell prev last first class holders e = lower_class (trail cell prev record_places (get_or last e 0)) first class holders
+unfoldable pub trail_class : Incidence → ℕ → Bytes → Bytes → ℕ → ℕ
+trail_class w first class holders e = lower_class (trail w.cell w.prev record_places (get_or w.last e 0)) first class holders
 
 unfoldable pub element_class : Bytes → Bytes → Bytes → ℕ → ℕ
 element_class m class holders e = lower_class (cells_at m e) (first_cell m) class holders

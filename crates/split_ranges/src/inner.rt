@@ -1,10 +1,8 @@
 // What a part makes of the lower elements, and the ranges of those of one class.
-ghost use Rattle.std.specs.Prelude.{◌≡◌, [], ◌∷◌, length};
+ghost use Rattle.std.specs.Prelude.{◌≡◌, length};
 ghost use Rattle.layout.specs.Limits.{most_elements, record_places};
-ghost use Rattle.mesh.specs.Mesh.{top};
 ghost use Rattle.mesh.specs.Accepted.{Accepted};
-ghost use Rattle.walk_incidence.specs.Links.{trail};
-ghost use Rattle.walk_steps.specs.Walking.{Ground};
+ghost use Rattle.walk_incidence.specs.Links.{trail, Turned};
 ghost use Rattle.split_classes.specs.Classes.{held_one, Appended};
 ghost use Rattle.split_ranges.specs.Lowers.{side_at, some_side, trail_class, Lowered, row_range};
 
@@ -14,6 +12,7 @@ use mesh::inner::{below_of, count_of, first_cell, top_of};
 use split::inner::place_from;
 use split_cells::inner::add_class;
 use split_classes::inner::INTERIOR;
+use walk_incidence::inner::Incidence;
 
 // The classes of a lower element.
 pub const PRIVATE: u8 = 1;
@@ -57,53 +56,44 @@ fn has_side(side: Side, class: &[u8], holders: &[u8], q: usize) -> bool
 
 // Whether one of the cells from entry t on passes.
 fn some_cell(
-    cell: &[u16],
-    prev: &[u16],
+    incidence: &Incidence,
     t: usize,
     first: usize,
     side: Side,
     class: &[u8],
     holders: &[u8],
 ) -> bool
-    ensures { result ≡ some_side (trail cell.now prev.now record_places t) first side class.now holders.now }
+    ensures { result ≡ some_side (trail incidence.now.cell incidence.now.prev record_places t) first side class.now holders.now }
 {
     let mut s = t;
     for _k in 0..RECORD_PLACES {
         if s < 1 {
             return false;
         }
-        let q = place_from(first, get_or(cell, s, 0) as usize);
+        let q = place_from(first, get_or(&incidence.cell, s, 0) as usize);
         if has_side(side, class, holders, q) {
             return true;
         }
-        s = get_or(prev, s, 0) as usize;
+        s = get_or(&incidence.prev, s, 0) as usize;
     }
     false
 }
 
 // What the part makes of element e: its class, and 0 if it does not hold it.
-fn lower_class(
-    cell: &[u16],
-    prev: &[u16],
-    last: &[u16],
-    first: usize,
-    class: &[u8],
-    holders: &[u8],
-    e: usize,
-) -> u8
-    ensures { result ≡ trail_class cell.now prev.now last.now first class.now holders.now e }
+fn lower_class(incidence: &Incidence, first: usize, class: &[u8], holders: &[u8], e: usize) -> u8
+    ensures { result ≡ trail_class incidence.now first class.now holders.now e }
 {
-    let t = get_or(last, e, 0) as usize;
-    if some_cell(cell, prev, t, first, Side::Mine, class, holders) {
-        if some_cell(cell, prev, t, first, Side::Anothers, class, holders) {
+    let t = get_or(&incidence.last, e, 0) as usize;
+    if some_cell(incidence, t, first, Side::Mine, class, holders) {
+        if some_cell(incidence, t, first, Side::Anothers, class, holders) {
             return SHARED;
         }
-        if some_cell(cell, prev, t, first, Side::HeldByAnother, class, holders) {
+        if some_cell(incidence, t, first, Side::HeldByAnother, class, holders) {
             return EXPOSED;
         }
         return PRIVATE;
     }
-    if some_cell(cell, prev, t, first, Side::Held, class, holders) {
+    if some_cell(incidence, t, first, Side::Held, class, holders) {
         return COPIED;
     }
     0
@@ -112,15 +102,13 @@ fn lower_class(
 // The classes of the lower elements of dimension k for the part that the row of cells is of. There are none from the cells' dimension on.
 pub fn classify_lowers(
     m: &[u8],
-    cell: &[u16],
-    prev: &[u16],
-    last: &[u16],
+    incidence: &Incidence,
     class: &[u8],
     holders: &[u8],
     k: usize,
     lower: &mut [u8],
 )
-    requires { Ground m.now (top m.now ∷ []) cell.now prev.now last.now × (length lower.old ≡ most_elements) }
+    requires { Turned m.now incidence.now × (length lower.old ≡ most_elements) }
     ensures { Lowered m.now class.now holders.now k lower.new }
 {
     if top_of(m) <= k {
@@ -130,7 +118,7 @@ pub fn classify_lowers(
     let below = below_of(m, k);
     let n = count_of(m, k);
     for q in 0..n {
-        lower[q] = lower_class(cell, prev, last, first, class, holders, below + 1 + q);
+        lower[q] = lower_class(incidence, first, class, holders, below + 1 + q);
     }
 }
 

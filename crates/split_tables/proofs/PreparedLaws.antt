@@ -5,7 +5,7 @@ use mathlib.Core.List.{List, []}
 use Prim.Native.Nat.{ℕ, ◌+◌, ◌-◌, ◌*◌, ◌≤◌, ◌<◌}
 use native.Mathlib.Omega.{arith}
 use lib.Dec.{eqb, ltb}
-use lib.ListN.{length, get_or, replicate}
+use lib.ListN.{length, get_or}
 use borrow.Author.Tests.{lt-ltb, le-ltb}
 use Rattle.vocabulary.specs.Bytes.{Bytes, over}
 use Rattle.vocabulary.specs.Intervals.{every, total}
@@ -13,18 +13,14 @@ use Rattle.vocabulary.proofs.IntervalLaws.{every_at, every_intro}
 use Rattle.vocabulary.specs.Lists.{every_of}
 use Rattle.vocabulary.proofs.ListLaws.{same_test, every_of_at, every_of_intro, All_intro}
 use Rattle.layout.specs.Words.{word_at, bytes_of}
-use Rattle.layout.specs.Limits.{element_places, most_held, most_reached, record_places}
+use Rattle.layout.specs.Limits.{most_held}
 use Rattle.mesh.specs.Mesh.{top, first_cell, cell_count}
-use Rattle.walk_incidence.specs.Links.{links, link_cells}
-use Rattle.walk_steps.specs.Walking.{Ground, Sized}
-use Rattle.walk_steps.specs.declared.steps.MeshSizes.{MeshSizes}
-use Rattle.walk_steps.proofs.GroundLaws.{grounded}
 use Rattle.mesh.specs.Walks.{Near, reach, bad10, bad13}
 use Rattle.mesh.specs.Accepted.{Accepted}
 use Rattle.walk_reach_table.specs.Tables.{table_words, entry_count, EndTable, Tabled}
 use Rattle.walk_part_reach.specs.Rows.{row_reach_count}
 use Rattle.walk_reach_table.proofs.EntryLaws.{count_more, entry_is}
-use Rattle.walk_reach_table.proofs.SizeLaws.{table_refused}
+use Rattle.walk_reach_table.proofs.SizeLaws.{table_made}
 use Rattle.split.specs.Split.{split_of, owner_at, owns, inside}
 use Rattle.split.specs.Lists.{bad8, bad12, size_tests, sizes_number}
 use Rattle.split.specs.Owners.{owns_at}
@@ -51,19 +47,7 @@ module _ (m st before table : Bytes) (e : table ≡ over before 0 (bytes_of (tab
       ∙ every_list (entry_count m st q) (λ t. eqb (owner_at owners (word_at table (2 * t))) i) (reach m st (first_cell m + q)) d (λ e. eqb (owner_at owners (e.cell - first_cell m)) i)
       (λ t k. ap (λ x. eqb (owner_at owners x) i) (entry_is m st before table e q t d h k).0)
 
--- ---- the chains turned round
-
-pub linked : (m : Bytes) (sizes : MeshSizes) (st : Bytes) (s : ℕ) (cell₀ prev₀ last₀ cell prev last : List ℕ) → Accepted m → Sized m sizes → bad10 (top m) st ≡ false
-    → length cell₀ ≡ record_places → length prev₀ ≡ record_places → last₀ ≡ replicate element_places 0
-    → links s cell prev last ≡ link_cells m sizes.first sizes.cells (links 0 cell₀ prev₀ last₀) → Ground m st cell prev last
-linked m sizes st s cell₀ prev₀ last₀ cell prev last A S bad c p l e =
-    grounded m A sizes.first sizes.cells S.first_is S.cells_is st bad cell₀ prev₀ c p s cell prev last
-    (e ∙ λ x. link_cells m sizes.first sizes.cells (links 0 cell₀ prev₀ (l x)))
-
 -- ---- the tests 12 and 13, and the tables, where the reaches are found first
-
-pub table_over : (m st start table : Bytes) (ends : List ℕ) (r : ℕ) → Tabled m st start table ends r → most_reached < r → bad13 m st ≡ true
-table_over m st start table ends r T h = sym (table_refused m st start table ends r T) ∙ lt-ltb most_reached r h
 
 module _ (m : Bytes) (parts : ℕ) (owners st : Bytes) where
   pub overflow_twelve : (s : ℕ) → s ≡ total 1 parts (row_reach_count m st owners) → most_held < s → 12 ≡ sizes_number m parts owners st
@@ -75,13 +59,13 @@ module _ (m : Bytes) (parts : ℕ) (owners st : Bytes) where
   overflow_thirteen s e h t = sym (ap₂ (λ a b. cond a 12 (cond b 13 0)) (sym (walked_told m parts owners st s e) ∙ le-ltb most_held s h) t)
 
   module _ (start table : Bytes) (ends : List ℕ) (r : ℕ) (T : Tabled m st start table ends r) where
-    module _ (right : bad8 m parts owners [] ≡ false) (fits : r ≤ most_reached) (cells : ℕ) (ce : cells ≡ cell_count m) (holders : Bytes) (s : ℕ)
+    module _ (right : bad8 m parts owners [] ≡ false) (cells : ℕ) (ce : cells ≡ cell_count m) (holders : Bytes) (s : ℕ)
         (H : Holders owners table ends cells parts holders s) where
       N : (i q : ℕ) → q < cell_count m → inside_at owners table ends i q ≡ inside (split_of m parts owners st) i (first_cell m + q)
-      N = insides_are m st start table (T.text fits) parts owners ends (T.ended fits)
+      N = insides_are m st start table T.text parts owners ends T.ended
 
       twelve : ltb most_held s ≡ bad12 (split_of m parts owners st)
-      twelve = sum_told m parts owners st table ends (T.ended fits) (entry_is m st start table (T.text fits)) N cells ce holders s H
+      twelve = sum_told m parts owners st table ends T.ended (entry_is m st start table T.text) N cells ce holders s H
 
       pub tables_held : most_held < s → 12 ≡ sizes_number m parts owners st
       unfolding sizes_number size_tests
@@ -89,15 +73,15 @@ module _ (m : Bytes) (parts : ℕ) (owners st : Bytes) where
 
       pub tables_passed : s ≤ most_held → 0 ≡ sizes_number m parts owners st
       unfolding sizes_number size_tests
-      tables_passed h = sym (ap₂ (λ a b. cond a 12 (cond b 13 0)) (sym twelve ∙ le-ltb most_held s h) (sym (table_refused m st start table ends r T) ∙ le-ltb most_reached r fits))
+      tables_passed h = sym (ap₂ (λ a b. cond a 12 (cond b 13 0)) (sym twelve ∙ le-ltb most_held s h) (table_made m st start table ends r T))
 
       pub tables_prepared : Accepted m → bad10 (top m) st ≡ false → Prepared m parts owners st table ends holders
       tables_prepared A stencil = record {
         mesh = A;
         map = right;
         stencil = stencil;
-        ended = T.ended fits;
-        entries = entry_is m st start table (T.text fits);
-        classes = class_told m parts owners st table ends (T.ended fits) (entry_is m st start table (T.text fits)) N;
-        held = held_told m parts owners st table ends (T.ended fits) (entry_is m st start table (T.text fits)) N cells ce holders s H;
+        ended = T.ended;
+        entries = entry_is m st start table T.text;
+        classes = class_told m parts owners st table ends T.ended (entry_is m st start table T.text) N;
+        held = held_told m parts owners st table ends T.ended (entry_is m st start table T.text) N cells ce holders s H;
       }

@@ -1,2 +1,2 @@
 // The tables that all lists are read off, for an accepted mesh, map and stencil.
-pub use crate::preparing::{link, prepare};
+pub use crate::preparing::prepare;

@@ -1,140 +1,80 @@
 // What the lists of all parts are read off: the chains turned round, a table of the reaches, and how many parts hold each cell. The tests 12
 // and 13.
-ghost use Rattle.std.specs.Prelude.{◌≡◌, true, false, [], ◌≤◌, length, replicate, OnOk};
+ghost use Rattle.std.specs.Prelude.{◌≡◌, true, false, [], ◌≤◌, length, OnOk};
 ghost use Rattle.layout.specs.Answers.{refusal_number, refused_as};
-ghost use Rattle.layout.specs.Limits.{element_places, most_elements, record_places, table_bytes};
+ghost use Rattle.layout.specs.Limits.{element_places, most_elements, table_bytes};
 ghost use Rattle.mesh.specs.Mesh.{top};
 ghost use Rattle.mesh.specs.Walks.{bad10, bad13};
 ghost use Rattle.mesh.specs.Accepted.{Accepted};
-ghost use Rattle.walk_steps.specs.Walking.{Ground, Sized, Arrays};
+ghost use Rattle.walk_incidence.specs.Links.{Turned};
+ghost use Rattle.walk_steps.specs.Walking.{Ready};
 ghost use Rattle.split.specs.Lists.{bad8, sizes_number};
 ghost use Rattle.split_classes.specs.Classes.{Prepared};
 
 use layout::Refusal;
-use layout::limits::{ELEMENT_PLACES, MOST_HELD, MOST_REACHED};
+use layout::limits::{ELEMENT_PLACES, MOST_HELD};
 use split_classes::inner::count_holders;
-use walk_incidence::inner::invert;
+use walk_incidence::inner::Incidence;
 use walk_part_reach::inner::count_all;
 use walk_reach_table::inner::reach_all;
-use walk_steps::inner::{MeshSizes, sizes_of};
-
-// Inverts the chains of all cells. Only `last` has to be cleared.
-pub fn link(
-    m: &[u8],
-    sizes: MeshSizes,
-    stencil: &[u8],
-    cell: &mut [u16],
-    prev: &mut [u16],
-    last: &mut [u16],
-)
-    requires { Accepted m.now × Sized m.now sizes × (bad10 (top m.now) stencil.now ≡ false) × (length cell.old ≡ record_places)
-        × (length prev.old ≡ record_places) × (last.old ≡ replicate element_places 0) }
-    ensures { Ground m.now stencil.now cell.new prev.new last.new }
-{
-    invert(
-        m,
-        sizes.elements,
-        sizes.records,
-        sizes.first,
-        sizes.cells,
-        cell,
-        prev,
-        last,
-    );
-}
+use walk_steps::inner::{Space, Walker};
 
 // Which of the tests 12 and 13 refuses first, where the reaches have too many entries for the table: how many cells the parts hold together is told
 // by walks from whole parts, in lent space.
 #[tactic(auto, using(crate::proofs::PreparedLaws::overflow_twelve, crate::proofs::PreparedLaws::overflow_thirteen))]
-fn overflow(
-    m: &[u8],
-    sizes: MeshSizes,
-    parts: u32,
-    owners: &[u8],
-    stencil: &[u8],
-    cell: &[u16],
-    prev: &[u16],
-    last: &[u16],
-    marks: &mut [u16],
-    from: &mut [u16],
-    found: &mut [u16],
-    layers: &mut [u16],
-) -> Refusal
-    requires { Ground m.now stencil.now cell.now prev.now last.now × Sized m.now sizes × (bad8 m.now parts owners.now [] ≡ false) × (bad13 m.now stencil.now ≡ true)
-        × Arrays marks.old from.old found.old layers.old }
-    ensures { refusal_number result ≡ sizes_number m.now parts owners.now stencil.now }
+fn overflow(walker: Walker, parts: u32, owners: &[u8], space: &mut Space) -> Refusal
+    requires { Ready walker × (bad8 walker.mesh.now parts owners.now [] ≡ false) × (bad13 walker.mesh.now walker.stencil.now ≡ true) }
+    ensures { refusal_number result ≡ sizes_number walker.entry.mesh.now parts owners.now walker.entry.stencil.now }
 {
-    let held = count_all(
-        m,
-        sizes,
-        stencil,
-        cell,
-        prev,
-        last,
-        owners,
-        parts as usize,
-        marks,
-        from,
-        found,
-        layers,
-    );
-    if MOST_HELD < held {
-        Refusal::Held
-    } else {
+    let held = count_all(walker, owners, parts as usize, space);
+    if held <= MOST_HELD {
         Refusal::Reach
+    } else {
+        Refusal::Held
     }
 }
 
-// Prepares the tables for an accepted mesh, map and stencil, in lent space, of which `last` is cleared, unless one of the tests 12 and 13 refuses: then the
-// first of them. The row is work space.
+// Prepares the tables for an accepted mesh, map and stencil, in lent space, unless one of the tests 12 and 13 refuses: then the first of them. The row is
+// work space.
 pub fn prepare(
     m: &[u8],
     parts: u32,
     owners: &[u8],
     stencil: &[u8],
-    cell: &mut [u16],
-    prev: &mut [u16],
-    last: &mut [u16],
+    incidence: &mut Incidence,
     table: &mut [u8],
     ends: &mut [u16],
     holders: &mut [u8],
     class: &mut [u8],
 ) -> Result<(), Refusal>
-    requires { Accepted m.now × (bad8 m.now parts owners.now [] ≡ false) × (bad10 (top m.now) stencil.now ≡ false) × (length cell.old ≡ record_places)
-        × (length prev.old ≡ record_places) × (last.old ≡ replicate element_places 0) × (length table.old ≡ table_bytes) × (length ends.old ≡ element_places)
-        × (length holders.old ≡ most_elements) × (length class.old ≡ most_elements) }
+    requires { Accepted m.now × (bad8 m.now parts owners.now [] ≡ false) × (bad10 (top m.now) stencil.now ≡ false) × (length table.old ≡ table_bytes)
+        × (length ends.old ≡ element_places) × (length holders.old ≡ most_elements) × (length class.old ≡ most_elements) }
     ensures { (refused_as result ≡ sizes_number m.now parts owners.now stencil.now)
         × OnOk result (Prepared m.now parts owners.now stencil.now table.new ends.new holders.new)
-        × Ground m.now stencil.now cell.new prev.new last.new }
+        × Turned m.now incidence.new }
 {
-    let sizes = sizes_of(m);
-    link(m, sizes, stencil, cell, prev, last);
-    let mut marks = [0u16; ELEMENT_PLACES];
-    let mut from = [0u16; ELEMENT_PLACES];
-    let mut found = [0u16; ELEMENT_PLACES];
-    let mut near = [0u16; ELEMENT_PLACES];
-    let entries = reach_all(
-        m, sizes, stencil, cell, prev, last, &mut marks, &mut from, &mut found, &mut near, table,
-        ends,
-    );
-    if MOST_REACHED < entries {
-        return Err(overflow(
-            m, sizes, parts, owners, stencil, cell, prev, last, &mut marks, &mut from, &mut found,
-            &mut near,
-        ));
+    incidence.invert(m);
+    let walker = Walker::new(m, stencil, incidence);
+    let mut space = Space {
+        marks: [0; ELEMENT_PLACES],
+        from: [0; ELEMENT_PLACES],
+        found: [0; ELEMENT_PLACES],
+        layers: [0; ELEMENT_PLACES],
+    };
+    if reach_all(walker, &mut space, table, ends).is_none() {
+        return Err(overflow(walker, parts, owners, &mut space));
     }
-    if MOST_HELD
-        < count_holders(
-            owners,
-            table,
-            ends,
-            sizes.cells,
-            parts as usize,
-            class,
-            holders,
-            &mut marks,
-        )
-    {
+    let held = count_holders(
+        owners,
+        table,
+        ends,
+        walker.sizes.cells,
+        parts as usize,
+        class,
+        holders,
+        &mut space.marks,
+    );
+    if MOST_HELD < held {
         return Err(Refusal::Held);
     }
     Ok(())

@@ -7,11 +7,12 @@ use native.Mathlib.Nat.{zero-add}
 use native.Mathlib.Numerals.{add-one}
 use native.Mathlib.Omega.{arith}
 use lib.Dec.{eqb, ltb, leb}
-use lib.ListN.{length, get_or, set, take, length-set, length-take, length-append}
-use lib.Seq.{get_or-set_same, get_or-set_other, get_or-take, take-suc, take-suc-set, take-set-le, take-take}
+use lib.ListN.{length, get_or, set, take, length-set, length-append}
+use lib.Seq.{get_or-set_same, get_or-set_other, take-suc, take-suc-set, take-set-le, take-take}
+use Rattle.std.proofs.lemmas.List.{take_all}
 use borrow.Author.Tests.{eqb-true, eqb-false, eq-eqb, ne_eqb, lt-ltb, le-ltb, le-leb, lt-leb}
 use Rattle.vocabulary.specs.Lists.{is_in, All}
-use Rattle.vocabulary.proofs.ListLaws.{or_nothing, or_always, or_assoc, and_right, once_few, All_append, All_get_or, is_in_append, repeats_snoc}
+use Rattle.vocabulary.proofs.ListLaws.{or_nothing, or_always, or_assoc, and_right, once_few, All_append, is_in_append, repeats_snoc}
 use Rattle.vocabulary.specs.Bytes.{Bytes}
 use Rattle.vocabulary.specs.Intervals.{blocks}
 use Rattle.vocabulary.proofs.IntervalLaws.{blocks_turn, at_last}
@@ -19,6 +20,7 @@ use Rattle.layout.specs.Limits.{most_elements, record_places}
 use Rattle.mesh.specs.Mesh.{record_count, head_of, element_in, next_of, follow, records, chain}
 use Rattle.mesh.proofs.FollowLaws.{chain_ended, chain_spent, chain_more}
 use Rattle.walk_frontier.specs.Visits.{Frontier, Toward, with, between, down, up, Grown, Upward}
+use Rattle.walk_incidence.specs.declared.inner.Incidence.{Incidence}
 use Rattle.walk_incidence.specs.Links.{trail}
 use Rattle.walk_incidence.proofs.TrailLaws.{trail_end, trail_more}
 
@@ -221,39 +223,32 @@ pub down_is : (m : Bytes) (r lo hi h x j : ℕ) (from : List ℕ) → r ≡ reco
 unfolding down chain records
 down_is m r lo hi h x j from re xe he = rw (he, xe, re)
 
-pub up_is : (cell prev last from : List ℕ) (x u j : ℕ) → x ≡ get_or from j 0 → u ≡ get_or last x 0 → trail cell prev record_places u ≡ up cell prev last from j
+pub up_is : (w : Incidence) (from : List ℕ) (x u j : ℕ) → x ≡ get_or from j 0 → u ≡ get_or w.last x 0 → trail w.cell w.prev record_places u ≡ up w from j
 unfolding up
-up_is cell prev last from x u j xe ue = rw (ue, xe)
+up_is w from x u j xe ue = rw (ue, xe)
 
-pub up_fits : (cell prev last from : List ℕ) (n x u j : ℕ) → Upward cell prev last from n → j < n → x ≡ get_or from j 0 → u ≡ get_or last x 0
-    → All (λ y. (1 ≤ y) × (y ≤ most_elements)) (trail cell prev record_places u)
-up_fits cell prev last from n x u j U h xe ue = rw (up_is cell prev last from x u j xe ue) (U.each j h)
+pub up_fits : (w : Incidence) (from : List ℕ) (x u j : ℕ) → Upward w from → j < length from → x ≡ get_or from j 0 → u ≡ get_or w.last x 0
+    → All (λ y. (1 ≤ y) × (y ≤ most_elements)) (trail w.cell w.prev record_places u)
+up_fits w from x u j U h xe ue = rw (up_is w from x u j xe ue) (U.each j h)
 
 -- ---- the loop over a list that is gathered itself
 
-module _ (from : List ℕ) (j n : ℕ) (len : length (take n from) ≡ n) (h : j < n) where
-  pub list_turn : (found₀ found found' : List ℕ) (s s' y : ℕ) → y ≡ get_or from j 0 → Toward found s [] (with found₀ 0 (take j from)) → Toward found' s' [] (with found s (y ∷ []))
-      → Toward found' s' [] (with found₀ 0 (take (j + 1) from))
-  unfolding with is_in
-  list_turn found₀ found found' s s' y e t u = record {
-    each = λ z.
-        u.each z
-        ∙ ap (λ b. b || is_in z (y ∷ [])) (sym (or_nothing (is_in z (take s found))) ∙ t.each z)
-        ∙ sym (is_in_append z (take j from) (y ∷ []))
-        ∙ ap (is_in z) (sym longer);
-  }
-    where
-      longer : take (j + 1) from ≡ take j from ++ (y ∷ [])
-      longer = rw (add-one j, e) (take-suc from j 0 (omega (arith, len, length-take n from)))
+pub list_turn : (list found₀ found found' : List ℕ) (j s s' : ℕ) → j < length list → Toward found s [] (with found₀ 0 (take j list))
+    → Toward found' s' [] (with found s (get_or list j 0 ∷ [])) → Toward found' s' [] (with found₀ 0 (take (j + 1) list))
+unfolding with is_in
+list_turn list found₀ found found' j s s' h t u = record {
+  each = λ z.
+      u.each z
+      ∙ ap (λ b. b || is_in z (y ∷ [])) (sym (or_nothing (is_in z (take s found))) ∙ t.each z)
+      ∙ sym (is_in_append z (take j list) (y ∷ []))
+      ∙ ap (is_in z) (sym longer);
+}
+  where
+    y : ℕ
+    y = get_or list j 0
 
-  list_fits : (y : ℕ) → All (λ y. (1 ≤ y) × (y ≤ most_elements)) (take n from) → y ≡ get_or from j 0 → (1 ≤ y) × (y ≤ most_elements)
-  list_fits y A e = rw (e, ← get_or-take n from j 0 h) (All_get_or (λ y. (1 ≤ y) × (y ≤ most_elements)) (take n from) j 0 A (omega arith))
+    longer : take (j + 1) list ≡ take j list ++ (y ∷ [])
+    longer = rw (add-one j) (take-suc list j 0 h)
 
-  pub list_low : (y : ℕ) → All (λ y. (1 ≤ y) × (y ≤ most_elements)) (take n from) → y ≡ get_or from j 0 → 1 ≤ y
-  list_low y A e = (list_fits y A e).0
-
-  pub list_high : (y : ℕ) → All (λ y. (1 ≤ y) × (y ≤ most_elements)) (take n from) → y ≡ get_or from j 0 → y ≤ most_elements
-  list_high y A e = (list_fits y A e).1
-
-pub list_end : (from found₀ found : List ℕ) (n j s : ℕ) → j ≤ n → n ≤ j → Toward found s [] (with found₀ 0 (take j from)) → Toward found s [] (with found₀ 0 (take n from))
-list_end from found₀ found n j s a b t = at_last (λ x. Toward found s [] (with found₀ 0 (take x from))) j n a b t
+pub list_end : (list found₀ found : List ℕ) (j s : ℕ) → length list ≤ j → Toward found s [] (with found₀ 0 (take j list)) → Toward found s [] (with found₀ 0 list)
+list_end list found₀ found j s a t = rw (take_all j list a) at t

@@ -4,6 +4,7 @@ use Rattle.vocabulary.specs.Bytes.{Bytes}
 use Rattle.vocabulary.specs.Lists.{is_in, repeats, All}
 use Rattle.layout.specs.Limits.{element_places, most_elements, record_places}
 use Rattle.mesh.specs.Mesh.{chain}
+use Rattle.walk_incidence.specs.declared.inner.Incidence.{Incidence}
 use Rattle.walk_incidence.specs.Links.{trail}
 
 -- those after lo and up to hi
@@ -46,9 +47,9 @@ unfoldable pub down : Bytes → ℕ → ℕ → List ℕ → ℕ → List ℕ
 down m lo hi from j = between lo hi (chain m (get_or from j 0))
 
 -- what a step up gathers from the j-th of the elements in `from`: its cells
-unfoldable pub up : List ℕ → List ℕ → List ℕ → List ℕ → ℕ → List ℕ
-up cell prev last from j = trail cell prev record_places (get_or last (get_or from j 0) 0)
+unfoldable pub up : Incidence → List ℕ → ℕ → List ℕ
+up x from j = trail x.cell x.prev record_places (get_or x.last (get_or from j 0) 0)
 
 -- what a step up gathers are elements
-pub record Upward (cell prev last from : List ℕ) (n : ℕ) : Type 0 where
-  pub each : (j : ℕ) → j < n → All (λ y. (1 ≤ y) × (y ≤ most_elements)) (up cell prev last from j)
+pub record Upward (x : Incidence) (from : List ℕ) : Type 0 where
+  pub each : (j : ℕ) → j < length from → All (λ y. (1 ≤ y) × (y ≤ most_elements)) (up x from j)

@@ -2,14 +2,21 @@
 -- in proofs/ tie it to the definitions. Assumes nothing.
 --
 -- Each element of a cell's chain is an entry, numbered from 1: the cell, and the entry before it that has the same element.
-use Rattle.std.specs.Prelude.{Bool, true, false, cond, List, [], ◌∷◌, ℕ, zero, suc, ◌+◌, eqb, get_or, set}
+use Rattle.std.specs.Prelude.{◌≡◌, Bool, true, false, ◌&&◌, cond, List, [], ◌∷◌, ℕ, zero, suc, ◌+◌, ◌≤◌, eqb, leb, ltb, get_or, set}
 use Rattle.vocabulary.specs.Bytes.{Bytes}
 use Rattle.vocabulary.specs.Lists.{is_in}
-use Rattle.mesh.specs.Mesh.{chain}
+use Rattle.layout.specs.Limits.{most_elements, record_places}
+use Rattle.mesh.specs.Accepted.{Accepted}
+use Rattle.mesh.specs.Mesh.{first_cell, cell_count, chain}
+use Rattle.walk_incidence.specs.declared.inner.Incidence.{Incidence}
 
 -- the count of entries, the cell of each, the entry before each, and the last entry of each element
 pub data Links : Type 0 where
   links : ℕ → List ℕ → List ℕ → List ℕ → Links
+
+-- the first t entries of the code's arrays
+abbrev pub linked : ℕ → Incidence → Links
+linked t x = links t x.cell x.prev x.last
 
 -- one entry more: element g in the chain of cell c
 unfoldable pub link : ℕ → ℕ → Links → Links
@@ -37,3 +44,13 @@ picked_down a (suc n) p = cond (p (a + n)) ((a + n) ∷ picked_down a n p) (pick
 -- the cells at element x, of the n cells from `first` on, falling
 unfoldable pub cells_with : Bytes → ℕ → ℕ → ℕ → List ℕ
 cells_with m first n x = picked_down first n (λ c. is_in x (chain m c))
+
+-- y is a cell
+unfoldable pub is_cell_number : Bytes → ℕ → Bool
+is_cell_number m y = leb (first_cell m) y && ltb y (first_cell m + cell_count m)
+
+-- the chains of an accepted mesh turned round: an element's trail has just the cells in whose chains it stands
+pub record Turned (m : Bytes) (w : Incidence) : Type 0 where
+  pub mesh : Accepted m
+  pub told : (x y : ℕ) → x ≤ most_elements → is_in y (trail w.cell w.prev record_places (get_or w.last x 0)) ≡ is_cell_number m y && is_in x (chain m y)
+  pub trail_is : (x : ℕ) → x ≤ most_elements → trail w.cell w.prev record_places (get_or w.last x 0) ≡ cells_with m (first_cell m) (cell_count m) x

@@ -232,22 +232,22 @@ level_none m st c s layers found layers' found' K S = record {
 
 -- ---- the loop over the levels, and its end
 
-module _ (m st : Bytes) (near : List ℕ) (w : ℕ) (G : NearGround m st near w) (c : ℕ) (C : Cell m c) (first : ℕ) (fe : first ≡ first_cell m) (n : ℕ) (len : n + 1 ≡ length st)
+module _ (m st : Bytes) (near : List ℕ) (w : ℕ) (G : NearGround m st near w) (c : ℕ) (C : Cell m c) (first : ℕ) (fe : first ≡ first_cell m)
     (j old met : ℕ) (layers found : List ℕ) (L : Level m st c (2 * j) layers found old met) where
-  pub fits_at : j < n / 2 → LevelFits near w first found old met
+  pub fits_at : j < length st / 2 → LevelFits near w first found old met
   fits_at h = level_fits m st near w G c C first fe (2 * j) old met layers found (omega arith) L (omega arith)
 
-  pub level_next : (s : ℕ) (layers' found' : List ℕ) → j < n / 2 → Spread (2 * j + 2) layers found met layers' found' s (from_level near w first found old met)
+  pub level_next : (s : ℕ) (layers' found' : List ℕ) → j < length st / 2 → Spread (2 * j + 2) layers found met layers' found' s (from_level near w first found old met)
       → Level m st c (2 * (j + 1)) layers' found' met s
   level_next s layers' found' h S =
       let e : 2 * (j + 1) ≡ 2 * j + 2 = omega arith in
-      rw e (level_more m st near w G c C first fe (2 * j) old met layers found (omega arith) L (omega arith) s layers' found' S)
+      rw e (level_more m st near w G c C first fe (2 * j) old met layers found (omega arith) L (omega (arith, (stencil_parts (top m) st G.stencil).0)) s layers' found' S)
 
-  module _ (a : j ≤ n / 2) (b : n / 2 ≤ j) where
-    all_steps : 2 * j ≡ n
+  module _ (a : j ≤ length st / 2) (b : length st / 2 ≤ j) where
+    all_steps : 2 * j ≡ length st - 1
     all_steps = omega (arith, (stencil_parts (top m) st G.stencil).0)
 
-    pub layered_all : Layered m st (c ∷ []) n layers
+    pub layered_all : Layered m st (c ∷ []) (length st - 1) layers
     layered_all = record { size = L.listed.size; each = λ z. L.layered z ∙ ap (λ k. layer_mark m st (c ∷ []) k z) all_steps }
 
     pub within_all : (low high : ℕ) → Widened c (c + 1) low high (take met found) → Within m layers low high
@@ -261,7 +261,7 @@ module _ (m st : Bytes) (near : List ℕ) (w : ℕ) (G : NearGround m st near w)
       where
         cells : All (λ y. (first_cell m ≤ y) × (y < first_cell m + cell_count m)) (take met found)
         cells = All_intro _ (take met found) 0 (λ i h.
-            let K = cell_of m st near w G c C first fe (2 * j) old met layers found (omega arith) L (get_or (take met found) i 0) (omega arith)
+            let K = cell_of m st near w G c C first fe (2 * j) old met layers found (omega arith) L (get_or (take met found) i 0) (omega (arith, (stencil_parts (top m) st G.stencil).0))
             (at_is_in _ (take met found) (record { place = i; place_lt = h; place_is = refl })) in
             (K.low, K.high))
 

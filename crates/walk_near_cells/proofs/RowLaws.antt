@@ -4,16 +4,18 @@ use mathlib.Core.Bool.{Bool, true, false, not, ◌||◌}
 use mathlib.Core.Logic.{⊎_elim}
 use mathlib.Core.List.{List, [], ◌∷◌}
 use Prim.Native.Nat.{ℕ, zero, suc, ◌+◌, ◌-◌, ◌*◌, ◌/◌, ◌≤◌, ◌<◌}
-use native.Mathlib.Nat.{le_trans, mul-le-mul_left, mul-le-mul_right, mul-div-le, le-div_iff_mul-le}
+use native.Mathlib.Nat.{le_trans, mul-le-mul_left, mul-le-mul_right, mul-div-le}
 use native.Mathlib.Omega.{arith}
 use lib.Dec.{eqb, ltb}
-use lib.ListN.{length, get_or, set, take, drop, length-set, length-take}
-use lib.Seq.{get_or-take, get_or-drop}
-use borrow.Author.Tests.{eqb-true, eqb-false, eq-eqb, ne_eqb, ltb-true, ltb-false, not-false}
+use lib.ListN.{length, get_or, take, length-take}
+use lib.Seq.{get_or-take}
+use Rattle.std.proofs.Common.{None, Some}
+use Rattle.std.proofs.lemmas.Option.{none-some, same_Some}
+use borrow.Author.Tests.{eqb-true, eqb-false, eq-eqb, ne_eqb, ltb-true, ltb-false}
 use Rattle.vocabulary.specs.Bytes.{Bytes, byte_at}
 use Rattle.vocabulary.specs.Intervals.{some}
 use Rattle.vocabulary.proofs.IntervalLaws.{some_in, some_has, some_witness}
-use Rattle.vocabulary.specs.Lists.{is_in, Zeros}
+use Rattle.vocabulary.specs.Lists.{is_in, All, Zeros}
 use Rattle.vocabulary.proofs.ListLaws.{At, and_true, and_intro, not_both, or_true, or_right, or_nothing, same_test, is_in_at, at_is_in, at_all, All_intro}
 use Rattle.layout.specs.Limits.{element_places, most_elements}
 use Rattle.mesh.specs.Meet.{Under}
@@ -23,11 +25,14 @@ use Rattle.mesh.proofs.WalkLaws.{below_grows, stencil_odd}
 use Rattle.mesh.specs.Accepted.{Accepted, Cell}
 use Rattle.mesh.proofs.DimensionLaws.{below_next}
 use Rattle.walk_frontier.specs.Visits.{Frontier, Toward, with, Added}
-use Rattle.walk_steps.specs.Walking.{Ground, Lowers, stepped, or_among, through_one}
+use Rattle.walk_incidence.specs.declared.inner.Incidence.{Incidence}
+use Rattle.walk_steps.specs.declared.steps.Space.{Space}
+use Rattle.walk_steps.specs.declared.steps.Walker.{Walker}
+use Rattle.walk_steps.specs.Walking.{Ground, Ready, Lower, stepped, or_among}
 use Rattle.walk_steps.proofs.StepLaws.{step_from}
 use Rattle.walk_steps.proofs.WalkLaws.{step_like}
 use Rattle.walk_steps.proofs.NoteLaws.{begin}
-use Rattle.walk_near_cells.specs.NearCells.{near_to, names, in_row, NearRow, NearRows, Filled, WalksReady}
+use Rattle.walk_near_cells.specs.NearCells.{near_to, names, in_row, NearRow, NearRows, Filled, NearGround, RowPut, WalksReady}
 
 -- ---- the row of one cell
 
@@ -35,25 +40,22 @@ use Rattle.walk_near_cells.specs.NearCells.{near_to, names, in_row, NearRow, Nea
 pub next_mark : (v n : ℕ) (marks found : List ℕ) → Frontier v marks found n → Under (v + 1) marks
 next_mark v n marks found G = record { size = G.size; each = λ y. omega (arith, G.top y) }
 
-pub begin_next : (v n c : ℕ) (marks found list after : List ℕ) → Frontier v marks found n → length list ≡ element_places → after ≡ set list 0 c → Frontier (v + 1) marks after 0
-begin_next v n c marks found list after G r e = begin (v + 1) marks after (next_mark v n marks found G) (ap length e ∙ length-set list 0 c ∙ r)
+pub begin_next : (v n : ℕ) (marks found list : List ℕ) → Frontier v marks found n → length list ≡ element_places → Frontier (v + 1) marks list 0
+begin_next v n marks found list G r = begin (v + 1) marks list (next_mark v n marks found G) r
 
-module _ (m : Bytes) (a c n : ℕ) (from found₀ found : List ℕ) (one : take 1 from ≡ c ∷ []) (D : Toward found n [] (or_among found₀ 0 (stepped m a from 1))) where
+module _ (m : Bytes) (a c n : ℕ) (found₀ found : List ℕ) (D : Toward found n [] (or_among found₀ 0 (stepped m a (c ∷ [])))) where
   went_down : (z : ℕ) → is_in z (take n found) ≡ is_in z (step_to m a (c ∷ []))
   unfolding is_in or_among stepped
-  went_down z = sym (or_nothing (is_in z (take n found))) ∙ D.each z ∙ ap (λ (l : List ℕ). is_in z (step_to m a l)) one
+  went_down z = sym (or_nothing (is_in z (take n found))) ∙ D.each z
 
-  pub lowers : a < top m → length (take n found) ≡ n → Lowers m found n
-  lowers h len = record {
-    each = All_intro _ (take n found) 0 (λ l g.
-        let z : ℕ = get_or (take n found) l 0 in
-        let w = step_from m a z (c ∷ []) (sym (went_down z) ∙ at_is_in z (take n found) (record { place = l; place_lt = g; place_is = refl })) in
-        (omega (arith, w.3), omega (arith, w.4, below_next m a, below_grows m (a + 1) (top m) (omega arith))));
-    count = len;
-  }
+  pub lowers : a < top m → All (Lower m) (take n found)
+  lowers h = All_intro _ (take n found) 0 (λ l g.
+      let z : ℕ = get_or (take n found) l 0 in
+      let w = step_from m a z (c ∷ []) (sym (went_down z) ∙ at_is_in z (take n found) (record { place = l; place_lt = g; place_is = refl })) in
+      (omega (arith, w.3), omega (arith, w.4, below_next m a, below_grows m (a + 1) (top m) (omega arith))))
 
-  module _ (own s v : ℕ) (marks from₁ from₂ : List ℕ) (C : Cell m c) (O : Toward from₁ own [] (with from 0 (c ∷ [])))
-      (U : Added v marks from₁ own from₂ s (or_among from₁ own (stepped m (top m) found n))) where
+  module _ (own s v : ℕ) (marks from from₁ from₂ : List ℕ) (C : Cell m c) (O : Toward from₁ own [] (with from 0 (c ∷ [])))
+      (U : Added v marks from₁ own from₂ s (or_among from₁ own (stepped m (top m) (take n found)))) where
     -- c itself stands first
     is_own : (z : ℕ) → is_in z (take own from₁) ≡ is_in z (c ∷ [])
     unfolding is_in with
@@ -173,21 +175,18 @@ pub rows_start : (m : Bytes) (a w : ℕ) (near : List ℕ) → Zeros element_pla
 rows_start m a w near K = record { rows = record { each = λ q h. let o : ⊥ = omega arith in absurd o }; bare = λ i h. K.each i }
 
 module _ (m : Bytes) (a q w s c : ℕ) (from near near' : List ℕ) (F : Filled m a near w q) (R : NearRow m a c from 1 s) (ce : c ≡ first_cell m + q) (few : s - 1 ≤ w)
-    (M : (take (s - 1) (drop (q * w) near') ≡ take (s - 1) (drop 1 from)) × (length near' ≡ length near) × (take (q * w) near' ≡ take (q * w) near)
-    × (drop (q * w + (s - 1)) near' ≡ drop (q * w + (s - 1)) near)) where
+    (fits : s ≤ length from) (M : RowPut near (q * w) (take s from) near') where
+  len : length (take s from) ≡ s
+  len = omega (arith, length-take s from)
+
   put : (j : ℕ) → j < s - 1 → get_or near' (q * w + j) 0 ≡ get_or from (1 + j) 0
-  put j l =
-      sym (get_or-drop (q * w) near' j 0) ∙ sym (get_or-take (s - 1) (drop (q * w) near') j 0 l) ∙ ap (λ (l : List ℕ). get_or l j 0) M.0
-      ∙ get_or-take (s - 1) (drop 1 from) j 0 l ∙ get_or-drop 1 from j 0
+  put j l = M.here j (omega (arith, len)) ∙ get_or-take s from (1 + j) 0 (omega arith)
 
   kept : (j : ℕ) → j < q * w → get_or near' j 0 ≡ get_or near j 0
-  kept j l = sym (get_or-take (q * w) near' j 0 l) ∙ ap (λ (l : List ℕ). get_or l j 0) M.2 ∙ get_or-take (q * w) near j 0 l
+  kept j l = M.before j l
 
   bare_after : (i : ℕ) → q * w + (s - 1) ≤ i → get_or near' i 0 ≡ 0
-  bare_after i l =
-      let e : q * w + (s - 1) + (i - (q * w + (s - 1))) ≡ i = omega arith in
-      ap (λ j. get_or near' j 0) (sym e) ∙ sym (get_or-drop (q * w + (s - 1)) near' (i - (q * w + (s - 1))) 0) ∙ ap (λ (l : List ℕ). get_or l (i - (q * w + (s - 1))) 0) M.3
-      ∙ get_or-drop (q * w + (s - 1)) near (i - (q * w + (s - 1))) 0 ∙ ap (λ j. get_or near j 0) e ∙ F.bare i (omega arith)
+  bare_after i l = M.after i (omega (arith, len)) ∙ F.bare i (omega arith)
 
   row_new : NearRow m a (first_cell m + q) near' (q * w) (q * w + w)
   row_new =
@@ -240,39 +239,31 @@ module _ (m : Bytes) (cells w : ℕ) (A : Accepted m) (e : cells ≡ cell_count 
   pub rows_fit : w ≤ element_places / cells → cell_count m * w ≤ element_places
   rows_fit h = subst (λ k. k * w ≤ element_places) e (le_trans (mul-le-mul_left cells h) (mul-div-le element_places cells))
 
-  pub some_width : ((x : ℕ) → x ≤ 12 → x ≤ element_places / cells → x ≤ w) → w ≡ 0 → ⊥
-  some_width most z =
-      let one : 1 ≤ element_places / cells = (le-div_iff_mul-le {k = cells} {x = 1} {y = element_places} (some_cells m cells A e)).1 (omega (arith, A.cells_in, A.sizes.n_high)) in
-      let o : ⊥ = omega (arith, most 1 (omega arith) one) in o
-
-pub through : (m st : Bytes) (cell prev last : List ℕ) (a : ℕ) → Ground m st cell prev last → 2 ≤ length st → a ≡ byte_at st 1 → a < top m
-through m st cell prev last a G h e = omega (arith, stencil_odd (top m) st G.stencil 1 (omega arith) refl)
+pub through : (m st : Bytes) (w : Incidence) (a : ℕ) → Ground m st w → 2 ≤ length st → a ≡ byte_at st 1 → a < top m
+through m st w a G h e = omega (arith, stencil_odd (top m) st G.stencil 1 (omega arith) refl)
 
 -- ---- what is ready
 
-pub ready_steps : (m st : Bytes) (v : ℕ) (marks from found near : List ℕ) → Under v marks → v ≤ 4001 → length from ≡ element_places → length found ≡ element_places → Zeros element_places near
-    → WalksReady m st 0 4001 marks from found near
-ready_steps m st v marks from found near U h f g K = record {
-  marks_low = under_more v 4001 marks h U;
-  from_room = f;
-  found_room = g;
-  near_room = K.size;
-  rows = λ n. absurd (n refl);
+pub ready_steps : (m st : Bytes) (v : ℕ) (s : Space) → Under v s.marks → v ≤ 4001 → Zeros element_places s.layers → WalksReady m st None 4001 s
+ready_steps m st v s U h K = record {
+  marks_low = under_more v 4001 s.marks h U;
+  rows = λ w e. absurd (none-some w e);
   steps = λ _. K;
 }
 
-pub ready_rows : (m st : Bytes) (cell prev last marks from found near : List ℕ) (single : Bool) (a w : ℕ) → Ground m st cell prev last → single ≡ through_one st → not single ≡ false
-    → a ≡ byte_at st 1 → (w ≡ 0 → ⊥) → cell_count m * w ≤ element_places → NearRows m a near w (cell_count m) → Under 4001 marks → length found ≡ element_places → length near ≡ element_places
-    → Zeros element_places from
-    → WalksReady m st w 4001 marks from found near
-ready_rows m st cell prev last marks from found near single a w G se t e some_w fit R U g l K = record {
+pub ready_rows : (k : Walker) (a w : ℕ) (s : Space) → Ready k → k.single ≡ true → a ≡ byte_at k.stencil.now 1 → cell_count k.mesh.now * w ≤ element_places
+    → NearRows k.mesh.now a s.layers w (cell_count k.mesh.now) → Under 4001 s.marks → Zeros element_places s.from → WalksReady k.mesh.now k.stencil.now (Some w) 4001 s
+ready_rows k a w s G t e fit R U K = record {
   marks_low = U;
-  from_room = K.size;
-  found_room = g;
-  near_room = l;
-  rows = λ _. (
-    record { mesh = G.mesh; stencil = G.stencil; one = sym se ∙ not-false single t; rows = subst (λ x. NearRows m x near w (cell_count m)) e R; room = fit },
+  rows = λ v i. subst (λ w. NearGround k.mesh.now k.stencil.now s.layers w × Zeros element_places s.from) (same_Some w v i) (
+    record {
+      mesh = G.ground.turned.mesh;
+      stencil = G.ground.stencil;
+      one = sym G.single_is ∙ t;
+      rows = subst (λ x. NearRows k.mesh.now x s.layers w (cell_count k.mesh.now)) e R;
+      room = fit;
+    },
     K,
   );
-  steps = λ z. absurd (some_w z);
+  steps = λ i. absurd (none-some w (sym i));
 }

@@ -1,6 +1,6 @@
 -- The cells two steps from each cell, listed once, and the walks of a stencil through one dimension, which go by these lists. No public contract rests on
 -- this page. Assumes nothing.
-use Rattle.std.specs.Prelude.{◌≡◌, Bool, true, false, not, ◌&&◌, List, [], ◌∷◌, ℕ, ◌+◌, ◌-◌, ◌*◌, ◌%◌, ◌≤◌, ◌<◌, eqb, length, get_or, take}
+use Rattle.std.specs.Prelude.{◌≡◌, Bool, true, false, not, ◌&&◌, List, [], ◌∷◌, ℕ, ◌+◌, ◌-◌, ◌*◌, ◌%◌, ◌≤◌, ◌<◌, eqb, length, get_or, take, Option, None, Some}
 use Rattle.vocabulary.specs.Bytes.{Bytes, byte_at}
 use Rattle.vocabulary.specs.Intervals.{some}
 use Rattle.vocabulary.specs.Lists.{is_in, repeats, All, Zeros}
@@ -10,6 +10,7 @@ use Rattle.mesh.specs.Mesh.{top, first_cell, cell_count}
 use Rattle.mesh.specs.Walks.{bad10, step_to}
 use Rattle.mesh.specs.Accepted.{Accepted, Cell}
 use Rattle.walk_frontier.specs.Visits.{Grown}
+use Rattle.walk_steps.specs.declared.steps.Space.{Space}
 use Rattle.walk_steps.specs.Walking.{through_one, walked_from, layer_mark, Noted}
 
 -- the cells two steps from cell c: down to dimension a, and up
@@ -107,11 +108,14 @@ pub record Layered (m st : Bytes) (cs : List ℕ) (k : ℕ) (layers : List ℕ) 
   pub size : length layers ≡ element_places
   pub each : (z : ℕ) → get_or layers z 0 ≡ layer_mark m st cs k z
 
--- ready for the walks from all cells: either the rows are listed, each w places wide, and `from` is free for the layers, or w is 0 and `near` is
-pub record WalksReady (m st : Bytes) (w v : ℕ) (marks from found near : List ℕ) : Type 0 where
-  pub marks_low : Under v marks
-  pub from_room : length from ≡ element_places
-  pub found_room : length found ≡ element_places
-  pub near_room : length near ≡ element_places
-  pub rows : (w ≡ 0 → ⊥) → NearGround m st near w × Zeros element_places from
-  pub steps : w ≡ 0 → Zeros element_places near
+-- a row without its first number stands in a list from a place on, and all else is as it was
+pub record RowPut (near : List ℕ) (at : ℕ) (row near' : List ℕ) : Type 0 where
+  pub here : (j : ℕ) → j < length row - 1 → get_or near' (at + j) 0 ≡ get_or row (1 + j) 0
+  pub before : (j : ℕ) → j < at → get_or near' j 0 ≡ get_or near j 0
+  pub after : (j : ℕ) → at + (length row - 1) ≤ j → get_or near' j 0 ≡ get_or near j 0
+
+-- ready for the walks from all cells: either the rows are listed in `layers`, each w places wide, and `from` is free for the layers, or `layers` is
+pub record WalksReady (m st : Bytes) (width : Option ℕ) (v : ℕ) (s : Space) : Type 0 where
+  pub marks_low : Under v s.marks
+  pub rows : (w : ℕ) → width ≡ Some w → NearGround m st s.layers w × Zeros element_places s.from
+  pub steps : width ≡ None → Zeros element_places s.layers

@@ -15,16 +15,19 @@ use Rattle.vocabulary.specs.Intervals.{picked, total}
 use Rattle.vocabulary.proofs.IntervalLaws.{some_cong, picked_all, picked_yes, picked_no, picked_some, some_swap, at_last, total_start, total_turn, total_cong}
 use Rattle.vocabulary.specs.Lists.{is_in, some_of, All, Zeros}
 use Rattle.vocabulary.proofs.ListLaws.{same_test, All_intro, some_of_has, some_of_witness, some_of_cong, is_in_some}
-use Rattle.layout.specs.Limits.{element_places, most_elements, most_steps}
+use Rattle.layout.specs.Limits.{element_places, most_elements}
 use Rattle.mesh.specs.Mesh.{first_cell, cell_count}
 use Rattle.mesh.specs.Walks.{step_to, steps_to, walked}
 use Rattle.mesh.specs.Accepted.{Accepted, Cell}
-use Rattle.walk_steps.specs.Walking.{Ground, Sized, Arrays, layer_mark, walked_from, AllCells, WalkDone}
-use Rattle.walk_steps.specs.declared.steps.MeshSizes.{MeshSizes}
-use Rattle.walk_steps.proofs.WalkLaws.{marked_by, cell_layer, walk_fresh}
+use Rattle.mesh.specs.Meet.{Under}
+use Rattle.walk_incidence.specs.declared.inner.Incidence.{Incidence}
+use Rattle.walk_incidence.specs.declared.inner.MeshSizes.{MeshSizes}
+use Rattle.walk_incidence.specs.Sizes.{Sized}
+use Rattle.walk_steps.specs.declared.steps.Space.{Space}
+use Rattle.walk_steps.specs.Walking.{Ground, layer_mark, walked_from, AllCells, WalkDone}
+use Rattle.walk_steps.proofs.WalkLaws.{marked_by, cell_layer, steps_is}
 use Rattle.walk_steps.proofs.StepLaws.{step_from, step_to_lem}
-use Rattle.walk_part_reach.specs.Rows.{walked_to, row_cells, Rowed, Space, layer_one, layer_count, row_reach_count, ReachCounted}
-use Rattle.walk_steps.proofs.GroundLaws.{steps_is}
+use Rattle.walk_part_reach.specs.Rows.{walked_to, row_cells, Rowed, layer_one, layer_count, row_reach_count, ReachCounted}
 
 -- ---- the cells of a row
 
@@ -83,11 +86,11 @@ module _ (m st : Bytes) (cs : List ℕ) where
   walked_some (suc k) z = step_some (byte_at st (suc k)) (walked_from m st cs k) (λ c. walked m st c k) (walked_some k) z
 
   -- a cell is reached by some number of steps
-  reach_some : (cell prev last : List ℕ) (n z : ℕ) → Ground m st cell prev last → All (Cell m) cs → Cell m z → n + 1 ≡ length st
+  reach_some : (w : Incidence) (n z : ℕ) → Ground m st w → All (Cell m) cs → Cell m z → n + 1 ≡ length st
       → not (eqb (layer_mark m st cs n z) 0) ≡ some_of cs (λ c. walked_to m st c z)
   unfolding walked_to steps_to
-  reach_some cell prev last n z G C c ne =
-      ap (λ x. not (eqb x 0)) (cell_layer m st cell prev last cs n z G C (omega (arith, ne)) c)
+  reach_some w n z G C c ne =
+      ap (λ x. not (eqb x 0)) (cell_layer m st w cs n z G C (omega (arith, ne)) c)
       ∙ marked_by (picked 0 (n + 1) (λ j. is_in z (walked_from m st cs j)))
       ∙ picked_some 0 (λ j. is_in z (walked_from m st cs j)) (n + 1)
       ∙ some_cong 0 (λ j. is_in z (walked_from m st cs j)) (λ j. some_of cs (λ c. is_in z (walked m st c j))) (n + 1) (λ i h. walked_some (0 + i) z)
@@ -115,22 +118,8 @@ module _ (m : Bytes) (sizes : MeshSizes) (A : Accepted m) (S : Sized m sizes) wh
     count = omega (arith, length-take s from, R.room, R.few, cells_small);
   }
 
-pub space_after : (m st : Bytes) (single : Bool) (cs : List ℕ) (n v k met : ℕ) (marks from found layers : List ℕ) → WalkDone m st single cs n v marks from found layers k met
-    → Space (v + (n + 1)) marks from found layers
-space_after m st single cs n v k met marks from found layers W = record {
-  fresh = walk_fresh m st cs single n v k met marks from found layers W;
-  from_long = W.room;
-  found_long = W.gathered.room;
-  layers_long = W.size;
-}
-
-pub space_start : (marks₀ marks from found layers : List ℕ) → Arrays marks₀ from found layers → Zeros element_places marks → Space 1 marks from found layers
-space_start marks₀ marks from found layers R Z = record {
-  fresh = record { size = Z.size; each = λ i. omega (arith, Z.each i) };
-  from_long = R.from_room;
-  found_long = R.found_room;
-  layers_long = R.layers_room;
-}
+pub zeros_under : (marks : List ℕ) → Zeros element_places marks → Under 1 marks
+zeros_under marks Z = record { size = Z.size; each = λ i. omega (arith, Z.each i) }
 
 -- ---- counts
 
@@ -155,14 +144,14 @@ module _ (layers : List ℕ) (first : ℕ) where
   pub count_end : (q cells s : ℕ) → q ≤ cells → cells ≤ q → s ≡ layer_count layers first q → s ≡ layer_count layers first cells
   count_end q cells s g h e = at_last (λ k. s ≡ layer_count layers first k) q cells g h e
 
-module _ (m st : Bytes) (cell prev last : List ℕ) (sizes : MeshSizes) (n : ℕ) (G : Ground m st cell prev last) (S : Sized m sizes) (ne : n + 1 ≡ length st) (rows : Bytes) where
-  pub reach_counted : (single : Bool) (i v k s met t : ℕ) (marks from from' found layers : List ℕ) → Rowed sizes.first rows i sizes.cells s from
-      → WalkDone m st single (take s from) n v marks from' found layers k met → t ≡ layer_count layers sizes.first sizes.cells → t ≡ row_reach_count m st rows i
+module _ (m st : Bytes) (w : Incidence) (sizes : MeshSizes) (n : ℕ) (G : Ground m st w) (S : Sized m sizes) (ne : n + 1 ≡ length st) (rows : Bytes) where
+  pub reach_counted : (single : Bool) (i v k s met t : ℕ) (from : List ℕ) (space : Space) → Rowed sizes.first rows i sizes.cells s from
+      → WalkDone m st single (take s from) n v space k met → t ≡ layer_count space.layers sizes.first sizes.cells → t ≡ row_reach_count m st rows i
   unfolding layer_count row_reach_count layer_one
-  reach_counted single i v k s met t marks from from' found layers R W te =
+  reach_counted single i v k s met t from space R W te =
       te
-      ∙ ap (λ c. total 0 c (λ q. cond (eqb (get_or layers (sizes.first + q) 0) 0) 0 1)) S.cells_is
-      ∙ total_cong 0 (λ q. cond (eqb (get_or layers (sizes.first + q) 0) 0) 0 1)
+      ∙ ap (λ c. total 0 c (λ q. cond (eqb (get_or space.layers (sizes.first + q) 0) 0) 0 1)) S.cells_is
+      ∙ total_cong 0 (λ q. cond (eqb (get_or space.layers (sizes.first + q) 0) 0) 0 1)
       (λ q. cond (some_of (row_cells (first_cell m) rows i (cell_count m)) (λ c. walked_to m st c (first_cell m + q))) 1 0) (cell_count m) (λ q h. each (0 + q) (omega arith))
     where
       row : take s from ≡ row_cells (first_cell m) rows i (cell_count m)
@@ -173,27 +162,26 @@ module _ (m st : Bytes) (cell prev last : List ℕ) (sizes : MeshSizes) (n : ℕ
       swap false = refl
 
       each : (q : ℕ) → q < cell_count m
-          → ◌≡◌ {A = ℕ} (cond (eqb (get_or layers (sizes.first + q) 0) 0) 0 1)
+          → ◌≡◌ {A = ℕ} (cond (eqb (get_or space.layers (sizes.first + q) 0) 0) 0 1)
           (cond (some_of (row_cells (first_cell m) rows i (cell_count m)) (λ c. walked_to m st c (first_cell m + q))) 1 0)
       each q h =
-          swap (eqb (get_or layers (sizes.first + q) 0) 0)
+          swap (eqb (get_or space.layers (sizes.first + q) 0) 0)
           ∙ ap (λ b. cond b 1 0)
-          (ap (λ x. not (eqb (get_or layers (x + q) 0) 0)) S.first_is ∙ ap (λ x. not (eqb x 0)) (W.layered (first_cell m + q))
-          ∙ reach_some m st (take s from) cell prev last n (first_cell m + q) G (row_starts m sizes G.mesh S rows i s from R).each (record { low = omega arith; high = omega arith }) ne
+          (ap (λ x. not (eqb (get_or space.layers (x + q) 0) 0)) S.first_is ∙ ap (λ x. not (eqb x 0)) (W.layered (first_cell m + q))
+          ∙ reach_some m st (take s from) w n (first_cell m + q) G (row_starts m sizes G.turned.mesh S rows i s from R).each (record { low = omega arith; high = omega arith }) ne
           ∙ ap (λ cs. some_of cs (λ c. walked_to m st c (first_cell m + q))) row)
 
-pub counted_turn : (m st rows : Bytes) (n i v : ℕ) (marks from found layers marks' from' found' layers' : List ℕ) (s k : ℕ) → n ≤ most_steps → ReachCounted m st rows i v marks from found layers s
-    → k ≡ row_reach_count m st rows (i + 1) → k ≤ most_elements → Space (v + (n + 1)) marks' from' found' layers' → ReachCounted m st rows (i + 1) (v + (n + 1)) marks' from' found' layers' (s + k)
-counted_turn m st rows n i v marks from found layers marks' from' found' layers' s k few C ke kl sp = record {
+pub counted_turn : (m st rows : Bytes) (i v n : ℕ) (marks marks' : List ℕ) (s k : ℕ) → n ≤ 9 → ReachCounted m st rows i v marks s
+    → k ≡ row_reach_count m st rows (i + 1) → k ≤ most_elements → Under (v + n) marks' → ReachCounted m st rows (i + 1) (v + n) marks' (s + k)
+counted_turn m st rows i v n marks marks' s k few C ke kl U = record {
   turns = omega (arith, C.turns);
-  space = sp;
+  fresh = U;
   told = let z : i + 1 ≡ 1 + i = omega arith in ap₂ ◌+◌ C.told (ke ∙ ap (row_reach_count m st rows) z) ∙ sym (total_turn 1 (row_reach_count m st rows) i);
   few = omega (arith, C.few);
 }
 
-pub counted_start : (m st rows : Bytes) (marks from found layers : List ℕ) → Space 1 marks from found layers → ReachCounted m st rows 0 1 marks from found layers 0
-counted_start m st rows marks from found layers s = record { turns = omega arith; space = s; told = sym (total_start 1 (row_reach_count m st rows)); few = omega arith }
+pub counted_start : (m st rows : Bytes) (marks : List ℕ) → Under 1 marks → ReachCounted m st rows 0 1 marks 0
+counted_start m st rows marks U = record { turns = omega arith; fresh = U; told = sym (total_start 1 (row_reach_count m st rows)); few = omega arith }
 
-pub counted_end : (m st rows : Bytes) (i v count : ℕ) (marks from found layers : List ℕ) (s : ℕ) → i ≤ count → count ≤ i → ReachCounted m st rows i v marks from found layers s
-    → s ≡ total 1 count (row_reach_count m st rows)
-counted_end m st rows i v count marks from found layers s g h C = at_last (λ k. s ≡ total 1 k (row_reach_count m st rows)) i count g h C.told
+pub counted_end : (m st rows : Bytes) (i v count : ℕ) (marks : List ℕ) (s : ℕ) → i ≤ count → count ≤ i → ReachCounted m st rows i v marks s → s ≡ total 1 count (row_reach_count m st rows)
+counted_end m st rows i v count marks s g h C = at_last (λ k. s ≡ total 1 k (row_reach_count m st rows)) i count g h C.told

@@ -22,13 +22,6 @@ pub record Rowed (first : ℕ) (rows : Bytes) (i n k : ℕ) (list : List ℕ) : 
   pub few : k ≤ n
   pub cells : take k list ≡ row_cells first rows i n
 
--- the work space of a walk
-pub record Space (v : ℕ) (marks from found layers : List ℕ) : Type 0 where
-  pub fresh : Under v marks
-  pub from_long : length from ≡ element_places
-  pub found_long : length found ≡ element_places
-  pub layers_long : length layers ≡ element_places
-
 -- one where place q has a layer; how many of the first n places have one
 unfoldable pub layer_one : List ℕ → ℕ → ℕ → ℕ
 layer_one layers first q = cond (eqb (get_or layers (first + q) 0) 0) 0 1
@@ -40,9 +33,9 @@ layer_count layers first n = total 0 n (layer_one layers first)
 unfoldable pub row_reach_count : Bytes → Bytes → Bytes → ℕ → ℕ
 row_reach_count m st rows i = total 0 (cell_count m) (λ q. cond (some_of (row_cells (first_cell m) rows i (cell_count m)) (λ c. walked_to m st c (first_cell m + q))) 1 0)
 
--- the first n rows are counted
-pub record ReachCounted (m st rows : Bytes) (n v : ℕ) (marks from found layers : List ℕ) (s : ℕ) : Type 0 where
+-- the first n rows are counted, by marks below v
+pub record ReachCounted (m st rows : Bytes) (n v : ℕ) (marks : List ℕ) (s : ℕ) : Type 0 where
   pub turns : v ≤ 1 + 9 * n
-  pub space : Space v marks from found layers
+  pub fresh : Under v marks
   pub told : s ≡ total 1 n (row_reach_count m st rows)
   pub few : s ≤ most_elements * n

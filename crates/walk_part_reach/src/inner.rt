@@ -1,13 +1,15 @@
 // Which cells the cells of each row reach, whatever the rows are.
 ghost use Rattle.std.specs.Prelude.{◌≡◌, ◌+◌, ◌<◌, ◌≤◌, length};
 ghost use Rattle.vocabulary.specs.Intervals.{total};
-ghost use Rattle.layout.specs.Limits.{element_places, most_elements, most_parts, most_steps};
-ghost use Rattle.walk_steps.specs.Walking.{Ground, Sized, Arrays, through_one};
-ghost use Rattle.walk_part_reach.specs.Rows.{Rowed, Space, layer_one, layer_count, row_reach_count};
+ghost use Rattle.layout.specs.Limits.{element_places, most_elements, most_parts};
+ghost use Rattle.mesh.specs.Meet.{Under};
+ghost use Rattle.walk_steps.specs.Walking.{Ready};
+ghost use Rattle.walk_part_reach.specs.Rows.{Rowed, layer_one, layer_count, row_reach_count};
 
 use layout::{byte_at, put_at};
 use walk_frontier::inner::index_at;
-use walk_steps::inner::{MeshSizes, clear, through_one, walk};
+use walk_incidence::inner::MeshSizes;
+use walk_steps::inner::{Space, Walker};
 
 // Adds the cell at place q to the k cells in a list, if it is of row i.
 fn add_cell(rows: &[u8], i: usize, first: usize, q: usize, list: &mut [u16], k: usize) -> usize
@@ -58,79 +60,29 @@ fn count_row(layers: &[u16], first: usize, cells: usize) -> usize
 }
 
 // How many cells the cells of row i reach, by walks from all of them at once.
-fn count_reach(
-    m: &[u8],
-    sizes: MeshSizes,
-    stencil: &[u8],
-    steps: usize,
-    single: bool,
-    cell: &[u16],
-    prev: &[u16],
-    last: &[u16],
-    rows: &[u8],
-    i: usize,
-    mark: usize,
-    marks: &mut [u16],
-    from: &mut [u16],
-    found: &mut [u16],
-    layers: &mut [u16],
-) -> usize
-    requires { Ground m.now stencil.now cell.now prev.now last.now × Sized m.now sizes × (steps + 1 ≡ length stencil.now) × (steps ≤ most_steps) × (single ≡ through_one stencil.now)
-        × (mark ≤ 60000) × Space mark marks.old from.old found.old layers.old }
-    ensures { (result ≡ row_reach_count m.now stencil.now rows.now i) × (result ≤ most_elements)
-        × Space (mark + (steps + 1)) marks.new from.new found.new layers.new }
+fn count_reach(walker: Walker, rows: &[u8], i: usize, mark: usize, space: &mut Space) -> usize
+    requires { Ready walker × (mark ≤ 60000) × Under mark space.old.marks }
+    ensures { (result ≡ row_reach_count walker.entry.mesh.now walker.entry.stencil.now rows.now i) × (result ≤ most_elements)
+        × Under (mark + length walker.entry.stencil.now) space.new.marks }
 {
-    let s = row_cells(rows, i, sizes.first, sizes.cells, from);
-    clear(layers);
-    walk(
-        m, sizes, stencil, single, cell, prev, last, s, steps, mark, marks, from, found, layers,
-    );
-    count_row(layers, sizes.first, sizes.cells)
+    let MeshSizes { first, cells, .. } = walker.sizes;
+    let s = row_cells(rows, i, first, cells, &mut space.from);
+    space.layers.fill(0);
+    walker.walk(s, walker.stencil.len() - 1, mark, space);
+    count_row(&space.layers, first, cells)
 }
 
-// How many cells the cells of each row from 1 on reach, together over as many rows as `count`. The byte of `rows` at a cell's place tells its
-// row, and the chains are inverted already. The arrays from `marks` to `layers` are work space.
-pub fn count_all(
-    m: &[u8],
-    sizes: MeshSizes,
-    stencil: &[u8],
-    cell: &[u16],
-    prev: &[u16],
-    last: &[u16],
-    rows: &[u8],
-    count: usize,
-    marks: &mut [u16],
-    from: &mut [u16],
-    found: &mut [u16],
-    layers: &mut [u16],
-) -> usize
-    requires { Ground m.now stencil.now cell.now prev.now last.now × Sized m.now sizes × (count ≤ most_parts) × Arrays marks.old from.old found.old layers.old }
-    ensures { result ≡ total 1 count (row_reach_count m.now stencil.now rows.now) }
+// How many cells the cells of each row from 1 on reach, together over as many rows as `count`. The byte of `rows` at a cell's place tells its row.
+pub fn count_all(walker: Walker, rows: &[u8], count: usize, space: &mut Space) -> usize
+    requires { Ready walker × (count ≤ most_parts) }
+    ensures { result ≡ total 1 count (row_reach_count walker.entry.mesh.now walker.entry.stencil.now rows.now) }
 {
-    let n = stencil.len() - 1;
-    let single = through_one(stencil);
-    clear(marks);
+    space.marks.fill(0);
     let mut mark = 1;
     let mut s = 0;
     for i in 0..count {
-        s += count_reach(
-            m,
-            sizes,
-            stencil,
-            n,
-            single,
-            cell,
-            prev,
-            last,
-            rows,
-            i + 1,
-            mark,
-            marks,
-            from,
-            found,
-            layers,
-        );
-        mark += n + 1;
+        s += count_reach(walker, rows, i + 1, mark, space);
+        mark += walker.stencil.len();
     }
     s
 }

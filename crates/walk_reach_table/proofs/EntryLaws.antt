@@ -17,7 +17,6 @@ use Rattle.layout.specs.Limits.{most_reached, table_bytes}
 use Rattle.mesh.specs.Mesh.{first_cell, cell_count}
 use Rattle.mesh.specs.Walks.{Near, reach}
 use Rattle.walk_reach_table.specs.Tables.{placed_words, reach_entries, table_words, entry_count, Tabled}
-use Rattle.walk_reach_table.proofs.TableLaws.{capped_few}
 
 -- ---- the words of the first cells
 
@@ -77,18 +76,18 @@ module _ (m st before after : Bytes) (text : after ≡ over before 0 (bytes_of (
         word_is j (2 * t + 1) (2 * (entry_count m st j + t) + 1) h (omega arith) (omega arith) ∙ w.1,
       )
 
-module _ (m st before after : Bytes) (ends : List ℕ) (r : ℕ) (table : Tabled m st before after ends r) (few : r ≤ most_reached) (room : length before ≡ table_bytes) where
+module _ (m st before after : Bytes) (ends : List ℕ) (r : ℕ) (table : Tabled m st before after ends r) (room : length before ≡ table_bytes) where
   pub counted_few : entry_count m st (cell_count m) ≤ most_reached
-  counted_few = omega (arith, capped_few (entry_count m st (cell_count m)) r table.count few)
+  counted_few = omega (arith, table.count, table.few)
 
   pub table_length : length after ≡ table_bytes
   table_length =
       let ws : List ℕ = table_words m st (cell_count m) in
-      let e : after ≡ over before 0 (bytes_of ws) = table.text few in
+      let e : after ≡ over before 0 (bytes_of ws) = table.text in
       ap length e ∙ over_length before 0 (bytes_of ws) (omega (arith, counted_few, length_bytes_of ws, words_length m st (cell_count m))) ∙ room
 
   pub row_start : (j : ℕ) → j ≤ cell_count m → get_or ends j 0 ≡ entry_count m st j
-  row_start j h = (table.ended few).each j h
+  row_start j h = table.ended.each j h
 
   pub row_fits : (j : ℕ) → j < cell_count m → get_or ends j 0 + length (reach m st (first_cell m + j)) ≤ most_reached
   row_fits j h = omega (arith, counted_few, row_start j (omega arith), count_fits m st (cell_count m) j h)
@@ -102,10 +101,10 @@ module _ (m st before after : Bytes) (ends : List ℕ) (r : ℕ) (table : Tabled
     unfolding word_at
     row_cell =
         let p : 4 * get_or ends j 0 + 4 * t ≡ 2 * (2 * (entry_count m st j + t)) = omega (arith, row_start j (omega arith)) in
-        ap (word after) p ∙ (entry_is m st before after (table.text few) j t none h k).0
+        ap (word after) p ∙ (entry_is m st before after (table.text) j t none h k).0
 
     pub row_layer : word after (4 * get_or ends j 0 + 4 * t + 2) ≡ (get_or (reach m st (first_cell m + j)) t none).layer
     unfolding word_at
     row_layer =
         let p : 4 * get_or ends j 0 + 4 * t + 2 ≡ 2 * (2 * (entry_count m st j + t) + 1) = omega (arith, row_start j (omega arith)) in
-        ap (word after) p ∙ (entry_is m st before after (table.text few) j t none h k).1
+        ap (word after) p ∙ (entry_is m st before after (table.text) j t none h k).1

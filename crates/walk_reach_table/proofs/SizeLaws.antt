@@ -1,24 +1,31 @@
--- Test 13 as the table's count tells it: above 8,000 just where the reaches together are. Assumes nothing.
-use mathlib.Core.Path.{◌≡◌, refl, sym, ap, ◌∙◌}
-use mathlib.Core.Bool.{Bool, true, false}
+-- Test 13 as the table tells it: the reaches are too many where there is no table. Assumes nothing.
+use mathlib.Core.Path.{◌≡◌, refl}
+use Rattle.std.proofs.Common.{Option, None, Some, MatchOption, is_some}
+use Rattle.vocabulary.proofs.ListLaws.{not_both}
+use mathlib.Core.Bool.{true, false}
 use mathlib.Core.List.{List}
-use Prim.Native.Nat.{ℕ}
-use lib.Dec.{leb, ltb}
-use borrow.Author.Tests.{lt-ltb, leb-true, leb-false}
+use Prim.Native.Nat.{ℕ, ◌≤◌, ◌<◌}
+use native.Mathlib.Omega.{arith}
+use borrow.Author.Tests.{lt-ltb, le-ltb}
 use Rattle.vocabulary.specs.Bytes.{Bytes}
 use Rattle.layout.specs.Limits.{most_reached}
 use Rattle.mesh.specs.Mesh.{cell_count}
 use Rattle.mesh.specs.Walks.{bad13}
-use Rattle.walk_reach_table.specs.Tables.{capped, entry_count, Tabled}
-use Rattle.walk_reach_table.proofs.TableLaws.{capped_low, capped_high}
+use Rattle.walk_reach_table.specs.Tables.{entry_count, Tabled}
 
-capped_above : (n : ℕ) → ltb most_reached (capped n) ≡ ltb most_reached n
-capped_above n = go (leb n most_reached) refl
-  where
-    go : (b : Bool) → leb n most_reached ≡ b → ltb most_reached (capped n) ≡ ltb most_reached n
-    go true e = ap (ltb most_reached) (capped_low n (leb-true n most_reached e))
-    go false e = ap (ltb most_reached) (capped_high n (leb-false n most_reached e)) ∙ sym (lt-ltb most_reached n (leb-false n most_reached e))
-
-pub table_refused : (m st before after : Bytes) (ends : List ℕ) (r : ℕ) → Tabled m st before after ends r → ltb most_reached r ≡ bad13 m st
+pub table_refused : (m st : Bytes) → most_reached < entry_count m st (cell_count m) → bad13 m st ≡ true
 unfolding bad13 entry_count
-table_refused m st before after ends r t = ap (ltb most_reached) t.count ∙ capped_above (entry_count m st (cell_count m))
+table_refused m st h = lt-ltb most_reached _ h
+
+pub table_made : (m st before after : Bytes) (ends : List ℕ) (r : ℕ) → Tabled m st before after ends r → bad13 m st ≡ false
+unfolding bad13 entry_count
+table_made m st before after ends r t = le-ltb most_reached _ (let h : entry_count m st (cell_count m) ≤ most_reached = omega (arith, t.count, t.few) in unfold entry_count in h)
+
+-- what a test for None tells
+pub present : (o : Option ℕ) (P : Type 0) (Q : ℕ → Type 0) → is_some o ≡ true → MatchOption o P Q → (t : ℕ) × Q t
+present None P Q e h = absurd (not_both false e refl)
+present (Some t) P Q e h = (t, h)
+
+pub absent : (o : Option ℕ) (P : Type 0) (Q : ℕ → Type 0) → is_some o ≡ false → MatchOption o P Q → P
+absent None P Q e h = h
+absent (Some t) P Q e h = absurd (not_both true refl e)

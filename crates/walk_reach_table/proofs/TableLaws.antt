@@ -4,115 +4,72 @@ use mathlib.Core.Bool.{Bool, true, false, cond}
 use mathlib.Core.List.{List, [], ◌∷◌, ◌++◌}
 use Prim.Native.Nat.{ℕ, ◌+◌, ◌-◌, ◌*◌, ◌/◌, ◌≤◌, ◌<◌}
 use native.Mathlib.Omega.{arith}
-use lib.Dec.{eqb, leb, ltb}
+use lib.Dec.{eqb, ltb}
 use lib.ListN.{length, get_or, set, length-append, length-set}
 use lib.Seq.{get_or-set_same, get_or-set_other}
-use borrow.Author.Tests.{eqb-true, eqb-false, eq-eqb, ne_eqb, le-leb, lt-leb, leb-true, leb-false, ltb-true, ltb-false}
+use borrow.Author.Tests.{eqb-true, eqb-false, eq-eqb, ne_eqb, ltb-true, ltb-false}
 use Rattle.vocabulary.specs.Bytes.{Bytes, over}
 use Rattle.vocabulary.proofs.ByteLaws.{over_none, over_more, over_length}
 use Rattle.vocabulary.specs.Intervals.{blocks}
-use Rattle.vocabulary.proofs.IntervalLaws.{blocks_turn, at_last}
+use Rattle.vocabulary.proofs.IntervalLaws.{blocks_turn, blocks_inner, at_last}
 use Rattle.layout.specs.Words.{word_bytes, bytes_of}
 use Rattle.layout.proofs.WordLaws.{length_bytes_of, bytes_of_append}
 use Rattle.layout.specs.Limits.{element_places, most_reached, table_bytes}
-use Rattle.walk_reach_table.specs.Tables.{capped, row, Cleared, Emitted}
+use Rattle.walk_reach_table.specs.Tables.{row, Cleared, Emitted}
 
 pub entry_stored : (b x y : Bytes) (o p l : ℕ) → o + 4 ≤ length b → x ≡ over b o (word_bytes p) → y ≡ over x (o + 2) (word_bytes l) → y ≡ over b o (bytes_of (p ∷ l ∷ []))
 unfolding word_bytes bytes_of
 entry_stored b x y o p l h e f = f ∙ ap (λ (c : Bytes). over c (o + 2) (word_bytes l)) e ∙ over_more b o (word_bytes p) (omega arith) (word_bytes l)
 
--- ---- counts that are capped
-
-pub capped_low : (n : ℕ) → n ≤ most_reached → capped n ≡ n
-unfolding capped
-capped_low n h = ap (λ b. cond b n (most_reached + 1)) (le-leb n most_reached h)
-
-pub capped_high : (n : ℕ) → most_reached < n → capped n ≡ (most_reached + 1)
-unfolding capped
-capped_high n h = ap (λ b. cond b n (most_reached + 1)) (lt-leb n most_reached h)
-
--- more after a capped count
-capped_more : (a b : ℕ) → capped (capped a + b) ≡ capped (a + b)
-capped_more a b = go (leb a most_reached) refl
-  where
-    go : (t : Bool) → leb a most_reached ≡ t → capped (capped a + b) ≡ capped (a + b)
-    go true e = ap (λ x. capped (x + b)) (capped_low a (leb-true a most_reached e))
-    go false e =
-        let h : most_reached < a = leb-false a most_reached e in
-        ap (λ x. capped (x + b)) (capped_high a h) ∙ capped_high ((most_reached + 1) + b) (omega arith) ∙ sym (capped_high (a + b) (omega arith))
-
-pub capped_few : (a t : ℕ) → t ≡ capped a → t ≤ most_reached → t ≡ a
-capped_few a t e h = go (leb a most_reached) refl
-  where
-    go : (b : Bool) → leb a most_reached ≡ b → t ≡ a
-    go true q = e ∙ capped_low a (leb-true a most_reached q)
-    go false q = let z : ⊥ = omega (arith, e, capped_high a (leb-false a most_reached q)) in absurd z
-
 -- ---- nothing, and one after another
 
-pub emit_none : (b : Bytes) (t : ℕ) → t ≤ (most_reached + 1) → Emitted b b t t []
+pub emit_none : (b : Bytes) (t : ℕ) → t ≤ most_reached → Emitted b b t [] t
 unfolding bytes_of
-emit_none b t h = record { size = refl; even = refl; count = go (leb t most_reached) refl; text = λ k. sym (over_none b (4 * t)) }
-  where
-    q : t + 0 / 2 ≡ t
-    q = omega arith
+emit_none b t h = record { size = refl; even = refl; count = omega arith; few = h; text = sym (over_none b (4 * t)) }
 
-    go : (x : Bool) → leb t most_reached ≡ x → t ≡ capped (t + 0 / 2)
-    go true e = sym (ap capped q ∙ capped_low t (leb-true t most_reached e))
-    go false e = let k : most_reached < t = leb-false t most_reached e in (let z : t ≡ (most_reached + 1) = omega arith in z) ∙ sym (ap capped q ∙ capped_high t k)
-
-pub emit_both : (a b c : Bytes) (s t u : ℕ) (xs ys : List ℕ) → length a ≡ table_bytes → Emitted a b s t xs → Emitted b c t u ys → Emitted a c s u (xs ++ ys)
+pub emit_both : (a b c : Bytes) (s t u : ℕ) (xs ys : List ℕ) → length a ≡ table_bytes → Emitted a b s xs t → Emitted b c t ys u → Emitted a c s (xs ++ ys) u
 emit_both a b c s t u xs ys room X Y = record {
   size = Y.size ∙ X.size;
   even = omega (arith, length-append xs ys, X.even, Y.even);
-  count = Y.count ∙ ap (λ n. capped (n + length ys / 2)) X.count ∙ capped_more (s + length xs / 2) (length ys / 2) ∙ ap capped sum;
-  text = λ h. text h;
+  count = omega (arith, length-append xs ys, X.even, X.count, Y.count);
+  few = Y.few;
+  text =
+      let lx : length (bytes_of xs) ≡ 2 * length xs = length_bytes_of xs in
+      let at : 4 * t ≡ 4 * s + length (bytes_of xs) = omega (arith, X.even, X.count) in
+      Y.text ∙ ap₂ (λ (x : Bytes) o. over x o (bytes_of ys)) X.text at ∙ over_more a (4 * s) (bytes_of xs) (omega (arith, X.count, X.few, X.even)) (bytes_of ys)
+      ∙ ap (over a (4 * s)) (sym (bytes_of_append xs ys));
 }
-  where
-    sum : s + length xs / 2 + length ys / 2 ≡ s + length (xs ++ ys) / 2
-    sum = omega (arith, length-append xs ys, X.even, Y.even)
 
-    text : u ≤ most_reached → c ≡ over a (4 * s) (bytes_of (xs ++ ys))
-    text h =
-        let ue : u ≡ t + length ys / 2 = capped_few (t + length ys / 2) u Y.count h in
-        let te : t ≡ s + length xs / 2 = capped_few (s + length xs / 2) t X.count (omega arith) in
-        let lx : length (bytes_of xs) ≡ 2 * length xs = length_bytes_of xs in
-        let at : 4 * t ≡ 4 * s + length (bytes_of xs) = omega (arith, X.even) in
-        Y.text h
-        ∙ ap₂ (λ (x : Bytes) o. over x o (bytes_of ys)) (X.text (omega arith)) at
-        ∙ over_more a (4 * s) (bytes_of xs) (omega arith) (bytes_of ys)
-        ∙ ap (over a (4 * s)) (sym (bytes_of_append xs ys))
+-- there is no room for what follows what was written
+pub over_both : (a b : Bytes) (s t : ℕ) (xs ys : List ℕ) → Emitted a b s xs t → most_reached < t + length ys / 2 → most_reached < s + length (xs ++ ys) / 2
+over_both a b s t xs ys X h = omega (arith, length-append xs ys, X.even, X.count)
 
 -- ---- one place
 
 module _ (layers : List ℕ) (first q x t : ℕ) (b : Bytes) (e : x ≡ get_or layers (first + q) 0) where
-  pub emit_skip : x < 1 → t ≤ (most_reached + 1) → Emitted b b t t (row layers first q)
-  emit_skip h k = subst (Emitted b b t t) (sym empty) (emit_none b t k)
+  pub emit_skip : x ≡ 0 → t ≤ most_reached → Emitted b b t (row layers first q) t
+  emit_skip h k = subst (λ ws. Emitted b b t ws t) (sym empty) (emit_none b t k)
     where
       empty : row layers first q ≡ []
       empty = unfold row in ap (λ c. cond c [] (q ∷ (get_or layers (first + q) 0 - 1) ∷ [])) (eq-eqb (get_or layers (first + q) 0) 0 (omega arith))
 
-  module _ (h : 1 ≤ x) where
+  module _ (h : x ≡ 0 → ⊥) where
     full : row layers first q ≡ q ∷ (x - 1) ∷ []
     unfolding row
     full =
         ap (λ c. cond c [] (q ∷ (get_or layers (first + q) 0 - 1) ∷ [])) (ne_eqb (get_or layers (first + q) 0) 0 (omega arith))
         ∙ ap (λ y. q ∷ (y - 1) ∷ []) (sym e)
 
-    pub emit_full : most_reached ≤ t → Emitted b b t (most_reached + 1) (row layers first q)
-    emit_full k = subst (Emitted b b t (most_reached + 1)) (sym full) (record {
-      size = refl;
-      even = refl;
-      count = sym (capped_high (t + 2 / 2) (omega arith));
-      text = λ l. let z : ⊥ = omega arith in absurd z;
-    })
+    pub emit_full : most_reached ≤ t → most_reached < t + length (row layers first q) / 2
+    emit_full k = let l : length (row layers first q) ≡ 2 = ap length full in omega arith
 
-    pub emit_put : (c : Bytes) → t < most_reached → length b ≡ table_bytes → c ≡ over b (4 * t) (bytes_of (q ∷ (x - 1) ∷ [])) → Emitted b c t (t + 1) (row layers first q)
-    emit_put c k room f = subst (Emitted b c t (t + 1)) (sym full) (record {
+    pub emit_put : (c : Bytes) → t < most_reached → length b ≡ table_bytes → c ≡ over b (4 * t) (bytes_of (q ∷ (x - 1) ∷ [])) → Emitted b c t (row layers first q) (t + 1)
+    emit_put c k room f = subst (λ ws. Emitted b c t ws (t + 1)) (sym full) (record {
       size = ap length f ∙ over_length b (4 * t) (bytes_of (q ∷ (x - 1) ∷ [])) (omega (arith, length_bytes_of (q ∷ (x - 1) ∷ [])));
       even = refl;
-      count = sym (capped_low (t + 2 / 2) (omega arith));
-      text = λ l. f;
+      count = omega arith;
+      few = omega arith;
+      text = f;
     })
 
 -- ---- the layers that were read are cleared
@@ -160,19 +117,29 @@ row_kept first low x l₀ l₁ h l C = ap (λ y. cond (eqb y 0) [] ((x - first) 
 -- ---- the loop over the places
 
 module _ (first low : ℕ) (layers : List ℕ) where
-  pub emit_start : (b : Bytes) (t : ℕ) → t ≤ (most_reached + 1) → Emitted b b t t (blocks (low - first) (low - low) (row layers first))
-  emit_start b t h = let z : low - low ≡ 0 = omega arith in subst (λ k. Emitted b b t t (blocks (low - first) k (row layers first))) (sym z) (unfold blocks in emit_none b t h)
+  pub emit_start : (b : Bytes) (t : ℕ) → t ≤ most_reached → Emitted b b t (blocks (low - first) (low - low) (row layers first)) t
+  emit_start b t h = let z : low - low ≡ 0 = omega arith in subst (λ k. Emitted b b t (blocks (low - first) k (row layers first)) t) (sym z) (unfold blocks in emit_none b t h)
 
-  pub emit_turn : (a b c : Bytes) (s t u x : ℕ) (now : List ℕ) → length a ≡ table_bytes → first ≤ low → low ≤ x → Cleared low x layers now
-      → Emitted a b s t (blocks (low - first) (x - low) (row layers first))
-      → Emitted b c t u (row now first (x - first)) → Emitted a c s u (blocks (low - first) (x + 1 - low) (row layers first))
-  emit_turn a b c s t u x now room h l C X Y =
-      let p : x + 1 - low ≡ x - low + 1 = omega arith in
-      let q : x - first ≡ low - first + (x - low) = omega arith in
-      subst (λ k. Emitted a c s u (blocks (low - first) k (row layers first))) (sym p)
-      (subst (Emitted a c s u) (sym (blocks_turn (low - first) (row layers first) (x - low))) (emit_both a b c s t u _ _ room X
-      (subst (λ i. Emitted b c t u (row layers first i)) q (subst (Emitted b c t u) (row_kept first low x layers now h l C) Y))))
+  module _ (x : ℕ) (now : List ℕ) (h : first ≤ low) (l : low ≤ x) (C : Cleared low x layers now) where
+    next : blocks (low - first) (x + 1 - low) (row layers first) ≡ blocks (low - first) (x - low) (row layers first) ++ row now first (x - first)
+    next =
+        let p : x + 1 - low ≡ x - low + 1 = omega arith in
+        let q : low - first + (x - low) ≡ x - first = omega arith in
+        ap (λ k. blocks (low - first) k (row layers first)) p ∙ blocks_turn (low - first) (row layers first) (x - low)
+        ∙ ap (λ r. blocks (low - first) (x - low) (row layers first) ++ r) (ap (row layers first) q ∙ sym (row_kept first low x layers now h l C))
 
-  pub emit_end : (a b : Bytes) (s t x high : ℕ) → x - low ≤ high - low → high ≤ x → Emitted a b s t (blocks (low - first) (x - low) (row layers first))
-      → Emitted a b s t (blocks (low - first) (high - low) (row layers first))
-  emit_end a b s t x high g h X = at_last (λ k. Emitted a b s t (blocks (low - first) k (row layers first))) (x - low) (high - low) g (omega arith) X
+    pub emit_turn : (a b c : Bytes) (s t u : ℕ) → length a ≡ table_bytes → Emitted a b s (blocks (low - first) (x - low) (row layers first)) t
+        → Emitted b c t (row now first (x - first)) u → Emitted a c s (blocks (low - first) (x + 1 - low) (row layers first)) u
+    emit_turn a b c s t u room X Y = subst (λ ws. Emitted a c s ws u) (sym next) (emit_both a b c s t u _ _ room X Y)
+
+    pub emit_over : (a b : Bytes) (s t high : ℕ) → x < high → Emitted a b s (blocks (low - first) (x - low) (row layers first)) t
+        → most_reached < t + length (row now first (x - first)) / 2 → most_reached < s + length (blocks (low - first) (high - low) (row layers first)) / 2
+    emit_over a b s t high k X o =
+        let more : length (blocks (low - first + 0) (x + 1 - low) (row layers first)) ≤ length (blocks (low - first) (high - low) (row layers first)) =
+        blocks_inner (low - first) (row layers first) 0 (x + 1 - low) (high - low) (omega arith) in
+        let z : low - first + 0 ≡ low - first = omega arith in
+        omega (arith, over_both a b s t _ _ X o, ap length next, ap (λ i. length (blocks i (x + 1 - low) (row layers first))) z)
+
+  pub emit_end : (a b : Bytes) (s t x high : ℕ) → x - low ≤ high - low → high ≤ x → Emitted a b s (blocks (low - first) (x - low) (row layers first)) t
+      → Emitted a b s (blocks (low - first) (high - low) (row layers first)) t
+  emit_end a b s t x high g h X = at_last (λ k. Emitted a b s (blocks (low - first) k (row layers first)) t) (x - low) (high - low) g (omega arith) X

@@ -1,6 +1,6 @@
 -- The reaches of all cells as a table of words: for each cell in rising order, each cell of its reach, rising, as its place from 0 and its layer.
 -- No public contract rests on this page. Assumes nothing.
-use Rattle.std.specs.Prelude.{◌≡◌, cond, List, [], ◌∷◌, map, ℕ, ◌+◌, ◌-◌, ◌*◌, ◌/◌, ◌%◌, ◌≤◌, ◌<◌, eqb, leb, length, get_or}
+use Rattle.std.specs.Prelude.{◌≡◌, cond, List, [], ◌∷◌, map, ℕ, ◌+◌, ◌-◌, ◌*◌, ◌/◌, ◌%◌, ◌≤◌, ◌<◌, eqb, length, get_or}
 use Rattle.vocabulary.specs.Bytes.{Bytes, over}
 use Rattle.vocabulary.specs.Intervals.{blocks, total}
 use Rattle.vocabulary.specs.Lists.{joined}
@@ -24,10 +24,6 @@ table_words m st n = blocks (first_cell m) n (reach_entries m st)
 unfoldable pub entry_count : Bytes → Bytes → ℕ → ℕ
 entry_count m st n = total (first_cell m) n (λ c. length (reach m st c))
 
--- a count, as far as it is counted: 8,001 stands for all above 8,000
-unfoldable pub capped : ℕ → ℕ
-capped n = cond (leb n most_reached) n (most_reached + 1)
-
 -- ---- how the code writes them; no public contract rests on what follows
 
 -- the words at place q, by the layers' marks
@@ -41,19 +37,21 @@ pub record Cleared (low high : ℕ) (before after : List ℕ) : Type 0 where
   pub lower : (z : ℕ) → z < low → get_or after z 0 ≡ get_or before z 0
   pub upper : (z : ℕ) → high ≤ z → get_or after z 0 ≡ get_or before z 0
 
--- the words ws were written after the first s entries, which makes t of them; both counts are capped, and nothing is said of too many
-pub record Emitted (before after : Bytes) (s t : ℕ) (ws : List ℕ) : Type 0 where
+-- the words ws were written after the first s entries, which makes t of them
+pub record Emitted (before after : Bytes) (s : ℕ) (ws : List ℕ) (t : ℕ) : Type 0 where
   pub size : length after ≡ length before
   pub even : length ws % 2 ≡ 0
-  pub count : t ≡ capped (s + length ws / 2)
-  pub text : t ≤ most_reached → after ≡ over before (4 * s) (bytes_of ws)
+  pub count : t ≡ s + length ws / 2
+  pub few : t ≤ most_reached
+  pub text : after ≡ over before (4 * s) (bytes_of ws)
 
 -- ends j is the count of entries of the first j cells, for j up to n
 pub record EndTable (m st : Bytes) (ends : List ℕ) (n : ℕ) : Type 0 where
   pub each : (j : ℕ) → j ≤ n → get_or ends j 0 ≡ entry_count m st j
 
--- the reaches of all cells: r entries, unless they are too many, and then nothing is said of the table
+-- the reaches of all cells: r entries
 pub record Tabled (m st : Bytes) (before after : Bytes) (ends : List ℕ) (r : ℕ) : Type 0 where
-  pub count : r ≡ capped (entry_count m st (cell_count m))
-  pub text : r ≤ most_reached → after ≡ over before 0 (bytes_of (table_words m st (cell_count m)))
-  pub ended : r ≤ most_reached → EndTable m st ends (cell_count m)
+  pub count : r ≡ entry_count m st (cell_count m)
+  pub few : r ≤ most_reached
+  pub text : after ≡ over before 0 (bytes_of (table_words m st (cell_count m)))
+  pub ended : EndTable m st ends (cell_count m)

@@ -1,26 +1,26 @@
 -- Steps and layers as the code makes them. Assumes nothing.
-use mathlib.Core.Path.{◌≡◌, refl, sym, ap, ◌∙◌}
+use mathlib.Core.Path.{subst, ◌≡◌, refl, sym, ap, ◌∙◌}
 use mathlib.Core.Bool.{Bool, true, false, not, ◌||◌, ◌&&◌, cond}
 use mathlib.Core.List.{List, [], ◌∷◌, ◌++◌}
 use Prim.Native.Nat.{ℕ, ◌+◌, ◌≤◌, ◌<◌}
 use native.Mathlib.Numerals.{add-one}
 use native.Mathlib.Omega.{arith}
 use lib.Dec.{eqb}
-use lib.ListN.{length, get_or, set, take, length-set, length-take}
-use lib.Seq.{get_or-set_same, get_or-set_other, take-suc, get_or-take}
+use lib.ListN.{length, replicate, get_or, set, take, length-set}
+use lib.Seq.{get_or-set_same, get_or-set_other, take-suc}
 use borrow.Author.Tests.{eqb-true, eqb-false, eq-eqb, ne_eqb, not-true, not-false}
 use Rattle.mesh.specs.Meet.{Under}
 use Rattle.vocabulary.specs.Bytes.{Bytes}
 use Rattle.vocabulary.specs.Intervals.{blocks}
-use Rattle.vocabulary.specs.Lists.{is_in, repeats, All}
-use Rattle.vocabulary.proofs.ListLaws.{or_nothing, eqb_swap, is_in_append, All_get_or}
+use Rattle.vocabulary.specs.Lists.{is_in, repeats, All, Zeros}
+use Rattle.vocabulary.proofs.ListLaws.{or_nothing, eqb_swap, is_in_append, All_get_or, zeros}
 use Rattle.mesh.specs.Mesh.{top, below}
-use Rattle.mesh.specs.Accepted.{Accepted}
+use Rattle.mesh.specs.Accepted.{Accepted, Cell}
 use Rattle.walk_frontier.specs.Visits.{Frontier, Toward, with, down, up, Upward}
-use Rattle.walk_steps.specs.Walking.{Ground, AllCells, Lowers, stepped, starts_among, or_among, noted, Noted, among_first}
+use Rattle.walk_incidence.specs.declared.inner.Incidence.{Incidence}
+use Rattle.walk_steps.specs.Walking.{Ground, Lower, stepped, starts_among, or_among, noted, Noted, among}
 use Rattle.walk_steps.proofs.StepLaws.{down_told, up_told, upward}
 use Rattle.mesh.proofs.WalkLaws.{below_grows}
-use Rattle.vocabulary.proofs.IntervalLaws.{at_last}
 use Rattle.layout.specs.Limits.{element_places, most_elements}
 
 -- nothing gathered yet
@@ -39,25 +39,25 @@ begin v marks found F r = record {
 toward_as : (found : List ℕ) (s : ℕ) (p q : ℕ → Bool) → ((z : ℕ) → p z ≡ q z) → Toward found s [] p → Toward found s [] q
 toward_as found s p q f t = record { each = λ z. t.each z ∙ f z }
 
-pub gone_down : (m : Bytes) (a lo hi base n s : ℕ) (from found found' : List ℕ) → Accepted m → a < top m → lo ≡ below m a → hi ≡ below m (a + 1) → AllCells m from n
-    → Toward found' s [] (with found base (blocks 0 n (down m lo hi from))) → Toward found' s [] (or_among found base (stepped m a from n))
+pub gone_down : (m : Bytes) (a lo hi base s : ℕ) (from found found' : List ℕ) → Accepted m → a < top m → lo ≡ below m a → hi ≡ below m (a + 1) → All (Cell m) from
+    → Toward found' s [] (with found base (blocks 0 (length from) (down m lo hi from))) → Toward found' s [] (or_among found base (stepped m a from))
 unfolding with or_among
-gone_down m a lo hi base n s from found found' A h le he C t = toward_as found' s _ _ (λ z. ap (λ b. is_in z (take base found) || b) (down_told m A a lo hi n from h le he C z)) t
+gone_down m a lo hi base s from found found' A h le he C t = toward_as found' s _ _ (λ z. ap (λ b. is_in z (take base found) || b) (down_told m A a lo hi from h le he C z)) t
 
-pub gone_up : (m st : Bytes) (cell prev last from found found' : List ℕ) (base n s : ℕ) → Ground m st cell prev last → Lowers m from n
-    → Toward found' s [] (with found base (blocks 0 n (up cell prev last from))) → Toward found' s [] (or_among found base (stepped m (top m) from n))
+pub gone_up : (m st : Bytes) (w : Incidence) (from found found' : List ℕ) (base s : ℕ) → Ground m st w → All (Lower m) from
+    → Toward found' s [] (with found base (blocks 0 (length from) (up w from))) → Toward found' s [] (or_among found base (stepped m (top m) from))
 unfolding with or_among
-gone_up m st cell prev last from found found' base n s G L t = toward_as found' s _ _ (λ z. ap (λ b. is_in z (take base found) || b) (up_told m G.mesh st cell prev last from n G L z)) t
+gone_up m st w from found found' base s G L t = toward_as found' s _ _ (λ z. ap (λ b. is_in z (take base found) || b) (up_told m G.turned.mesh w from G.turned L z)) t
 
 -- ---- before the first step
 
-pub starts_none : (single : Bool) (from found : List ℕ) (n : ℕ) → not single ≡ true → Toward found 0 [] (starts_among single from n)
+pub starts_none : (single : Bool) (from found : List ℕ) → not single ≡ true → Toward found 0 [] (starts_among single from)
 unfolding starts_among is_in
-starts_none single from found n e = record { each = λ z. sym (ap (λ b. b && is_in z (take n from)) (not-true single e)) }
+starts_none single from found e = record { each = λ z. sym (ap (λ b. b && is_in z from) (not-true single e)) }
 
-pub starts_all : (single : Bool) (from found found' : List ℕ) (n s : ℕ) → not single ≡ false → Toward found' s [] (with found 0 (take n from)) → Toward found' s [] (starts_among single from n)
+pub starts_all : (single : Bool) (from found found' : List ℕ) (s : ℕ) → not single ≡ false → Toward found' s [] (with found 0 from) → Toward found' s [] (starts_among single from)
 unfolding starts_among with is_in
-starts_all single from found found' n s e t = toward_as found' s _ _ (λ z. sym (ap (λ b. b && is_in z (take n from)) (not-false single e))) t
+starts_all single from found found' s e t = toward_as found' s _ _ (λ z. sym (ap (λ b. b && is_in z from) (not-false single e))) t
 
 -- ---- layers
 
@@ -96,35 +96,34 @@ twice k true b x = go (eqb x 0) refl
         mine false = refl
 twice k false b x = refl
 
-pub notes_start : (k : ℕ) (from layers : List ℕ) → Noted k layers layers (among_first from 0)
-unfolding noted among_first is_in
-notes_start k from layers = record { size = refl; each = λ z. refl }
+pub notes_start : (k : ℕ) (list layers : List ℕ) → Noted k layers layers (among (take 0 list))
+unfolding noted among is_in
+notes_start k list layers = record { size = refl; each = λ z. refl }
 
-pub notes_turn : (k y j n : ℕ) (from l₀ l₁ l₂ : List ℕ) → length (take n from) ≡ n → j < n → y ≡ get_or from j 0 → Noted k l₀ l₁ (among_first from j) → Noted k l₁ l₂ (eqb y)
-    → Noted k l₀ l₂ (among_first from (j + 1))
-unfolding among_first is_in
-notes_turn k y j n from l₀ l₁ l₂ c h e A B = record {
+pub notes_turn : (k j : ℕ) (list l₀ l₁ l₂ : List ℕ) → j < length list → Noted k l₀ l₁ (among (take j list)) → Noted k l₁ l₂ (eqb (get_or list j 0)) → Noted k l₀ l₂ (among (take (j + 1) list))
+unfolding among is_in
+notes_turn k j list l₀ l₁ l₂ h A B = record {
   size = B.size ∙ A.size;
   each = λ z.
-      B.each z ∙ ap (noted k (eqb y z)) (A.each z) ∙ twice k (is_in z (take j from)) (eqb y z) (get_or l₀ z 0)
-      ∙ ap (λ b. noted k b (get_or l₀ z 0)) (ap (λ b. is_in z (take j from) || b) (eqb_swap y z ∙ sym (or_nothing (eqb z y))) ∙ sym (ap (is_in z) longer ∙ is_in_append z (take j from) (y ∷ [])));
+      B.each z ∙ ap (noted k (eqb y z)) (A.each z) ∙ twice k (is_in z (take j list)) (eqb y z) (get_or l₀ z 0)
+      ∙ ap (λ b. noted k b (get_or l₀ z 0)) (ap (λ b. is_in z (take j list) || b) (eqb_swap y z ∙ sym (or_nothing (eqb z y))) ∙ sym (ap (is_in z) longer ∙ is_in_append z (take j list) (y ∷ [])));
 }
   where
-    fits : j < length from
-    fits = omega (arith, c, length-take n from)
+    y : ℕ
+    y = get_or list j 0
 
-    longer : take (j + 1) from ≡ take j from ++ (y ∷ [])
-    longer = rw (add-one j, e) (take-suc from j 0 fits)
+    longer : take (j + 1) list ≡ take j list ++ (y ∷ [])
+    longer = rw (add-one j) (take-suc list j 0 h)
 
-pub notes_end : (k j n : ℕ) (from l₀ l₁ : List ℕ) → j ≤ n → n ≤ j → Noted k l₀ l₁ (among_first from j) → Noted k l₀ l₁ (among_first from n)
-notes_end k j n from l₀ l₁ a b N = at_last (λ i. Noted k l₀ l₁ (among_first from i)) j n a b N
-
-pub note_fits : (k y j n : ℕ) (from l₀ l₁ : List ℕ) (p : ℕ → Bool) → length (take n from) ≡ n → All (λ y. y < length l₀) (take n from) → j < n → y ≡ get_or from j 0
-    → Noted k l₀ l₁ p → y < length l₁
-note_fits k y j n from l₀ l₁ p c a h e N = omega (arith, N.size, All_get_or (λ y. y < length l₀) (take n from) j 0 a (omega arith), get_or-take n from j 0 h)
+pub note_fits : (k j : ℕ) (list l₀ l₁ : List ℕ) (p : ℕ → Bool) → All (λ y. y < length l₀) list → j < length list → Noted k l₀ l₁ p → get_or list j 0 < length l₁
+note_fits k j list l₀ l₁ p a h N = omega (arith, N.size, All_get_or (λ y. y < length l₀) list j 0 a h)
 
 pub low_enough : (m : Bytes) (a hi : ℕ) → Accepted m → a < top m → hi ≡ below m (a + 1) → hi ≤ most_elements
 low_enough m a hi A h e = omega (arith, below_grows m (a + 1) 4 (omega (arith, A.sizes.d_high)), A.sizes.n_high)
 
-pub upwards : (m st : Bytes) (cell prev last from : List ℕ) (n : ℕ) → Ground m st cell prev last → Lowers m from n → Upward cell prev last from n
-upwards m st cell prev last from n G L = upward m G.mesh st cell prev last from n G L
+pub upwards : (m st : Bytes) (w : Incidence) (from : List ℕ) → Ground m st w → All (Lower m) from → Upward w from
+upwards m st w from G L = upward m G.turned.mesh w from G.turned L
+
+-- a list that was filled with zeros
+pub filled : (n : ℕ) (list after : List ℕ) → length list ≡ n → after ≡ replicate (length list) 0 → Zeros n after
+filled n list after e f = subst (Zeros n) (sym (f ∙ ap (λ k. replicate k 0) e)) (zeros n)

@@ -5,13 +5,12 @@ use mathlib.Core.List.{List, [], ◌∷◌}
 use Prim.Native.Nat.{ℕ, ◌+◌, ◌≤◌, ◌<◌}
 use native.Mathlib.Omega.{arith}
 use lib.Dec.{eqb, ltb, leb}
-use lib.ListN.{length, get_or, take}
-use lib.Seq.{get_or-take}
+use lib.ListN.{length, get_or}
 use borrow.Author.Tests.{eqb-true, lt-ltb, le-leb, ltb-true, leb-true}
 use Rattle.vocabulary.specs.Bytes.{Bytes}
 use Rattle.vocabulary.specs.Intervals.{picked, some, blocks}
 use Rattle.vocabulary.proofs.IntervalLaws.{some_none, some_has, some_witness, some_cong, picked_in, picked_passes, is_in_blocks}
-use Rattle.vocabulary.specs.Lists.{is_in, some_of}
+use Rattle.vocabulary.specs.Lists.{is_in, some_of, All}
 use Rattle.vocabulary.proofs.ListLaws.{or_nothing, All_intro, is_in_at, at_is_in, not_is_in, and_true, and_intro, same_test, some_of_cong, some_of_has, some_of_witness, All_map, All_get_or}
 use Rattle.layout.specs.Limits.{most_elements, record_places}
 use Rattle.mesh.specs.Mesh.{top, counted, below, first_cell, cell_count, dimension, chain}
@@ -19,9 +18,10 @@ use Rattle.mesh.specs.Walks.{incident, step_to}
 use Rattle.mesh.specs.Accepted.{Accepted, Cell}
 use Rattle.mesh.proofs.DimensionLaws.{below_next, dimension_le}
 use Rattle.mesh.proofs.WalkLaws.{below_grows}
-use Rattle.walk_incidence.specs.Links.{trail}
+use Rattle.walk_incidence.specs.declared.inner.Incidence.{Incidence}
 use Rattle.walk_frontier.specs.Visits.{between, down, up, Upward}
-use Rattle.walk_steps.specs.Walking.{is_cell_number, Ground, AllCells, Lowers, stepped}
+use Rattle.walk_incidence.specs.Links.{trail, is_cell_number, Turned}
+use Rattle.walk_steps.specs.Walking.{Lower, stepped}
 
 -- ---- lists by what stands in them
 
@@ -62,21 +62,20 @@ is_in_between lo hi z (x ∷ xs) = go (eqb z x) refl (ltb lo x && leb x hi) refl
     go false e false f ih = ih
 
 -- the elements of some of the numbers in a list, those being read by their places
-some_of_list : (xs : List ℕ) (n : ℕ) (p : ℕ → Bool) → length (take n xs) ≡ n → some 0 n (λ j. p (get_or xs j 0)) ≡ some_of (take n xs) p
-some_of_list xs n p len = same_test (some 0 n (λ j. p (get_or xs j 0))) (some_of (take n xs) p) left right
+some_of_list : (xs : List ℕ) (p : ℕ → Bool) → some 0 (length xs) (λ j. p (get_or xs j 0)) ≡ some_of xs p
+some_of_list xs p = same_test (some 0 (length xs) (λ j. p (get_or xs j 0))) (some_of xs p) left right
   where
-    left : some 0 n (λ j. p (get_or xs j 0)) ≡ true → some_of (take n xs) p ≡ true
+    left : some 0 (length xs) (λ j. p (get_or xs j 0)) ≡ true → some_of xs p ≡ true
     left e =
-        let w = some_witness 0 (λ j. p (get_or xs j 0)) n e in
+        let w = some_witness 0 (λ j. p (get_or xs j 0)) (length xs) e in
         let q : 0 + w.0 ≡ w.0 = omega arith in
-        some_of_has p (take n xs) 0 w.0 (omega (arith, w.1)) (ap p (get_or-take n xs w.0 0 w.1) ∙ ap (λ k. p (get_or xs k 0)) (sym q) ∙ w.2)
+        some_of_has p xs 0 w.0 w.1 (ap (λ k. p (get_or xs k 0)) (sym q) ∙ w.2)
 
-    right : some_of (take n xs) p ≡ true → some 0 n (λ j. p (get_or xs j 0)) ≡ true
+    right : some_of xs p ≡ true → some 0 (length xs) (λ j. p (get_or xs j 0)) ≡ true
     right e =
-        let w = some_of_witness p (take n xs) 0 e in
-        let h : w.0 < n = omega (arith, w.1) in
+        let w = some_of_witness p xs 0 e in
         let q : 0 + w.0 ≡ w.0 = omega arith in
-        some_has 0 (λ j. p (get_or xs j 0)) n w.0 h (ap (λ k. p (get_or xs k 0)) q ∙ ap p (sym (get_or-take n xs w.0 0 h)) ∙ w.2)
+        some_has 0 (λ j. p (get_or xs j 0)) (length xs) w.0 w.1 (ap (λ k. p (get_or xs k 0)) q ∙ w.2)
 
 is_in_picked : (a n z : ℕ) (p : ℕ → Bool) → is_in z (picked a n p) ≡ (leb a z && ltb z (a + n)) && p z
 is_in_picked a n z p = same_test _ _ left right
@@ -132,16 +131,16 @@ module _ (m : Bytes) (A : Accepted m) where
 
   -- ---- down
 
-  pub down_told : (a lo hi n : ℕ) (from : List ℕ) → a < top m → lo ≡ below m a → hi ≡ below m (a + 1) → AllCells m from n → (z : ℕ)
-      → is_in z (blocks 0 n (down m lo hi from)) ≡ stepped m a from n z
+  pub down_told : (a lo hi : ℕ) (from : List ℕ) → a < top m → lo ≡ below m a → hi ≡ below m (a + 1) → All (Cell m) from → (z : ℕ)
+      → is_in z (blocks 0 (length from) (down m lo hi from)) ≡ stepped m a from z
   unfolding stepped step_to down
-  down_told a lo hi n from small le he C z =
-      is_in_blocks z 0 n (down m lo hi from)
-      ∙ some_cong 0 _ _ n (λ i h. is_in_between lo hi z (chain m (get_or from (0 + i) 0)))
-      ∙ some_and (ltb lo z && leb z hi) n (λ j. is_in z (chain m (get_or from j 0)))
-      ∙ ap (λ b. (ltb lo z && leb z hi) && b) (some_of_list from n (λ e. is_in z (chain m e)) C.count)
+  down_told a lo hi from small le he C z =
+      is_in_blocks z 0 (length from) (down m lo hi from)
+      ∙ some_cong 0 _ _ (length from) (λ i h. is_in_between lo hi z (chain m (get_or from (0 + i) 0)))
+      ∙ some_and (ltb lo z && leb z hi) (length from) (λ j. is_in z (chain m (get_or from j 0)))
+      ∙ ap (λ b. (ltb lo z && leb z hi) && b) (some_of_list from (λ e. is_in z (chain m e)))
       ∙ go (ltb lo z && leb z hi) refl
-      ∙ sym (is_in_picked (below m a + 1) (counted m a) z (λ x. some_of (take n from) (λ e. incident m e x)))
+      ∙ sym (is_in_picked (below m a + 1) (counted m a) z (λ x. some_of from (λ e. incident m e x)))
     where
       next : hi ≡ below m a + counted m a
       next = he ∙ below_next m a
@@ -154,56 +153,59 @@ module _ (m : Bytes) (A : Accepted m) where
           and_intro _ _ (le-leb (below m a + 1) z (omega (arith, ltb-true lo z w.0))) (lt-ltb z (below m a + 1 + counted m a) (omega (arith, leb-true z hi w.1, next))))
 
       go : (b : Bool) → ltb lo z && leb z hi ≡ b
-          → (ltb lo z && leb z hi) && some_of (take n from) (λ e. is_in z (chain m e))
-          ≡ (leb (below m a + 1) z && ltb z (below m a + 1 + counted m a)) && some_of (take n from) (λ e. incident m e z)
+          → (ltb lo z && leb z hi) && some_of from (λ e. is_in z (chain m e))
+          ≡ (leb (below m a + 1) z && ltb z (below m a + 1 + counted m a)) && some_of from (λ e. incident m e z)
       go true e =
           let w = and_true (ltb lo z) (leb z hi) e in
           let l : 1 ≤ z = omega (arith, ltb-true lo z w.0) in
           let h : z ≤ below m (top m) = omega (arith, leb-true z hi w.1, he, below_grows m (a + 1) (top m) (omega arith)) in
-          ap₂ ◌&&◌ (sym range) (some_of_cong _ _ (take n from) (All_map (take n from) (λ y c. sym (from_cell z y l h c)) C.each))
+          ap₂ ◌&&◌ (sym range) (some_of_cong _ _ from (All_map from (λ y c. sym (from_cell z y l h c)) C))
       go false e =
-          ap (λ b. b && some_of (take n from) (λ e. is_in z (chain m e))) e
-          ∙ sym (ap (λ b. b && some_of (take n from) (λ e. incident m e z)) (range ∙ e))
+          ap (λ b. b && some_of from (λ e. is_in z (chain m e))) e
+          ∙ sym (ap (λ b. b && some_of from (λ e. incident m e z)) (range ∙ e))
 
   -- ---- up
 
-  module _ (st : Bytes) (cell prev last from : List ℕ) (n : ℕ) (G : Ground m st cell prev last) (L : Lowers m from n) where
-    lower_at : (j : ℕ) → j < n → (1 ≤ get_or from j 0) × (get_or from j 0 ≤ below m (top m))
-    lower_at j h = rw (← get_or-take n from j 0 h) (All_get_or (λ x. (1 ≤ x) × (x ≤ below m (top m))) (take n from) j 0 L.each (omega (arith, L.count)))
+  module _ (w : Incidence) (from : List ℕ) (T : Turned m w) (L : All (Lower m) from) where
+    lower_at : (j : ℕ) → j < length from → Lower m (get_or from j 0)
+    lower_at j h = All_get_or (Lower m) from j 0 L h
 
-    lower_small : (j : ℕ) → j < n → get_or from j 0 ≤ most_elements
+    lower_small : (j : ℕ) → j < length from → get_or from j 0 ≤ most_elements
     lower_small j h = omega (arith, (lower_at j h).1, below_grows m (top m) 4 (omega (arith, A.sizes.d_high)), A.sizes.n_high)
 
-    pub up_told : (z : ℕ) → is_in z (blocks 0 n (up cell prev last from)) ≡ stepped m (top m) from n z
+    pub up_told : (z : ℕ) → is_in z (blocks 0 (length from) (up w from)) ≡ stepped m (top m) from z
     unfolding stepped step_to up is_cell_number
     up_told z =
-        is_in_blocks z 0 n (up cell prev last from)
-        ∙ some_cong 0 _ (λ j. is_cell_number m z && is_in (get_or from j 0) (chain m z)) n (λ i h. told i h)
-        ∙ some_and (is_cell_number m z) n (λ j. is_in (get_or from j 0) (chain m z))
-        ∙ ap (λ b. is_cell_number m z && b) (some_of_list from n (λ x. is_in x (chain m z)) L.count)
+        is_in_blocks z 0 (length from) (up w from)
+        ∙ some_cong 0 _ (λ j. is_cell_number m z && is_in (get_or from j 0) (chain m z)) (length from) (λ i h. told i h)
+        ∙ some_and (is_cell_number m z) (length from) (λ j. is_in (get_or from j 0) (chain m z))
+        ∙ ap (λ b. is_cell_number m z && b) (some_of_list from (λ x. is_in x (chain m z)))
         ∙ go (is_cell_number m z) refl
-        ∙ sym (is_in_picked (first_cell m) (cell_count m) z (λ y. some_of (take n from) (λ x. incident m x y)))
+        ∙ sym (is_in_picked (first_cell m) (cell_count m) z (λ y. some_of from (λ x. incident m x y)))
       where
-        told : (i : ℕ) → i < n → is_in z (trail cell prev record_places (get_or last (get_or from (0 + i) 0) 0)) ≡ is_cell_number m z && is_in (get_or from (0 + i) 0) (chain m z)
-        told i h = let q : 0 + i ≡ i = omega arith in rw q (G.told (get_or from i 0) z (lower_small i h))
+        told : (i : ℕ) → i < length from
+            → is_in z (trail w.cell w.prev record_places (get_or w.last (get_or from (0 + i) 0) 0)) ≡ is_cell_number m z && is_in (get_or from (0 + i) 0) (chain m z)
+        told i h = let q : 0 + i ≡ i = omega arith in rw q (T.told (get_or from i 0) z (lower_small i h))
 
-        go : (b : Bool) → is_cell_number m z ≡ b → is_cell_number m z && some_of (take n from) (λ x. is_in x (chain m z)) ≡ is_cell_number m z && some_of (take n from) (λ x. incident m x z)
+        go : (b : Bool) → is_cell_number m z ≡ b → is_cell_number m z && some_of from (λ x. is_in x (chain m z)) ≡ is_cell_number m z && some_of from (λ x. incident m x z)
         go true e =
             let w = and_true (leb (first_cell m) z) (ltb z (first_cell m + cell_count m)) e in
             let c : Cell m z = record { low = leb-true _ _ w.0; high = ltb-true _ _ w.1 } in
-            ap (λ b. is_cell_number m z && b) (some_of_cong _ _ (take n from) (All_map (take n from) (λ x l. sym (to_cell x z l.0 l.1 c)) L.each))
-        go false e = ap (λ b. b && some_of (take n from) (λ x. is_in x (chain m z))) e ∙ sym (ap (λ b. b && some_of (take n from) (λ x. incident m x z)) e)
+            ap (λ b. is_cell_number m z && b) (some_of_cong _ _ from (All_map from (λ x l. sym (to_cell x z l.0 l.1 c)) L))
+        go false e = ap (λ b. b && some_of from (λ x. is_in x (chain m z))) e ∙ sym (ap (λ b. b && some_of from (λ x. incident m x z)) e)
 
     -- what a step up gathers are cells, and so elements
-    pub upward : Upward cell prev last from n
+    pub upward : Upward w from
     unfolding up is_cell_number
-    upward = record { each = λ j h. All_intro _ (trail cell prev record_places (get_or last (get_or from j 0) 0)) 0 (λ l k. fits (get_or from j 0) (lower_small j h) l k) }
+    upward = record { each = λ j h. All_intro _ (cells (get_or from j 0)) 0 (λ l k. fits (get_or from j 0) (lower_small j h) l k) }
       where
-        fits : (x : ℕ) → x ≤ most_elements → (l : ℕ) → l < length (trail cell prev record_places (get_or last x 0))
-            → (1 ≤ get_or (trail cell prev record_places (get_or last x 0)) l 0) × (get_or (trail cell prev record_places (get_or last x 0)) l 0 ≤ most_elements)
+        cells : ℕ → List ℕ
+        cells x = trail w.cell w.prev record_places (get_or w.last x 0)
+
+        fits : (x : ℕ) → x ≤ most_elements → (l : ℕ) → l < length (cells x) → (1 ≤ get_or (cells x) l 0) × (get_or (cells x) l 0 ≤ most_elements)
         fits x h l k =
-            let y = get_or (trail cell prev record_places (get_or last x 0)) l 0 in
-            let t = sym (G.told x y h) ∙ at_is_in y (trail cell prev record_places (get_or last x 0)) (record { place = l; place_lt = k; place_is = refl }) in
+            let y = get_or (cells x) l 0 in
+            let t = sym (T.told x y h) ∙ at_is_in y (cells x) (record { place = l; place_lt = k; place_is = refl }) in
             let w = and_true (leb (first_cell m) y && ltb y (first_cell m + cell_count m)) (is_in x (chain m y)) t in
             let u = and_true (leb (first_cell m) y) (ltb y (first_cell m + cell_count m)) w.0 in
             (omega (arith, leb-true (first_cell m) y u.0), omega (arith, ltb-true y (first_cell m + cell_count m) u.1, A.cells_in, A.sizes.n_high))

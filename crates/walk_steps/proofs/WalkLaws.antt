@@ -7,61 +7,30 @@ use native.Mathlib.Nat.{zero-add, add-zero}
 use native.Mathlib.Numerals.{add-one}
 use native.Mathlib.Omega.{arith}
 use lib.Dec.{eqb, ltb}
-use lib.ListN.{length, get_or, set, take, drop, length-take, length-drop, length-append, get_or-append, get_or-eq_default}
-use lib.Seq.{take-suc, take-suc-set, take-set-le, drop-set-lt, drop-set-add, take-add, get_or-set_same, get_or-set_other, get_or-drop, get_or-append-add}
-use borrow.Author.Tests.{eqb-true, eqb-false, eq-eqb, ne_eqb, lt-ltb, ltb-true, ltb-false, not-true}
+use lib.ListN.{length, get_or, set, take, drop, length-append, get_or-append}
+use lib.Seq.{take-suc, take-suc-set, take-take, get_or-append-add}
+use Rattle.std.proofs.lemmas.List.{take-append-drop, take_at}
+use borrow.Author.Tests.{eqb-true, eqb-false, eq-eqb, ne_eqb, lt-ltb, not-true}
 use Rattle.mesh.specs.Meet.{Under}
 use Rattle.vocabulary.specs.Bytes.{Bytes, byte_at}
 use Rattle.vocabulary.specs.Intervals.{picked, some}
-use Rattle.vocabulary.proofs.IntervalLaws.{picked_cong, picked_some, some_in, some_witness, every_at, at_last}
+use Rattle.vocabulary.proofs.IntervalLaws.{picked_cong, picked_some, some_in, some_witness, every_at}
 use Rattle.vocabulary.specs.Lists.{is_in, repeats, All, Zeros}
 use Rattle.vocabulary.proofs.ListLaws.{or_nothing, and_true, and_intro, and_right, and_all, not_both, same_test, is_in_append, repeats_once, All_map}
 use Rattle.vocabulary.proofs.ListLaws.{All_append, All_split, is_in_at, at_is_in, at_all, All_intro}
-use Rattle.layout.specs.Limits.{element_places, most_elements, most_steps}
+use Rattle.layout.specs.Limits.{element_places, most_elements}
 use Rattle.mesh.specs.Mesh.{top, elements, counted, below, first_cell, cell_count}
-use Rattle.mesh.specs.Walks.{bad10, incident, step_to}
+use Rattle.mesh.specs.Walks.{bad10, incident, step_to, steps}
 use Rattle.mesh.proofs.WalkLaws.{stencil_parts, stencil_odd, stencil_even, below_grows}
 use Rattle.mesh.specs.Accepted.{Accepted, Cell}
 use Rattle.mesh.proofs.DimensionLaws.{below_more}
 use Rattle.walk_steps.proofs.StepLaws.{some_of_like, step_from, step_to_lem}
 use Rattle.walk_steps.proofs.NoteLaws.{begin}
 use Rattle.walk_frontier.specs.Visits.{Frontier, Toward, Added}
-use Rattle.walk_steps.specs.Walking.{Ground, AllCells, Lowers, Sided, stepped, alike, through_one, met_before, newly, mark_at, starts_among, or_among}
-use Rattle.walk_steps.specs.Walking.{first_mark, layer_mark, noted, Noted, among_first, cells_among, walked_from, WalkDone, Within, Widened, Departed, Arrived}
-
--- ---- the copy
-
-pub copy_turn : (src dst : List ℕ) (at to j n : ℕ) → j < n → at + n ≤ length src → to + j < length dst → take j (drop to dst) ≡ take j (drop at src)
-    → take (j + 1) (drop to (set dst (to + j) (get_or src (at + j) 0))) ≡ take (j + 1) (drop at src)
-copy_turn src dst at to j n h a b e =
-    rw (add-one j)
-    (ap (take (suc j)) (drop-set-add to dst j (get_or src (at + j) 0)) ∙ take-suc-set (drop to dst) j (get_or src (at + j) 0) (omega (arith, length-drop to dst))
-    ∙ ap₂ (λ l x. l ++ (x ∷ [])) e (sym (get_or-drop at src j 0)) ∙ sym (take-suc (drop at src) j 0 (omega (arith, length-drop at src))))
-
-pub copy_front : (dst₀ dst : List ℕ) (to j x : ℕ) → take to dst ≡ take to dst₀ → take to (set dst (to + j) x) ≡ take to dst₀
-copy_front dst₀ dst to j x e = take-set-le to dst (to + j) x (omega arith) ∙ e
-
-pub copy_rest : (dst₀ dst : List ℕ) (to j n x : ℕ) → j < n → drop (to + n) dst ≡ drop (to + n) dst₀ → drop (to + n) (set dst (to + j) x) ≡ drop (to + n) dst₀
-copy_rest dst₀ dst to j n x h e = drop-set-lt (to + n) dst (to + j) x (omega arith) ∙ e
-
-pub copy_end : (src dst : List ℕ) (at to j n : ℕ) → j ≤ n → n ≤ j → take j (drop to dst) ≡ take j (drop at src) → take n (drop to dst) ≡ take n (drop at src)
-copy_end src dst at to j n g h e = at_last (λ i. take i (drop to dst) ≡ take i (drop at src)) j n g h e
-
--- ---- all numbers set to 0
-
-pub clear_turn : (list : List ℕ) (j : ℕ) → j < length list → ((i : ℕ) → i < j → get_or list i 0 ≡ 0) → (i : ℕ) → i < j + 1 → get_or (set list j 0) i 0 ≡ 0
-clear_turn list j h K i l = go (eqb i j) refl
-  where
-    go : (b : Bool) → eqb i j ≡ b → get_or (set list j 0) i 0 ≡ 0
-    go true q = ap (λ k. get_or (set list j 0) k 0) (eqb-true i j q) ∙ get_or-set_same list j 0 0 h
-    go false q = let n : i ≡ j → ⊥ = eqb-false i j q in get_or-set_other list j i 0 0 n ∙ K i (omega arith)
-
-pub clear_end : (list : List ℕ) (j : ℕ) → length list ≡ element_places → element_places ≤ j → ((i : ℕ) → i < j → get_or list i 0 ≡ 0) → Zeros element_places list
-clear_end list j r h K = record { size = r; each = λ i. go i (ltb i j) refl }
-  where
-    go : (i : ℕ) (b : Bool) → ltb i j ≡ b → get_or list i 0 ≡ 0
-    go i true q = K i (ltb-true i j q)
-    go i false q = get_or-eq_default list 0 (omega (arith, ltb-false i j q))
+use Rattle.walk_incidence.specs.declared.inner.Incidence.{Incidence}
+use Rattle.walk_steps.specs.declared.steps.Space.{Space}
+use Rattle.walk_steps.specs.Walking.{Ground, AllCells, Lower, Sided, stepped, alike, through_one, met_before, newly, mark_at, starts_among, or_among}
+use Rattle.walk_steps.specs.Walking.{first_mark, layer_mark, noted, Noted, among, cells_among, walked_from, WalkDone, Within, Widened, Departed, Arrived}
 
 -- ---- the stencil
 
@@ -77,22 +46,22 @@ pub mark_step : (single : Bool) (v k : ℕ) → single ≡ false → v + k ≡ m
 unfolding mark_at
 mark_step single v k e = sym (ap (λ b. cond b v (v + k)) e)
 
-pub dimension_down : (m st : Bytes) (cell prev last : List ℕ) (k a : ℕ) → Ground m st cell prev last → k < length st → k % 2 ≡ 1 → a ≡ byte_at st k → a < top m
-dimension_down m st cell prev last k a G h o e = omega (arith, stencil_odd (top m) st G.stencil k h o)
+pub dimension_down : (m st : Bytes) (w : Incidence) (k a : ℕ) → Ground m st w → k < length st → k % 2 ≡ 1 → a ≡ byte_at st k → a < top m
+dimension_down m st w k a G h o e = omega (arith, stencil_odd (top m) st G.stencil k h o)
 
-pub stepped_up : (m st : Bytes) (cell prev last from found found' : List ℕ) (base k n s : ℕ) → Ground m st cell prev last → k < length st → (k % 2 ≡ 1 → ⊥)
-    → Toward found' s [] (or_among found base (stepped m (top m) from n)) → Toward found' s [] (or_among found base (stepped m (byte_at st k) from n))
-stepped_up m st cell prev last from found found' base k n s G h o t = rw (stencil_even (top m) st G.stencil k h o) t
+pub stepped_up : (m st : Bytes) (w : Incidence) (from found found' : List ℕ) (base k s : ℕ) → Ground m st w → k < length st → (k % 2 ≡ 1 → ⊥)
+    → Toward found' s [] (or_among found base (stepped m (top m) from)) → Toward found' s [] (or_among found base (stepped m (byte_at st k) from))
+stepped_up m st w from found found' base k s G h o t = rw (stencil_even (top m) st G.stencil k h o) t
 
-pub stepped_down : (m st : Bytes) (from found found' : List ℕ) (base k a n s : ℕ) → a ≡ byte_at st k → Toward found' s [] (or_among found base (stepped m a from n))
-    → Toward found' s [] (or_among found base (stepped m (byte_at st k) from n))
-stepped_down m st from found found' base k a n s e t = rw e at t
+pub stepped_down : (m st : Bytes) (from found found' : List ℕ) (base k a s : ℕ) → a ≡ byte_at st k → Toward found' s [] (or_among found base (stepped m a from))
+    → Toward found' s [] (or_among found base (stepped m (byte_at st k) from))
+stepped_down m st from found found' base k a s e t = rw e at t
 
-pub side_odd : (m : Bytes) (k : ℕ) (from : List ℕ) (n : ℕ) → Sided m k from n → k % 2 ≡ 1 → AllCells m from n
-side_odd m k from n S o = S.odd o
+pub side_odd : (m : Bytes) (k : ℕ) (from : List ℕ) → Sided m k from → k % 2 ≡ 1 → All (Cell m) from
+side_odd m k from S o = S.odd o
 
-pub side_even : (m : Bytes) (k : ℕ) (from : List ℕ) (n : ℕ) → Sided m k from n → (k % 2 ≡ 1 → ⊥) → Lowers m from n
-side_even m k from n S o = S.even o
+pub side_even : (m : Bytes) (k : ℕ) (from : List ℕ) → Sided m k from → (k % 2 ≡ 1 → ⊥) → All (Lower m) from
+side_even m k from S o = S.even o
 
 -- ---- what walks reach: cells after an even number of steps, lower elements after an odd one
 
@@ -141,10 +110,10 @@ module _ (m st : Bytes) (A : Accepted m) (bad : bad10 (top m) st ≡ false) (cs 
       let z : ℕ = get_or (take n from) l 0 in
       f z (and_true (is_in z (walked_from m st cs k)) _ (sym (like z) ∙ at_is_in z (take n from) (record { place = l; place_lt = h; place_is = refl }))).0)
 
-  sides : (single : Bool) (k v n met : ℕ) (marks from found layers : List ℕ) → 1 ≤ k → k < length st → WalkDone m st single cs (k - 1) v marks from found layers n met → Sided m k from n
-  sides single k v n met marks from found layers l h W = record {
-    odd = λ o. record { each = each_of (Cell m) single (k - 1) n from W.ends (λ z e. walked_even (k - 1) z (omega arith) (omega arith) e); count = W.count };
-    even = λ o. record { each = each_of _ single (k - 1) n from W.ends (λ z e. walked_odd (k - 1) z (omega arith) (omega arith) e); count = W.count };
+  sides : (single : Bool) (k v n met : ℕ) (s : Space) → 1 ≤ k → k < length st → WalkDone m st single cs (k - 1) v s n met → Sided m k (take n s.from)
+  sides single k v n met s l h W = record {
+    odd = λ o. each_of (Cell m) single (k - 1) n s.from W.ends (λ z e. walked_even (k - 1) z (omega arith) (omega arith) e);
+    even = λ o. each_of _ single (k - 1) n s.from W.ends (λ z e. walked_odd (k - 1) z (omega arith) (omega arith) e);
   }
 
   -- ---- a stencil through one dimension
@@ -197,9 +166,9 @@ module _ (m st : Bytes) (A : Accepted m) (bad : bad10 (top m) st ≡ false) (cs 
                 let r : met_before m st cs (suc j) z ≡ true = some_in 0 (λ i. is_in z (walked_from m st cs i)) (suc j) (suc w.0) (omega arith) (omega arith) t in
                 absurd (not_both (met_before m st cs (suc j) z) r none)
 
-pub walk_sides : (m st : Bytes) (cell prev last cs : List ℕ) (single : Bool) (k v n met : ℕ) (marks from found layers : List ℕ) → Ground m st cell prev last → All (Cell m) cs → (k ≡ 0 → ⊥)
-    → k < length st → WalkDone m st single cs (k - 1) v marks from found layers n met → Sided m k from n
-walk_sides m st cell prev last cs single k v n met marks from found layers G C z h W = sides m st G.mesh G.stencil cs C single k v n met marks from found layers (omega arith) h W
+pub walk_sides : (m st : Bytes) (w : Incidence) (cs : List ℕ) (single : Bool) (k v n met : ℕ) (s : Space) → Ground m st w → All (Cell m) cs → (k ≡ 0 → ⊥)
+    → k < length st → WalkDone m st single cs (k - 1) v s n met → Sided m k (take n s.from)
+walk_sides m st w cs single k v n met s G C z h W = sides m st G.turned.mesh G.stencil cs C single k v n met s (omega arith) h W
 
 -- ---- layers
 
@@ -233,16 +202,16 @@ layer_more m st cs k z =
         zero_or false e = refl
 
 -- a cell is walked to by even numbers of steps only, so its layer goes by all of them
-pub cell_layer : (m st : Bytes) (cell prev last cs : List ℕ) (n z : ℕ) → Ground m st cell prev last → All (Cell m) cs → n < length st → Cell m z
+pub cell_layer : (m st : Bytes) (w : Incidence) (cs : List ℕ) (n z : ℕ) → Ground m st w → All (Cell m) cs → n < length st → Cell m z
     → layer_mark m st cs n z ≡ first_mark (picked 0 (n + 1) (λ j. is_in z (walked_from m st cs j)))
 unfolding layer_mark
-cell_layer m st cell prev last cs n z G C h c = ap first_mark (picked_cong 0 _ _ (n + 1) (λ j l. go (0 + j) (omega arith) (is_in z (walked_from m st cs (0 + j))) refl))
+cell_layer m st w cs n z G C h c = ap first_mark (picked_cong 0 _ _ (n + 1) (λ j l. go (0 + j) (omega arith) (is_in z (walked_from m st cs (0 + j))) refl))
   where
     go : (j : ℕ) → j < length st → (b : Bool) → is_in z (walked_from m st cs j) ≡ b → eqb (j % 2) 0 && b ≡ b
     go j l true q = ap (λ b. b && true) (eq-eqb (j % 2) 0 (even (eqb (j % 2) 1) refl))
       where
         even : (b : Bool) → eqb (j % 2) 1 ≡ b → j % 2 ≡ 0
-        even true o = let w = walked_odd m st G.mesh G.stencil cs C j z l (eqb-true (j % 2) 1 o) q in let n : ⊥ = omega (arith, w.1, c.low) in absurd n
+        even true o = let w = walked_odd m st G.turned.mesh G.stencil cs C j z l (eqb-true (j % 2) 1 o) q in let n : ⊥ = omega (arith, w.1, c.low) in absurd n
         even false o = let n : j % 2 ≡ 1 → ⊥ = eqb-false (j % 2) 1 o in omega arith
     go j l false q = and_right (eqb (j % 2) 0) false refl
 
@@ -253,10 +222,10 @@ marked_by [] = refl
 marked_by (k ∷ ks) = ap not (ne_eqb (k + 1) 0 (omega arith)) ∙ sym (lt-ltb 0 (suc (length ks)) (omega arith))
 
 -- a cell that a shorter walk met has its layer
-met_layer : (m st : Bytes) (cell prev last cs : List ℕ) (j z : ℕ) → Ground m st cell prev last → All (Cell m) cs → j < length st → Cell m z → met_before m st cs (suc j) z ≡ true
+met_layer : (m st : Bytes) (w : Incidence) (cs : List ℕ) (j z : ℕ) → Ground m st w → All (Cell m) cs → j < length st → Cell m z → met_before m st cs (suc j) z ≡ true
     → eqb (layer_mark m st cs j z) 0 ≡ false
-met_layer m st cell prev last cs j z G C h c e = not-true _ (
-    ap (λ x. not (eqb x 0)) (cell_layer m st cell prev last cs j z G C h c)
+met_layer m st w cs j z G C h c e = not-true _ (
+    ap (λ x. not (eqb x 0)) (cell_layer m st w cs j z G C h c)
     ∙ marked_by (picked 0 (j + 1) p)
     ∙ picked_some 0 p (j + 1)
     ∙ ap (λ n. some 0 n p) (add-one j)
@@ -267,32 +236,32 @@ met_layer m st cell prev last cs j z G C h c e = not-true _ (
 
 -- ---- no step, and one step more
 
--- a cell is among the first s of a list as it stands in them
-among_is : (from : List ℕ) (s z : ℕ) → is_in z (take s from) ≡ among_first from s z
-unfolding among_first
-among_is from s z = refl
+-- a number is among those of a list as it stands in it
+among_is : (xs : List ℕ) (z : ℕ) → is_in z xs ≡ among xs z
+unfolding among
+among_is xs z = refl
 
-walk_none : (m st : Bytes) (single : Bool) (s k v met : ℕ) (marks from found layers layers' : List ℕ) → k ≡ 0 → AllCells m from s → length from ≡ element_places → Zeros element_places layers
-    → Frontier v marks found met × Toward found met [] (starts_among single from s) → Noted 0 layers layers' (among_first from s)
-    → WalkDone m st single (take s from) k v marks from found layers' s met
+walk_none : (m st : Bytes) (single : Bool) (k v met : ℕ) (cs layers : List ℕ) (s : Space) → length s.from ≡ element_places → k ≡ 0 → take (length cs) s.from ≡ cs → Zeros element_places layers
+    → Frontier v s.marks s.found met × Toward s.found met [] (starts_among single cs) → Noted 0 layers s.layers (among cs)
+    → WalkDone m st single cs k v s (length cs) met
 unfolding is_in starts_among met_before some walked_from newly
-walk_none m st single s k v met marks from found layers layers' z C r K T N = subst (λ x. WalkDone m st single (take s from) x v marks from found layers' s met) (sym z) (record {
-  gathered = subst (λ x. Frontier x marks found met) (sym (mark single)) T.0;
-  told = λ z. sym (or_nothing (is_in z (take met found))) ∙ T.1.each z;
+walk_none m st single k v met cs layers s r z C K T N = subst (λ x. WalkDone m st single cs x v s (length cs) met) (sym z) (record {
+  gathered = subst (λ x. Frontier x s.marks s.found met) (sym (mark single)) T.0;
+  told = λ z. sym (or_nothing (is_in z (take met s.found))) ∙ T.1.each z;
   room = r;
-  count = C.count;
-  ends = λ z. sym (ap (λ b. is_in z (take s from) && not b) (and_right single false refl) ∙ and_all (is_in z (take s from)));
+  count = ap length C;
+  ends = λ z. ap (is_in z) C ∙ sym (ap (λ b. is_in z cs && not b) (and_right single false refl) ∙ and_all (is_in z cs));
   size = N.size ∙ K.size;
-  layered = λ z. N.each z ∙ ap (noted 0 (among_first from s z)) (K.each z) ∙ first z (among_first from s z) refl;
+  layered = λ z. N.each z ∙ ap (noted 0 (among cs z)) (K.each z) ∙ first z (among cs z) refl;
 })
   where
     mark : (b : Bool) → mark_at b v 0 ≡ v
     mark true = unfold mark_at in refl
     mark false = unfold mark_at in add-zero v
 
-    first : (z : ℕ) (b : Bool) → among_first from s z ≡ b → noted 0 b 0 ≡ layer_mark m st (take s from) 0 z
-    first z true q = unfold noted layer_mark first_mark picked walked_from in sym (ap (λ b. first_mark (cond b (0 ∷ []) [])) (among_is from s z ∙ q))
-    first z false q = unfold noted layer_mark first_mark picked walked_from in sym (ap (λ b. first_mark (cond b (0 ∷ []) [])) (among_is from s z ∙ q))
+    first : (z : ℕ) (b : Bool) → among cs z ≡ b → noted 0 b 0 ≡ layer_mark m st cs 0 z
+    first z true q = unfold noted layer_mark first_mark picked walked_from in sym (ap (λ b. first_mark (cond b (0 ∷ []) [])) (among_is cs z ∙ q))
+    first z false q = unfold noted layer_mark first_mark picked walked_from in sym (ap (λ b. first_mark (cond b (0 ∷ []) [])) (among_is cs z ∙ q))
 
 pub step_like : (m : Bytes) (a : ℕ) (xs ys : List ℕ) → ((z : ℕ) → is_in z xs ≡ is_in z ys) → step_to m a xs ≡ step_to m a ys
 unfolding step_to
@@ -313,12 +282,11 @@ apart z xs ys e = go (is_in z xs) refl (is_in z ys) refl ∙ ap (λ b. b && not 
     go true p false q = q ∙ sym (ap (λ b. (b || is_in z ys) && not b) p)
     go false p b q = sym (ap (λ b. (b || is_in z ys) && not b) p ∙ and_all (is_in z ys))
 
-module _ (m st : Bytes) (cell prev last cs : List ℕ) (single : Bool) (j v n base s n' low high low' high' met' : ℕ) (marks marks' from from' found found' layers layers' : List ℕ)
-    (G : Ground m st cell prev last) (C : All (Cell m) cs) (se : single ≡ through_one st) (h : suc j < length st) (W : WalkDone m st single cs j v marks from found layers n base)
-    (T : Added (mark_at single v j) marks' found base found' s (or_among found base (stepped m (byte_at st (suc j)) from n)))
-    (A : Arrived (suc j) single found' base s from from' layers layers' low high n' low' high' met') where
+module _ (m st : Bytes) (w : Incidence) (cs : List ℕ) (single : Bool) (j v n base s n' low high low' high' met' : ℕ) (a b : Space)
+    (G : Ground m st w) (C : All (Cell m) cs) (se : single ≡ through_one st) (h : suc j < length st) (W : WalkDone m st single cs j v a n base)
+    (T : Added (mark_at single v j) b.marks a.found base b.found s (or_among a.found base (stepped m (byte_at st (suc j)) (take n a.from)))) (r : length b.from ≡ element_places) (A : Arrived (suc j) single base (take s b.found) a.from b.from a.layers b.layers low high n' low' high' met') where
   abbrev level : List ℕ
-  level = take n' (drop base found')
+  level = drop base (take s b.found)
 
   -- what was met before this step, and what the step reaches
   abbrev M : ℕ → Bool
@@ -327,48 +295,46 @@ module _ (m st : Bytes) (cell prev last cs : List ℕ) (single : Bool) (j v n ba
   abbrev R : ℕ → Bool
   R z = is_in z (walked_from m st cs (suc j))
 
-  whole : take s found' ≡ take base found ++ level
-  whole =
-      let q : base + n' ≡ s = omega (arith, A.count, T.grown.more) in
-      ap (λ x. take x found') (sym q) ∙ take-add base n' found' ∙ ap (λ l. l ++ level) T.grown.front
+  whole : take s b.found ≡ take base a.found ++ level
+  whole = sym (take-append-drop base (take s b.found)) ∙ ap (λ l. l ++ level) (take-take base s b.found T.grown.more ∙ T.grown.front)
 
-  found_all : (z : ℕ) → is_in z (take s found') ≡ (single && M z) || is_in z (step_to m (byte_at st (suc j)) (take n from))
+  found_all : (z : ℕ) → is_in z (take s b.found) ≡ (single && M z) || is_in z (step_to m (byte_at st (suc j)) (take n a.from))
   unfolding is_in or_among stepped
-  found_all z = sym (or_nothing (is_in z (take s found'))) ∙ T.all.each z ∙ ap (λ b. b || is_in z (step_to m (byte_at st (suc j)) (take n from))) (W.told z)
+  found_all z = sym (or_nothing (is_in z (take s b.found))) ∙ T.all.each z ∙ ap (λ b. b || is_in z (step_to m (byte_at st (suc j)) (take n a.from))) (W.told z)
 
   -- a step from what is new reaches what is new
-  reaches : (z : ℕ) (b c : Bool) → single ≡ b → M z ≡ c → ((b && c) || is_in z (step_to m (byte_at st (suc j)) (take n from))) && not (b && c) ≡ R z && not (b && c)
+  reaches : (z : ℕ) (b c : Bool) → single ≡ b → M z ≡ c → ((b && c) || is_in z (step_to m (byte_at st (suc j)) (take n a.from))) && not (b && c) ≡ R z && not (b && c)
   unfolding walked_from newly
   reaches z true true p q = sym (and_right (R z) false refl)
-  reaches z true false p q = ap (λ b. b && true) (new_step m st G.mesh G.stencil cs C (sym se ∙ p) j z (take n from) h (λ x. W.ends x ∙ ap (λ b. newly b m st cs j x) p) q)
+  reaches z true false p q = ap (λ b. b && true) (new_step m st G.turned.mesh G.stencil cs C (sym se ∙ p) j z (take n a.from) h (λ x. W.ends x ∙ ap (λ b. newly b m st cs j x) p) q)
   reaches z false c p q =
-      ap (λ b. b && true) (ap (is_in z) (step_like m (byte_at st (suc j)) (take n from) (walked_from m st cs j)
+      ap (λ b. b && true) (ap (is_in z) (step_like m (byte_at st (suc j)) (take n a.from) (walked_from m st cs j)
       (λ x. W.ends x ∙ ap (λ b. is_in x (walked_from m st cs j) && not (b && met_before m st cs j x)) p ∙ and_all (is_in x (walked_from m st cs j)))))
 
-  ends : (z : ℕ) → is_in z (take n' from') ≡ newly single m st cs (suc j) z
+  ends : (z : ℕ) → is_in z (take n' b.from) ≡ newly single m st cs (suc j) z
   ends z =
       ap (is_in z) A.moved
-      ∙ apart z (take base found) level (ap repeats (sym whole) ∙ T.gathered.once)
+      ∙ apart z (take base a.found) level (ap repeats (sym whole) ∙ T.gathered.once)
       ∙ ap₂ (λ a b. a && not b) (ap (is_in z) (sym whole) ∙ found_all z) (W.told z)
       ∙ reaches z single (M z) refl refl
       ∙ (unfold newly in refl)
 
-  gathered : (b : Bool) → single ≡ b → Frontier (mark_at b v (suc j)) marks' found' (cond b s 0)
+  gathered : (c : Bool) → single ≡ c → Frontier (mark_at c v (suc j)) b.marks b.found (cond c s 0)
   unfolding mark_at
-  gathered true p = subst (λ b. Frontier (mark_at b v j) marks' found' s) p T.gathered
+  gathered true p = subst (λ c. Frontier (mark_at c v j) b.marks b.found s) p T.gathered
   gathered false p =
-      let g : Frontier (v + j) marks' found' s = subst (λ b. Frontier (mark_at b v j) marks' found' s) p T.gathered in
-      begin (v + suc j) marks' found' (record { size = g.size; each = λ y. omega (arith, g.top y) }) g.room
+      let g : Frontier (v + j) b.marks b.found s = subst (λ c. Frontier (mark_at c v j) b.marks b.found s) p T.gathered in
+      begin (v + suc j) b.marks b.found (record { size = g.size; each = λ y. omega (arith, g.top y) }) g.room
 
-  told : (z : ℕ) (b : Bool) → single ≡ b → is_in z (take (cond b s 0) found') ≡ b && met_before m st cs (suc (suc j)) z
+  told : (z : ℕ) (c : Bool) → single ≡ c → is_in z (take (cond c s 0) b.found) ≡ c && met_before m st cs (suc (suc j)) z
   told z true p =
       found_all z
-      ∙ ap (λ b. (b && M z) || S) p
+      ∙ ap (λ c. (c && M z) || S) p
       ∙ both (M z) refl
       ∙ sym (unfold met_before some in ap (λ i. some 0 (suc j) q || q i) (zero-add (suc j)))
     where
       S : Bool
-      S = is_in z (step_to m (byte_at st (suc j)) (take n from))
+      S = is_in z (step_to m (byte_at st (suc j)) (take n a.from))
 
       q : ℕ → Bool
       q i = is_in z (walked_from m st cs i)
@@ -382,41 +348,41 @@ module _ (m st : Bytes) (cell prev last cs : List ℕ) (single : Bool) (j v n ba
   layers_are : (z : ℕ) (a b c : Bool) → eqb (suc j % 2) 0 ≡ a → R z ≡ b → M z ≡ c
       → noted (suc j) (a && (b && not (single && c))) (layer_mark m st cs j z) ≡ noted (suc j) (a && b) (layer_mark m st cs j z)
   layers_are z true true true p q r =
-      let c : Cell m z = walked_even m st G.mesh G.stencil cs C (suc j) z h (eqb-true (suc j % 2) 0 p) q in
-      let o = met_layer m st cell prev last cs j z G C (omega arith) c r in
+      let c : Cell m z = walked_even m st G.turned.mesh G.stencil cs C (suc j) z h (eqb-true (suc j % 2) 0 p) q in
+      let o = met_layer m st w cs j z G C (omega arith) c r in
       unfold noted in ap (λ b. cond (not (single && true) && b) (suc j + 1) (layer_mark m st cs j z)) o
       ∙ ap (λ b. cond b (suc j + 1) (layer_mark m st cs j z)) (and_right (not (single && true)) false refl ∙ sym o)
   layers_are z true true false p q r = ap (λ b. noted (suc j) (not b) (layer_mark m st cs j z)) (and_right single false refl)
   layers_are z true false c p q r = refl
   layers_are z false b c p q r = refl
 
-  more : WalkDone m st single cs (suc j) v marks' from' found' layers' n' met'
+  more : WalkDone m st single cs (suc j) v b n' met'
   unfolding cells_among newly
   more = record {
-    gathered = subst (Frontier (mark_at single v (suc j)) marks' found') (sym A.kept) (gathered single refl);
-    told = λ z. ap (λ x. is_in z (take x found')) A.kept ∙ told z single refl;
-    room = A.size ∙ W.room;
-    count = ap length A.moved ∙ length_level;
+    gathered = subst (Frontier (mark_at single v (suc j)) b.marks b.found) (sym kept') (gathered single refl);
+    told = λ z. ap (λ x. is_in z (take x b.found)) kept' ∙ told z single refl;
+    room = r;
+    count = ap length A.moved ∙ sym A.count;
     ends = ends;
     size = A.notes.size ∙ W.size;
     layered = λ z.
         A.notes.each z
-        ∙ ap₂ (noted (suc j)) (ap (λ b. eqb (suc j % 2) 0 && b) (ends z)) (W.layered z)
+        ∙ ap₂ (noted (suc j)) (ap (λ b. eqb (suc j % 2) 0 && b) (ap (is_in z) (sym A.moved) ∙ ends z)) (W.layered z)
         ∙ layers_are z (eqb (suc j % 2) 0) (R z) (M z) refl refl refl
         ∙ sym (layer_more m st cs j z);
   }
     where
-      length_level : length level ≡ n'
-      length_level = omega (arith, length-take n' (drop base found'), length-drop base found', T.gathered.room, T.few, A.count)
+      kept' : met' ≡ cond single s 0
+      kept' = A.kept ∙ ap (λ x. cond single x 0) T.gathered.count
 
-walk_more : (m st : Bytes) (cell prev last cs : List ℕ) (single : Bool) (k v n base s n' low high low' high' met' : ℕ) (marks marks' from from' found found' layers layers' : List ℕ)
-    → Ground m st cell prev last → All (Cell m) cs → single ≡ through_one st → k < length st → (k ≡ 0 → ⊥) → WalkDone m st single cs (k - 1) v marks from found layers n base
-    → Added (mark_at single v (k - 1)) marks' found base found' s (or_among found base (stepped m (byte_at st k) from n))
-    → Arrived k single found' base s from from' layers layers' low high n' low' high' met' → WalkDone m st single cs k v marks' from' found' layers' n' met'
-walk_more m st cell prev last cs single zero v n base s n' low high low' high' met' marks marks' from from' found found' layers layers' G C se h z W T A = absurd (z refl)
-walk_more m st cell prev last cs single (suc j) v n base s n' low high low' high' met' marks marks' from from' found found' layers layers' G C se h z W T A =
+walk_more : (m st : Bytes) (w : Incidence) (cs : List ℕ) (single : Bool) (k v n base s n' low high low' high' met' : ℕ) (a b : Space)
+    → Ground m st w → All (Cell m) cs → single ≡ through_one st → k < length st → (k ≡ 0 → ⊥) → WalkDone m st single cs (k - 1) v a n base
+    → Added (mark_at single v (k - 1)) b.marks a.found base b.found s (or_among a.found base (stepped m (byte_at st k) (take n a.from))) → length b.from ≡ element_places
+    → Arrived k single base (take s b.found) a.from b.from a.layers b.layers low high n' low' high' met' → WalkDone m st single cs k v b n' met'
+walk_more m st w cs single zero v n base s n' low high low' high' met' a b G C se h z W T r A = absurd (z refl)
+walk_more m st w cs single (suc j) v n base s n' low high low' high' met' a b G C se h z W T r A =
     let q : suc j - 1 ≡ j = omega arith in
-    more m st cell prev last cs single j v n base s n' low high low' high' met' marks marks' from from' found found' layers layers' G C se h (rw q at W) (rw q at T) A
+    more m st w cs single j v n base s n' low high low' high' met' a b G C se h (rw q at W) (rw q at T) r A
 
 -- what the calls of a walk require
 pub gathered_as : (x y n : ℕ) (marks found : List ℕ) → x ≡ y → Frontier y marks found n → Frontier x marks found n
@@ -425,48 +391,35 @@ gathered_as x y n marks found e G = rw e G
 pub added_as : (x y base s : ℕ) (marks before found : List ℕ) (p : ℕ → Bool) → x ≡ y → Added x marks before base found s p → Added y marks before base found s p
 added_as x y base s marks before found p e A = rw (← e) A
 
-pub notes_room : (m st : Bytes) (cs : List ℕ) (single : Bool) (k w n met v s : ℕ) (marks₀ from found₀ marks found layers : List ℕ) → WalkDone m st single cs k w marks₀ from found₀ layers n met
-    → Frontier v marks found s → All (λ y. y < length layers) (take s found)
-notes_room m st cs single k w n met v s marks₀ from found₀ marks found layers W G = All_map (take s found) (λ y h. omega (arith, h.1, W.size)) G.in_range
+pub notes_room : (v s : ℕ) (marks found layers : List ℕ) → length layers ≡ element_places → Frontier v marks found s → All (λ y. y < length layers) (take s found)
+notes_room v s marks found layers e G = All_map (take s found) (λ y h. omega (arith, h.1)) G.in_range
 
-module _ (m st : Bytes) (cell prev last from : List ℕ) (s : ℕ) (G : Ground m st cell prev last) (C : AllCells m from s) where
-  pub cells_fit : (layers : List ℕ) → Zeros element_places layers → All (λ y. y < length layers) (take s from)
-  cells_fit layers K = All_map (take s from) (λ y h. omega (arith, h.high, G.mesh.cells_in, G.mesh.sizes.n_high, K.size)) C.each
+module _ (m st : Bytes) (w : Incidence) (cs : List ℕ) (G : Ground m st w) (C : All (Cell m) cs) where
+  pub cells_fit : (layers : List ℕ) → length layers ≡ element_places → All (λ y. y < length layers) cs
+  cells_fit layers e = All_map cs (λ y h. omega (arith, h.high, G.turned.mesh.cells_in, G.turned.mesh.sizes.n_high)) C
 
-  pub cells_small : All (λ y. (1 ≤ y) × (y ≤ most_elements)) (take s from)
-  cells_small = All_map (take s from) (λ y h. (omega (arith, h.low), omega (arith, h.high, G.mesh.cells_in, G.mesh.sizes.n_high))) C.each
+  pub cells_small : All (λ y. (1 ≤ y) × (y ≤ most_elements)) cs
+  cells_small = All_map cs (λ y h. (omega (arith, h.low), omega (arith, h.high, G.turned.mesh.cells_in, G.turned.mesh.sizes.n_high))) C
 
 -- ---- the bounds of the cells met
 
-pub widened_one : (low high low' high' y z : ℕ) → z ≡ y + 1 → (low' ≤ low) × (low' ≤ y) × ((a : ℕ) → a ≤ low → a ≤ y → a ≤ low')
-    → (high ≤ high') × (z ≤ high') × ((b : ℕ) → high ≤ b → z ≤ b → high' ≤ b) → Widened low high low' high' (y ∷ [])
-widened_one low high low' high' y z e L H = record {
-  down = L.0;
-  up = H.0;
-  each = ((L.1, omega (arith, H.1)), tt);
-  least = λ a b p q r. (L.2 a p r.0.0, H.2 b q (omega (arith, r.0.1)));
-}
+pub widen_start : (low high : ℕ) → Widened low high low high []
+widen_start low high = record { down = omega arith; up = omega arith; each = tt; least = λ a b p q r. (p, q) }
 
-pub widen_start : (low high : ℕ) (list : List ℕ) → Widened low high low high (take 0 list)
-widen_start low high list = record { down = omega arith; up = omega arith; each = tt; least = λ a b p q r. (p, q) }
-
-pub widen_turn : (low high low' high' low'' high'' y j n : ℕ) (list : List ℕ) → length (take n list) ≡ n → j < n → y ≡ get_or list j 0 → Widened low high low' high' (take j list)
-    → Widened low' high' low'' high'' (y ∷ []) → Widened low high low'' high'' (take (j + 1) list)
-widen_turn low high low' high' low'' high'' y j n list c h e X Y = record {
+pub widen_turn : (low high low' high' low'' high'' j : ℕ) (list : List ℕ) → j < length list → Widened low high low' high' (take j list)
+    → Widened low' high' low'' high'' (get_or list j 0 ∷ []) → Widened low high low'' high'' (take (j + 1) list)
+widen_turn low high low' high' low'' high'' j list h X Y = record {
   down = omega (arith, X.down, Y.down);
   up = omega (arith, X.up, Y.up);
-  each = rw longer (All_append _ (take j list) (y ∷ []) (All_map (take j list) (λ z g. (omega (arith, g.0, Y.down), omega (arith, g.1, Y.up))) X.each) Y.each);
+  each = rw longer (All_append _ (take j list) (get_or list j 0 ∷ []) (All_map (take j list) (λ z g. (omega (arith, g.0, Y.down), omega (arith, g.1, Y.up))) X.each) Y.each);
   least = λ a b p q r.
-      let r' = All_split (λ z. (a ≤ z) × (z < b)) (take j list) (y ∷ []) (subst (All (λ z. (a ≤ z) × (z < b))) longer r) in
+      let r' = All_split (λ z. (a ≤ z) × (z < b)) (take j list) (get_or list j 0 ∷ []) (subst (All (λ z. (a ≤ z) × (z < b))) longer r) in
       let u = X.least a b p q r'.0 in
       Y.least a b u.0 u.1 r'.1;
 }
   where
-    longer : take (j + 1) list ≡ take j list ++ (y ∷ [])
-    longer = rw (add-one j, e) (take-suc list j 0 (omega (arith, c, length-take n list)))
-
-pub widen_end : (low high low' high' j n : ℕ) (list : List ℕ) → j ≤ n → n ≤ j → Widened low high low' high' (take j list) → Widened low high low' high' (take n list)
-widen_end low high low' high' j n list g h U = at_last (λ i. Widened low high low' high' (take i list)) j n g h U
+    longer : take (j + 1) list ≡ take j list ++ (get_or list j 0 ∷ [])
+    longer = rw (add-one j) (take-suc list j 0 h)
 
 -- an element that is not noted keeps its layer
 kept : (k z : ℕ) (p : ℕ → Bool) (layers layers' : List ℕ) → Noted k layers layers' p → (p z ≡ true → ⊥) → get_or layers' z 0 ≡ get_or layers z 0
@@ -480,9 +433,9 @@ outside : (P : ℕ → Type 0) (z : ℕ) (xs : List ℕ) → All P xs → (P z �
 outside P z xs a n e = n (at_all P z xs a (is_in_at z xs e))
 
 -- cells are noted, and the bounds widened by them
-within_cells : (m : Bytes) (k n low high low' high' : ℕ) (p : ℕ → Bool) (from layers layers' : List ℕ) → Noted k layers layers' p
-    → ((z : ℕ) → p z ≡ true → is_in z (take n from) ≡ true) → Within m layers low high → All (Cell m) (take n from) → Widened low high low' high' (take n from) → Within m layers' low' high'
-within_cells m k n low high low' high' p from layers layers' N of W C U = record {
+within_cells : (m : Bytes) (k low high low' high' : ℕ) (p : ℕ → Bool) (new layers layers' : List ℕ) → Noted k layers layers' p
+    → ((z : ℕ) → p z ≡ true → is_in z new ≡ true) → Within m layers low high → All (Cell m) new → Widened low high low' high' new → Within m layers' low' high'
+within_cells m k low high low' high' p new layers layers' N of W C U = record {
   starts = bounds.0;
   ends = omega (arith, U.down, W.ends);
   stops = bounds.1;
@@ -491,54 +444,51 @@ within_cells m k n low high low' high' p from layers layers' N of W C U = record
 }
   where
     bounds : (first_cell m ≤ low') × (high' ≤ first_cell m + cell_count m)
-    bounds = U.least (first_cell m) (first_cell m + cell_count m) W.starts W.stops (All_map (take n from) (λ y h. (h.low, h.high)) C)
+    bounds = U.least (first_cell m) (first_cell m + cell_count m) W.starts W.stops (All_map new (λ y h. (h.low, h.high)) C)
 
     same : (z : ℕ) → ((low' ≤ z) × (z < high') → ⊥) → get_or layers' z 0 ≡ get_or layers z 0
-    same z not_in = kept k z p layers layers' N (λ q. outside (λ y. (low' ≤ y) × (y < high')) z (take n from) U.each not_in (of z q))
+    same z not_in = kept k z p layers layers' N (λ q. outside (λ y. (low' ≤ y) × (y < high')) z new U.each not_in (of z q))
 
-within_none : (m st : Bytes) (cell prev last : List ℕ) (e s low high : ℕ) (from layers layers' : List ℕ) → Ground m st cell prev last → e ≡ elements m → AllCells m from s → Zeros element_places layers
-    → Noted 0 layers layers' (among_first from s) → Widened (e + 1) 0 low high (take s from) → Within m layers' low high
-within_none m st cell prev last e s low high from layers layers' G ee C K N U =
-    within_cells m 0 s (e + 1) 0 low high (among_first from s) from layers layers' N (λ z q. unfold among_first in q)
-    (record { starts = omega (arith, G.mesh.cells_in); ends = omega (arith, G.mesh.cells_in); stops = omega arith; before = λ z l. K.each z; after = λ z l. K.each z })
-    C.each U
-
-within_even : (m st : Bytes) (cell prev last cs : List ℕ) (single : Bool) (k v n met low high low' high' : ℕ) (marks from found layers layers' : List ℕ) → Ground m st cell prev last
-    → All (Cell m) cs → k < length st → WalkDone m st single cs k v marks from found layers' n met → Noted k layers layers' (cells_among k from n) → Within m layers low high → (k % 2 ≡ 1 → ⊥)
-    → Widened low high low' high' (take n from) → Within m layers' low' high'
-within_even m st cell prev last cs single k v n met low high low' high' marks from found layers layers' G C h W N I o U =
-    within_cells m k n low high low' high' (cells_among k from n) from layers layers' N (λ z q. unfold cells_among in (and_true (eqb (k % 2) 0) (is_in z (take n from)) q).1) I
-    (each_of m st G.mesh G.stencil cs C _ single k n from W.ends (λ z e. walked_even m st G.mesh G.stencil cs C k z h (omega arith) e)) U
+within_none : (m st : Bytes) (w : Incidence) (e low high : ℕ) (cs layers layers' : List ℕ) → Ground m st w → e ≡ elements m → All (Cell m) cs → Zeros element_places layers
+    → Noted 0 layers layers' (among cs) → Widened (e + 1) 0 low high cs → Within m layers' low high
+within_none m st w e low high cs layers layers' G ee C K N U =
+    within_cells m 0 (e + 1) 0 low high (among cs) cs layers layers' N (λ z q. unfold among in q)
+    (record { starts = omega (arith, G.turned.mesh.cells_in); ends = omega (arith, G.turned.mesh.cells_in); stops = omega arith; before = λ z l. K.each z; after = λ z l. K.each z })
+    C U
 
 -- ---- what a walk answers
 
-pub ends_none : (m st : Bytes) (cell prev last : List ℕ) (single : Bool) (e s k v n met low high met' : ℕ) (marks from found layers layers' : List ℕ) → Ground m st cell prev last
-    → e ≡ elements m → AllCells m from s → length from ≡ element_places → Zeros element_places layers → k ≡ 0 → Frontier v marks found met × Toward found met [] (starts_among single from s)
-    → Departed e from s met layers layers' n low high met'
-    → WalkDone m st single (take s from) k v marks from found layers' n met' × Within m layers' low high
-ends_none m st cell prev last single e s k v n met low high met' marks from found layers layers' G ee C r K z T D = (
-  subst₂ (WalkDone m st single (take s from) k v marks from found layers') (sym D.count) (sym D.kept) (walk_none m st single s k v met marks from found layers layers' z C r K T D.notes),
-  within_none m st cell prev last e s low high from layers layers' G ee C K D.notes D.bounds,
+pub ends_none : (m st : Bytes) (w : Incidence) (single : Bool) (e c k v n met low high met' : ℕ) (layers : List ℕ) (s : Space) → length s.from ≡ element_places → Ground m st w
+    → e ≡ elements m → AllCells m s.from c → Zeros element_places layers → k ≡ 0 → Frontier v s.marks s.found met × Toward s.found met [] (starts_among single (take c s.from))
+    → Departed e (take c s.from) met layers s.layers n low high met'
+    → WalkDone m st single (take c s.from) k v s n met' × Within m s.layers low high
+ends_none m st w single e c k v n met low high met' layers s r G ee C K z T D = (
+  subst₂ (WalkDone m st single (take c s.from) k v s) (sym D.count) (sym D.kept) (walk_none m st single k v met (take c s.from) layers s r z (ap (λ i. take i s.from) C.count) K T D.notes),
+  within_none m st w e low high (take c s.from) layers s.layers G ee C.each K D.notes D.bounds,
 )
 
-pub ends_more : (m st : Bytes) (cell prev last cs : List ℕ) (single : Bool) (k v n base s n' low high low' high' met' : ℕ) (marks marks' from from' found found' layers layers' : List ℕ)
-    → Ground m st cell prev last → All (Cell m) cs → single ≡ through_one st → k < length st → (k ≡ 0 → ⊥)
-    → WalkDone m st single cs (k - 1) v marks from found layers n base × Within m layers low high
-    → Added (mark_at single v (k - 1)) marks' found base found' s (or_among found base (stepped m (byte_at st k) from n))
-    → Arrived k single found' base s from from' layers layers' low high n' low' high' met'
-    → WalkDone m st single cs k v marks' from' found' layers' n' met' × Within m layers' low' high'
-ends_more m st cell prev last cs single k v n base s n' low high low' high' met' marks marks' from from' found found' layers layers' G C se h z W T A = (here, inside (eqb (k % 2) 1) refl)
+pub ends_more : (m st : Bytes) (w : Incidence) (cs : List ℕ) (single : Bool) (k v n base s n' low high low' high' met' : ℕ) (a b : Space)
+    → Ground m st w → All (Cell m) cs → single ≡ through_one st → k < length st → (k ≡ 0 → ⊥)
+    → WalkDone m st single cs (k - 1) v a n base × Within m a.layers low high
+    → Added (mark_at single v (k - 1)) b.marks a.found base b.found s (or_among a.found base (stepped m (byte_at st k) (take n a.from))) → length b.from ≡ element_places
+    → Arrived k single base (take s b.found) a.from b.from a.layers b.layers low high n' low' high' met'
+    → WalkDone m st single cs k v b n' met' × Within m b.layers low' high'
+ends_more m st w cs single k v n base s n' low high low' high' met' a b G C se h z W T r A = (here, inside (eqb (k % 2) 1) refl)
   where
-    here : WalkDone m st single cs k v marks' from' found' layers' n' met'
-    here = walk_more m st cell prev last cs single k v n base s n' low high low' high' met' marks marks' from from' found found' layers layers' G C se h z W.0 T A
+    here : WalkDone m st single cs k v b n' met'
+    here = walk_more m st w cs single k v n base s n' low high low' high' met' a b G C se h z W.0 T r A
 
-    inside : (b : Bool) → eqb (k % 2) 1 ≡ b → Within m layers' low' high'
+    new : List ℕ
+    new = drop base (take s b.found)
+
+    inside : (c : Bool) → eqb (k % 2) 1 ≡ c → Within m b.layers low' high'
     inside true q =
         let e = A.odd (eqb-true (k % 2) 1 q) in
         rw (e.0, e.1, e.2) W.1
     inside false q =
         let o = eqb-false (k % 2) 1 q in
-        within_even m st cell prev last cs single k v n' met' low high low' high' marks' from' found' layers layers' G C h here A.notes W.1 o (A.even o)
+        within_cells m k low high low' high' (cells_among k new) new a.layers b.layers A.notes (λ z q. unfold cells_among in (and_true (eqb (k % 2) 0) (is_in z new) q).1) W.1
+        (subst (All (Cell m)) A.moved (each_of m st G.turned.mesh G.stencil cs C _ single k n' b.from here.ends (λ z e. walked_even m st G.turned.mesh G.stencil cs C k z h (omega arith) e))) (A.even o)
 
 -- a walk from one cell, put in front of `from`
 pub front : (from after : List ℕ) (c : ℕ) → length from ≡ element_places → after ≡ set from 0 c → take 1 after ≡ c ∷ []
@@ -548,56 +498,45 @@ pub one_cell : (m : Bytes) (from after : List ℕ) (c : ℕ) → Cell m c → le
 one_cell m from after c C r f = record { each = rw (front from after c r f) (C, tt); count = ap length (front from after c r f) }
 
 -- what a walk leaves for the next
-pub walk_fresh : (m st : Bytes) (cs : List ℕ) (single : Bool) (k v n met : ℕ) (marks from found layers : List ℕ) → WalkDone m st single cs k v marks from found layers n met → Under (v + (k + 1)) marks
+pub walk_fresh : (m st : Bytes) (cs : List ℕ) (single : Bool) (k v n met i : ℕ) (s : Space) → k < i → WalkDone m st single cs k v s n met → Under (v + i) s.marks
 unfolding mark_at
-walk_fresh m st cs single k v n met marks from found layers W = record { size = W.gathered.size; each = λ y. go single (W.gathered.top y) }
+walk_fresh m st cs single k v n met i s h W = record { size = W.gathered.size; each = λ y. go single (W.gathered.top y) }
   where
-    go : {x : ℕ} (b : Bool) → x ≤ mark_at b v k → x < v + (k + 1)
+    go : {x : ℕ} (b : Bool) → x ≤ mark_at b v k → x < v + i
     go true l = omega arith
     go false l = omega arith
 
--- ---- what is found and moved to `from`
+-- ---- what arrives in `from`
 
-module _ (found : List ℕ) (base n : ℕ) (low : base ≤ n) (len : length (take n found) ≡ n) (size : length found ≡ element_places) where
-  n_fits : n ≤ element_places
-  n_fits = omega (arith, length-take n found)
-
-  pub list_room : (l : ℕ) → l ≡ element_places → (base + (n - base) ≤ length found) × (0 + (n - base) ≤ l) × (length found < 65536) × (l < 65536)
-  list_room l e = (omega (arith, n_fits), omega (arith, n_fits), omega arith, omega arith)
-
-  module _ (from' : List ℕ) (e : take (n - base) from' ≡ take (n - base) (drop base found)) where
-    pub moved_count : length (take (n - base) from') ≡ n - base
-    moved_count = ap length e ∙ (let q : length (take (n - base) (drop base found)) ≡ n - base = omega (arith, length-take (n - base) (drop base found), length-drop base found, n_fits) in q)
-
-    pub notes_moved : (k l : ℕ) → k ≤ most_steps → All (λ y. y < l) (take n found) → (k < 65535) × (length (take (n - base) from') ≡ n - base) × All (λ y. y < l) (take (n - base) from')
-    notes_moved k l h a = (omega arith, moved_count, rw e (All_split (λ y. y < l) (take base found) (take (n - base) (drop base found)) (subst (All (λ y. y < l)) parts a)).1)
-      where
-        parts : take n found ≡ take base found ++ take (n - base) (drop base found)
-        parts = let q : base + (n - base) ≡ n = omega arith in ap (λ x. take x found) (sym q) ∙ take-add base (n - base) found
-
-module _ (k : ℕ) (single : Bool) (found : List ℕ) (base n c : ℕ) (from from' layers : List ℕ) (low high : ℕ) (ce : c ≡ n - base) (met' : ℕ) (K : met' ≡ cond single n 0)
-    (M : (take c from' ≡ take c (drop base found)) × (length from' ≡ length from)) where
-  pub arrived_odd : k % 2 ≡ 1 → Arrived k single found base n from from' layers layers low high c low high met'
+module _ (k : ℕ) (single : Bool) (base : ℕ) (found new from from' layers : List ℕ) (low high met : ℕ) (e : new ≡ drop base found) (K : met ≡ cond single (length found) 0)
+    (M : take (length new) from' ≡ new) where
+  pub arrived_odd : k % 2 ≡ 1 → Arrived k single base found from from' layers layers low high (length new) low high met
   unfolding noted cells_among
   arrived_odd o = record {
-    count = ce;
+    count = ap length e;
     kept = K;
-    size = M.1;
-    moved = M.0;
-    notes = record { size = refl; each = λ z. sym (ap (λ b. noted k (b && is_in z (take c from')) (get_or layers z 0)) (ne_eqb (k % 2) 0 (omega arith))) };
+    moved = M ∙ e;
+    notes = record { size = refl; each = λ z. sym (ap (λ b. noted k (b && is_in z (drop base found)) (get_or layers z 0)) (ne_eqb (k % 2) 0 (omega arith))) };
     odd = λ _. (refl, refl, refl);
     even = λ x. absurd (x o);
   }
 
-  pub arrived_even : (k % 2 ≡ 1 → ⊥) → (layers' : List ℕ) (n' low' high' met'' : ℕ) → Noted k layers layers' (among_first from' c)
-      → (n' ≡ c) × (met'' ≡ met') × Widened low high low' high' (take c from') → Arrived k single found base n from from' layers layers' low high n' low' high' met''
-  unfolding among_first cells_among
-  arrived_even o layers' n' low' high' met'' N U = subst₂ (λ x y. Arrived k single found base n from from' layers layers' low high x low' high' y) (sym U.0) (sym U.1) (record {
-    count = ce;
-    kept = K;
-    size = M.1;
-    moved = M.0;
-    notes = record { size = N.size; each = λ z. N.each z ∙ sym (ap (λ b. noted k (b && is_in z (take c from')) (get_or layers z 0)) (eq-eqb (k % 2) 0 (omega arith))) };
+  pub arrived_even : (k % 2 ≡ 1 → ⊥) → (layers' : List ℕ) (n' low' high' met' : ℕ) → Noted k layers layers' (among new)
+      → (n' ≡ length new) × (met' ≡ met) × Widened low high low' high' new → Arrived k single base found from from' layers layers' low high n' low' high' met'
+  unfolding among cells_among
+  arrived_even o layers' n' low' high' met' N U = record {
+    count = U.0 ∙ ap length e;
+    kept = U.1 ∙ K;
+    moved = ap (λ i. take i from') U.0 ∙ M ∙ e;
+    notes = record { size = N.size; each = λ z. N.each z ∙ ap (λ b. noted k b (get_or layers z 0)) (ap (is_in z) e ∙ sym (ap (λ b. b && is_in z (drop base found)) (eq-eqb (k % 2) 0 (omega arith)))) };
     odd = λ x. absurd (o x);
-    even = λ _. U.2;
-  })
+    even = λ _. subst (Widened low high low' high') e U.2;
+  }
+
+-- what is copied to the front of a list stands there
+pub copied : (xs ys from : List ℕ) (n : ℕ) → n ≡ length xs → ys ≡ xs → take n (ys ++ drop n from) ≡ xs
+copied xs ys from n h e = take_at ys (drop n from) n (ap length e ∙ sym h) ∙ e
+
+pub steps_is : (st : Bytes) (n : ℕ) → n + 1 ≡ length st → n ≡ steps st
+unfolding steps
+steps_is st n e = omega arith

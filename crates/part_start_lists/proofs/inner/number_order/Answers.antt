@@ -3,4 +3,4 @@ use Rattle.part_start_lists.proofs.CountLaws.{order_numbered}
 use Rattle.part_start_lists.proofs.inner.number_order.Goals as goal
 
 pub returns : goal.returns
-returns c = search order_numbered
+returns c = order_numbered _ _ c.args.local.now _ _ c.requires.2 (c.fill.ensures.after (λ y e. e)) c.number_cells.ensures

@@ -9,8 +9,8 @@ use Rattle.part_start_points.proofs.points.put_sizes.Given as goal
 
 abbrev pub invariant-loop-k : goal.invariant-loop-k
 invariant-loop-k l =
-    (l.k ≤ l.n) × (l.t ≡ l.s + l.k) × (length l.b ≡ length l.initial.b) × (l.e < 65536) × (l.e ≡ size_ends l.prev l.last l.list l.k)
-    × Put l.initial.b l.b l.s l.t (listed 0 l.k (size_ends l.prev l.last l.list))
+    (l.k ≤ l.n) × (l.t ≡ l.s + l.k) × (length l.b ≡ length l.initial.b) × (l.e < 65536) × (l.e ≡ size_ends l.incidence l.list l.k)
+    × Put l.initial.b l.b l.s l.t (listed 0 l.k (size_ends l.incidence l.list))
 
 abbrev pub decreases-loop-k : goal.decreases-loop-k
 decreases-loop-k l = l.n - l.k

@@ -6,7 +6,7 @@ use Rattle.part_start_points.specs.Points.{size_ends}
 use Rattle.part_start_points.proofs.points.total_size.Given as goal
 
 abbrev pub invariant-loop-k : goal.invariant-loop-k
-invariant-loop-k l = (l.k ≤ l.n) × (l.e ≤ record_places * l.k) × (l.e ≡ size_ends l.prev l.last l.list l.k)
+invariant-loop-k l = (l.k ≤ l.n) × (l.e ≤ record_places * l.k) × (l.e ≡ size_ends l.incidence l.list l.k)
 
 abbrev pub decreases-loop-k : goal.decreases-loop-k
 decreases-loop-k l = l.n - l.k

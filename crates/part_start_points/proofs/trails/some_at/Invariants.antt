@@ -5,7 +5,7 @@ use Rattle.part_start_points.proofs.TrailSteps.{SomeLeft}
 use Rattle.part_start_points.proofs.trails.some_at.Given as goal
 
 abbrev pub invariant-loop-j : goal.invariant-loop-j
-invariant-loop-j l = SomeLeft l.row l.first l.k l.cell l.prev l.t l._j l.s
+invariant-loop-j l = SomeLeft l.row l.first l.k l.incidence.cell l.incidence.prev l.t l._j l.s
 
 abbrev pub decreases-loop-j : goal.decreases-loop-j
 decreases-loop-j l = record_places - l._j

@@ -6,7 +6,7 @@ use Rattle.part_start_points.specs.Points.{trail_count}
 use Rattle.part_start_points.proofs.trails.trail_length.Given as goal
 
 abbrev pub invariant-loop-j : goal.invariant-loop-j
-invariant-loop-j l = (l.n ≤ l._j) × (l._j ≤ record_places) × (l.n + trail_count l.prev (record_places - l._j) l.s ≡ trail_count l.prev record_places l.t)
+invariant-loop-j l = (l.n ≤ l._j) × (l._j ≤ record_places) × (l.n + trail_count l.incidence.prev (record_places - l._j) l.s ≡ trail_count l.incidence.prev record_places l.t)
 
 abbrev pub decreases-loop-j : goal.decreases-loop-j
 decreases-loop-j l = record_places - l._j

@@ -46,7 +46,6 @@ round_on-requires c = (
   accepted_stencil _ _ c.top_of.ensures.0 c.bad_stencil.ensures c.if-bad_stencil.false,
   rule_good _ _ _ _ c.bad_weights.ensures c.if-bad_weights.false,
   search rules,
-  search rules,
 )
 
 pub returns : goal.returns

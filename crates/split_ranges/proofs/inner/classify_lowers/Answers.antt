@@ -19,11 +19,11 @@ loop-q-preserved c = (
   search rules,
   search rules,
   search rules,
-  trailed_turn _ _ _ _ _ _ _ _ _ _ _ _ c.loop-q-test.true c.loop-q.invariant.1 c.loop-q.invariant.3 c.lower_class.ensures refl,
+  trailed_turn _ _ _ _ _ _ _ _ _ _ c.loop-q-test.true c.loop-q.invariant.1 c.loop-q.invariant.3 c.lower_class.ensures refl,
 )
 
 pub returns : goal.returns
 returns c =
-    lowered _ _ _ _ c.requires.0 _ c.first_cell-first.ensures _ _ _ _ _ _ _ c.top_of.ensures.0 c.if-top_of-k.false
+    lowered _ _ c.requires.0 _ c.first_cell-first.ensures _ _ _ _ _ _ _ c.top_of.ensures.0 c.if-top_of-k.false
     c.below_of-below.ensures.0 c.count_of-n.ensures.0
-    (trailed_end _ _ _ _ _ _ _ _ _ _ c.loop-q.invariant.2 c.loop-q-test.false c.loop-q.invariant.3)
+    (trailed_end _ _ _ _ _ _ _ _ c.loop-q.invariant.2 c.loop-q-test.false c.loop-q.invariant.3)

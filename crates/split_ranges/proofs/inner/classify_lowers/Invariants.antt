@@ -5,7 +5,7 @@ use Rattle.split_ranges.proofs.LowerLaws.{Trailed}
 use Rattle.split_ranges.proofs.inner.classify_lowers.Given as goal
 
 abbrev pub invariant-loop-q : goal.invariant-loop-q
-invariant-loop-q l = (l.below + l.n < 65535) × (l.n ≤ most_elements) × (l.q ≤ l.n) × Trailed l.cell l.prev l.last l.first l.class l.holders l.below l.q l.lower
+invariant-loop-q l = (l.below + l.n < 65535) × (l.n ≤ most_elements) × (l.q ≤ l.n) × Trailed l.incidence l.first l.class l.holders l.below l.q l.lower
 
 abbrev pub decreases-loop-q : goal.decreases-loop-q
 decreases-loop-q l = l.n - l.q

@@ -4,4 +4,4 @@ use Rattle.split.proofs.SplitLaws.{map_facts}
 use Rattle.split_tables.proofs.preparing.overflow.Goals as goal
 
 pub count_all-held-requires : goal.count_all-held-requires
-count_all-held-requires c = (c.requires.0, c.requires.1, (map_facts _ _ _ [] c.requires.2).few, c.requires.4)
+count_all-held-requires c = (c.requires.0, (map_facts _ _ _ [] c.requires.1).few)

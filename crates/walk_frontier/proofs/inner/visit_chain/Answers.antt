@@ -6,13 +6,13 @@ use borrow.Author.Rules.{rules}
 use Rattle.walk_frontier.proofs.inner.visit_chain.Goals as goal
 
 pub loop-k-init : goal.loop-k-init
-loop-k-init c = (refl, search rules, search rules, refl, refl, search grown_none, search rules, simp sub-zero (toward_start _ _ _))
+loop-k-init c = (refl, search rules, search rules, search grown_none, search rules, simp sub-zero (toward_start _ _ _))
 
 pub returns-then-i-lt1 : goal.returns-then-i-lt1
 returns-then-i-lt1 c = record { gathered = search rules; all = search (toward_done, between_ended); few = search rules; grown = search rules }
 
 pub loop-k-preserved : goal.loop-k-preserved
-loop-k-preserved c = (search rules, search rules, search rules, search rules, search rules, search grown_both, search rules, search (toward_turn, between_more))
+loop-k-preserved c = (search rules, search rules, search rules, search grown_both, search rules, search (toward_turn, between_more))
 
 pub returns : goal.returns
 returns c = record { gathered = search rules; all = search (toward_done, between_spent); few = search rules; grown = search rules }

@@ -1,11 +1,10 @@
 -- `walk_near_cells::levels::reach_row` meets its contract. The invariant: the cells before place t were gone on to. Assumes nothing.
-use mathlib.Core.Path.{refl}
 use Rattle.walk_near_cells.proofs.LevelLaws.{row_start, row_turn, row_stop, row_end, row_high}
 use borrow.Author.Rules.{rules}
 use Rattle.walk_near_cells.proofs.levels.reach_row.Goals as goal
 
 pub loop-t-init : goal.loop-t-init
-loop-t-init c = (search rules, search rules, refl, refl, search row_start)
+loop-t-init c = (search rules, search rules, search row_start)
 
 pub returns-then-y-lt1 : goal.returns-then-y-lt1
 returns-then-y-lt1 c = search row_stop
@@ -14,7 +13,7 @@ pub reach_cell-s-requires : goal.reach_cell-s-requires
 reach_cell-s-requires c = (search rules, search rules, search row_high, search rules)
 
 pub loop-t-preserved : goal.loop-t-preserved
-loop-t-preserved c = (search rules, search rules, search rules, search rules, search row_turn)
+loop-t-preserved c = (search rules, search rules, search row_turn)
 
 pub returns : goal.returns
 returns c = search row_end

@@ -4,7 +4,7 @@ use Rattle.walk_part_reach.specs.Rows.{ReachCounted}
 use Rattle.walk_part_reach.proofs.inner.count_all.Given as goal
 
 abbrev pub invariant-loop-i : goal.invariant-loop-i
-invariant-loop-i l = (l.i ≤ l.count) × ReachCounted l.m l.stencil l.rows l.i l.mark l.marks l.from l.found l.layers l.s
+invariant-loop-i l = (l.i ≤ l.count) × ReachCounted l.walker.mesh.now l.walker.stencil.now l.rows l.i l.mark l.space.marks l.s
 
 abbrev pub decreases-loop-i : goal.decreases-loop-i
 decreases-loop-i l = l.count - l.i

@@ -1,17 +1,10 @@
 -- `walk_reach_table::table::emit` meets its contract. The invariant: the entries of the cells before x are written, and their layers cleared. Assumes nothing.
-use mathlib.Core.Path.{◌≡◌}
-use Prim.Native.Nat.{◌+◌, ◌-◌, ◌≤◌}
-use lib.ListN.{length}
+use Prim.Native.Nat.{◌-◌, ◌≤◌}
 use Rattle.vocabulary.specs.Intervals.{blocks}
-use Rattle.layout.specs.Limits.{most_reached}
 use Rattle.walk_reach_table.specs.Tables.{row, Cleared, Emitted}
 use Rattle.walk_reach_table.proofs.table.emit.Given as goal
 
 abbrev pub invariant-loop-x : goal.invariant-loop-x
 invariant-loop-x l =
-    (l.low ≤ l.x) × (l.x - l.low ≤ l.high - l.low) × (l.s ≤ (most_reached + 1)) × (length l.layers ≡ length l.initial.layers) × (length l.table ≡ length l.initial.table)
-    × Cleared l.low l.x l.initial.layers l.layers
-    × Emitted l.initial.table l.table l.t l.s (blocks (l.low - l.first) (l.x - l.low) (row l.initial.layers l.first))
-
-abbrev pub decreases-loop-x : goal.decreases-loop-x
-decreases-loop-x l = l.high - l.x
+    (l.low ≤ l.x) × (l.x - l.low ≤ l.high - l.low) × Cleared l.low l.x l.initial.layers l.layers
+    × Emitted l.initial.table l.table l.t (blocks (l.low - l.first) (l.x - l.low) (row l.initial.layers l.first)) l.s

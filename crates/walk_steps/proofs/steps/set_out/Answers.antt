@@ -7,7 +7,7 @@ pub returns-then-not-single : goal.returns-then-not-single
 returns-then-not-single c = (search begin, search starts_none)
 
 pub visit_all-requires : goal.visit_all-requires
-visit_all-requires c = (search rules, search rules, search begin)
+visit_all-requires c = (search rules, search begin)
 
 pub returns : goal.returns
 returns c = (search rules, search starts_all)

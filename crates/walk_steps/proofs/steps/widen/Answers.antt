@@ -1,21 +1,15 @@
--- `walk_steps::steps::widen` meets its contract. The invariant: the bounds hold the first j numbers. Assumes nothing.
+-- `walk_steps::steps::widen` meets its contract. The invariant: the bounds hold the numbers so far. Assumes nothing.
 use mathlib.Core.Path.{refl, ◌∙◌}
-use Rattle.walk_steps.proofs.WalkLaws.{widen_start, widen_turn, widen_end}
+use Rattle.walk_steps.proofs.WalkLaws.{widen_start, widen_turn}
 use borrow.Author.Rules.{rules}
 use Rattle.walk_steps.proofs.steps.widen.Goals as goal
 
-pub loop-j-init : goal.loop-j-init
-loop-j-init c = (search rules, refl, refl, widen_start _ _ c.args.list.now)
+pub loop-y-init : goal.loop-y-init
+loop-y-init c = (refl, refl, widen_start _ _)
 
-pub loop-j-preserved : goal.loop-j-preserved
-loop-j-preserved c = (
-  search rules,
-  c.widened-r.ensures.0 ∙ c.loop-j.invariant.1,
-  c.widened-r.ensures.1
-      ∙ c.loop-j.invariant.2,
-  widen_turn _ _ _ _ _ _ _ _ _ _ c.requires c.loop-j-test.true
-      c.index_at.ensures.0 c.loop-j.invariant.3 c.widened-r.ensures.2,
+pub loop-y-preserved : goal.loop-y-preserved
+loop-y-preserved c = (
+  c.widened-r.ensures.0 ∙ c.loop-y.invariant.0,
+  c.widened-r.ensures.1 ∙ c.loop-y.invariant.1,
+  widen_turn _ _ _ _ _ _ _ _ (search rules) c.loop-y.invariant.2 c.widened-r.ensures.2,
 )
-
-pub returns : goal.returns
-returns c = (c.loop-j.invariant.1, c.loop-j.invariant.2, widen_end _ _ _ _ _ _ _ c.loop-j.invariant.0 c.loop-j-test.false c.loop-j.invariant.3)

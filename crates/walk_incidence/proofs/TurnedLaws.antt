@@ -1,25 +1,25 @@
--- An accepted mesh with the chains of its cells turned round, and an accepted stencil. Assumes nothing.
+-- The chains of an accepted mesh turned round. Assumes nothing.
 use mathlib.Core.Path.{◌≡◌, refl, sym, ap, ap₂, ◌∙◌, subst}
-use mathlib.Core.Bool.{true, false, ◌&&◌}
-use mathlib.Core.List.{List, reverse}
+use mathlib.Core.Bool.{true, ◌&&◌}
+use mathlib.Core.List.{reverse}
 use Prim.Native.Nat.{ℕ, ◌+◌, ◌≤◌, ◌<◌}
 use native.Mathlib.Omega.{arith}
 use lib.Dec.{eqb, leb, ltb}
-use lib.ListN.{length, get_or}
+use lib.ListN.{length, get_or, replicate}
 use borrow.Author.Tests.{eqb-true, eq-eqb, le-leb, lt-ltb, leb-true, ltb-true}
 use Rattle.vocabulary.specs.Bytes.{Bytes}
 use Rattle.vocabulary.specs.Intervals.{some, blocks, total}
 use Rattle.vocabulary.proofs.IntervalLaws.{some_witness, some_in, picked_cong, blocks_length}
 use Rattle.vocabulary.specs.Lists.{is_in, All}
 use Rattle.vocabulary.proofs.ListLaws.{and_true, and_intro, same_test, All_map}
-use Rattle.layout.specs.Limits.{most_elements, most_records, record_places}
-use Rattle.mesh.specs.Mesh.{top, counted, below, first_cell, cell_count, dimension, chain}
-use Rattle.mesh.specs.Walks.{incident, cells_at, bad10, steps}
+use Rattle.layout.specs.Limits.{element_places, most_elements, most_records, record_places}
+use Rattle.mesh.specs.Mesh.{counted, below, first_cell, cell_count, dimension, chain}
+use Rattle.mesh.specs.Walks.{incident, cells_at}
 use Rattle.mesh.specs.Accepted.{Accepted, Element}
 use Rattle.mesh.proofs.DimensionLaws.{dimension_le}
 use Rattle.mesh.proofs.WalkLaws.{below_grows, chains_few, point_incident}
-use Rattle.walk_incidence.specs.Links.{links, link_cells, trail, cells_with}
-use Rattle.walk_steps.specs.Walking.{is_cell_number, Ground}
+use Rattle.walk_incidence.specs.declared.inner.Incidence.{Incidence}
+use Rattle.walk_incidence.specs.Links.{links, linked, link_cells, trail, cells_with, is_cell_number, Turned}
 use Rattle.walk_incidence.proofs.TrailLaws.{Linked, LinkedAs, empty, linked_cells, cells_with_lem, trail_same, count_cells, picked_down_lem}
 use Rattle.walk_incidence.proofs.LinkLaws.{entries}
 
@@ -54,31 +54,33 @@ module _ (m : Bytes) (A : Accepted m) (first cells : ℕ) (fe : first ≡ first_
       All_map (chain m (first + j)) (λ g w. omega (arith, w.1, below_grows m (dimension m (first + j)) 4 (omega (arith, dimension_le m (first + j), A.sizes.d_high)), A.sizes.n_high))
       (A.chain_lower (first + j) (element j h))
 
-  module _ (st : Bytes) (bad : bad10 (top m) st ≡ false) (cell₀ prev₀ : List ℕ) (cl : length cell₀ ≡ record_places) (pl : length prev₀ ≡ record_places) (s : ℕ) (cell prev last : List ℕ)
-      (e : links s cell prev last ≡ link_cells m first cells (empty cell₀ prev₀)) where
+  module _ (w₀ w : Incidence) (cl : length w₀.cell ≡ record_places) (pl : length w₀.prev ≡ record_places) (le : w₀.last ≡ replicate element_places 0) (s : ℕ)
+      (e : linked s w ≡ link_cells m first cells (linked 0 w₀)) where
+    e' : linked s w ≡ link_cells m first cells (empty w₀.cell w₀.prev)
+    e' = e ∙ ap (λ l. link_cells m first cells (links 0 w₀.cell w₀.prev l)) le
+
     -- the entries of all cells' chains
-    turned : LinkedAs (link_cells m first cells (empty cell₀ prev₀)) (cells_with m first cells)
-    turned = linked_cells cell₀ prev₀ cl pl m first cells room (λ j h. (small j h, A.chain_once (first + j) (element j h)))
+    entered : LinkedAs (link_cells m first cells (empty w₀.cell w₀.prev)) (cells_with m first cells)
+    entered = linked_cells w₀.cell w₀.prev cl pl m first cells room (λ j h. (small j h, A.chain_once (first + j) (element j h)))
 
-    few : entries (link_cells m first cells (empty cell₀ prev₀)) ≤ most_records
-    few = omega (arith, count_cells cell₀ prev₀ m first cells, room)
+    few : entries (link_cells m first cells (empty w₀.cell w₀.prev)) ≤ most_records
+    few = omega (arith, count_cells w₀.cell w₀.prev m first cells, room)
 
-    K : Linked s cell prev last (cells_with m first cells)
-    K = subst (λ L. LinkedAs L (cells_with m first cells)) (sym e) turned
+    K : Linked s w.cell w.prev w.last (cells_with m first cells)
+    K = subst (λ L. LinkedAs L (cells_with m first cells)) (sym e') entered
 
     short : s ≤ most_records
-    short = subst (λ L. entries L ≤ most_records) (sym e) few
+    short = subst (λ L. entries L ≤ most_records) (sym e') few
 
     -- the trail of an element, whatever the bound on its length
-    whole : (x : ℕ) → x ≤ most_elements → trail cell prev record_places (get_or last x 0) ≡ cells_with m first cells x
+    whole : (x : ℕ) → x ≤ most_elements → trail w.cell w.prev record_places (get_or w.last x 0) ≡ cells_with m first cells x
     whole x h =
-        trail_same cell prev cell prev s K.falls (λ i a b. (refl, refl)) s record_places (get_or last x 0) (K.within x) (omega (arith, K.within x, short)) (K.within x) ∙ K.told x h
+        trail_same w.cell w.prev w.cell w.prev s K.falls (λ i a b. (refl, refl)) s record_places (get_or w.last x 0) (K.within x) (omega (arith, K.within x, short)) (K.within x) ∙ K.told x h
 
-    pub grounded : Ground m st cell prev last
+    pub turned : Turned m w
     unfolding is_cell_number
-    grounded = record {
+    turned = record {
       mesh = A;
-      stencil = bad;
       told = λ x y h. ap (is_in y) (whole x h) ∙ cells_told m first cells x y ∙ ap₂ (λ a b. (leb a y && ltb y (a + b)) && is_in x (chain m y)) fe ce;
       trail_is = λ x h. whole x h ∙ ap₂ (λ a b. cells_with m a b x) fe ce;
     }
@@ -98,10 +100,6 @@ unfolding below
 point_small m A p high = omega (arith, below_grows m 1 4 (omega arith), A.sizes.n_high)
 
 -- so the trail of a point has the cells at it, falling
-pub point_trail : (m st : Bytes) (cell prev last : List ℕ) → Ground m st cell prev last → (p : ℕ) → 1 ≤ p → p ≤ counted m 0
-    → trail cell prev record_places (get_or last p 0) ≡ reverse (cells_at m p)
-point_trail m st cell prev last G p low high = G.trail_is p (point_small m G.mesh p high) ∙ point_cells m G.mesh p low high
-
-pub steps_is : (st : Bytes) (n : ℕ) → n + 1 ≡ length st → n ≡ steps st
-unfolding steps
-steps_is st n e = omega arith
+pub point_trail : (m : Bytes) (w : Incidence) → Turned m w → (p : ℕ) → 1 ≤ p → p ≤ counted m 0
+    → trail w.cell w.prev record_places (get_or w.last p 0) ≡ reverse (cells_at m p)
+point_trail m w G p low high = G.trail_is p (point_small m G.mesh p high) ∙ point_cells m G.mesh p low high
