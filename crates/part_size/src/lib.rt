@@ -12,19 +12,31 @@ use part_state::inner::DEPTHS;
 use split::inner::split_number;
 use split_classes::inner::CLASSES;
 use split_tables::inner::prepare;
+use walk_incidence::inner::Incidence;
 
 // How many bytes the state of part i needs. The mesh is tested in arrays that hold the inverted chains and the ends of the reaches afterwards.
 pub fn state_size(m: &[u8], parts: u32, owners: &[u8], i: u32, stencil: &[u8]) -> Answer
     ensures { result ≡ size_answer (split_input m.now parts owners.now stencil.now) i }
 {
-    let mut cell = [0u16; RECORD_PLACES];
+    let mut incidence = Incidence {
+        cell: [0; RECORD_PLACES],
+        prev: [0; RECORD_PLACES],
+        last: [0; ELEMENT_PLACES],
+    };
     let mut ends = [0u16; ELEMENT_PLACES];
-    let number = split_number(m, parts, owners, i, i, stencil, &mut cell, &mut ends);
+    let number = split_number(
+        m,
+        parts,
+        owners,
+        i,
+        i,
+        stencil,
+        &mut incidence.cell,
+        &mut ends,
+    );
     if number != 0 {
         return Answer::Refused(number);
     }
-    let mut prev = [0u16; RECORD_PLACES];
-    let mut last = [0u16; ELEMENT_PLACES];
     let mut table = [0u8; TABLE_BYTES];
     let mut holders = [0u8; MOST_ELEMENTS];
     let mut class = [0u8; MOST_ELEMENTS];
@@ -34,9 +46,7 @@ pub fn state_size(m: &[u8], parts: u32, owners: &[u8], i: u32, stencil: &[u8]) -
         parts,
         owners,
         stencil,
-        &mut cell,
-        &mut prev,
-        &mut last,
+        &mut incidence,
         &mut table,
         &mut ends,
         &mut holders,
@@ -46,7 +56,16 @@ pub fn state_size(m: &[u8], parts: u32, owners: &[u8], i: u32, stencil: &[u8]) -
         return Answer::Refused(number);
     }
     let p = draw_plan(
-        m, parts, owners, i, stencil, &table, &ends, &holders, &mut class, &cell, &mut prev, &last,
+        m,
+        parts,
+        owners,
+        i,
+        stencil,
+        &table,
+        &ends,
+        &holders,
+        &mut class,
+        &mut incidence,
         &mut got,
     );
     Answer::Done((2 * p.long + DEPTHS + 4 * p.held) as u32)

@@ -11,6 +11,7 @@ use split_classes::inner::classify;
 use split_ranges::inner::{add_range, classify_lowers};
 use split_tables::inner::prepare;
 use split_wanted::inner::{cell_words, dimension_of, other_of, range_class, row_of};
+use walk_incidence::inner::Incidence;
 use word_lists::inner::give;
 
 // The call. A list that names no other part is tried as if it named its own part twice. The mesh is tested in arrays that hold the inverted chains and
@@ -27,7 +28,11 @@ pub fn list(
     ensures { let D = split_input m.now parts owners.now stencil.now in
         (result ≡ list_answer D i wanted out.old) × (out.new ≡ list_out D i wanted out.old) }
 {
-    let mut cell = [0u16; RECORD_PLACES];
+    let mut incidence = Incidence {
+        cell: [0; RECORD_PLACES],
+        prev: [0; RECORD_PLACES],
+        last: [0; ELEMENT_PLACES],
+    };
     let mut ends = [0u16; ELEMENT_PLACES];
     let number = split_number(
         m,
@@ -36,14 +41,12 @@ pub fn list(
         i,
         other_of(wanted, i),
         stencil,
-        &mut cell,
+        &mut incidence.cell,
         &mut ends,
     );
     if number != 0 {
         return Answer::Refused(number);
     }
-    let mut prev = [0u16; RECORD_PLACES];
-    let mut last = [0u16; ELEMENT_PLACES];
     let mut table = [0u8; TABLE_BYTES];
     let mut holders = [0u8; MOST_ELEMENTS];
     let mut class = [0u8; MOST_ELEMENTS];
@@ -52,9 +55,7 @@ pub fn list(
         parts,
         owners,
         stencil,
-        &mut cell,
-        &mut prev,
-        &mut last,
+        &mut incidence,
         &mut table,
         &mut ends,
         &mut holders,
@@ -78,7 +79,7 @@ pub fn list(
     }
     let k = dimension_of(wanted) as usize;
     let mut lower = [0u8; MOST_ELEMENTS];
-    classify_lowers(m, &cell, &prev, &last, &class, &holders, k, &mut lower);
+    classify_lowers(m, &incidence, &class, &holders, k, &mut lower);
     let n = add_range(m, k, &lower, wanted_class, &mut ends);
     give(&ends, n, out)
 }

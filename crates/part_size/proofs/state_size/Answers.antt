@@ -21,7 +21,7 @@ returns-then-number-ne0 c =
 pub prepare-number-requires : goal.prepare-number-requires
 prepare-number-requires c =
     let f = passed_facts _ _ _ _ _ _ (sym c.split_number-number.ensures ∙ c.if-number-ne0.false) in
-    (f.mesh, f.map, f.stencil, search rules, refl, refl, refl, search rules, refl, refl)
+    (f.mesh, f.map, f.stencil, refl, search rules, refl, refl)
 
 pub returns-then-number-ne0-2 : goal.returns-then-number-ne0-2
 returns-then-number-ne0-2 c =
@@ -32,11 +32,11 @@ draw_plan-p-requires c =
     let sn = sym c.split_number-number.ensures ∙ c.if-number-ne0.false in
     let prepared = c.prepare-number.ensures in
     let zero = c.if-number-ne0-2.false in
-    (sn, sym prepared.0 ∙ zero, prepared.1 zero, prepared.2, omega arith, omega arith, refl)
+    (sn, sym prepared.0 ∙ zero, prepared.1 zero, prepared.2, omega arith, refl)
 
 pub returns : goal.returns
 returns c =
     let sn = sym c.split_number-number.ensures ∙ c.if-number-ne0.false in
     let prepared = c.prepare-number.ensures in
     let zero = c.if-number-ne0-2.false in
-    size_done _ _ _ _ _ sn (sym prepared.0 ∙ zero) _ _ _ (prepared.1 zero) _ _ _ c.draw_plan-p.ensures
+    size_done _ _ _ _ _ sn (sym prepared.0 ∙ zero) _ _ _ (prepared.1 zero) _ _ _ c.draw_plan-p.ensures.0

@@ -6,7 +6,6 @@ use lib.ListN.{length-replicate}
 use Rattle.vocabulary.proofs.ListLaws.{zeros}
 use Rattle.layout.specs.Limits.{element_places, most_elements, record_places}
 use Rattle.mesh.proofs.AcceptedLaws.{cells_few}
-use Rattle.split_ranges.proofs.LowerLaws.{alone}
 use Rattle.split_wanted.proofs.ListedLaws.{added_cells, added_range}
 use Rattle.split_lists.proofs.CallLaws.{number_found, facts, refused_split, refused_sizes, give_fits, give_list}
 use borrow.Author.Rules.{rules}
@@ -27,7 +26,7 @@ prepare-number-requires c =
     let number = number_found _ _ _ _ _ wanted _ _ c.other_of.ensures c.split_number-number.ensures in
     let passed = sym number ∙ c.if-number-ne0.false in
     let f = facts _ _ _ _ _ wanted passed in
-    (f.mesh, f.map, f.stencil, search rules, refl, refl, refl, search rules, refl, refl)
+    (f.mesh, f.map, f.stencil, refl, search rules, refl, refl)
 
 pub returns-then-number-ne0-2 : goal.returns-then-number-ne0-2
 returns-then-number-ne0-2 c =
@@ -79,7 +78,7 @@ returns-then-wanted_class-eq0 c =
     c.give.ensures
 
 pub classify_lowers-requires : goal.classify_lowers-requires
-classify_lowers-requires c = (alone _ _ _ _ _ c.prepare-number.ensures.2, refl)
+classify_lowers-requires c = (c.prepare-number.ensures.2, refl)
 
 pub add_range-n-requires : goal.add_range-n-requires
 add_range-n-requires c =
