@@ -110,12 +110,12 @@ fn put_around(
 {
     let mut t = s;
     for k in 1..n + 1 {
-        let p = number_at(list, k - 1) as usize;
+        let p = get_or(list, k - 1, 0) as usize;
         t = put_trail(
             b,
             t,
             incidence,
-            number_at(&incidence.last, p) as usize,
+            get_or(&incidence.last, p, 0) as usize,
             local,
         );
     }
