@@ -15,7 +15,6 @@ use Rattle.vocabulary.specs.Tests.{first_of}
 use Rattle.vocabulary.proofs.TestLaws.{first_of_append}
 use Rattle.layout.specs.Limits.{element_places, most_elements, most_parts, record_places, table_bytes}
 use Rattle.mesh.specs.Mesh.{elements, record_count, cell_count, mesh_length}
-use Rattle.walk_steps.specs.Walking.{Ground}
 use Rattle.split.specs.Split.{split_of}
 use Rattle.split_classes.specs.Classes.{Prepared}
 use Rattle.split.specs.Lists.{split_tests, size_tests, split_number, sizes_number, split_input}
@@ -93,20 +92,6 @@ module _ (a z : Bytes) (t : ℕ) (b : Bytes) where
       → Printed a z 0 t (map_text cells (take e b) (take (length b - e) (drop e b))) → Printed a z 0 t (list_text b)
   text_told cells n e h c l k d X =
       subst (Printed a z 0 t) (ap₂ (λ i j. map_text i (take j b) (drop j b)) c l ∙ pieces_are h) (cut_told a z t (map_text cells) (take e b) (take n b) b e n k d X)
-
--- ---- the tables
-
--- prepared for a split of few parts, and as long as the arrays that hold them
-pub record Tables (m : Bytes) (parts : ℕ) (owners st : Bytes) (cell prev last : List ℕ) (table : Bytes) (ends : List ℕ) (holders : Bytes) : Type 0 where
-  pub prepared : Prepared m parts owners st table ends holders
-  pub ground : Ground m st cell prev last
-  pub few : parts ≤ most_parts
-  pub cell_places : length cell ≡ record_places
-  pub prev_places : length prev ≡ record_places
-  pub last_places : length last ≡ element_places
-  pub table_bytes_is : length table ≡ table_bytes
-  pub end_places : length ends ≡ element_places
-  pub holder_places : length holders ≡ most_elements
 
 -- ---- the number
 

@@ -14,6 +14,7 @@ use list_text::inner::put_line;
 use mesh::inner::{cell_count, first_cell};
 use split_classes::inner::classify;
 use split_tables::inner::prepare;
+use walk_incidence::inner::Incidence;
 
 // The line of a refusal.
 pub fn put_refusal(refusal: Refusal, out: &mut [u8]) -> usize
@@ -27,9 +28,11 @@ pub fn list_accepted(m: &[u8], parts: u32, owners: &[u8], stencil: &[u8], out: &
     requires { split_number m.now parts owners.now (1 ∷ 1 ∷ []) stencil.now ≡ 0 }
     ensures { Printed out.old out.new 0 result (pieces_text m.now parts owners.now stencil.now) }
 {
-    let mut cell = [0u16; RECORD_PLACES];
-    let mut prev = [0u16; RECORD_PLACES];
-    let mut last = [0u16; ELEMENT_PLACES];
+    let mut incidence = Incidence {
+        cell: [0; RECORD_PLACES],
+        prev: [0; RECORD_PLACES],
+        last: [0; ELEMENT_PLACES],
+    };
     let mut table = [0u8; TABLE_BYTES];
     let mut ends = [0u16; ELEMENT_PLACES];
     let mut holders = [0u8; MOST_ELEMENTS];
@@ -39,9 +42,7 @@ pub fn list_accepted(m: &[u8], parts: u32, owners: &[u8], stencil: &[u8], out: &
         parts,
         owners,
         stencil,
-        &mut cell,
-        &mut prev,
-        &mut last,
+        &mut incidence,
         &mut table,
         &mut ends,
         &mut holders,
@@ -59,7 +60,7 @@ pub fn list_accepted(m: &[u8], parts: u32, owners: &[u8], stencil: &[u8], out: &
         let u = put_own(&class, first, cells, i + 1, out, t);
         let v = put_imports(&class, first, cells, count, out, u);
         let w = put_exports(m, owners, &table, &ends, i + 1, count, out, v);
-        t = put_dimensions(m, &cell, &prev, &last, &class, &holders, out, w);
+        t = put_dimensions(m, &incidence, &class, &holders, out, w);
     }
     t
 }

@@ -13,6 +13,7 @@ use part_state::inner::DEPTHS;
 use split::inner::test_split;
 use split_classes::inner::CLASSES;
 use split_tables::inner::prepare;
+use walk_incidence::inner::Incidence;
 
 // How many bytes the state of part i needs. The mesh is tested in arrays that hold the inverted chains and the ends of the reaches afterwards.
 pub fn state_size(
@@ -24,11 +25,22 @@ pub fn state_size(
 ) -> Result<u32, Refusal>
     ensures { answer_of result ≡ size_answer (split_input m.now parts owners.now stencil.now) i }
 {
-    let mut cell = [0u16; RECORD_PLACES];
+    let mut incidence = Incidence {
+        cell: [0; RECORD_PLACES],
+        prev: [0; RECORD_PLACES],
+        last: [0; ELEMENT_PLACES],
+    };
     let mut ends = [0u16; ELEMENT_PLACES];
-    test_split(m, parts, owners, i, i, stencil, &mut cell, &mut ends)?;
-    let mut prev = [0u16; RECORD_PLACES];
-    let mut last = [0u16; ELEMENT_PLACES];
+    test_split(
+        m,
+        parts,
+        owners,
+        i,
+        i,
+        stencil,
+        &mut incidence.cell,
+        &mut ends,
+    )?;
     let mut table = [0u8; TABLE_BYTES];
     let mut holders = [0u8; MOST_ELEMENTS];
     let mut class = [0u8; MOST_ELEMENTS];
@@ -38,16 +50,23 @@ pub fn state_size(
         parts,
         owners,
         stencil,
-        &mut cell,
-        &mut prev,
-        &mut last,
+        &mut incidence,
         &mut table,
         &mut ends,
         &mut holders,
         &mut class,
     )?;
     let p = draw_plan(
-        m, parts, owners, i, stencil, &table, &ends, &holders, &mut class, &cell, &mut prev, &last,
+        m,
+        parts,
+        owners,
+        i,
+        stencil,
+        &table,
+        &ends,
+        &holders,
+        &mut class,
+        &mut incidence,
         &mut got,
     );
     Ok((2 * p.long + DEPTHS + 4 * p.held) as u32)

@@ -17,11 +17,12 @@ use round_rule::bad_rule;
 use split::inner::test_split;
 use split_classes::inner::CLASSES;
 use split_tables::inner::prepare;
-use walk_steps::inner::sizes_of;
+use walk_incidence::inner::{Incidence, sizes_of};
 
 // Makes the state of part i at round 0 at the front of b: mesh, number of parts and owners, the part, stencil, rule kind and weights, field. The mesh is
-// tested in arrays that hold the inverted chains and the ends of the reaches afterwards. Once the points are counted and tested the chains are not needed
-// for a while: the order, the local numbers and the exports stand in their arrays. `last` has the cells linked by owner before it has the local numbers.
+// tested in arrays that hold the incidence and the ends of the reaches afterwards. Once the points are counted and tested the chains are not needed for a
+// while: the order, the local numbers and the exports stand in their arrays. `last` has the cells linked by owner before it has the local numbers, which
+// `ends` takes over before the chains are turned round once more.
 pub fn start(
     m: &[u8],
     parts: u32,
@@ -36,14 +37,25 @@ pub fn start(
     ensures { let I = inputs m.now parts owners.now stencil.now kind weights.now f.now in
         (answer_of result ≡ start_answer I i b.old) × (b.new ≡ start_state I i b.old) }
 {
-    let mut cell = [0u16; RECORD_PLACES];
+    let mut incidence = Incidence {
+        cell: [0; RECORD_PLACES],
+        prev: [0; RECORD_PLACES],
+        last: [0; ELEMENT_PLACES],
+    };
     let mut ends = [0u16; ELEMENT_PLACES];
-    test_split(m, parts, owners, i, i, stencil, &mut cell, &mut ends)?;
+    test_split(
+        m,
+        parts,
+        owners,
+        i,
+        i,
+        stencil,
+        &mut incidence.cell,
+        &mut ends,
+    )?;
     if bad_rule(kind, stencil.len() - 1, weights) {
         return Err(Refusal::Rule);
     }
-    let mut prev = [0u16; RECORD_PLACES];
-    let mut last = [0u16; ELEMENT_PLACES];
     let mut table = [0u8; TABLE_BYTES];
     let mut holders = [0u8; MOST_ELEMENTS];
     let mut class = [0u8; MOST_ELEMENTS];
@@ -54,9 +66,7 @@ pub fn start(
         parts,
         owners,
         stencil,
-        &mut cell,
-        &mut prev,
-        &mut last,
+        &mut incidence,
         &mut table,
         &mut ends,
         &mut holders,
@@ -74,12 +84,10 @@ pub fn start(
         &table,
         &ends,
         &mut class,
-        &cell,
-        &prev,
-        &last,
+        &incidence,
     );
     let p = draw_plan(
-        m, parts, owners, i, stencil, &table, &ends, &holders, &mut class, &cell, &mut prev, &last,
+        m, parts, owners, i, stencil, &table, &ends, &holders, &mut class, &mut incidence,
         &mut got,
     );
     let size = 2 * p.long + DEPTHS + 4 * p.held;
@@ -87,14 +95,15 @@ pub fn start(
         return Err(Refusal::Output);
     }
     find_sent(
-        owners, &table, &ends, p, &mut class, &mut last, &mut cell, &mut sent,
+        owners, &table, &ends, p, &mut class, &mut incidence.last, &mut incidence.cell, &mut sent,
     );
-    number_order(&prev, p.held, &mut last);
+    number_order(&incidence.prev, p.held, &mut incidence.last);
     let s = put_front(b, p, stencil.len() - 1, kind as usize, weights, &got, &sent);
-    put_entries(b, s, &table, &ends, p, &prev, &last, &cell);
-    put_rest(b, p, f, &prev);
+    put_entries(b, s, &table, &ends, p, &incidence.prev, &incidence.last, &incidence.cell);
+    put_rest(b, p, f, &incidence.prev);
+    ends.copy_from_slice(&incidence.last);
     add_points(
-        b, p.front, m, stencil, sought, outside, owners, &last, &mut cell, &mut prev, &mut ends,
+        b, p.front, m, sought, outside, owners, &ends, &mut incidence,
     );
     Ok(size as u32)
 }

@@ -45,7 +45,8 @@ use Rattle.part_start_points.specs.Points.{points_on, size_ends, point_words, wo
 use Rattle.part_start_points.specs.Outside.{some_outside}
 use Rattle.part_start_points.proofs.SplitOutside.{outside_told}
 use Rattle.part_start_points.proofs.SplitPoints.{points_counted, cells_counted, words_counted, words_told}
-use Rattle.walk_steps.specs.Walking.{Ground}
+use Rattle.walk_incidence.specs.declared.inner.Incidence.{Incidence}
+use Rattle.walk_incidence.specs.Links.{Turned}
 use Rattle.part_start_plan.specs.Planning.{Planned, PointRoom}
 use Rattle.part_start_lists.proofs.StartLists.{row_order, words_long, lists_put, lists_numbered}
 use Rattle.part_start_plan.proofs.StartFit.{fit_from, cells_from}
@@ -134,16 +135,16 @@ module _ (m : Bytes) (parts : ℕ) (owners : Bytes) (i : ℕ) (st table : Bytes)
         (subst₂ (λ x y. TablesFit owners table ends i x y parts) (sym fe) (sym ce) fitting)
 
   -- the points by the trails
-  module _ (cell prev last : List ℕ) (G : Ground m st cell prev last) (part first all points around : ℕ) (pe : part ≡ i) (fe : first ≡ first_cell m) (ae : all ≡ counted m 0)
-      (ve : points ≡ length (points_on cell prev last owners first part all))
-      (se : around ≡ size_ends prev last (points_on cell prev last owners first part all) (length (points_on cell prev last owners first part all))) where
+  module _ (inc : Incidence) (G : Turned m inc) (part first all points around : ℕ) (pe : part ≡ i) (fe : first ≡ first_cell m) (ae : all ≡ counted m 0)
+      (ve : points ≡ length (points_on inc owners first part all))
+      (se : around ≡ size_ends inc (points_on inc owners first part all) (length (points_on inc owners first part all))) where
     points_is : points ≡ points_in (split_of m parts owners st) i
-    points_is = points_counted m parts owners st cell prev last G i first all fe ae points (ve ∙ ap (λ x. length (points_on cell prev last owners first x all)) pe)
+    points_is = points_counted m parts owners st inc G i first all fe ae points (ve ∙ ap (λ x. length (points_on inc owners first x all)) pe)
 
     around_is : around ≡ point_ends (split_of m parts owners st) i (points_in (split_of m parts owners st) i)
     around_is =
-        cells_counted m parts owners st cell prev last G i first all fe ae around
-        (se ∙ ap (λ x. let ps = points_on cell prev last owners first x all in size_ends prev last ps (length ps)) pe)
+        cells_counted m parts owners st inc G i first all fe ae around
+        (se ∙ ap (λ x. let ps = points_on inc owners first x all in size_ends inc ps (length ps)) pe)
 
     pub plan_points : points ≤ most_elements
     plan_points = omega (arith, points_is, points_few m P.mesh parts owners st i)
@@ -272,15 +273,15 @@ module _ (m : Bytes) (parts : ℕ) (owners st : Bytes) (i part first all : ℕ) 
   abbrev many : ℕ
   many = point_ends (split_of m parts owners st) i count
 
-  on_count : (cell prev last : List ℕ) → Ground m st cell prev last → let ps : List ℕ = points_on cell prev last owners first part all in
-      word_count prev last ps (length ps) ≡ 2 * count + 2 + many
-  on_count cell prev last G =
-      ap (λ x. let ps = points_on cell prev last owners first x all in word_count prev last ps (length ps)) pe ∙ words_counted m parts owners st cell prev last G i first all fe ae
+  on_count : (inc : Incidence) → Turned m inc → let ps : List ℕ = points_on inc owners first part all in
+      word_count inc ps (length ps) ≡ 2 * count + 2 + many
+  on_count inc G =
+      ap (λ x. let ps = points_on inc owners first x all in word_count inc ps (length ps)) pe ∙ words_counted m parts owners st inc G i first all fe ae
 
-  pub point_room : (b : Bytes) (s long : ℕ) → long ≡ s + 2 + 2 * count + many → long ≤ 40144 → 2 * long ≤ length b → PointRoom m st owners b s part first all
+  pub point_room : (b : Bytes) (s long : ℕ) → long ≡ s + 2 + 2 * count + many → long ≤ 40144 → 2 * long ≤ length b → PointRoom m owners b s part first all
   point_room b s long le few room = record {
-    there = λ cell prev last G. omega (arith, on_count cell prev last G);
-    few = λ cell prev last G. omega (arith, on_count cell prev last G);
+    there = λ inc G. omega (arith, on_count inc G);
+    few = λ inc G. omega (arith, on_count inc G);
   }
 
   around_count : (outside : Bool) (local : List ℕ) (k : ℕ) → length (cell_words (split_of m parts owners st) i local outside k) ≡ length (around_of (split_of m parts owners st) i k)
@@ -305,24 +306,24 @@ module _ (m : Bytes) (parts : ℕ) (owners st : Bytes) (i part first all : ℕ) 
       )
 
   -- the points' words as they are put, and how many there are
-  points_put : (cell prev last : List ℕ) → Ground m st cell prev last → (local numbers : List ℕ) (outside : Bool) → local ≡ numbers → (y z : Bytes) (t u : ℕ)
-      → Put y z t u (point_words cell prev last (cond outside [] local) (points_on cell prev last owners first part all) (length (points_on cell prev last owners first part all)))
+  points_put : (inc : Incidence) → Turned m inc → (local numbers : List ℕ) (outside : Bool) → local ≡ numbers → (y z : Bytes) (t u : ℕ)
+      → Put y z t u (point_words inc (cond outside [] local) (points_on inc owners first part all) (length (points_on inc owners first part all)))
       → Put y z t u (part_words (split_of m parts owners st) i numbers outside) × (length (part_words (split_of m parts owners st) i numbers outside) ≡ 2 * count + 2 + many)
-  points_put cell prev last G local numbers outside e y z t u P = (
-    words_told m parts owners st cell prev last G i first all fe ae numbers outside y z t u
+  points_put inc G local numbers outside e y z t u P = (
+    words_told m parts owners st inc G i first all fe ae numbers outside y z t u
         (put_as y z t u _ _
-        (ap₂ (λ (xs : List ℕ) x. let ps = points_on cell prev last owners first x all in point_words cell prev last (cond outside [] xs) ps (length ps)) e pe) P),
+        (ap₂ (λ (xs : List ℕ) x. let ps = points_on inc owners first x all in point_words inc (cond outside [] xs) ps (length ps)) e pe) P),
     words_count outside numbers,
   )
 
 -- 29 of the part, by its own number
 pub outside_is : (m : Bytes) (parts : ℕ) (owners st table : Bytes) (ends : List ℕ) (holders : Bytes) → Prepared m parts owners st table ends holders
-    → (cell prev last : List ℕ) → Ground m st cell prev last → (b : Bool) (first n part cells i : ℕ) → b ≡ some_outside m cell prev last owners table ends first n part cells
+    → (inc : Incidence) → Turned m inc → (b : Bool) (first n part cells i : ℕ) → b ≡ some_outside m inc owners table ends first n part cells
     → part ≡ i → first ≡ first_cell m → n ≡ counted m 0 → cells ≡ cell_count m → b ≡ bad29 (split_of m parts owners st) i
-outside_is m parts owners st table ends holders R cell prev last G b first n part cells i e pe fe ne ce =
+outside_is m parts owners st table ends holders R inc G b first n part cells i e pe fe ne ce =
     e
-    ∙ ap (λ x. some_outside m cell prev last owners table ends first n x cells) pe
-    ∙ outside_told m parts owners st table ends holders R cell prev last G first n cells i fe ne ce
+    ∙ ap (λ x. some_outside m inc owners table ends first n x cells) pe
+    ∙ outside_told m parts owners st table ends holders R inc G first n cells i fe ne ce
 
 -- ---- one part named twice is one part named
 
@@ -491,7 +492,7 @@ module _ (m : Bytes) (parts : ℕ) (owners : Bytes) (i : ℕ) (st : Bytes) (kind
               )
 
           -- all that is written, step by step
-          pub start_written : (sent before list local : List ℕ) (x s t u : ℕ) (b₁ b₂ b₃ b₄ : Bytes) (cell prev last : List ℕ) (outside : Bool) (part first all : ℕ)
+          pub start_written : (sent before list local : List ℕ) (x s t u : ℕ) (b₁ b₂ b₃ b₄ : Bytes) (inc : Incidence) (outside : Bool) (part first all : ℕ)
               → Sent owners table ends p.part p.cells most_parts sent
               → Appended before list 0 x (sent_list owners table ends p.part p.first p.cells most_parts) → p.sent ≤ length before
               → Put b b₁ 0 s (((p.long ∷ p.part ∷ (length st - 1) ∷ kind ∷ []) ++ (listed 0 5 (word_at v) ++ (p.first ∷ p.cells ∷ [])))
@@ -499,11 +500,11 @@ module _ (m : Bytes) (parts : ℕ) (owners : Bytes) (i : ℕ) (st : Bytes) (kind
               → Put b₁ b₂ s t (take p.held order ++ (listed 0 (p.owned + 1) (row_ends table ends p.first order)
               ++ (blocks 1 p.owned (row_words table ends p.first order local) ++ map (local_in local) (take p.sent list))))
               → local ≡ numbers_of order p.held → b₃ ≡ over b₂ (2 * p.long) (replicate (depths_place 0) 0 ++ blocks 1 p.held (start_depth f p.first order))
-              → Ground m st cell prev last
-              → Put b₃ b₄ p.front u (point_words cell prev last (cond outside [] local) (points_on cell prev last owners first part all) (length (points_on cell prev last owners first part all)))
+              → Turned m inc
+              → Put b₃ b₄ p.front u (point_words inc (cond outside [] local) (points_on inc owners first part all) (length (points_on inc owners first part all)))
               → part ≡ i → first ≡ first_cell m → all ≡ counted m 0 → outside ≡ bad29 (split_of m parts owners st) i → state_length (2 * p.long) p.held ≤ length b
               → Answered (Done (state_length (2 * p.long) p.held)) b₄
-          start_written sent before list local x s t u b₁ b₂ b₃ b₄ cell prev last outside part first all T A fits P₁ P₂ le re G P₃ pe fe ae o room =
+          start_written sent before list local x s t u b₁ b₂ b₃ b₄ inc outside part first all T A fits P₁ P₂ le re G P₃ pe fe ae o room =
               let lists =
               lists_put owners table ends p.part p.first p.cells order p.held local p.owned p.long (length st - 1) kind v got sent before list x p.sent b b₁ b₂ s t
               Q.got_are T A Q.sent_is fits (omega (arith, Q.front_is, Q.long_is)) P₁ P₂ in
@@ -512,6 +513,6 @@ module _ (m : Bytes) (parts : ℕ) (owners : Bytes) (i : ℕ) (st : Bytes) (kind
               let end =
               lists_end owners table ends p.part p.first p.cells order p.held (numbers_of order p.held) p.owned p.long (length st - 1) kind v b b₂ t p.front words
               Q.front_is Q.fit.order_there in
-              let points = points_put m parts owners st i part first all pe fe ae cell prev last G local (numbers_of order p.held) outside le b₃ b₄ p.front u P₃ in
+              let points = points_put m parts owners st i part first all pe fe ae inc G local (numbers_of order p.held) outside le b₃ b₄ p.front u P₃ in
               start_done outside o room b₄
               (state_put b b₂ b₃ b₄ t p.front u p.long _ _ _ end (omega arith) (omega (arith, Q.long_is, points.1)) words re points.0)

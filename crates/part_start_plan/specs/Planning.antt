@@ -8,7 +8,8 @@ use Rattle.part_state.specs.State.{exports_word}
 use Rattle.part_start_lists.specs.Starting.{row_ends, sent_ends, Got, Fit, OwnersFew}
 use Rattle.part_start_lists.specs.declared.inner.Plan.{Plan}
 use Rattle.part_start_points.specs.Points.{points_on, word_count}
-use Rattle.walk_steps.specs.Walking.{Ground}
+use Rattle.walk_incidence.specs.declared.inner.Incidence.{Incidence}
+use Rattle.walk_incidence.specs.Links.{Turned}
 use Rattle.part_start_plan.specs.Start.{owned_in}
 
 -- the plan of part i: its numbers, with its local order in an array and the counts of its imports in another
@@ -31,8 +32,7 @@ pub record Planned (m : Bytes) (parts : ℕ) (owners : Bytes) (i : ℕ) (st tabl
   -- 48, two numbers for each of 2,000 cells and of 2,000 points, two for each of 8,000 entries, 4,096 exports and 12,000 cells at points
   pub long_few : p.long ≤ 40144
 
--- there is room for the words of the points from word s on, by whatever arrays have the inverted chains
-pub record PointRoom (m st owners b : Bytes) (s part first points : ℕ) : Type 0 where
-  pub there : (cell prev last : List ℕ) → Ground m st cell prev last → let ps : List ℕ = points_on cell prev last owners first part points in
-      2 * (s + word_count prev last ps (length ps)) ≤ length b
-  pub few : (cell prev last : List ℕ) → Ground m st cell prev last → let ps : List ℕ = points_on cell prev last owners first part points in s + word_count prev last ps (length ps) < 65536
+-- there is room for the words of the points from word s on, wherever the chains are turned round
+pub record PointRoom (m owners b : Bytes) (s part first points : ℕ) : Type 0 where
+  pub there : (w : Incidence) → Turned m w → let ps : List ℕ = points_on w owners first part points in 2 * (s + word_count w ps (length ps)) ≤ length b
+  pub few : (w : Incidence) → Turned m w → let ps : List ℕ = points_on w owners first part points in s + word_count w ps (length ps) < 65536

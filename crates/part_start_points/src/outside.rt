@@ -17,12 +17,7 @@ use split_classes::inner::clear_row;
 use walk_incidence::inner::{Incidence, MeshSizes};
 
 // Whether element g is a point at which some cell bears no stamp.
-fn unstamped_at(
-    sought: Sought,
-    stamps: &[u8],
-    incidence: &Incidence,
-    g: usize,
-) -> bool
+fn unstamped_at(sought: Sought, stamps: &[u8], incidence: &Incidence, g: usize) -> bool
     ensures { result ≡ unstamped_at incidence.now stamps.now sought.first sought.points g }
 {
     if sought.points < g {
@@ -104,9 +99,7 @@ pub fn some_outside(
 {
     clear_row(stamps);
     for c in sought.first..sought.first + sizes.cells {
-        if cell_outside(
-            m, sizes, sought, owners, table, ends, c, stamps, incidence,
-        ) {
+        if cell_outside(m, sizes, sought, owners, table, ends, c, stamps, incidence) {
             return true;
         }
     }

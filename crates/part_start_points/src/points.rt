@@ -27,12 +27,7 @@ pub struct PointCounts {
 }
 
 // Lists the points that touch the part, rising, and gives how many there are.
-fn find_points(
-    sought: Sought,
-    owners: &[u8],
-    incidence: &Incidence,
-    list: &mut [u16],
-) -> usize
+fn find_points(sought: Sought, owners: &[u8], incidence: &Incidence, list: &mut [u16]) -> usize
     requires { (sought.points ≤ most_elements) × (sought.points ≤ length list.old) }
     ensures { Found list.new result (points_on incidence.now owners.now sought.first sought.part
         sought.points)
@@ -72,11 +67,7 @@ fn total_size(list: &[u16], n: usize, incidence: &Incidence) -> usize
 }
 
 // Counts the points that touch the part, and the cells at them.
-pub fn count_points(
-    sought: Sought,
-    owners: &[u8],
-    incidence: &Incidence,
-) -> PointCounts
+pub fn count_points(sought: Sought, owners: &[u8], incidence: &Incidence) -> PointCounts
     requires { sought.points ≤ most_elements }
     ensures { let points = points_on incidence.now owners.now sought.first sought.part sought.points in
         (result.points ≡ length points) × (result.cells ≡ size_ends incidence.now points (length points)) }
@@ -120,7 +111,13 @@ fn put_around(
     let mut t = s;
     for k in 1..n + 1 {
         let p = get_or(list, k - 1, 0) as usize;
-        t = put_trail(b, t, incidence, get_or(&incidence.last, p, 0) as usize, local);
+        t = put_trail(
+            b,
+            t,
+            incidence,
+            get_or(&incidence.last, p, 0) as usize,
+            local,
+        );
     }
     t
 }

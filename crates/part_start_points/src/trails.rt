@@ -48,13 +48,7 @@ pub fn trail_length(incidence: &Incidence, t: usize) -> usize
 }
 
 // Writes the cells from entry t on in local numbers.
-pub fn put_trail(
-    b: &mut [u8],
-    s: usize,
-    incidence: &Incidence,
-    t: usize,
-    local: &[u16],
-) -> usize
+pub fn put_trail(b: &mut [u8], s: usize, incidence: &Incidence, t: usize, local: &[u16]) -> usize
     requires { (2 * (s + length (trail incidence.now.cell incidence.now.prev record_places t)) ≤ length b.old)
         × (s + length (trail incidence.now.cell incidence.now.prev record_places t) < 65536) }
     ensures { Put b.old b.new s result (map (local_in local.now) (trail incidence.now.cell incidence.now.prev record_places t)) }

@@ -11,7 +11,8 @@ use split::inner::test_split;
 use split_classes::inner::classify;
 use split_ranges::inner::{add_range, classify_lowers};
 use split_tables::inner::prepare;
-use split_wanted::inner::{cell_words, dimension_of, other_of, range_class, row_of};
+use split_wanted::inner::{cell_words, other_of, range_wanted, row_of};
+use walk_incidence::inner::Incidence;
 use word_lists::inner::give;
 
 // The call. A list that names no other part is tried as if it named its own part twice. The mesh is tested in arrays that hold the inverted chains and
@@ -28,7 +29,11 @@ pub fn list(
     ensures { let D = split_input m.now parts owners.now stencil.now in
         (answer_of result ≡ list_answer D i wanted out.old) × (out.new ≡ list_out D i wanted out.old) }
 {
-    let mut cell = [0u16; RECORD_PLACES];
+    let mut incidence = Incidence {
+        cell: [0; RECORD_PLACES],
+        prev: [0; RECORD_PLACES],
+        last: [0; ELEMENT_PLACES],
+    };
     let mut ends = [0u16; ELEMENT_PLACES];
     test_split(
         m,
@@ -37,11 +42,9 @@ pub fn list(
         i,
         other_of(wanted, i),
         stencil,
-        &mut cell,
+        &mut incidence.cell,
         &mut ends,
     )?;
-    let mut prev = [0u16; RECORD_PLACES];
-    let mut last = [0u16; ELEMENT_PLACES];
     let mut table = [0u8; TABLE_BYTES];
     let mut holders = [0u8; MOST_ELEMENTS];
     let mut class = [0u8; MOST_ELEMENTS];
@@ -50,9 +53,7 @@ pub fn list(
         parts,
         owners,
         stencil,
-        &mut cell,
-        &mut prev,
-        &mut last,
+        &mut incidence,
         &mut table,
         &mut ends,
         &mut holders,
@@ -66,14 +67,13 @@ pub fn list(
         row_of(wanted, i) as usize,
         &mut class,
     );
-    let wanted_class = range_class(wanted);
-    if wanted_class == 0 {
-        let n = cell_words(wanted, m, parts as usize, &class, i as usize, &mut ends);
+    if let Some((range, dimension)) = range_wanted(wanted) {
+        let k = dimension as usize;
+        let mut lower = [0u8; MOST_ELEMENTS];
+        classify_lowers(m, &incidence, &class, &holders, k, &mut lower);
+        let n = add_range(m, k, &lower, range, &mut ends);
         return give(&ends, n, out);
     }
-    let k = dimension_of(wanted) as usize;
-    let mut lower = [0u8; MOST_ELEMENTS];
-    classify_lowers(m, &cell, &prev, &last, &class, &holders, k, &mut lower);
-    let n = add_range(m, k, &lower, wanted_class, &mut ends);
+    let n = cell_words(wanted, m, parts as usize, &class, i as usize, &mut ends);
     give(&ends, n, out)
 }

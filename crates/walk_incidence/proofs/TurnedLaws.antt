@@ -80,6 +80,9 @@ module _ (m : Bytes) (A : Accepted m) (first cells : ℕ) (fe : first ≡ first_
     pub turned : Turned m w
     unfolding is_cell_number
     turned = record {
+      cell_room = K.cells_long;
+      prev_room = K.prev_long;
+      last_room = K.last_long;
       mesh = A;
       told = λ x y h. ap (is_in y) (whole x h) ∙ cells_told m first cells x y ∙ ap₂ (λ a b. (leb a y && ltb y (a + b)) && is_in x (chain m y)) fe ce;
       trail_is = λ x h. whole x h ∙ ap₂ (λ a b. cells_with m a b x) fe ce;

@@ -2,10 +2,10 @@
 -- in proofs/ tie it to the definitions. Assumes nothing.
 --
 -- Each element of a cell's chain is an entry, numbered from 1: the cell, and the entry before it that has the same element.
-use Rattle.std.specs.Prelude.{◌≡◌, Bool, true, false, ◌&&◌, cond, List, [], ◌∷◌, ℕ, zero, suc, ◌+◌, ◌≤◌, eqb, leb, ltb, get_or, set}
+use Rattle.std.specs.Prelude.{◌≡◌, Bool, true, false, ◌&&◌, cond, List, [], ◌∷◌, ℕ, zero, suc, ◌+◌, ◌≤◌, eqb, leb, ltb, length, get_or, set}
 use Rattle.vocabulary.specs.Bytes.{Bytes}
 use Rattle.vocabulary.specs.Lists.{is_in}
-use Rattle.layout.specs.Limits.{most_elements, record_places}
+use Rattle.layout.specs.Limits.{element_places, most_elements, record_places}
 use Rattle.mesh.specs.Accepted.{Accepted}
 use Rattle.mesh.specs.Mesh.{first_cell, cell_count, chain}
 use Rattle.walk_incidence.specs.declared.inner.Incidence.{Incidence}
@@ -51,6 +51,9 @@ is_cell_number m y = leb (first_cell m) y && ltb y (first_cell m + cell_count m)
 
 -- the chains of an accepted mesh turned round: an element's trail has just the cells in whose chains it stands
 pub record Turned (m : Bytes) (w : Incidence) : Type 0 where
+  pub cell_room : length w.cell ≡ record_places
+  pub prev_room : length w.prev ≡ record_places
+  pub last_room : length w.last ≡ element_places
   pub mesh : Accepted m
   pub told : (x y : ℕ) → x ≤ most_elements → is_in y (trail w.cell w.prev record_places (get_or w.last x 0)) ≡ is_cell_number m y && is_in x (chain m y)
   pub trail_is : (x : ℕ) → x ≤ most_elements → trail w.cell w.prev record_places (get_or w.last x 0) ≡ cells_with m (first_cell m) (cell_count m) x

@@ -22,7 +22,7 @@ returns-in_err-test_split c =
 pub prepare-requires : goal.prepare-requires
 prepare-requires c =
     let f = passed_facts _ _ _ _ _ _ (sym c.in_ok-test_split.ensures) in
-    (f.mesh, f.map, f.stencil, search rules, refl, refl, refl, search rules, refl, refl)
+    (f.mesh, f.map, f.stencil, refl, search rules, refl, refl)
 
 pub returns-in_err-prepare : goal.returns-in_err-prepare
 returns-in_err-prepare c =
@@ -32,10 +32,10 @@ pub draw_plan-p-requires : goal.draw_plan-p-requires
 draw_plan-p-requires c =
     let sn = sym c.in_ok-test_split.ensures in
     let prepared = c.in_ok-prepare.ensures in
-    (sn, sym prepared.0, prepared.1, prepared.2, omega arith, omega arith, refl)
+    (sn, sym prepared.0, prepared.1, prepared.2, omega arith, refl)
 
 pub returns : goal.returns
 returns c =
     let sn = sym c.in_ok-test_split.ensures in
     let prepared = c.in_ok-prepare.ensures in
-    size_done _ _ _ _ _ sn (sym prepared.0) _ _ _ (prepared.1) _ _ _ c.draw_plan-p.ensures
+    size_done _ _ _ _ _ sn (sym prepared.0) _ _ _ (prepared.1) _ _ _ c.draw_plan-p.ensures.0

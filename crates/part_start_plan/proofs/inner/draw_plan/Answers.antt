@@ -1,5 +1,6 @@
 -- `part_start_plan::inner::draw_plan` meets its contract. Assumes nothing.
 use mathlib.Core.Path.{refl, ap, ◌∙◌}
+use native.Mathlib.Omega.{arith}
 use Rattle.part_start_lists.specs.Starting.{export_tally}
 use Rattle.part_start_points.proofs.SplitPoints.{points_low}
 use Rattle.part_start_plan.proofs.PlanLaws.{plan_fitting, plan_points, plan_around, plan_made}
@@ -16,11 +17,11 @@ make_plan-requires c =
     let points = c.count_points-points.ensures in (
       plan_fitting _ _ _ _ _ _ _ _ pre.0 pre.1 pre.2 _ _ _ _ refl refl c.first_cell.ensures c.cell_count.ensures.0,
       c.count_exports-sent.ensures.1,
-      plan_points _ _ _ _ _ _ _ _ pre.0 pre.1 pre.2 _ _ _ pre.3 _ _ _ _ _ sought.0 sought.1 sought.2 points.0 points.1,
-      plan_around _ _ _ _ _ _ _ _ pre.0 pre.1 pre.2 _ _ _ pre.3 _ _ _ _ _ sought.0 sought.1 sought.2 points.0 points.1,
+      plan_points _ _ _ _ _ _ _ _ pre.0 pre.1 pre.2 _ pre.3 _ _ _ _ _ sought.0 sought.1 sought.2 points.0 points.1,
+      plan_around _ _ _ _ _ _ _ _ pre.0 pre.1 pre.2 _ pre.3 _ _ _ _ _ sought.0 sought.1 sought.2 points.0 points.1,
       pre.4,
+      omega (arith, pre.3.prev_room),
       pre.5,
-      pre.6,
     )
 
 pub returns : goal.returns
@@ -29,7 +30,11 @@ returns c =
     let sought = c.sought_of.ensures in
     let points = c.count_points-points.ensures in
     let told = c.make_plan.ensures in
-    let cells = c.cell_count.ensures.0 in
-    plan_made _ _ _ _ _ _ _ _ pre.0 pre.1 pre.2 _ _ _ pre.3 _ _ _ _ _ sought.0 sought.1 sought.2 points.0 points.1 _ told.1 told.0
-    (told.2 ∙ c.first_cell.ensures) (told.3 ∙ cells) _ _ told.5 told.6
-    (told.4 ∙ c.count_exports-sent.ensures.0 ∙ ap (export_tally _ _ _) cells)
+    let cells = c.cell_count.ensures.0 in (
+      plan_made _ _ _ _ _ _ _ _ pre.0 pre.1 pre.2 _ pre.3 _ _ _ _ _ sought.0 sought.1 sought.2 points.0 points.1 _ told.1 told.0
+          (told.2 ∙ c.first_cell.ensures) (told.3 ∙ cells) _ _ told.5 told.6
+          (told.4 ∙ c.count_exports-sent.ensures.0 ∙ ap (export_tally _ _ _) cells),
+      refl,
+      c.make_plan.auto.order,
+      refl,
+    )

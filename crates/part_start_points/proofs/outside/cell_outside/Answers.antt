@@ -7,7 +7,7 @@ use Rattle.part_start_points.proofs.outside.cell_outside.Goals as goal
 
 pub returns-then-owner_of-sought : goal.returns-then-owner_of-sought
 returns-then-owner_of-sought c = (
-  cell_anothers _ _ _ _ _ _ _ _ _ _ _ _ _ refl c.owner_of.ensures c.if-owner_of-sought.true,
+  cell_anothers _ _ _ _ _ _ _ _ _ _ _ refl c.owner_of.ensures c.if-owner_of-sought.true,
   c.requires.4,
 )
 
@@ -39,7 +39,7 @@ pub returns : goal.returns
 returns c =
     let stamped = c.stamp_reach.ensures in
     let pre = c.requires in (
-      cell_outside_lem _ _ _ _ _ pre.4 stamped _ _ _ _ _ _ _ _ _ _ refl
+      cell_outside_lem _ _ _ _ _ pre.4 stamped _ _ _ _ _ _ _ _ refl
           c.owner_of.ensures _ _ _
           c.if-owner_of-sought.false pre.1.records_is
           c.head_of-h.ensures.0 c.chain_unstamped-outside.ensures,

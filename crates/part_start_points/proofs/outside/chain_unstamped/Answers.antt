@@ -25,7 +25,7 @@ read_record-here-requires c =
 pub returns-then-unstamped_at : goal.returns-then-unstamped_at
 returns-then-unstamped_at c =
     let inv = c.loop-k.invariant in
-    chain_here _ _ _ _ _ _ _ _ _ _ _ inv.2 _ inv.0 c.loop-k-test.true c.if-i-lt1.false _
+    chain_here _ _ _ _ _ _ _ _ _ inv.2 _ inv.0 c.loop-k-test.true c.if-i-lt1.false _
     c.read_record-here.ensures.0 _ c.unstamped_at.ensures c.if-unstamped_at.true
 
 pub loop-k-preserved : goal.loop-k-preserved
@@ -33,7 +33,7 @@ loop-k-preserved c =
     let inv = c.loop-k.invariant in (
       search rules,
       search rules,
-      chain_turn _ _ _ _ _ _ _ _ _ _ _ inv.2 _ inv.0 c.loop-k-test.true c.if-i-lt1.false _
+      chain_turn _ _ _ _ _ _ _ _ _ inv.2 _ inv.0 c.loop-k-test.true c.if-i-lt1.false _
           c.read_record-here.ensures.0 _ c.unstamped_at.ensures _ c.if-unstamped_at.false c.read_record-here.ensures.2,
     )
 

@@ -32,7 +32,7 @@ shape_of-stamps-then-cell_outside c =
 pub returns-then-cell_outside : goal.returns-then-cell_outside
 returns-then-cell_outside c =
     let inv = c.loop-c.invariant in
-    outside_found _ _ _ _ _ _ _ _ _ _ _ _ _ inv.0 _ inv.1 c.loop-c-test.true
+    outside_found _ _ _ _ _ _ _ _ _ _ _ inv.0 _ inv.1 c.loop-c-test.true
     c.cell_outside.ensures.0 c.if-cell_outside.true
 
 pub loop-c-preserved : goal.loop-c-preserved
@@ -42,7 +42,7 @@ loop-c-preserved c =
       search rules,
       search rules,
       c.cell_outside.ensures.1,
-      outside_turn _ _ _ _ _ _ _ _ _ _ _ _ inv.1 inv.4 c.cell_outside.ensures.0 c.if-cell_outside.false,
+      outside_turn _ _ _ _ _ _ _ _ _ _ inv.1 inv.4 c.cell_outside.ensures.0 c.if-cell_outside.false,
     )
 
 pub shape_of-stamps : goal.shape_of-stamps
@@ -51,4 +51,4 @@ shape_of-stamps c =
     c.requires.3
 
 pub returns : goal.returns
-returns c = let inv = c.loop-c.invariant in outside_none _ _ _ _ _ _ _ _ _ _ _ _ _ inv.0 inv.2 c.loop-c-test.false inv.4
+returns c = let inv = c.loop-c.invariant in outside_none _ _ _ _ _ _ _ _ _ _ _ inv.0 inv.2 c.loop-c-test.false inv.4

@@ -7,7 +7,6 @@ use Rattle.vocabulary.proofs.ListLaws.{zeros}
 use Rattle.layout.specs.Limits.{element_places, most_elements, record_places}
 use Rattle.layout.proofs.AnswerLaws.{exit_answer, exit_some}
 use Rattle.mesh.proofs.AcceptedLaws.{cells_few}
-use Rattle.split_ranges.proofs.LowerLaws.{alone}
 use Rattle.split_wanted.proofs.ListedLaws.{added_cells, added_range}
 use Rattle.split_lists.proofs.CallLaws.{number_found, facts, refused_split, refused_sizes, give_fits, give_list}
 use borrow.Author.Rules.{rules}
@@ -29,7 +28,7 @@ prepare-requires c =
     let number = number_found _ _ _ _ _ wanted _ _ c.other_of.ensures c.in_ok-test_split.ensures in
     let passed = sym number in
     let f = facts _ _ _ _ _ wanted passed in
-    (f.mesh, f.map, f.stencil, search rules, refl, refl, refl, search rules, refl, refl)
+    (f.mesh, f.map, f.stencil, refl, search rules, refl, refl)
 
 pub returns-in_err-prepare : goal.returns-in_err-prepare
 returns-in_err-prepare c =
@@ -61,25 +60,25 @@ give-requires c =
     let number = number_found _ _ _ _ _ wanted _ _ c.other_of.ensures c.in_ok-test_split.ensures in
     let passed = sym number in
     let told = c.in_ok-prepare.ensures in
-    let added = added_cells wanted _ _ _ _ _ _ _ _ _ c.range_class-wanted_class.ensures c.if-wanted_class-eq0.true c.cell_words-n.ensures in
+    let added = added_cells wanted _ _ _ _ _ _ _ _ ? c.cell_words-n.ensures in
     give_fits _ _ _ _ _ wanted c.args.out.now passed (sym told.0) _ _ _ told.1 _
     c.cell_count.ensures.0 _ _ c.row_of.ensures c.classify.ensures _ _ _ added
     (omega (arith, length-replicate {A = ℕ} element_places 0))
 
-pub returns-then-wanted_class-eq0 : goal.returns-then-wanted_class-eq0
-returns-then-wanted_class-eq0 c =
+pub returns-TMP : goal.returns-TMP
+returns-TMP c =
     let wanted = c.args.wanted in
     let number = number_found _ _ _ _ _ wanted _ _ c.other_of.ensures c.in_ok-test_split.ensures in
     let passed = sym number in
     let told = c.in_ok-prepare.ensures in
-    let added = added_cells wanted _ _ _ _ _ _ _ _ _ c.range_class-wanted_class.ensures c.if-wanted_class-eq0.true c.cell_words-n.ensures in
+    let added = added_cells wanted _ _ _ _ _ _ _ _ ? c.cell_words-n.ensures in
     give_list _ _ _ _ _ wanted c.args.out.now passed (sym told.0) _ _ _ told.1 _
     c.cell_count.ensures.0 _ _ c.row_of.ensures c.classify.ensures _ _ _ added
     (omega (arith, length-replicate {A = ℕ} element_places 0)) _ _
     c.give.ensures
 
 pub classify_lowers-requires : goal.classify_lowers-requires
-classify_lowers-requires c = (alone _ _ _ _ _ c.in_ok-prepare.ensures.2, refl)
+classify_lowers-requires c = (c.in_ok-prepare.ensures.2, refl)
 
 pub add_range-n-requires : goal.add_range-n-requires
 add_range-n-requires c =
@@ -88,14 +87,13 @@ add_range-n-requires c =
     let passed = sym number in
     (facts _ _ _ _ _ wanted passed).mesh
 
-pub give-requires-2 : goal.give-requires-2
-give-requires-2 c =
+pub give-TMP : goal.give-TMP
+give-TMP c =
     let wanted = c.args.wanted in
     let number = number_found _ _ _ _ _ wanted _ _ c.other_of.ensures c.in_ok-test_split.ensures in
     let passed = sym number in
     let told = c.in_ok-prepare.ensures in
-    let added = added_range wanted _ _ _ _ _ _ _ _ _ c.range_class-wanted_class.ensures c.if-wanted_class-eq0.false _ c.dimension_of-k.ensures _
-    c.classify_lowers.ensures c.add_range-n.ensures in
+    let added = added_range wanted _ _ _ _ _ _ _ _ (sym c.range_wanted.ensures ∙ c.in-Some.is) _ c.classify_lowers.ensures c.add_range-n.ensures in
     give_fits _ _ _ _ _ wanted c.args.out.now passed (sym told.0) _ _ _ told.1 _
     c.cell_count.ensures.0 _ _ c.row_of.ensures c.classify.ensures _ _ _ added
     (omega (arith, length-replicate {A = ℕ} element_places 0))
@@ -106,8 +104,7 @@ returns c =
     let number = number_found _ _ _ _ _ wanted _ _ c.other_of.ensures c.in_ok-test_split.ensures in
     let passed = sym number in
     let told = c.in_ok-prepare.ensures in
-    let added = added_range wanted _ _ _ _ _ _ _ _ _ c.range_class-wanted_class.ensures c.if-wanted_class-eq0.false _ c.dimension_of-k.ensures _
-    c.classify_lowers.ensures c.add_range-n.ensures in
+    let added = added_range wanted _ _ _ _ _ _ _ _ (sym c.range_wanted.ensures ∙ c.in-Some.is) _ c.classify_lowers.ensures c.add_range-n.ensures in
     give_list _ _ _ _ _ wanted c.args.out.now passed (sym told.0) _ _ _ told.1 _
     c.cell_count.ensures.0 _ _ c.row_of.ensures c.classify.ensures _ _ _ added
     (omega (arith, length-replicate {A = ℕ} element_places 0)) _ _
