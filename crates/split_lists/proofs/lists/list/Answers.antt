@@ -54,28 +54,28 @@ cell_words-n-requires c =
     let f = facts _ _ _ _ _ wanted passed in
     (f.mesh, f.few, f.i_in.1, f.j_in.1)
 
-pub give-requires : goal.give-requires
-give-requires c =
+pub give-requires-2 : goal.give-requires-2
+give-requires-2 c =
     let wanted = c.args.wanted in
     let number = number_found _ _ _ _ _ wanted _ _ c.other_of.ensures c.in_ok-test_split.ensures in
     let passed = sym number in
     let told = c.in_ok-prepare.ensures in
-    let added = added_cells wanted _ _ _ _ _ _ _ _ ? c.cell_words-n.ensures in
+    let added = added_cells wanted _ _ _ _ _ _ _ _ (sym c.range_wanted.ensures ∙ c.in_default.is) c.cell_words-n.ensures in
     give_fits _ _ _ _ _ wanted c.args.out.now passed (sym told.0) _ _ _ told.1 _
     c.cell_count.ensures.0 _ _ c.row_of.ensures c.classify.ensures _ _ _ added
     (omega (arith, length-replicate {A = ℕ} element_places 0))
 
-pub returns-TMP : goal.returns-TMP
-returns-TMP c =
+pub returns : goal.returns
+returns c =
     let wanted = c.args.wanted in
     let number = number_found _ _ _ _ _ wanted _ _ c.other_of.ensures c.in_ok-test_split.ensures in
     let passed = sym number in
     let told = c.in_ok-prepare.ensures in
-    let added = added_cells wanted _ _ _ _ _ _ _ _ ? c.cell_words-n.ensures in
+    let added = added_cells wanted _ _ _ _ _ _ _ _ (sym c.range_wanted.ensures ∙ c.in_default.is) c.cell_words-n.ensures in
     give_list _ _ _ _ _ wanted c.args.out.now passed (sym told.0) _ _ _ told.1 _
     c.cell_count.ensures.0 _ _ c.row_of.ensures c.classify.ensures _ _ _ added
     (omega (arith, length-replicate {A = ℕ} element_places 0)) _ _
-    c.give.ensures
+    c.give-2.ensures
 
 pub classify_lowers-requires : goal.classify_lowers-requires
 classify_lowers-requires c = (c.in_ok-prepare.ensures.2, refl)
@@ -87,8 +87,8 @@ add_range-n-requires c =
     let passed = sym number in
     (facts _ _ _ _ _ wanted passed).mesh
 
-pub give-TMP : goal.give-TMP
-give-TMP c =
+pub give-requires : goal.give-requires
+give-requires c =
     let wanted = c.args.wanted in
     let number = number_found _ _ _ _ _ wanted _ _ c.other_of.ensures c.in_ok-test_split.ensures in
     let passed = sym number in
@@ -98,8 +98,8 @@ give-TMP c =
     c.cell_count.ensures.0 _ _ c.row_of.ensures c.classify.ensures _ _ _ added
     (omega (arith, length-replicate {A = ℕ} element_places 0))
 
-pub returns : goal.returns
-returns c =
+pub returns-in-Some : goal.returns-in-Some
+returns-in-Some c =
     let wanted = c.args.wanted in
     let number = number_found _ _ _ _ _ wanted _ _ c.other_of.ensures c.in_ok-test_split.ensures in
     let passed = sym number in
@@ -108,4 +108,4 @@ returns c =
     give_list _ _ _ _ _ wanted c.args.out.now passed (sym told.0) _ _ _ told.1 _
     c.cell_count.ensures.0 _ _ c.row_of.ensures c.classify.ensures _ _ _ added
     (omega (arith, length-replicate {A = ℕ} element_places 0)) _ _
-    c.give-2.ensures
+    c.give.ensures
