@@ -1,7 +1,7 @@
 -- The input cut into its pieces, and what is printed for them. Assumes nothing.
 use mathlib.Core.Path.{◌≡◌, sym, ap, ap₂, ◌∙◌, subst}
 use mathlib.Core.Bool.{Bool, cond}
-use mathlib.Core.List.{List, [], ◌∷◌}
+use mathlib.Core.List.{[], ◌∷◌}
 use Prim.Native.Nat.{ℕ, ◌+◌, ◌-◌, ◌*◌, ◌≤◌, ◌<◌}
 use native.Mathlib.Omega.{arith}
 use lib.Dec.{eqb}
@@ -13,10 +13,8 @@ use Rattle.vocabulary.specs.Intervals.{blocks}
 use Rattle.vocabulary.specs.Lists.{joined}
 use Rattle.vocabulary.specs.Tests.{first_of}
 use Rattle.vocabulary.proofs.TestLaws.{first_of_append}
-use Rattle.layout.specs.Limits.{element_places, most_elements, most_parts, record_places, table_bytes}
 use Rattle.mesh.specs.Mesh.{elements, record_count, cell_count, mesh_length}
 use Rattle.split.specs.Split.{split_of}
-use Rattle.split_classes.specs.Classes.{Prepared}
 use Rattle.split.specs.Lists.{split_tests, size_tests, split_number, sizes_number, split_input}
 use Rattle.split.proofs.PassedLaws.{tests_are}
 use Rattle.split.proofs.SplitLaws.{split_numbered}

@@ -87,7 +87,16 @@ pub fn start(
         &incidence,
     );
     let p = draw_plan(
-        m, parts, owners, i, stencil, &table, &ends, &holders, &mut class, &mut incidence,
+        m,
+        parts,
+        owners,
+        i,
+        stencil,
+        &table,
+        &ends,
+        &holders,
+        &mut class,
+        &mut incidence,
         &mut got,
     );
     let size = 2 * p.long + DEPTHS + 4 * p.held;
@@ -95,15 +104,38 @@ pub fn start(
         return Err(Refusal::Output);
     }
     find_sent(
-        owners, &table, &ends, p, &mut class, &mut incidence.last, &mut incidence.cell, &mut sent,
+        owners,
+        &table,
+        &ends,
+        p,
+        &mut class,
+        &mut incidence.last,
+        &mut incidence.cell,
+        &mut sent,
     );
     number_order(&incidence.prev, p.held, &mut incidence.last);
     let s = put_front(b, p, stencil.len() - 1, kind as usize, weights, &got, &sent);
-    put_entries(b, s, &table, &ends, p, &incidence.prev, &incidence.last, &incidence.cell);
+    put_entries(
+        b,
+        s,
+        &table,
+        &ends,
+        p,
+        &incidence.prev,
+        &incidence.last,
+        &incidence.cell,
+    );
     put_rest(b, p, f, &incidence.prev);
     ends.copy_from_slice(&incidence.last);
     add_points(
-        b, p.front, m, sought, outside, owners, &ends, &mut incidence,
+        b,
+        p.front,
+        m,
+        sought,
+        outside,
+        owners,
+        &ends,
+        &mut incidence,
     );
     Ok(size as u32)
 }

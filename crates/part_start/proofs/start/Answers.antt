@@ -60,18 +60,6 @@ some_outside-outside-requires c =
     let sizes = c.sizes_of.ensures in
     ((passed_facts _ _ _ _ _ _ sn).mesh, sizes, c.sought_of-sought.ensures.1 ∙ sym sizes.first_is, omega arith)
 
-pub slice_bounds-draw_plan-end-5 : goal.slice_bounds-draw_plan-end-5
-slice_bounds-draw_plan-end-5 c =
-    omega arith
-
-pub slice_bounds-draw_plan-end-6 : goal.slice_bounds-draw_plan-end-6
-slice_bounds-draw_plan-end-6 c =
-    omega arith
-
-pub slice_bounds-draw_plan-end-7 : goal.slice_bounds-draw_plan-end-7
-slice_bounds-draw_plan-end-7 c =
-    omega arith
-
 pub draw_plan-p-requires : goal.draw_plan-p-requires
 draw_plan-p-requires c =
     let sn = sym c.in_ok-test_split.ensures in
@@ -88,22 +76,6 @@ returns-then-b-size c =
     let plan = c.draw_plan-p.ensures.0 in
     start_16 _ _ _ _ _ _ _ _ c.args.b.now sn eleven zn _ c.cell_count.ensures.0 _ c.bad_field.ensures c.if-bad_field.false _ _ _ (prepared.1)
     _ _ _ plan c.if-b-size.true
-
-pub slice_bounds-find_sent-end : goal.slice_bounds-find_sent-end
-slice_bounds-find_sent-end c =
-    omega arith
-
-pub slice_bounds-find_sent-end-2 : goal.slice_bounds-find_sent-end-2
-slice_bounds-find_sent-end-2 c =
-    omega arith
-
-pub slice_bounds-find_sent-end-4 : goal.slice_bounds-find_sent-end-4
-slice_bounds-find_sent-end-4 c =
-    omega arith
-
-pub slice_bounds-find_sent-end-5 : goal.slice_bounds-find_sent-end-5
-slice_bounds-find_sent-end-5 c =
-    omega arith
 
 pub find_sent-requires : goal.find_sent-requires
 find_sent-requires c =
@@ -142,14 +114,6 @@ put_front-s-requires c =
       omega (arith, sent_is _ _ _ _ p.first _ _ c.find_sent.ensures.1 most_parts (omega arith), plan.fit.long),
     )
 
-pub slice_bounds-put_entries-end : goal.slice_bounds-put_entries-end
-slice_bounds-put_entries-end c =
-    omega arith
-
-pub slice_bounds-put_entries-end-2 : goal.slice_bounds-put_entries-end-2
-slice_bounds-put_entries-end-2 c =
-    omega arith
-
 pub put_entries-requires : goal.put_entries-requires
 put_entries-requires c =
     let plan = c.draw_plan-p.ensures.0 in
@@ -160,10 +124,6 @@ put_entries-requires c =
       plan.fit.near,
       omega (arith, plan.sent_few),
     )
-
-pub slice_bounds-put_rest-end : goal.slice_bounds-put_rest-end
-slice_bounds-put_rest-end c =
-    omega arith
 
 pub put_rest-requires : goal.put_rest-requires
 put_rest-requires c =
@@ -178,18 +138,6 @@ put_rest-requires c =
       start_cells _ _ _ _ _ _ _ _ c.args.b.now sn eleven zn _ c.cell_count.ensures.0 _ c.bad_field.ensures c.if-bad_field.false
           _ _ _ (prepared.1) _ _ _ plan,
     )
-
-pub slice_bounds-add_points-end-2 : goal.slice_bounds-add_points-end-2
-slice_bounds-add_points-end-2 c =
-    omega arith
-
-pub slice_bounds-add_points-end-3 : goal.slice_bounds-add_points-end-3
-slice_bounds-add_points-end-3 c =
-    omega arith
-
-pub slice_bounds-add_points-end-4 : goal.slice_bounds-add_points-end-4
-slice_bounds-add_points-end-4 c =
-    omega arith
 
 pub add_points-requires : goal.add_points-requires
 add_points-requires c =
@@ -226,6 +174,6 @@ returns c =
     outside_is _ _ _ _ _ _ _ (prepared.1) _ prepared.2 _ _ _ _ _ _ c.some_outside-outside.ensures
     sought.0 sought.1 sought.2 c.sizes_of.ensures.cells_is in
     start_written _ _ _ _ _ _ _ _ c.args.b.now sn eleven zn _ c.cell_count.ensures.0 _ c.bad_field.ensures c.if-bad_field.false
-    _ _ _ (prepared.1) _ _ _ plan _ _ _ _ _ _ _ _ _ _ _ _ _ _ _ _ _ _ _ found.1 found.0 (omega (arith, plan.sent_few))
+    _ _ _ (prepared.1) _ _ _ plan _ _ _ _ _ _ _ _ _ _ _ _ _ _ _ _ _ found.1 found.0 (omega (arith, plan.sent_few))
     c.put_front-s.ensures c.put_entries.ensures
-    c.number_order.ensures c.put_rest.ensures added.0 added.1 sought.0 sought.1 sought.2 outside c.if-b-size.false
+    c.number_order.ensures c.put_rest.ensures added.0 (rw c.copy_from_slice.ensures.after at added.1) sought.0 sought.1 sought.2 outside c.if-b-size.false
