@@ -11,26 +11,19 @@ use layout::limits::MOST_PARTS;
 use part_state::inner::{BEFORE_EXPORTS, BEFORE_IMPORTS, TAKEN, WRITTEN, count_between};
 
 // Whether nothing is to be taken from (written to) part j, or its flag is set.
+#[tactic(auto, unfolding(crate::specs::Opened::settled_at))]
 fn settled(lists: &[u8], b: &[u8], ends: usize, flags: usize, j: usize) -> bool
     requires { (ends < 65536) × (flags < 1000000) × (j < 65536) }
     ensures { result ≡ settled_at lists.now b.now ends flags j }
 {
-    if count_between(lists, ends + j) < 1 {
-        return true;
-    }
-    byte_at(b, flags + j) == 1
+    count_between(lists, ends + j) == 0 || byte_at(b, flags + j) == 1
 }
 
 fn all_settled(lists: &[u8], b: &[u8], ends: usize, flags: usize) -> bool
     requires { (ends < 65536) × (flags < 1000000) }
     ensures { result ≡ every 1 most_parts (settled_at lists.now b.now ends flags) }
 {
-    for j in 1..MOST_PARTS + 1 {
-        if !settled(lists, b, ends, flags, j) {
-            return false;
-        }
-    }
-    true
+    (1..MOST_PARTS + 1).all(|j| settled(lists, b, ends, flags, j))
 }
 
 // Whether a message was taken from every part that is imported from, in the state b whose lists end at `changes`.

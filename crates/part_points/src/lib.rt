@@ -30,12 +30,7 @@ fn some_outside(lists: &[u8], sizes: Sizes) -> bool
     ensures { result ≡ some 0 (point_cells lists.now) (unread_at lists.now) }
 {
     let at = sizes.point_cells_word();
-    for t in 0..sizes.around {
-        if word_in(lists, 2 * (at + t)) == 0 {
-            return true;
-        }
-    }
-    false
+    (0..sizes.around).any(|t| word_in(lists, 2 * (at + t)) == 0)
 }
 
 // The first of points' tests after 20 that refuses. The output has `room` bytes.
