@@ -267,7 +267,7 @@ module _ (lists b : Bytes) (changes room n : ℕ) (ne : n ≡ points_rest (lists
   points_room z C = omega (arith, ltb-false room (6 * (lists_in lists).points) room_there, count_is lists z C)
 
 module _ (b out : Bytes) where
-  abbrev pub Answered : Answer → Bytes → Type 0
+  abbrev Answered : Answer → Bytes → Type 0
   Answered r x = (r ≡ points_answer b out) × (x ≡ points_out b out)
 
   abbrev given : Bytes
@@ -281,20 +281,31 @@ module _ (b out : Bytes) where
   unfolding points_answer points_out
   done = accepts (points_number b out) (lists_of b).points given out
 
-  module _ (lists : Bytes) (changes : ℕ) (o : Opened lists changes b) (n : ℕ) (ne : n ≡ points_rest (lists_in lists) changes b (length out)) where
-    number_here : points_number b out ≡ points_rest (lists_of b) (dynamic b) b (length out)
-    unfolding points_number points_tests_in points_rest
-    number_here = simp (good_state lists changes b o)
+-- by what the opened state has of the bytes
+module _ (b out lists : Bytes) {changes : ℕ} {was : Bytes} (opened : Opened lists changes was) (at : was ≡ b) (n : ℕ) (ne : n ≡ points_rest (lists_in lists) changes was (length out)) where
+  o : Opened lists changes b
+  o = subst (λ x. Opened lists changes x) at opened
 
-    number_is : points_number b out ≡ n
-    number_is = number_here ∙ ap₂ (λ (L : Lists) p. points_rest L p b (length out)) (lists_is lists changes b o) (sym o.place_is) ∙ sym ne
+  number_here : points_number b out ≡ points_rest (lists_of b) (dynamic b) b (length out)
+  unfolding points_number points_tests_in points_rest
+  number_here = simp (good_state lists changes b o)
 
-    pub told_refused : (n ≡ 0 → ⊥) → Answered (Refused n) out
-    told_refused = refused n number_is
+  number_is : points_number b out ≡ n
+  number_is =
+      number_here
+      ∙ ap₂ (λ (L : Lists) p. points_rest L p b (length out)) (lists_is lists changes b o) (sym o.place_is)
+      ∙ sym (ne ∙ ap (λ x. points_rest (lists_in lists) changes x (length out)) at)
 
-    pub told_done : n ≡ 0 → (z : Sizes) → Counts lists z → (y : Bytes) → y ≡ over out 0 (points_given (lists_in lists) changes b) → Answered (Done z.points) y
-    told_done nz z C y e =
-        let a = done (number_is ∙ nz) in (
-          ap Done (sym (ap (λ (L : Lists). L.points) (lists_is lists changes b o) ∙ count_is lists z C)) ∙ a.0,
-          e ∙ ap₂ (λ (L : Lists) p. over out 0 (points_given L p b)) (sym (lists_is lists changes b o)) o.place_is ∙ a.1,
-        )
+  pub told_refused : (n ≡ 0 → ⊥) → (Refused n ≡ points_answer b out) × (out ≡ points_out b out)
+  told_refused = refused b out n number_is
+
+  pub told_done : n ≡ 0 → (z : Sizes) → Counts lists z → (y : Bytes) → y ≡ over out 0 (points_given (lists_in lists) changes was)
+      → (Done z.points ≡ points_answer b out) × (y ≡ points_out b out)
+  told_done nz z C y e =
+      let a = done b out (number_is ∙ nz) in (
+        ap Done (sym (ap (λ (L : Lists). L.points) (lists_is lists changes b o) ∙ count_is lists z C)) ∙ a.0,
+        e
+            ∙ ap (λ x. over out 0 (points_given (lists_in lists) changes x)) at
+            ∙ ap₂ (λ (L : Lists) p. over out 0 (points_given L p b)) (sym (lists_is lists changes b o)) o.place_is
+            ∙ a.1,
+      )
