@@ -1,18 +1,22 @@
 -- What a call knows of an accepted state, its lists cut off at `changes`. Assumes nothing.
-use mathlib.Core.Path.{◌≡◌, refl, sym, ap, ap₂, ◌∙◌}
+use mathlib.Core.Path.{◌≡◌, refl, sym, ap, ap₂, ◌∙◌, subst}
 use mathlib.Core.Bool.{Bool, true, false, not, cond}
 use Prim.Native.Nat.{ℕ, ◌+◌, ◌-◌, ◌*◌, ◌≤◌, ◌<◌}
 use native.Mathlib.Omega.{arith}
 use lib.Dec.{eqb}
 use lib.ListN.{length, take, drop}
+use lib.Seq.{length-take-le}
 use borrow.Author.Tests.{not-false}
 use Rattle.vocabulary.specs.Bytes.{Bytes}
 use Rattle.vocabulary.specs.Intervals.{is_up_to, blocks}
 use Rattle.vocabulary.proofs.IntervalLaws.{up_to_true}
 use Rattle.layout.specs.Words.{word_at}
 use Rattle.layout.specs.Answers.{answer}
-use Rattle.layout.proofs.AnswerLaws.{refuses}
-use Rattle.layout.specs.Answers.{Refused}
+use Rattle.layout.proofs.AnswerLaws.{refuses, exit_answer}
+use Rattle.layout.specs.Answers.{Refused, answer_of, refusal_number}
+use Rattle.layout.specs.declared.refusal.Refusal.{Refusal}
+use Rattle.std.specs.Prelude.{Result}
+use Rattle.std.specs.Result.{IsErrAnd}
 use Rattle.layout.specs.Limits.{most_parts}
 use Rattle.depths.specs.Depths.{four}
 use Rattle.depths.proofs.DepthLaws.{fours_of}
@@ -37,32 +41,31 @@ module _ (lists : Bytes) (changes : ℕ) (b : Bytes) (o : Opened lists changes b
   unfolding lists_of
   lists_is = ap lists_in (ap (λ x. take x b) (sym o.place_is) ∙ sym o.lists_are)
 
--- the first `changes` bytes, as they are cut
-pub cut : (b : Bytes) (changes : ℕ) → take (changes - 0) (drop 0 b) ≡ take changes b
-cut b changes = let p : changes - 0 ≡ changes = omega arith in ap (λ k. take k b) p
-
-pub opened_cut : (b : Bytes) (changes : ℕ) → Opened (take changes b) changes b → Opened (take (changes - 0) (drop 0 b)) changes b
-opened_cut b changes o = record { lists_are = cut b changes; place_is = o.place_is; place_small = o.place_small; state = o.state }
-
 -- the state that a call found by its test
 module _ (b : Bytes) (x : ℕ) (u : Bool) (ue : u ≡ is_state b) (uf : not u ≡ false) (e : x ≡ word_at b 0) (s : x < 65536) where
   pub opened_here : Opened (take (2 * x) b) (2 * x) b
   opened_here = record { lists_are = refl; place_is = ap (λ k. 2 * k) e; place_small = omega arith; state = sym ue ∙ not-false u uf }
 
-  pub opened : Opened (take (2 * x - 0) (drop 0 b)) (2 * x) b
-  opened = record { lists_are = cut b (2 * x); place_is = ap (λ k. 2 * k) e; place_small = omega arith; state = sym ue ∙ not-false u uf }
-
   pub opened_room : 2 * x ≤ length b
   opened_room = omega (arith, long (take (2 * x) b) (2 * x) b opened_here)
+
+  pub opened_end : 2 * x ≡ length (take (2 * x) b)
+  opened_end = sym (length-take-le (2 * x) b opened_room)
+
+  -- the same, where the lists are cut off
+  pub opened_cut : Opened (take (2 * x) b) (length (take (2 * x) b)) b
+  opened_cut = subst (λ k. Opened (take (2 * x) b) k b) opened_end opened_here
 
 pub not_state : (b : Bytes) (u : Bool) → u ≡ is_state b → not u ≡ true → bad20 b ≡ true
 unfolding bad20
 not_state b u ue ut = ap not (sym ue) ∙ ut
 
--- a call's first test, where it refuses
-pub told_20 : (b : Bytes) (k count : ℕ) (new old : Bytes) (u : Bool) → u ≡ is_state b → not u ≡ true
-    → (Refused 20 ≡ answer (cond (bad20 b) 20 k) count) × (old ≡ cond (eqb (cond (bad20 b) 20 k) 0) new old)
-told_20 b k count new old u ue ut = refuses (cond (bad20 b) 20 k) count new old 20 (simp (not_state b u ue ut)) (λ z. omega (arith, z))
+-- a call that finds no state refuses first
+pub told_20 : (b : Bytes) (k count : ℕ) (new old : Bytes) (e : Refusal) (r : Result ℕ Refusal) → IsErrAnd r (λ x. x ≡ e) → (refusal_number e ≡ 20) × (bad20 b ≡ true)
+    → (answer_of r ≡ answer (cond (bad20 b) 20 k) count) × (old ≡ cond (eqb (cond (bad20 b) 20 k) 0) new old)
+told_20 b k count new old e r x q =
+    let told = refuses (cond (bad20 b) 20 k) count new old 20 (simp q.1) (λ z. omega (arith, z)) in
+    (exit_answer e r 20 x q.0 ∙ told.0, told.1)
 
 pub good_state : (lists : Bytes) (changes : ℕ) (b : Bytes) → Opened lists changes b → bad20 b ≡ false
 unfolding bad20

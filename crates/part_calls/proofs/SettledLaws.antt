@@ -1,11 +1,10 @@
 -- Imports taken and exports written, by the ends and the flags that the code reads. Assumes nothing.
 use mathlib.Core.Path.{◌≡◌, refl, sym, ap₂, ◌∙◌}
-use mathlib.Core.Bool.{Bool, true, not, ◌&&◌, ◌||◌}
-use Prim.Native.Nat.{ℕ, ◌+◌, ◌-◌, ◌≤◌, ◌<◌}
+use mathlib.Core.Bool.{Bool, not, ◌&&◌, ◌||◌}
+use Prim.Native.Nat.{ℕ, ◌+◌, ◌-◌, ◌<◌}
 use native.Mathlib.Omega.{arith}
 use lib.Dec.{eqb, ltb}
 use lib.ListN.{length}
-use borrow.Author.Tests.{lt-ltb, le-ltb}
 use Rattle.vocabulary.specs.Bytes.{Bytes, byte_at}
 use Rattle.vocabulary.specs.Intervals.{is_up_to, every}
 use Rattle.vocabulary.proofs.IntervalLaws.{every_cong, up_to_intro, listed_length}
@@ -15,15 +14,6 @@ use Rattle.part_state.specs.State.{lists_in, export_end, export_at, local_export
 use Rattle.part_calls.specs.Calls.{imports_from, exports_to, all_taken, all_written}
 use Rattle.part_calls.specs.Opened.{settled_at}
 use Rattle.part_state.specs.Checks.{before_imports, before_exports, taken_flags, written_flags}
-
-module _ (lists b : Bytes) (ends flags j n : ℕ) (ne : n ≡ word_at lists (ends + j + 1) - word_at lists (ends + j)) where
-  pub settled_none : n < 1 → true ≡ settled_at lists b ends flags j
-  unfolding settled_at
-  settled_none h = let z : n ≤ 0 = omega arith in simp (sym ne, le-ltb 0 n z)
-
-  pub settled_some : (x : ℕ) → 1 ≤ n → x ≡ byte_at b (flags + j) → eqb x 1 ≡ settled_at lists b ends flags j
-  unfolding settled_at
-  settled_some x h e = simp (sym ne, lt-ltb 0 n h, sym e)
 
 -- the same of all parts, where n j is what is between the ends of part j
 settled_are : (lists b : Bytes) (ends flags : ℕ) (n : ℕ → ℕ) → ((j : ℕ) → n j ≡ word_at lists (ends + 1 + j) - word_at lists (ends + 1 + (j - 1)))

@@ -15,7 +15,5 @@ pub fn clear(b: &mut [u8], at: usize, n: usize)
     requires { at + n ≤ length b.old }
     ensures { b.new ≡ over b.old at (replicate n 0) }
 {
-    for k in 0..n {
-        b[at + k] = 0;
-    }
+    b[at..at + n].fill(0);
 }

@@ -4,3 +4,4 @@
 mod flags;
 pub mod inner;
 mod settled;
+mod state;

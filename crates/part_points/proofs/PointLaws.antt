@@ -8,13 +8,13 @@ use native.Mathlib.Omega.{arith}
 use lib.Dec.{eqb, ltb}
 use lib.ListN.{length}
 use lib.Seq.{length-take-le}
-use borrow.Author.Tests.{eqb-false, eq-eqb, ne_eqb, lt-ltb, le-ltb, ltb-true, ltb-false, not-true, not-false}
+use borrow.Author.Tests.{eqb-true, eqb-false, eq-eqb, ne_eqb, lt-ltb, le-ltb, ltb-true, ltb-false, not-true, not-false}
 use Rattle.vocabulary.specs.Bytes.{Bytes, over}
 use Rattle.vocabulary.proofs.ByteLaws.{over_more}
 use Rattle.vocabulary.specs.Lists.{some_of}
 use Rattle.vocabulary.proofs.ListLaws.{or_nothing, or_assoc}
 use Rattle.vocabulary.specs.Intervals.{some, listed, blocks}
-use Rattle.vocabulary.proofs.IntervalLaws.{some_cong, some_at, some_stop, some_turn, some_of_listed, listed_map, listed_moved, rows_length, blocks_turn}
+use Rattle.vocabulary.proofs.IntervalLaws.{some_cong, some_at, some_of_listed, listed_map, listed_moved, rows_length, blocks_turn}
 use Rattle.vocabulary.specs.Tests.{refuse}
 use Rattle.vocabulary.proofs.TestLaws.{passed_by}
 use Rattle.layout.specs.Words.{word, word_at, word_bytes}
@@ -53,16 +53,13 @@ module _ (lists : Bytes) (z : Sizes) (F : Fitting lists z) (at : ℕ) (ae : at �
       sym (we ∙ word_of lists (2 * (at + t)) (point_cells_word (held_count lists) (owned_count lists) (reach_count lists) (export_count lists) (point_count lists) + t)
       (omega (arith, ae, F.counts.held_is, F.counts.owned_is, F.counts.reached_is, F.counts.sent_is, F.counts.points_is)))
 
-  pub unread_stop : (n : ℕ) → n ≡ point_cells lists → t < n → w ≡ 0 → true ≡ some 0 (point_cells lists) (unread_at lists)
+  pub unread_told : (r : Bool) → r ≡ eqb w 0 → r ≡ unread_at lists t
   unfolding unread_at
-  unread_stop n c h e = some_stop (unread_at lists) (point_cells lists) t true (omega (arith, c)) (sym (eq-eqb 0 _ (sym (read_is ∙ e)))) refl
-
-  pub unread_turn : some 0 t (unread_at lists) ≡ false → (w ≡ 0 → ⊥) → some 0 (t + 1) (unread_at lists) ≡ false
-  unfolding unread_at
-  unread_turn i n = some_turn (unread_at lists) (point_cells lists) t false i (sym (ne_eqb 0 _ (λ e. n (sym (e ∙ read_is))))) refl
-
-pub unread_end : (lists : Bytes) (n t : ℕ) → n ≡ point_cells lists → t ≤ n → n ≤ t → some 0 t (unread_at lists) ≡ false → false ≡ some 0 (point_cells lists) (unread_at lists)
-unread_end lists n t c g h i = let e : t ≡ point_cells lists = omega (arith, c) in sym i ∙ ap (λ k. some 0 k (unread_at lists)) e
+  unread_told r e = e ∙ turned (eqb w 0) refl ∙ ap (eqb 0) (sym read_is)
+    where
+      turned : (b : Bool) → eqb w 0 ≡ b → b ≡ eqb 0 w
+      turned true q = sym (eq-eqb 0 w (sym (eqb-true _ _ q)))
+      turned false q = sym (ne_eqb 0 w (λ e. eqb-false _ _ q (sym e)))
 
 -- the first k, then j more
 some_split : (a : ℕ) (p : ℕ → Bool) (k j : ℕ) → some a (k + j) p ≡ some a k p || some (a + k) j p
@@ -270,7 +267,7 @@ module _ (lists b : Bytes) (changes room n : ℕ) (ne : n ≡ points_rest (lists
   points_room z C = omega (arith, ltb-false room (6 * (lists_in lists).points) room_there, count_is lists z C)
 
 module _ (b out : Bytes) where
-  abbrev pub Answered : Answer → Bytes → Type 0
+  abbrev Answered : Answer → Bytes → Type 0
   Answered r x = (r ≡ points_answer b out) × (x ≡ points_out b out)
 
   abbrev given : Bytes
@@ -284,20 +281,31 @@ module _ (b out : Bytes) where
   unfolding points_answer points_out
   done = accepts (points_number b out) (lists_of b).points given out
 
-  module _ (lists : Bytes) (changes : ℕ) (o : Opened lists changes b) (n : ℕ) (ne : n ≡ points_rest (lists_in lists) changes b (length out)) where
-    number_here : points_number b out ≡ points_rest (lists_of b) (dynamic b) b (length out)
-    unfolding points_number points_tests_in points_rest
-    number_here = simp (good_state lists changes b o)
+-- by what the opened state has of the bytes
+module _ (b out lists : Bytes) {changes : ℕ} {was : Bytes} (opened : Opened lists changes was) (at : was ≡ b) (n : ℕ) (ne : n ≡ points_rest (lists_in lists) changes was (length out)) where
+  o : Opened lists changes b
+  o = subst (λ x. Opened lists changes x) at opened
 
-    number_is : points_number b out ≡ n
-    number_is = number_here ∙ ap₂ (λ (L : Lists) p. points_rest L p b (length out)) (lists_is lists changes b o) (sym o.place_is) ∙ sym ne
+  number_here : points_number b out ≡ points_rest (lists_of b) (dynamic b) b (length out)
+  unfolding points_number points_tests_in points_rest
+  number_here = simp (good_state lists changes b o)
 
-    pub told_refused : (n ≡ 0 → ⊥) → Answered (Refused n) out
-    told_refused = refused n number_is
+  number_is : points_number b out ≡ n
+  number_is =
+      number_here
+      ∙ ap₂ (λ (L : Lists) p. points_rest L p b (length out)) (lists_is lists changes b o) (sym o.place_is)
+      ∙ sym (ne ∙ ap (λ x. points_rest (lists_in lists) changes x (length out)) at)
 
-    pub told_done : n ≡ 0 → (z : Sizes) → Counts lists z → (y : Bytes) → y ≡ over out 0 (points_given (lists_in lists) changes b) → Answered (Done z.points) y
-    told_done nz z C y e =
-        let a = done (number_is ∙ nz) in (
-          ap Done (sym (ap (λ (L : Lists). L.points) (lists_is lists changes b o) ∙ count_is lists z C)) ∙ a.0,
-          e ∙ ap₂ (λ (L : Lists) p. over out 0 (points_given L p b)) (sym (lists_is lists changes b o)) o.place_is ∙ a.1,
-        )
+  pub told_refused : (n ≡ 0 → ⊥) → (Refused n ≡ points_answer b out) × (out ≡ points_out b out)
+  told_refused = refused b out n number_is
+
+  pub told_done : n ≡ 0 → (z : Sizes) → Counts lists z → (y : Bytes) → y ≡ over out 0 (points_given (lists_in lists) changes was)
+      → (Done z.points ≡ points_answer b out) × (y ≡ points_out b out)
+  told_done nz z C y e =
+      let a = done b out (number_is ∙ nz) in (
+        ap Done (sym (ap (λ (L : Lists). L.points) (lists_is lists changes b o) ∙ count_is lists z C)) ∙ a.0,
+        e
+            ∙ ap (λ x. over out 0 (points_given (lists_in lists) changes x)) at
+            ∙ ap₂ (λ (L : Lists) p. over out 0 (points_given L p b)) (sym (lists_is lists changes b o)) o.place_is
+            ∙ a.1,
+      )

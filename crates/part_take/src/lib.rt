@@ -1,23 +1,23 @@
 // Take: one message into a state.
 #![tactic(auto)]
 
-ghost use Rattle.std.specs.Prelude.{◌≡◌, false, ◌+◌, ◌*◌, ◌<◌, ◌≤◌, length, set, take};
+ghost use Rattle.std.specs.Prelude.{◌≡◌, ◌+◌, ◌*◌, ◌<◌, ◌≤◌, length, set};
 ghost use Rattle.vocabulary.specs.Bytes.{over};
 ghost use Rattle.layout.specs.Limits.{most_parts};
 ghost use Rattle.layout.specs.Answers.{answer_of, refused_as};
-ghost use Rattle.messages.specs.Messages.{depths_of, message_size, bad15};
-ghost use Rattle.messages.specs.Readings.{IsHeader};
+ghost use Rattle.messages.specs.Messages.{depths_of, message_size};
 ghost use Rattle.part_state.specs.State.{lists_in, depth_place, state_length, taken_place};
-ghost use Rattle.part_calls.specs.Opened.{Opened, bad_sender, take_rest};
+ghost use Rattle.part_calls.specs.Opened.{bad_sender, take_rest};
+ghost use Rattle.part_calls.specs.States.{lists_at, changes_at};
 ghost use Rattle.part_calls.specs.Calls.{take_answer, take_state};
 
-use layout::inner::{copy, word_in};
+use layout::inner::copy;
 use layout::limits::MOST_PARTS;
 use layout::{Refusal, byte_at, word_at};
 use messages::{HEADER_SIZE, Header, read};
-use part_calls::inner::set_flag;
-use part_state::inner::{BEFORE_IMPORTS, DEPTH, LENGTH, PART, TAKEN, count_between};
-use part_state::{is_state, up_to};
+use part_calls::inner::{State, set_flag};
+use part_state::inner::{BEFORE_IMPORTS, DEPTH, PART, TAKEN, count_between};
+use part_state::up_to;
 
 // Whether a message with these words is no message to this part from one that it imports from, with as many depths (21).
 fn bad_sender(lists: &[u8], header: Header) -> bool
@@ -37,17 +37,16 @@ fn bad_sender(lists: &[u8], header: Header) -> bool
 }
 
 // The first of take's tests of a message's words that refuses it.
-fn test_header(b: &[u8], changes: usize, header: Header) -> Result<(), Refusal>
-    requires { Opened (take changes b.now) changes b.now }
-    ensures { refused_as result ≡ take_rest (lists_in (take changes b.now)) changes b.now header.from header.to header.round header.count }
+fn test_header(s: State, header: Header) -> Result<(), Refusal>
+    ensures { refused_as result ≡ take_rest (lists_at s.entry) (changes_at s.entry) s.entry.bytes.now header.from header.to header.round header.count }
 {
-    if bad_sender(&b[0..changes], header) {
+    if bad_sender(s.lists, header) {
         return Err(Refusal::Sender);
     }
-    if header.round != word_in(b, changes) {
+    if header.round != s.round() {
         return Err(Refusal::MessageRound);
     }
-    if byte_at(b, changes + TAKEN + header.from) == 1 {
+    if byte_at(s.bytes, s.lists.len() + TAKEN + header.from) == 1 {
         return Err(Refusal::AlreadyTaken);
     }
     Ok(())
@@ -68,17 +67,6 @@ fn store(b: &mut [u8], changes: usize, from: usize, before: usize, x: &[u8], cou
     );
 }
 
-// Take on a state whose lists end at `changes`, of a message with these words.
-fn take_in(b: &mut [u8], changes: usize, header: Header, x: &[u8]) -> Result<u32, Refusal>
-    requires { Opened (take changes b.old) changes b.old × (bad15 x.now ≡ false) × IsHeader x.now header }
-    ensures { (answer_of result ≡ take_answer b.old x.now) × (b.new ≡ take_state b.old x.now) }
-{
-    test_header(b, changes, header)?;
-    let before = word_at(&b[0..changes], BEFORE_IMPORTS + header.from);
-    store(b, changes, header.from, before, x, header.count);
-    Ok(0)
-}
-
 // Takes one message into a state.
 pub fn take(b: &mut [u8], x: &[u8]) -> Result<u32, Refusal>
     ensures { (answer_of result ≡ take_answer b.old x.now) × (b.new ≡ take_state b.old x.now) }
@@ -86,9 +74,10 @@ pub fn take(b: &mut [u8], x: &[u8]) -> Result<u32, Refusal>
     let Ok(header) = read(x) else {
         return Err(Refusal::Message);
     };
-    if !is_state(b) {
-        return Err(Refusal::State);
-    }
-    let changes = 2 * word_at(b, LENGTH);
-    take_in(b, changes, header, x)
+    let s = State::open(b)?;
+    test_header(s, header)?;
+    let before = word_at(s.lists, BEFORE_IMPORTS + header.from);
+    let changes = s.lists.len();
+    store(b, changes, header.from, before, x, header.count);
+    Ok(0)
 }

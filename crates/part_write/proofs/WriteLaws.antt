@@ -1,11 +1,11 @@
 -- Write, by the tests and the loop of the code. Assumes nothing.
-use mathlib.Core.Path.{◌≡◌, refl, sym, ap, ap₂, ◌∙◌}
+use mathlib.Core.Path.{◌≡◌, refl, sym, ap, ap₂, ◌∙◌, subst}
 use mathlib.Core.Bool.{Bool, true, false, not, ◌&&◌, cond}
 use mathlib.Core.List.{[], ◌∷◌, ◌++◌, map}
 use Prim.Native.Nat.{ℕ, ◌+◌, ◌-◌, ◌≤◌, ◌<◌}
 use native.Mathlib.Omega.{arith}
 use lib.Dec.{ltb}
-use lib.ListN.{length, set, take, drop, length-map}
+use lib.ListN.{length, set, length-map}
 use borrow.Author.Tests.{lt-ltb, le-ltb, not-true, not-false}
 use Rattle.vocabulary.specs.Bytes.{Bytes, over}
 use Rattle.vocabulary.proofs.ByteLaws.{over_more}
@@ -28,7 +28,7 @@ use Rattle.part_calls.proofs.EffectLaws.{message_length}
 use Rattle.part_state.specs.Checks.{export_start, Counts, before_exports}
 use Rattle.part_state.specs.declared.places.Sizes.{Sizes}
 use Rattle.part_calls.specs.Opened.{Opened, sent_to, sent_at}
-use Rattle.part_calls.proofs.OpenedLaws.{whole, own_few, long, good_state, four_cut, cut, lists_is, part_few}
+use Rattle.part_calls.proofs.OpenedLaws.{whole, own_few, long, good_state, lists_is, part_few}
 
 sent_at_lem : (lists : Bytes) (changes : ℕ) (b : Bytes) (x : ℕ) → four b (depth_place changes (export_at lists x)) ≡ sent_at lists changes b x
 unfolding sent_at
@@ -130,17 +130,15 @@ module _ (lists : Bytes) (changes : ℕ) (b : Bytes) (o : Opened lists changes b
         let p : exports_word (held_count lists) (owned_count lists) (reach_count lists) + (from + t) ≡ base + (from + t) = omega (arith, be, C.held_is, C.owned_is, C.reached_is) in
         ap (word_at lists) p ∙ sym le
 
-    pub put_room : depth_place changes l + 4 ≤ length b
-    put_room =
-        let w = (whole lists changes b o).exported (from + t) (omega arith) in
-        omega (arith, w.1, local_is, own_few lists changes b o, long lists changes b o)
+    pub put_held : l ≤ held_count lists
+    put_held = let w = (whole lists changes b o).exported (from + t) (omega arith) in omega (arith, w.1, local_is, own_few lists changes b o)
 
     pub put_turn : (out x y : Bytes) → message_size count ≤ length out → x ≡ over out header_size (blocks from t (sent_at lists changes b))
-        → y ≡ over x (depth_start t) (take 4 (drop (depth_place changes l) b))
+        → y ≡ over x (depth_start t) (four b (depth_place changes l))
         → y ≡ over out header_size (blocks from (t + 1) (sent_at lists changes b))
     put_turn out x y r e q =
         q
-        ∙ ap₂ (λ (z : Bytes) (w : Bytes). over z (depth_start t) w) e (four_cut b (depth_place changes l) put_room ∙ sent_is)
+        ∙ ap₂ (λ (z : Bytes) (w : Bytes). over z (depth_start t) w) e sent_is
         ∙ fours_store from t (sent_at lists changes b) (λ k z. sent_four (from + k)) out header_size (omega arith)
       where
         sent_is : four b (depth_place changes l) ≡ sent_at lists changes b (from + t)
@@ -158,26 +156,10 @@ message_put b out x y lists changes j count from part round o ce some room fe pe
     ∙ over_more out 0 (bytes_of (part ∷ j ∷ round ∷ count ∷ [])) (omega arith) (blocks from count (sent_at lists changes b))
     ∙ ap (over out 0) (message_is lists j count ce some changes b from part round fe pe re)
 
--- ---- the lists as they are cut
-
-module _ (b : Bytes) (j changes count : ℕ) where
-  pub sent_cut : count ≡ sent_to (lists_in (take (changes - 0) (drop 0 b))) j → count ≡ sent_to (lists_in (take changes b)) j
-  sent_cut e = e ∙ ap (λ (x : Bytes). sent_to (lists_in x) j) (cut b changes)
-
-  pub sent_whole : count ≡ sent_to (lists_in (take changes b)) j → count ≡ sent_to (lists_in (take (changes - 0) (drop 0 b))) j
-  sent_whole e = e ∙ ap (λ (x : Bytes). sent_to (lists_in x) j) (sym (cut b changes))
-
-  pub message_cut : (out y : Bytes) → y ≡ over out 0 (message_to (lists_in (take (changes - 0) (drop 0 b))) changes b j) → y ≡ over out 0 (message_to (lists_in (take changes b)) changes b j)
-  message_cut out y e = e ∙ ap (λ (x : Bytes). over out 0 (message_to (lists_in x) changes b j)) (cut b changes)
-
-  pub flag_room : Opened (take changes b) changes b → count ≡ sent_to (lists_in (take (changes - 0) (drop 0 b))) j → 1 ≤ count → (j ≤ most_parts) × (written_place changes j < length b)
-  flag_room o ce some =
-      let w = part_there (take changes b) j count (sent_cut ce) some in (w.1, omega (arith, w.1, long (take changes b) changes b o))
-
 -- ---- the answer, test by test
 
 module _ (b : Bytes) (j : ℕ) (out : Bytes) where
-  abbrev pub Answered : Answer → Bytes → Bytes → Type 0
+  abbrev Answered : Answer → Bytes → Bytes → Type 0
   Answered r x y = (r ≡ write_answer b j out) × (x ≡ write_state b j out) × (y ≡ write_out b j out)
 
   abbrev state : Bytes
@@ -195,45 +177,49 @@ module _ (b : Bytes) (j : ℕ) (out : Bytes) where
   unfolding written_in
   written_is = refl
 
-  module _ (changes : ℕ) (o : Opened (take changes b) changes b) (count : ℕ) (ce : count ≡ sent_to (lists_in (take (changes - 0) (drop 0 b))) j) where
-    count_here : count ≡ sent_to (lists_in (take changes b)) j
-    count_here = sent_cut b j changes count ce
+-- by what the opened state has of the bytes
+module _ (b : Bytes) (j : ℕ) (out lists : Bytes) {changes : ℕ} {was : Bytes} (opened : Opened lists changes was) (at : was ≡ b) (count : ℕ) (ce : count ≡ sent_to (lists_in lists) j) where
+  o : Opened lists changes b
+  o = subst (λ x. Opened lists changes x) at opened
 
-    sends : exports_to (lists_of b) j ≡ ltb 0 count
-    unfolding exports_to sent_to
-    sends = ap (λ (L : Lists). is_up_to most_parts j && ltb 0 (length (L.exports j))) (lists_is (take changes b) changes b o) ∙ go (is_up_to most_parts j) refl
-      where
-        go : (t : Bool) → is_up_to most_parts j ≡ t → t && ltb 0 (length ((lists_in (take changes b)).exports j)) ≡ ltb 0 count
-        go true e = ap (ltb 0) (sym (count_here ∙ ap (λ t. cond t (length ((lists_in (take changes b)).exports j)) 0) e))
-        go false e = ap (ltb 0) (sym (count_here ∙ ap (λ t. cond t (length ((lists_in (take changes b)).exports j)) 0) e))
+  sends : exports_to (lists_of b) j ≡ ltb 0 count
+  unfolding exports_to sent_to
+  sends = ap (λ (L : Lists). is_up_to most_parts j && ltb 0 (length (L.exports j))) (lists_is lists changes b o) ∙ go (is_up_to most_parts j) refl
+    where
+      go : (t : Bool) → is_up_to most_parts j ≡ t → t && ltb 0 (length ((lists_in lists).exports j)) ≡ ltb 0 count
+      go true e = ap (ltb 0) (sym (ce ∙ ap (λ t. cond t (length ((lists_in lists).exports j)) 0) e))
+      go false e = ap (ltb 0) (sym (ce ∙ ap (λ t. cond t (length ((lists_in lists).exports j)) 0) e))
 
-    number_27 : count < 1 → write_number b j out ≡ 27
-    unfolding write_number write_tests_in
-    number_27 h = let z : count ≤ 0 = omega arith in simp (good_state (take changes b) changes b o, sends, le-ltb 0 count z)
+  number_27 : count < 1 → write_number b j out ≡ 27
+  unfolding write_number write_tests_in
+  number_27 h = let z : count ≤ 0 = omega arith in simp (good_state lists changes b o, sends, le-ltb 0 count z)
 
-    pub told_27 : count < 1 → Answered (Refused 27) b out
-    told_27 h = refused 27 (number_27 h) (λ z. omega (arith, z))
+  pub told_27 : count < 1 → (Refused 27 ≡ write_answer b j out) × (b ≡ write_state b j out) × (out ≡ write_out b j out)
+  told_27 h = refused b j out 27 (number_27 h) (λ z. omega (arith, z))
 
-    module _ (some : 1 ≤ count) where
-      message_here : message_to (lists_in (take changes b)) changes b j ≡ message b j
-      unfolding message
-      message_here = ap₂ (λ (L : Lists) p. message_to L p b j) (sym (lists_is (take changes b) changes b o)) o.place_is
+  module _ (some : 1 ≤ count) where
+    pub flag_room : (j ≤ most_parts) × (written_place changes j < length b)
+    flag_room = let w = part_there lists j count ce some in (w.1, omega (arith, w.1, long lists changes b o))
 
-      size_is : length (message b j) ≡ message_size count
-      size_is = ap length (sym message_here) ∙ message_length (lists_in (take changes b)) changes b j ∙ ap (λ n. message_size n) (sym (count_is (take changes b) j count count_here some))
+    message_here : message_to (lists_in lists) changes b j ≡ message b j
+    unfolding message
+    message_here = ap₂ (λ (L : Lists) p. message_to L p b j) (sym (lists_is lists changes b o)) o.place_is
 
-      number_last : (x : Bool) → ltb (length out) (message_size count) ≡ x → write_number b j out ≡ cond x 16 0
-      unfolding write_number write_tests_in message
-      number_last x e = simp (good_state (take changes b) changes b o, sends, lt-ltb 0 count some, size_is, e)
+    size_is : length (message b j) ≡ message_size count
+    size_is = ap length (sym message_here) ∙ message_length (lists_in lists) changes b j ∙ ap (λ n. message_size n) (sym (count_is lists j count ce some))
 
-      pub told_16 : length out < message_size count → Answered (Refused 16) b out
-      told_16 h = refused 16 (number_last true (lt-ltb _ _ h)) (λ z. omega (arith, z))
+    number_last : (x : Bool) → ltb (length out) (message_size count) ≡ x → write_number b j out ≡ cond x 16 0
+    unfolding write_number write_tests_in message
+    number_last x e = simp (good_state lists changes b o, sends, lt-ltb 0 count some, size_is, e)
 
-      pub told_done : message_size count ≤ length out → (x y : Bytes) → y ≡ over out 0 (message_to (lists_in (take changes b)) changes b j) → x ≡ set b (written_place changes j) 1
-          → Answered (Done (message_size count)) x y
-      told_done h x y ye xe =
-          let a = done (number_last false (le-ltb _ _ h)) in (
-            ap Done (sym size_is) ∙ a.0,
-            xe ∙ ap (λ p. set b (written_place p j) 1) o.place_is ∙ written_is ∙ a.1,
-            ye ∙ ap (over out 0) message_here ∙ a.2,
-          )
+    pub told_16 : length out < message_size count → (Refused 16 ≡ write_answer b j out) × (b ≡ write_state b j out) × (out ≡ write_out b j out)
+    told_16 h = refused b j out 16 (number_last true (lt-ltb _ _ h)) (λ z. omega (arith, z))
+
+    pub told_done : message_size count ≤ length out → (x y : Bytes) → y ≡ over out 0 (message_to (lists_in lists) changes was j) → x ≡ set b (written_place changes j) 1
+        → (Done (message_size count) ≡ write_answer b j out) × (x ≡ write_state b j out) × (y ≡ write_out b j out)
+    told_done h x y ye xe =
+        let a = done b j out (number_last false (le-ltb _ _ h)) in (
+          ap Done (sym size_is) ∙ a.0,
+          xe ∙ ap (λ p. set b (written_place p j) 1) o.place_is ∙ written_is b j out ∙ a.1,
+          ye ∙ ap (λ x. over out 0 (message_to (lists_in lists) changes x j)) at ∙ ap (over out 0) message_here ∙ a.2,
+        )

@@ -1,23 +1,24 @@
 -- `part_collect::collect` meets its contract. Assumes nothing.
-use mathlib.Core.Path.{ap}
-use mathlib.Core.Bool.{not}
-use Rattle.part_calls.specs.Calls.{collect_tests_in}
-use Rattle.part_calls.specs.Calls.{collect_number}
-use Rattle.part_calls.specs.Calls.{collect_answer}
-use Rattle.part_calls.specs.Calls.{collect_out}
-use Rattle.part_calls.proofs.OpenedLaws.{opened, opened_room, told_20}
+use Rattle.part_calls.specs.Calls.{collect_tests_in, collect_number, collect_answer, collect_out}
+use Rattle.part_calls.proofs.OpenedLaws.{told_20}
+use Rattle.part_collect.proofs.CollectLaws.{told_28, told_16, told_done}
 use Rattle.part_collect.proofs.collect.Goals as goal
 
-pub returns-then-not-is_state : goal.returns-then-not-is_state
+pub returns-in_err-s : goal.returns-in_err-s
 unfolding collect_tests_in collect_number collect_answer collect_out
-returns-then-not-is_state c = told_20 _ _ _ _ _ _ c.is_state.ensures (ap not c.if-not-is_state.true)
+returns-in_err-s c = told_20 _ _ _ _ _ _ _ c.from_residual.ensures.1 c.in_err-s.ensures.refused
 
-pub slice_bounds-collect_from-end : goal.slice_bounds-collect_from-end
-unfolding collect_tests_in collect_number collect_answer collect_out
-slice_bounds-collect_from-end c = opened_room _ _ _ c.is_state.ensures (ap not c.if-not-is_state.false) c.word_at-changes.ensures.0 c.word_at-changes.ensures.1
+pub returns-then-round-k : goal.returns-then-round-k
+returns-then-round-k c =
+    let s = c.in_ok-s.s in
+    told_28 _ _ _ _ s.opened c.in_ok-s.ensures.opened _ c.round.ensures.0 c.if-round-k.true
 
-pub collect_from-requires : goal.collect_from-requires
-unfolding collect_tests_in collect_number collect_answer collect_out
-collect_from-requires c =
-    opened _ _ _ c.is_state.ensures (ap not c.if-not-is_state.false) c.word_at-changes.ensures.0
-    c.word_at-changes.ensures.1
+pub returns-then-f-word_at : goal.returns-then-f-word_at
+returns-then-f-word_at c =
+    let s = c.in_ok-s.s in
+    told_16 _ _ _ _ s.opened c.in_ok-s.ensures.opened _ c.round.ensures.0 c.if-round-k.false _ c.word_at.ensures.0 c.if-f-word_at.true
+
+pub returns : goal.returns
+returns c =
+    let s = c.in_ok-s.s in
+    told_done _ _ _ _ s.opened c.in_ok-s.ensures.opened _ c.round.ensures.0 c.if-round-k.false _ c.word_at.ensures.0 c.if-f-word_at.false _ c.gather.ensures _ c.word_at-2.ensures.0

@@ -1,21 +1,27 @@
 -- `part_points::points` meets its contract. Assumes nothing.
-use mathlib.Core.Path.{ap}
-use mathlib.Core.Bool.{not}
-use Rattle.part_calls.specs.Calls.{points_tests_in}
-use Rattle.part_calls.specs.Calls.{points_number}
-use Rattle.part_calls.specs.Calls.{points_answer}
-use Rattle.part_calls.specs.Calls.{points_out}
-use Rattle.part_calls.proofs.OpenedLaws.{opened, opened_room, told_20}
+use mathlib.Core.Path.{refl, ◌∙◌}
+use Rattle.layout.proofs.AnswerLaws.{exit_answer, exit_some}
+use Rattle.part_calls.specs.Calls.{points_tests_in, points_number, points_answer, points_out}
+use Rattle.part_calls.proofs.OpenedLaws.{told_20}
+use Rattle.part_points.proofs.PointLaws.{told_refused, all_read, points_room, told_done}
 use Rattle.part_points.proofs.points.Goals as goal
 
-pub returns-then-not-is_state : goal.returns-then-not-is_state
+pub returns-in_err-s : goal.returns-in_err-s
 unfolding points_tests_in points_number points_answer points_out
-returns-then-not-is_state c = told_20 _ _ _ _ _ _ c.is_state.ensures (ap not c.if-not-is_state.true)
+returns-in_err-s c = told_20 _ _ _ _ _ _ _ c.from_residual.ensures.1 c.in_err-s.ensures.refused
 
-pub slice_bounds-points_from-end : goal.slice_bounds-points_from-end
-unfolding points_tests_in points_number points_answer points_out
-slice_bounds-points_from-end c = opened_room _ _ _ c.is_state.ensures (ap not c.if-not-is_state.false) c.word_at-changes.ensures.0 c.word_at-changes.ensures.1
+pub returns-in_err-test_points : goal.returns-in_err-test_points
+returns-in_err-test_points c =
+    let told = told_refused _ _ _ c.in_ok-s.s.opened c.in_ok-s.ensures.opened _ c.in_err-test_points.ensures (exit_some _ _ refl) in
+    (exit_answer _ _ _ c.from_residual-in_err-test_points.ensures.1 refl ∙ told.0, told.1)
 
-pub points_from-requires : goal.points_from-requires
-unfolding points_tests_in points_number points_answer points_out
-points_from-requires c = opened _ _ _ c.is_state.ensures (ap not c.if-not-is_state.false) c.word_at-changes.ensures.0 c.word_at-changes.ensures.1
+pub put_points-requires : goal.put_points-requires
+put_points-requires c =
+    let number = c.in_ok-test_points.ensures in (
+      c.sizes_of-sizes.ensures,
+      all_read _ _ _ _ _ number refl,
+      points_room _ _ _ _ _ number refl _ c.sizes_of-sizes.ensures,
+    )
+
+pub returns : goal.returns
+returns c = told_done _ _ _ c.in_ok-s.s.opened c.in_ok-s.ensures.opened _ c.in_ok-test_points.ensures refl _ c.sizes_of-sizes.ensures _ c.put_points.ensures

@@ -6,5 +6,5 @@ use Rattle.part_points.proofs.put_point.Goals as goal
 pub returns : goal.returns
 returns c =
     let pre = c.requires in
-    point_put _ _ _ _ pre.1 _ _ _ c.points_word.ensures c.word_at-number.ensures.0 _ c.point_depth-x.ensures.0 _ _ _ _
-    (omega (arith, pre.3, pre.4, pre.5)) c.put_word.ensures c.put_value.ensures
+    point_put _ _ _ _ pre.0 _ _ _ c.points_word.ensures c.word_at-number.ensures.0 _ c.point_depth-x.ensures.0 _ _ _ _
+    (omega (arith, pre.2, pre.3, pre.4)) c.put_word.ensures c.put_value.ensures

@@ -1,17 +1,10 @@
--- `part_points::some_outside` meets its contract. The invariant: every cell so far is to be read. Assumes nothing.
-use Rattle.vocabulary.proofs.IntervalLaws.{some_start}
-use Rattle.part_points.proofs.PointLaws.{unread_stop, unread_turn, unread_end}
+-- `part_points::some_outside` meets its contract. Assumes nothing.
+use native.Mathlib.Omega.{arith}
+use Rattle.vocabulary.proofs.IteratorLaws.{some_ran}
 use borrow.Author.Rules.{rules}
+use borrow.Author.Tests.{tests}
+use Rattle.part_points.proofs.PointLaws.{unread_told}
 use Rattle.part_points.proofs.some_outside.Goals as goal
 
-pub loop-t-init : goal.loop-t-init
-loop-t-init c = (search rules, search rules, search some_start)
-
-pub returns-then-word_in-eq0 : goal.returns-then-word_in-eq0
-returns-then-word_in-eq0 c = search unread_stop
-
-pub loop-t-preserved : goal.loop-t-preserved
-loop-t-preserved c = (search rules, search rules, search unread_turn)
-
 pub returns : goal.returns
-returns c = search unread_end
+returns c = some_ran c.any.ensures.ran (omega (arith, c.requires.counts.around_is)) (λ x t q k. search (rules, tests, unread_told _ _ c.requires _ c.point_cells_word-at.ensures))

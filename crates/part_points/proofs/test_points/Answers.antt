@@ -4,24 +4,19 @@ use mathlib.Core.Bool.{not}
 use Rattle.part_points.proofs.PointLaws.{fitting, rest_24, rest_29, rest_16, rest_none}
 use Rattle.part_points.proofs.test_points.Goals as goal
 
-pub all_taken-requires : goal.all_taken-requires
-all_taken-requires c = c.requires.0.place_small
-
 pub returns-then-not-all_taken : goal.returns-then-not-all_taken
 returns-then-not-all_taken c = search rest_24
 
 pub some_outside-requires : goal.some_outside-requires
-some_outside-requires c = let pre = c.requires in fitting _ _ _ pre.0 _ pre.1
+some_outside-requires c = fitting _ _ _ c.args.s.opened _ c.requires
 
 pub returns-then-some_outside : goal.returns-then-some_outside
 returns-then-some_outside c = search rest_29
 
 pub returns-then-room-sizes : goal.returns-then-room-sizes
 returns-then-room-sizes c =
-    let pre = c.requires in
-    rest_16 _ _ _ pre.0 _ c.all_taken.ensures _ (ap not c.if-not-all_taken.false) _ c.some_outside.ensures c.if-some_outside.false _ pre.1 c.if-room-sizes.true
+    rest_16 _ _ _ c.args.s.opened _ c.all_taken.ensures _ (ap not c.if-not-all_taken.false) _ c.some_outside.ensures c.if-some_outside.false _ c.requires c.if-room-sizes.true
 
 pub returns : goal.returns
 returns c =
-    let pre = c.requires in
-    rest_none _ _ _ pre.0 _ c.all_taken.ensures _ (ap not c.if-not-all_taken.false) _ c.some_outside.ensures c.if-some_outside.false _ pre.1 c.if-room-sizes.false
+    rest_none _ _ _ c.args.s.opened _ c.all_taken.ensures _ (ap not c.if-not-all_taken.false) _ c.some_outside.ensures c.if-some_outside.false _ c.requires c.if-room-sizes.false

@@ -6,10 +6,11 @@ use Rattle.messages.specs.Messages.{header_size}
 use Rattle.vocabulary.specs.Bytes.{over}
 use Rattle.vocabulary.specs.Intervals.{blocks}
 use Rattle.part_calls.specs.Opened.{sent_at}
+use Rattle.part_calls.specs.States.{changes_at}
 use Rattle.part_write.proofs.put_depths.Given as goal
 
 abbrev pub invariant-loop-t : goal.invariant-loop-t
-invariant-loop-t l = (l.t ≤ l.count) × (length l.out ≡ length l.initial.out) × (l.out ≡ over l.initial.out header_size (blocks l.from l.t (sent_at l.lists l.changes l.b)))
+invariant-loop-t l = (l.t ≤ l.count) × (length l.out ≡ length l.initial.out) × (l.out ≡ over l.initial.out header_size (blocks l.from l.t (sent_at l.s.lists.now (changes_at l.s) l.s.bytes.now)))
 
 abbrev pub decreases-loop-t : goal.decreases-loop-t
 decreases-loop-t l = l.count - l.t

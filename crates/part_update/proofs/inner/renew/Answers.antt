@@ -16,7 +16,7 @@ loop-l-preserved c =
       search rules,
       search rules,
       search rules,
-      renew_turn _ _ _ _ _ pre.4 _ c.loop-l.invariant.1 (omega (arith, c.loop-l-test.true, c.loop-l.invariant.0)) _ c.renew_one-x.ensures.0 _ _ c.loop-l.invariant.4
+      renew_turn _ _ _ _ _ pre.3 _ c.loop-l.invariant.1 (omega (arith, c.loop-l-test.true, c.loop-l.invariant.0)) _ c.renew_one-x.ensures.0 _ _ c.loop-l.invariant.4
           c.put_value.ensures,
     )
 

@@ -3,21 +3,21 @@ use Rattle.part_update.proofs.RenewLaws.{first_end_there, last_end_there, ends_r
 use Rattle.part_update.proofs.inner.renew_one.Goals as goal
 
 pub word_in-from-requires : goal.word_in-from-requires
-word_in-from-requires c = search first_end_there
+word_in-from-requires c = search (first_end_there _ _ _ c.args.s.opened)
 
 pub word_in-to-requires : goal.word_in-to-requires
-word_in-to-requires c = search last_end_there
+word_in-to-requires c = search (last_end_there _ _ _ c.args.s.opened)
 
 pub overflow_sub-to : goal.overflow_sub-to
 overflow_sub-to c =
     let pre = c.requires in
-    ends_rise _ _ _ pre.0 _ pre.3 _ _ _ _ _ c.reach_word.ensures c.entry_word.ensures pre.4 pre.5 c.word_in-from.ensures.0 c.word_in-to.ensures.0
+    ends_rise _ _ _ c.args.s.opened _ pre.2 _ _ _ _ _ c.reach_word.ensures c.entry_word.ensures pre.3 pre.4 c.word_in-from.ensures.0 c.word_in-to.ensures.0
 
 pub new_depth-requires : goal.new_depth-requires
 new_depth-requires c =
     let pre = c.requires in
-    renew_ready _ _ _ pre.0 _ pre.3 _ _ _ _ _ c.reach_word.ensures c.entry_word.ensures pre.4 pre.5 c.word_in-from.ensures.0 c.word_in-to.ensures.0
-    _ _ pre.1 pre.2
+    renew_ready _ _ _ c.args.s.opened _ pre.2 _ _ _ _ _ c.reach_word.ensures c.entry_word.ensures pre.3 pre.4 c.word_in-from.ensures.0 c.word_in-to.ensures.0
+    _ _ pre.0 pre.1
 
 pub returns : goal.returns
-returns c = (search renew_told, c.new_depth.ensures.1)
+returns c = (search (renew_told _ _ _ c.args.s.opened), c.new_depth.ensures.1)

@@ -1,0 +1,75 @@
+// A state that a call has opened.
+ghost use Rattle.std.specs.Prelude.{◌≡◌, ◌+◌, ◌<◌, ◌≤◌, true, length, IfOk, IfErr};
+ghost use Rattle.vocabulary.specs.Bytes.{over};
+ghost use Rattle.part_calls.specs.Opened.{Opened};
+
+use crate::settled::all_settled;
+use layout::inner::{copy, word_in};
+use layout::{Refusal, word_at};
+use part_state::inner::{BEFORE_EXPORTS, BEFORE_IMPORTS, DEPTH, LENGTH, TAKEN, WRITTEN};
+use part_state::is_state;
+
+// A state, to be read: its lists, and all its bytes. What calls change begins where the lists end.
+#[derive(Clone, Copy)]
+pub struct State<'a> {
+    pub lists: &'a [u8],
+    pub bytes: &'a [u8],
+    pub ghost opened: { Opened lists.now (length lists.now) bytes.now },
+}
+
+impl<'a> State<'a> {
+    ghost use Rattle.layout.specs.Answers.{refusal_number};
+    ghost use Rattle.part_state.specs.State.{bad20, round_at, held_count};
+    ghost use Rattle.part_calls.specs.Calls.{depth_at, all_taken, all_written};
+    ghost use Rattle.part_calls.specs.States.{lists_at, changes_at};
+
+    // Opens a state, or refuses it.
+    pub fn open(b: &'a [u8]) -> Result<State<'a>, Refusal>
+        ensures opened { IfOk result (λ s. s.bytes.now ≡ b.now) }
+        ensures refused { IfErr result (λ e. (refusal_number e ≡ 20) × (bad20 b.now ≡ true)) }
+    {
+        if !is_state(b) {
+            return Err(Refusal::State);
+        }
+        let changes = 2 * word_at(b, LENGTH);
+        Ok(State {
+            lists: &b[..changes],
+            bytes: b,
+        })
+    }
+
+    // The place of what calls change.
+    pub fn changes(self) -> usize
+        ensures { (result ≡ changes_at self.entry) × (result < 131072) }
+    {
+        self.lists.len()
+    }
+
+    pub fn round(self) -> usize
+        ensures { (result ≡ round_at self.entry.bytes.now (changes_at self.entry)) × (result < 65536) }
+    {
+        word_in(self.bytes, self.lists.len())
+    }
+
+    // Copies the depth of local cell l to a place of a buffer.
+    pub fn copy_depth(self, l: usize, out: &mut [u8], at: usize)
+        requires { (l ≤ held_count self.lists.now) × (at + 4 ≤ length out.old) }
+        ensures { out.new ≡ over out.old at (depth_at (changes_at self.entry) self.entry.bytes.now l) }
+    {
+        copy(out, at, self.bytes, self.lists.len() + DEPTH + 4 * l, 4);
+    }
+
+    // Whether a message was taken from every part that is imported from.
+    pub fn all_taken(self) -> bool
+        ensures { result ≡ all_taken (lists_at self.entry) (changes_at self.entry) self.entry.bytes.now }
+    {
+        all_settled(self.lists, self.bytes, BEFORE_IMPORTS, self.lists.len() + TAKEN)
+    }
+
+    // Whether a message was written to every part that is exported to.
+    pub fn all_written(self) -> bool
+        ensures { result ≡ all_written (lists_at self.entry) (changes_at self.entry) self.entry.bytes.now }
+    {
+        all_settled(self.lists, self.bytes, BEFORE_EXPORTS, self.lists.len() + WRITTEN)
+    }
+}
