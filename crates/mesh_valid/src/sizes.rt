@@ -35,12 +35,7 @@ fn bad_count(m: &[u8], k: usize) -> bool
 fn bad_counts(m: &[u8]) -> bool
     ensures { result ≡ some 0 4 (bad_count m.now) }
 {
-    for k in 0..4 {
-        if bad_count(m, k) {
-            return true;
-        }
-    }
-    false
+    (0..4).any(|k| bad_count(m, k))
 }
 
 fn bad2(m: &[u8]) -> bool
