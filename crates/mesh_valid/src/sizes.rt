@@ -12,14 +12,7 @@ use mesh::inner::{count_of, elements_of, record_count, top_of};
 fn bad1(m: &[u8]) -> bool
     ensures { result ≡ bad1 m.now }
 {
-    if m.len() < 12 {
-        return true;
-    }
-    let d = top_of(m);
-    if d < 1 {
-        return true;
-    }
-    3 < d
+    m.len() < 12 || !(1..=3).contains(&top_of(m))
 }
 
 // Elements of a dimension that has none, or none of one that should have some.
