@@ -6,97 +6,46 @@ use native.Mathlib.Nat.{zero-add}
 use native.Mathlib.Omega.{arith}
 use lib.IntN.{ℤ, pos, negsuc, nat_abs, ◌+ℤ◌, ◌-ℤ◌}
 use lib.Signed.{mag, lt_z, le_z, non_neg}
-use lib.Dec.{T}
-use lib.ListN.{length}
+use lib.Dec.{ltb}
+use lib.ListN.{length, get_or}
 use mir.Syntax.{w32, w64}
-use mir.Val.{Fits, SFits, to_z, of_z}
-use mir.ValLaws.{to_z_pos, to_z-of_z}
+use mir.Syntax.{w8}
+use mir.Val.{Fits, SFits, to_z, of_z, sel}
+use Rattle.std.specs.Int.{from_be_bytes, to_be_bytes}
+use borrow.Rule.Slice.PartMut.{put_mid}
+use mathlib.Core.List.{[], ◌∷◌}
+use mathlib.Core.Bool.{cond}
+use mir.ValLaws.{of_z_fits, to_z-of_z, of_z-to_z}
 use borrow.Author.Tests.{lt-ltb, le-ltb, ltb-true, leb-true, leb-false, le-leb, lt-leb}
-use Rattle.vocabulary.specs.Bytes.{Bytes, over}
-use Rattle.vocabulary.proofs.ByteLaws.{over_more}
+use Rattle.vocabulary.specs.Bytes.{Bytes, byte_at, over}
+use Rattle.vocabulary.proofs.ByteLaws.{over_mid}
 use Rattle.vocabulary.specs.Intervals.{every}
 use Rattle.vocabulary.proofs.IntervalLaws.{every_more, every_fails, every_witness, at_last}
-use Rattle.layout.specs.Words.{word_bytes}
+use Rattle.layout.specs.Words.{word}
 use Rattle.depths.specs.Depths.{number_from, number_bytes, signed, unsigned, depth_from, depth_bytes, in_range, gap_number, value_from, value_bytes, is_valid, ranged_at}
 use Rattle.depths.specs.declared.Value.{Value}
 use Rattle.depths.specs.declared.Value.TheVariants.{Depth, Gap}
-use Rattle.depths.proofs.DepthLaws.{gap_is, value_gap, value_depth}
-
-pub number_stores : (b x y : Bytes) (o v : ℕ) → o + 3 < length b → x ≡ over b o (word_bytes (v / 65536)) → y ≡ over x (o + 2) (word_bytes (v % 65536)) → y ≡ over b o (number_bytes v)
-unfolding word_bytes number_bytes
-number_stores b x y o v h e f =
-    let p : v / 65536 / 256 ≡ v / 16777216 = omega arith in
-    let q : v % 65536 / 256 ≡ v / 256 % 256 = omega arith in
-    let r : v % 65536 % 256 ≡ v % 256 = omega arith in
-    f ∙ ap (λ (c : Bytes). over c (o + 2) (word_bytes (v % 65536))) e ∙ over_more b o (word_bytes (v / 65536)) (omega arith) (word_bytes (v % 65536)) ∙ simp (p, q, r)
+use Rattle.depths.proofs.DepthLaws.{length_value_bytes, gap_is, value_gap, value_depth}
 
 -- ---- signed numbers: below 2^31 a number is itself, from there on it is the number less 2^32
 
-pub small : (v : ℕ) → v < 2147483648 → to_z w32 v ≡ signed v
+signed_is : (v : ℕ) → to_z w32 v ≡ signed v
 unfolding signed
-small v h = to_z_pos w32 v h ∙ simp (lt-ltb _ _ h)
-
-dropped : (v : ℕ) → v < 4294967296 → to_z w64 v -ℤ pos 4294967296 ≡ negsuc (4294967295 - v)
-dropped v h = simp (to_z_pos w64 v (omega arith), lt-ltb _ _ h) (ap negsuc (omega arith))
-
-pub dropped_fits : (v : ℕ) → v < 4294967296 → SFits w64 (to_z w64 v -ℤ pos 4294967296)
-dropped_fits v h = rw (dropped v h) (record { sfits = omega arith })
-
-module _ (v : ℕ) (h : v < 4294967296) (k : 2147483648 ≤ v) where
-  pub dropped_narrow : SFits w32 (to_z w64 (of_z w64 (to_z w64 v -ℤ pos 4294967296)))
-  dropped_narrow = rw (to_z-of_z w64 _ (dropped_fits v h), dropped v h) (record { sfits = omega arith })
-
-  pub large : to_z w32 (of_z w32 (to_z w64 (of_z w64 (to_z w64 v -ℤ pos 4294967296)))) ≡ signed v
-  unfolding signed
-  large = to_z-of_z w32 _ dropped_narrow ∙ to_z-of_z w64 _ (dropped_fits v h) ∙ dropped v h ∙ simp (le-ltb _ _ k)
+signed_is v = go (ltb v 2147483648)
+  where
+    go : (b : Bool) → sel b (pos v) (negsuc (4294967296 - suc v)) ≡ cond b (pos v) (negsuc (4294967295 - v))
+    go true = refl
+    go false = ap negsuc (omega arith)
 
 -- the way back
-module _ (z : ℤ) (f : SFits w32 z) where
-  widened : SFits w64 z
-  widened = record { sfits = omega (arith, f.sfits) }
+unsigned_is : (z : ℤ) → of_z w32 z ≡ unsigned z
+unfolding unsigned
+unsigned_is (pos n) = refl
+unsigned_is (negsuc n) = omega arith
 
-  pub wide_fits : SFits w64 (to_z w32 (of_z w32 z))
-  wide_fits = rw (to_z-of_z w32 z f) widened
-
-  back : to_z w64 (of_z w64 (to_z w32 (of_z w32 z))) ≡ z
-  back = to_z-of_z w64 _ wide_fits ∙ to_z-of_z w32 z f
-
-  raised : lt_z (to_z w32 (of_z w32 z)) (pos 0) ≡ true → to_z w64 (of_z w64 (to_z w32 (of_z w32 z))) +ℤ pos 4294967296 ≡ pos (unsigned z)
-  unfolding unsigned
-  raised t = rw back (go z f (rw (to_z-of_z w32 z f) at t))
-    where
-      go : (y : ℤ) → SFits w32 y → lt_z y (pos 0) ≡ true → y +ℤ pos 4294967296 ≡ pos (unsigned y)
-      go (pos n) g s = absurd (omega (arith, ltb-true n 0 s))
-      go (negsuc n) g s = simp (le-ltb 4294967296 (suc n) (omega (arith, g.sfits))) (ap pos (omega arith))
-
-  unsigned_less : unsigned z < 4294967296
-  unfolding unsigned
-  unsigned_less = go z f
-    where
-      go : (y : ℤ) → SFits w32 y → unsigned y < 4294967296
-      go (pos n) g = omega (arith, g.sfits)
-      go (negsuc n) g = omega arith
-
-  pub raised_fits : lt_z (to_z w32 (of_z w32 z)) (pos 0) ≡ true → SFits w64 (to_z w64 (of_z w64 (to_z w32 (of_z w32 z))) +ℤ pos 4294967296)
-  raised_fits t = rw (raised t) (record { sfits = omega (arith, unsigned_less) })
-
-  pub raised_back : lt_z (to_z w32 (of_z w32 z)) (pos 0) ≡ true → to_z w64 (of_z w64 (to_z w64 (of_z w64 (to_z w32 (of_z w32 z))) +ℤ pos 4294967296)) ≡ pos (unsigned z)
-  raised_back t = to_z-of_z w64 _ (raised_fits t) ∙ raised t
-
-  pub kept : lt_z (to_z w32 (of_z w32 z)) (pos 0) ≡ false → to_z w32 (of_z w32 z) ≡ pos (unsigned z)
-  unfolding unsigned
-  kept t = rw (to_z-of_z w32 z f) (go z (rw (to_z-of_z w32 z f) at t))
-    where
-      go : (y : ℤ) → lt_z y (pos 0) ≡ false → y ≡ pos (unsigned y)
-      go (pos n) s = refl
-      go (negsuc n) s = let q : ◌≡◌ {A = ℕ} 0 1 = cc in absurd (omega arith)
-
-  -- what a cast to an unsigned number asks and gives
-  pub cast_asks : (y : ℤ) → y ≡ pos (unsigned z) → T (non_neg y) × Fits w64 (nat_abs y)
-  cast_asks y e = rw e (tt, record { fits = omega (arith, unsigned_less) })
-
-  pub cast_gives : (y : ℤ) → y ≡ pos (unsigned z) → (nat_abs y ≡ unsigned z) × (nat_abs y < 4294967296)
-  cast_gives y e = rw e (refl, unsigned_less)
+bytes_are : (n : ℕ) → n < 4294967296 → to_be_bytes w32 n ≡ number_bytes n
+unfolding number_bytes
+bytes_are n h = let p : n / 16777216 % 256 ≡ n / 16777216 = omega arith in ap (λ x. x ∷ n / 65536 % 256 ∷ n / 256 % 256 ∷ n % 256 ∷ []) p
 
 -- ---- depths in range
 
@@ -119,27 +68,40 @@ module _ (z : ℤ) (f : SFits w32 z) where
 
 -- ---- depths and gaps
 
--- what was read, by the number of the bytes
-module _ (b : Bytes) (o v : ℕ) (e : v ≡ number_from b o) where
-  pub gap_read : v ≡ gap_number → Gap ≡ value_from b o
-  gap_read g = sym (value_gap b o (sym e ∙ g))
+-- what was read
+module _ (b : Bytes) (o : ℕ) (bytes : (i : ℕ) → Fits w8 (get_or b i 0)) (z : ℤ)
+    (e : z ≡ to_z w32 (from_be_bytes w32 (byte_at b o ∷ byte_at b (o + 1) ∷ byte_at b (o + 2) ∷ byte_at b (o + 3) ∷ []))) where
+  number : from_be_bytes w32 (byte_at b o ∷ byte_at b (o + 1) ∷ byte_at b (o + 2) ∷ byte_at b (o + 3) ∷ []) ≡ number_from b o
+  unfolding number_from word
+  number = let q : o + 2 + 1 ≡ o + 3 = omega arith in omega (arith, ap (byte_at b) q)
 
-  pub depth_read : (z : ℤ) → (v ≡ gap_number → ⊥) → mag z < 2147483648 → z ≡ signed v → Depth (to_z w32 (of_z w32 z)) ≡ value_from b o
+  few : from_be_bytes w32 (byte_at b o ∷ byte_at b (o + 1) ∷ byte_at b (o + 2) ∷ byte_at b (o + 3) ∷ []) < 4294967296
+  few = omega (arith, (bytes o).fits, (bytes (o + 1)).fits, (bytes (o + 2)).fits, (bytes (o + 3)).fits)
+
+  bits : of_z w32 z ≡ number_from b o
+  bits = ap (of_z w32) e ∙ of_z-to_z w32 _ (record { fits = few }) ∙ number
+
+  pub gap_read : of_z w32 z ≡ gap_number → Gap ≡ value_from b o
+  gap_read g = sym (value_gap b o (sym bits ∙ g))
+
+  pub depth_read : (of_z w32 z ≡ gap_number → ⊥) → Depth (to_z w32 (of_z w32 z)) ≡ value_from b o
   unfolding depth_from
-  depth_read z h f g = ap Depth (to_z-of_z w32 z (record { sfits = f }) ∙ g ∙ ap signed e) ∙ sym (value_depth b o (λ q. h (e ∙ q)))
+  depth_read h = ap Depth (ap (to_z w32) bits ∙ signed_is (number_from b o)) ∙ sym (value_depth b o (λ q. h (bits ∙ q)))
 
--- what is to be stored, and what was
-module _ (x : Value) where
-  pub depth_number : (z : ℤ) (v : ℕ) → x ≡ Depth z → SFits w32 z → v ≡ unsigned (to_z w32 (of_z w32 z)) → number_bytes v ≡ value_bytes x
+-- what is stored: y is the number that stands for the value
+module _ (x : Value) (y : ℤ) (bs : Bytes) (e : bs ≡ to_be_bytes w32 (of_z w32 y)) where
+  pub depth_stored : (z : ℤ) → y ≡ to_z w32 (of_z w32 z) → x ≡ Depth z → SFits w32 z → bs ≡ value_bytes x
   unfolding value_bytes depth_bytes
-  depth_number z v e f g = rw e (ap (λ n. number_bytes n) (rw (to_z-of_z w32 z f) at g))
+  depth_stored z q g f =
+      let back : y ≡ z = q ∙ to_z-of_z w32 z f in
+      e ∙ rw (back, g) (bytes_are (of_z w32 z) (of_z_fits w32 z f).fits ∙ ap (λ n. number_bytes n) (unsigned_is z))
 
-  pub gap_number_lem : x ≡ Gap → number_bytes gap_number ≡ value_bytes x
+  pub gap_stored : y ≡ negsuc 2147483647 → x ≡ Gap → bs ≡ value_bytes x
   unfolding value_bytes
-  gap_number_lem e = rw e gap_is
+  gap_stored q g = e ∙ rw (q, g) (bytes_are 2147483648 (omega arith) ∙ gap_is)
 
-  pub value_put : (b y : Bytes) (o v : ℕ) → number_bytes v ≡ value_bytes x → y ≡ over b o (number_bytes v) → y ≡ over b o (value_bytes x)
-  value_put b y o v e g = g ∙ ap (λ (f : Bytes). over b o f) e
+pub value_put : (x : Value) (bs b : Bytes) (o k : ℕ) (ys : Bytes) → ys ≡ bs → bs ≡ value_bytes x → k ≡ 4 → put_mid o k b ys ≡ over b o (value_bytes x)
+value_put x bs b o k ys q g h = over_mid b o k (value_bytes x) ys (q ∙ g) (length_value_bytes x ∙ sym h)
 
 -- what the test says of the k-th value
 module _ (b : Bytes) (at k : ℕ) (x : Value) (e : x ≡ value_from b (at + 4 * k)) where

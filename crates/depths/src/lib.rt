@@ -6,8 +6,9 @@ pub mod inner;
 ghost use Rattle.std.specs.Prelude.{◌≡◌};
 ghost use Rattle.depths.specs.Depths.{in_range};
 
-// "Reading a depth gives either a depth or a gap, and whoever reads one must handle both." (F-2)
-#[derive(Clone, Copy)]
+// "Reading a depth gives either a depth or a gap, and whoever reads one must handle both." (F-2) Not an `Option`: the cases bear the names of the
+// specification, whose definitions are told by them.
+#[derive(Clone, Copy, Debug, PartialEq, Eq)]
 pub enum Value {
     Depth(i32),
     Gap,
@@ -17,5 +18,5 @@ pub enum Value {
 pub fn in_range(z: i32) -> bool
     ensures { result ≡ in_range z }
 {
-    -1200000 <= z && z <= 1200000
+    (-1200000..=1200000).contains(&z)
 }

@@ -25,11 +25,7 @@ pub fn below_of(m: &[u8], k: usize) -> usize
     requires { k < 65536 }
     ensures { (result ≡ below m.now k) × (result ≤ 65536 * k) }
 {
-    let mut sum = 0;
-    for j in 0..k {
-        sum += count_of(m, j);
-    }
-    sum
+    (0..k).map(|j| count_of(m, j)).sum()
 }
 
 // The count of all elements.

@@ -15,19 +15,6 @@ use Rattle.mesh.proofs.MeshLaws.{sizes_tests}
 use Rattle.mesh.specs.Meet.{Sizes}
 use Rattle.mesh.proofs.NumberLaws.{sized}
 
-pub too_short : (m : Bytes) → length m < 12 → true ≡ bad1 m
-unfolding bad1
-too_short m h = simp (lt-ltb _ _ h)
-
-module _ (m : Bytes) (d : ℕ) (h : 12 ≤ length m) (e : d ≡ top m) where
-  pub too_flat : d < 1 → true ≡ bad1 m
-  unfolding bad1
-  too_flat z = simp (le-ltb _ _ h, sym e, lt-ltb _ _ z)
-
-  pub too_high : 1 ≤ d → ltb 3 d ≡ bad1 m
-  unfolding bad1
-  too_high z = simp (le-ltb _ _ h, sym e, le-ltb _ _ z)
-
 module _ (m : Bytes) (k d c : ℕ) (e : d ≡ top m) (f : c ≡ counted m k) where
   pub none_counted : k ≤ d → eqb c 0 ≡ bad_count m k
   unfolding bad_count

@@ -12,14 +12,7 @@ use mesh::inner::{count_of, elements_of, record_count, top_of};
 fn bad1(m: &[u8]) -> bool
     ensures { result ≡ bad1 m.now }
 {
-    if m.len() < 12 {
-        return true;
-    }
-    let d = top_of(m);
-    if d < 1 {
-        return true;
-    }
-    3 < d
+    m.len() < 12 || !(1..=3).contains(&top_of(m))
 }
 
 // Elements of a dimension that has none, or none of one that should have some.
@@ -35,12 +28,7 @@ fn bad_count(m: &[u8], k: usize) -> bool
 fn bad_counts(m: &[u8]) -> bool
     ensures { result ≡ some 0 4 (bad_count m.now) }
 {
-    for k in 0..4 {
-        if bad_count(m, k) {
-            return true;
-        }
-    }
-    false
+    (0..4).any(|k| bad_count(m, k))
 }
 
 fn bad2(m: &[u8]) -> bool

@@ -6,7 +6,7 @@ use native.Mathlib.Nat.{zero-add}
 use native.Mathlib.Numerals.{add-one}
 use native.Mathlib.Omega.{arith}
 use lib.ListN.{length, get_or, take, length-append}
-use lib.Seq.{take-suc, length-take-le}
+use lib.Seq.{take-suc, take_all, length-take-le}
 use Rattle.vocabulary.specs.Bytes.{Bytes, over}
 use Rattle.vocabulary.proofs.ByteLaws.{over_none, over_length, over_more}
 use Rattle.vocabulary.specs.Intervals.{listed, blocks}
@@ -43,12 +43,14 @@ put_as a b s t xs ys e P = subst (Put a b s t) e P
 
 -- ---- the numbers of a list, and words that are read
 
+pub list_turn : (a b c : Bytes) (s t u k : ℕ) (list : List ℕ) (x : ℕ) → 2 * (s + length list) ≤ length a → k < length list → x ≡ get_or list k 0
+    → Put a b s t (take k list) → Put b c t u (x ∷ []) → Put a c s u (take (k + 1) list)
+list_turn a b c s t u k list x room h e P Q =
+    put_as a c s u (take k list ++ (x ∷ [])) (take (k + 1) list)
+    (ap (λ y. take k list ++ (y ∷ [])) e ∙ sym (take-suc list k 0 h) ∙ ap (λ j. take j list) (sym (add-one k)))
+    (put_both a b c s t u (take k list) (x ∷ []) P Q (omega (arith, P.count, length-take-le k list (omega arith))))
+
 module _ (a b c : Bytes) (s t u k n : ℕ) (room : 2 * (s + n) ≤ length a) (h : k < n) where
-  pub list_turn : (list : List ℕ) (x : ℕ) → n ≤ length list → x ≡ get_or list k 0 → Put a b s t (take k list) → Put b c t u (x ∷ []) → Put a c s u (take (k + 1) list)
-  list_turn list x long e P Q =
-      put_as a c s u (take k list ++ (x ∷ [])) (take (k + 1) list)
-      (ap (λ y. take k list ++ (y ∷ [])) e ∙ sym (take-suc list k 0 (omega arith)) ∙ ap (λ j. take j list) (sym (add-one k)))
-      (put_both a b c s t u (take k list) (x ∷ []) P Q (omega (arith, P.count, length-take-le k list (omega arith))))
 
   pub words_turn : (g : ℕ → ℕ) (x : ℕ) → x ≡ g k → Put a b s t (listed 0 k g) → Put b c t u (x ∷ []) → Put a c s u (listed 0 (k + 1) g)
   words_turn g x e P Q =
@@ -56,8 +58,8 @@ module _ (a b c : Bytes) (s t u k n : ℕ) (room : 2 * (s + n) ≤ length a) (h 
       (ap (λ y. listed 0 k g ++ (y ∷ [])) (e ∙ ap g (sym (zero-add k))) ∙ sym (listed_turn 0 g k))
       (put_both a b c s t u (listed 0 k g) (x ∷ []) P Q (omega (arith, P.count, listed_length 0 g k)))
 
-pub list_end : (a b : Bytes) (s t k n : ℕ) (list : List ℕ) → k ≤ n → n ≤ k → Put a b s t (take k list) → Put a b s t (take n list)
-list_end a b s t k n list g h P = at_last (λ j. Put a b s t (take j list)) k n g h P
+pub list_end : (a b : Bytes) (s t k : ℕ) (list : List ℕ) → length list ≤ k → Put a b s t (take k list) → Put a b s t list
+list_end a b s t k list h P = put_as a b s t (take k list) list (take_all k list h) P
 
 pub words_end : (a b : Bytes) (s t k n : ℕ) (g : ℕ → ℕ) → k ≤ n → n ≤ k → Put a b s t (listed 0 k g) → Put a b s t (listed 0 n g)
 words_end a b s t k n g h q P = at_last (λ j. Put a b s t (listed 0 j g)) k n h q P
@@ -70,9 +72,6 @@ pub words_last : (a b c : Bytes) (s t u k n x : ℕ) (g : ℕ → ℕ) → 2 * (
     → Put a c s u (listed 0 (n + 1) g)
 words_last a b c s t u k n x g room h q e P Q =
     at_last (λ j. Put a c s u (listed 0 (j + 1) g)) k n h q (words_turn a b c s t u k (n + 1) (omega arith) (omega arith) g x e P Q)
-
-pub list_start : (b : Bytes) (s : ℕ) (list : List ℕ) → Put b b s s (take 0 list)
-list_start b s list = put_none b s
 
 pub words_start : (b : Bytes) (s : ℕ) (g : ℕ → ℕ) → Put b b s s (listed 0 0 g)
 unfolding listed

@@ -1,9 +1,9 @@
 -- `depths::in_range` meets its contract. Assumes nothing.
-use Rattle.depths.proofs.SignedLaws.{in_above, in_below}
+use Rattle.depths.specs.Depths.{in_range}
+use borrow.Author.Rules.{rules}
+use borrow.Author.Tests.{tests}
 use Rattle.depths.proofs.in_range.Goals as goal
 
-pub returns-then-z-geminus1200000 : goal.returns-then-z-geminus1200000
-returns-then-z-geminus1200000 c = search in_above
-
-pub returns-else-z-geminus1200000 : goal.returns-else-z-geminus1200000
-returns-else-z-geminus1200000 c = search in_below
+pub returns : goal.returns
+unfolding in_range
+returns c = search (rules, tests)
