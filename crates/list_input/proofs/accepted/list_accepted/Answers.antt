@@ -1,16 +1,18 @@
--- `list_input::accepted::list_accepted` meets its contract. The invariant: the tables are prepared, and the parts up to i are put. Assumes nothing.
-use mathlib.Core.Path.{refl, sym}
+-- `list_input::accepted::list_accepted` meets its contract. The invariant: the parts before i are put. Assumes nothing.
+use mathlib.Core.Path.{refl}
 use native.Mathlib.Omega.{arith}
 use lib.ListN.{replicate}
 use Rattle.layout.specs.Limits.{element_places, most_elements, record_places, table_bytes}
 use Rattle.layout.proofs.AnswerLaws.{exit_some}
-use Rattle.mesh.proofs.AcceptedLaws.{cells_few, cells_fit}
+use Rattle.mesh.proofs.AcceptedLaws.{cells_few}
 use Rattle.split.proofs.PassedLaws.{passed_facts}
 use Rattle.split_ranges.proofs.LowerLaws.{alone}
-use Rattle.list_ranges.proofs.PartLaws.{part_told, texts_start, texts_turn, texts_end}
+use Rattle.list_ranges.proofs.PartLaws.{part_told, texts_start, lines_turn, lines_end, lines_last}
 use Rattle.list_input.proofs.PieceLaws.{refused_sizes, passed_all, split_told}
-use borrow.Author.Rules.{rules}
+use Rattle.list_text.specs.Printing.{Put}
+use Rattle.list_ranges.specs.Lines.{part_of}
 use Rattle.list_input.proofs.accepted.list_accepted.Goals as goal
+use Rattle.list_input.proofs.accepted.list_accepted.Goals.{After-put_dimensions}
 
 pub prepare-prepared-requires : goal.prepare-prepared-requires
 prepare-prepared-requires c =
@@ -28,122 +30,40 @@ prepare-prepared-requires c =
     )
 
 pub returns-in-Err : goal.returns-in-Err
-returns-in-Err c = refused_sizes _ _ _ _ _ _ _ c.requires _ c.in-Err.ensures.0 (exit_some _ _ refl) c.put_refusal.ensures
+returns-in-Err c = refused_sizes _ _ _ _ _ _ c.requires _ c.in-Err.ensures.0 (exit_some _ _ refl) c.put_refusal.ensures
 
 pub loop-i-init : goal.loop-i-init
-loop-i-init c = (
-  record {
-    prepared = c.in_default.ensures.1;
-    ground = c.in_default.ensures.2;
-    few = (passed_facts _ _ _ _ _ _ c.requires).few;
-    cell_places = omega arith;
-    prev_places = omega arith;
-    last_places = omega arith;
-    table_bytes_is = omega arith;
-    end_places = omega arith;
-    holder_places = omega arith;
-  },
-  c.first_cell-first.ensures,
-  c.cell_count-cells.ensures.0,
-  omega arith,
-  search rules,
-  refl,
-  search texts_start,
-)
+loop-i-init c = (omega arith, search texts_start)
 
-pub slice_bounds-classify-end : goal.slice_bounds-classify-end
-slice_bounds-classify-end c = sym c.loop-i.invariant.0.table_bytes_is
+pub put_imports-requires : goal.put_imports-requires
+put_imports-requires c = (passed_facts _ _ _ _ _ _ c.requires).few
 
-pub slice_bounds-classify-end-in-loop-i : goal.slice_bounds-classify-end-in-loop-i
-slice_bounds-classify-end-in-loop-i c = sym c.loop-i.invariant.0.end_places
+pub put_exports-requires : goal.put_exports-requires
+put_exports-requires c =
+    let f = passed_facts _ _ _ _ _ _ c.requires in
+    (f.mesh, omega (arith, c.loop-i-test.true, f.few), f.few)
 
-pub overflow_add-i : goal.overflow_add-i
-overflow_add-i c = omega (arith, c.loop-i-test.true, c.loop-i.invariant.0.few)
+pub put_dimensions-requires : goal.put_dimensions-requires
+put_dimensions-requires c = alone _ _ _ _ _ c.in_default.ensures.2
 
-pub slice_bounds-classify-end-in-loop-i-2 : goal.slice_bounds-classify-end-in-loop-i-2
-slice_bounds-classify-end-in-loop-i-2 c = sym c.loop-i.invariant.4
-
-pub classify-requires : goal.classify-requires
-classify-requires c =
-    let v = c.loop-i.invariant in
-    (cells_few _ _ v.0.prepared.mesh v.2, v.4)
-
-pub slice_bounds-put_own-end : goal.slice_bounds-put_own-end
-slice_bounds-put_own-end c = sym c.classify.ensures.room
-
-pub overflow_add-i-in-loop-i : goal.overflow_add-i-in-loop-i
-overflow_add-i-in-loop-i c = omega (arith, c.loop-i-test.true, c.loop-i.invariant.0.few)
-
-pub put_own-u-requires : goal.put_own-u-requires
-put_own-u-requires c =
-    let v = c.loop-i.invariant in
-    (cells_fit _ _ _ v.0.prepared.mesh v.1 v.2, cells_few _ _ v.0.prepared.mesh v.2)
-
-pub slice_bounds-put_imports-end : goal.slice_bounds-put_imports-end
-slice_bounds-put_imports-end c = sym c.classify.ensures.room
-
-pub put_imports-v-requires : goal.put_imports-v-requires
-put_imports-v-requires c =
-    let v = c.loop-i.invariant in
-    (cells_fit _ _ _ v.0.prepared.mesh v.1 v.2, cells_few _ _ v.0.prepared.mesh v.2, v.0.few)
-
-pub slice_bounds-put_exports-end : goal.slice_bounds-put_exports-end
-slice_bounds-put_exports-end c = sym c.loop-i.invariant.0.table_bytes_is
-
-pub slice_bounds-put_exports-end-in-loop-i : goal.slice_bounds-put_exports-end-in-loop-i
-slice_bounds-put_exports-end-in-loop-i c = sym c.loop-i.invariant.0.end_places
-
-pub overflow_add-i-in-loop-i-2 : goal.overflow_add-i-in-loop-i-2
-overflow_add-i-in-loop-i-2 c = omega (arith, c.loop-i-test.true, c.loop-i.invariant.0.few)
-
-pub put_exports-w-requires : goal.put_exports-w-requires
-put_exports-w-requires c =
-    let v = c.loop-i.invariant in
-    (v.0.prepared.mesh, omega (arith, c.loop-i-test.true, v.0.few), v.0.few)
-
-pub slice_bounds-put_dimensions-end : goal.slice_bounds-put_dimensions-end
-slice_bounds-put_dimensions-end c = sym c.loop-i.invariant.0.cell_places
-
-pub slice_bounds-put_dimensions-end-in-loop-i : goal.slice_bounds-put_dimensions-end-in-loop-i
-slice_bounds-put_dimensions-end-in-loop-i c = sym c.loop-i.invariant.0.prev_places
-
-pub slice_bounds-put_dimensions-end-in-loop-i-2 : goal.slice_bounds-put_dimensions-end-in-loop-i-2
-slice_bounds-put_dimensions-end-in-loop-i-2 c = sym c.loop-i.invariant.0.last_places
-
-pub slice_bounds-put_dimensions-end-in-loop-i-3 : goal.slice_bounds-put_dimensions-end-in-loop-i-3
-slice_bounds-put_dimensions-end-in-loop-i-3 c = sym c.classify.ensures.room
-
-pub slice_bounds-put_dimensions-end-in-loop-i-4 : goal.slice_bounds-put_dimensions-end-in-loop-i-4
-slice_bounds-put_dimensions-end-in-loop-i-4 c = sym c.loop-i.invariant.0.holder_places
-
-pub put_dimensions-t-requires : goal.put_dimensions-t-requires
-put_dimensions-t-requires c = alone _ _ _ _ _ c.loop-i.invariant.0.ground
-
-pub overflow_step-i : goal.overflow_step-i
-overflow_step-i c = omega (arith, c.loop-i-test.true, c.loop-i.invariant.0.few)
-
-pub loop-i-smaller : goal.loop-i-smaller
-loop-i-smaller c = omega (arith, c.loop-i-test.true)
+-- the lines of part i
+part : (c : After-put_dimensions)
+    → Put c.loop-i.text c.put_dimensions.new.text (part_of c.args.m.now c.args.parts c.args.owners.now c.args.stencil.now c.loop-i.i)
+part c =
+    let f = passed_facts _ _ _ _ _ _ c.requires in
+    let few = cells_few _ _ f.mesh c.cell_count-cells.ensures.0 in
+    part_told _ _ _ _ _ _ _ c.in_default.ensures.1 _ c.loop-i.auto.i (omega (arith, c.loop-i-test.true)) f.few _ c.cell_count-cells.ensures.0 few
+    _ c.classify.ensures _ c.first_cell-first.ensures refl _ _ _ _ _ c.put_own.ensures c.put_imports.ensures c.put_exports.ensures c.put_dimensions.ensures
 
 pub loop-i-preserved : goal.loop-i-preserved
-loop-i-preserved c =
-    let v = c.loop-i.invariant in
-    let part = part_told _ _ _ _ _ _ _ v.0.prepared _ (omega arith) (omega (arith, c.loop-i-test.true)) v.0.few _ _ v.1 v.2 _ c.classify.ensures
-    _ _ _ _ _ _ _ _ _ _ c.put_own-u.ensures c.put_imports-v.ensures c.put_exports-w.ensures c.put_dimensions-t.ensures in
-    let turn = texts_turn _ _ _ _ _ _ _ _ _ _ v.6 part (omega arith) in (
-      v.0,
-      v.1,
-      v.2,
-      omega (arith, c.loop-i-test.true),
-      c.classify.ensures.room,
-      omega (arith, v.5),
-      turn,
-    )
+loop-i-preserved c = (omega (arith, c.loop-i-test.true), lines_turn _ _ _ _ c.loop-i.invariant.1 _ c.loop-i.auto.i (part (goal.at.loop-i-preserved c).After-put_dimensions))
 
-pub shape_of-out : goal.shape_of-out
-shape_of-out c = omega (arith, c.loop-i.invariant.5)
+pub returns-in_default : goal.returns-in_default
+returns-in_default c =
+    passed_all _ _ _ _ _ _ c.requires _ c.in_default.ensures.0 refl
+    (split_told _ _ _ _ _ _ _ c.put_line.ensures (lines_end _ _ _ _ c.loop-i.invariant.1 _ c.loop-i-test.false c.loop-i.invariant.0))
 
-pub returns : goal.returns
-returns c =
-    passed_all _ _ _ _ _ _ _ c.requires _ c.in_default.ensures.0 refl
-    (split_told _ _ _ _ _ _ _ _ _ c.put_line-t.ensures (texts_end _ _ _ _ _ _ _ _ c.loop-i.invariant.3 c.loop-i-test.false c.loop-i.invariant.6))
+pub returns-in_default-2 : goal.returns-in_default-2
+returns-in_default-2 c =
+    passed_all _ _ _ _ _ _ c.requires _ c.in_default.ensures.0 refl
+    (split_told _ _ _ _ _ _ _ c.put_line.ensures (lines_last _ _ _ _ c.loop-i.invariant.1 _ _ c.loop-i.auto.i (omega (arith, c.loop-i-test.true)) (part (goal.at.returns-in_default-2 c).After-put_dimensions)))
