@@ -52,7 +52,7 @@ four_digits : (v : ℕ) → v < 10000 → (n : ℕ) → length (digits n v) ≤ 
 four_digits v h = digit_more v 3 (digit_more (v / 10) 2 (digit_more (v / 10 / 10) 1 (one_digit (v / 10 / 10 / 10) (omega arith))))
 
 spaced_length : (v : ℕ) → v < 10000 → length (spaced v) ≤ 5
-unfolding spaced decimal ascii
+unfolding spaced decimal
 spaced_length v h = omega (arith, four_digits v h (suc v))
 
 joined_length : (vs : List ℕ) → All (λ v. v < 10000) vs → length (joined (map spaced vs)) ≤ 5 * length vs
@@ -61,7 +61,7 @@ joined_length [] a = omega arith
 joined_length (v ∷ vs) a = omega (arith, length-append (spaced v) (joined (map spaced vs)), spaced_length v a.0, joined_length vs a.1)
 
 line_length : (label : Bytes) (vs : List ℕ) → All (λ v. v < 10000) vs → length (line label vs) ≤ length label + 1 + 5 * length vs
-unfolding line ascii
+unfolding line
 line_length label vs a =
     omega (arith, length-append label (joined (map spaced vs) ++ (10 ∷ [])), length-append (joined (map spaced vs)) (10 ∷ []), joined_length vs a)
 
@@ -227,7 +227,6 @@ module _ (m : Bytes) (parts : ℕ) (owners st : Bytes) (A : Accepted m) (right :
         (four_few (below m k + 1) (is_private S i) (is_exposed S i) (is_shared S i) (is_copied S i) one_class (counted m k))
 
     range_length : (name : Bytes) → length name ≤ 8 → (p : ℕ → Bool) → length (line (ascii "dim" ++ (spaced k ++ name)) (range m k p)) ≤ 17 + 5 * length (range m k p)
-    unfolding ascii
     range_length name l p =
         omega (
           arith,
@@ -238,7 +237,7 @@ module _ (m : Bytes) (parts : ℕ) (owners st : Bytes) (A : Accepted m) (right :
         )
 
     dimension_length : length (dimension_text m S i k) ≤ 68 + 5 * counted m k
-    unfolding dimension_text ascii
+    unfolding dimension_text
     dimension_length =
         let p = line (ascii "dim" ++ (spaced k ++ ascii " private")) (range m k (is_private S i)) in
         let e = line (ascii "dim" ++ (spaced k ++ ascii " exposed")) (range m k (is_exposed S i)) in
@@ -280,19 +279,19 @@ module _ (m : Bytes) (parts : ℕ) (owners st : Bytes) (A : Accepted m) (right :
         own_last,
         own_few i,
         exports_few i,
-        passing_length (ascii "import") (imports S i) (unfold ascii in omega arith) (λ j. imports_small i j),
-        passing_length (ascii "export") (exports S i) (unfold ascii in omega arith) (λ j. unfold exports in imports_small j i),
+        passing_length (ascii "import") (imports S i) (omega arith) (λ j. imports_small i j),
+        passing_length (ascii "export") (exports S i) (omega arith) (λ j. unfold exports in imports_small j i),
         dimensions_length i,
       )
     where
       head : length (line (ascii "part") (i ∷ [])) ≤ 10
-      head = unfold ascii in line_length (ascii "part") (i ∷ []) (omega arith, tt)
+      head = line_length (ascii "part") (i ∷ []) (omega arith, tt)
 
       own_first : length (line (ascii "interior") (interior S i)) ≤ 9 + 5 * length (interior S i)
-      own_first = unfold ascii interior in line_length (ascii "interior") (interior S i) (cells_small (λ c. owns S i c && inside_of S i c))
+      own_first = unfold interior in line_length (ascii "interior") (interior S i) (cells_small (λ c. owns S i c && inside_of S i c))
 
       own_last : length (line (ascii "halo") (halo S i)) ≤ 5 + 5 * length (halo S i)
-      own_last = unfold ascii halo in line_length (ascii "halo") (halo S i) (cells_small (λ c. owns S i c && not (inside_of S i c)))
+      own_last = unfold halo in line_length (ascii "halo") (halo S i) (cells_small (λ c. owns S i c && not (inside_of S i c)))
 
   pub split_length : length (split_text m S) ≤ 657500
   unfolding split_text
@@ -300,7 +299,7 @@ module _ (m : Bytes) (parts : ℕ) (owners st : Bytes) (A : Accepted m) (right :
       omega (arith, length-append (line (ascii "parts") (S.parts ∷ [])) (blocks 1 S.parts (part_text m S)), head, rest)
     where
       head : length (line (ascii "parts") (S.parts ∷ [])) ≤ 11
-      head = unfold ascii split_of in line_length (ascii "parts") (parts ∷ []) (omega (arith, few), tt)
+      head = unfold split_of in line_length (ascii "parts") (parts ∷ []) (omega (arith, few), tt)
 
       rest : length (blocks 1 S.parts (part_text m S)) ≤ 657472
       rest = unfold split_of in
@@ -336,7 +335,7 @@ module _ (m : Bytes) (parts : ℕ) (owners st : Bytes) where
       go : (c : Bool) → eqb (pieces_number m parts owners st) 0 ≡ c
           → length (cond c (split_text m (split_of m parts owners st)) (line (ascii "refused") (pieces_number m parts owners st ∷ []))) ≤ 700000
       go true e = omega (arith, accepted_length (eqb-true (pieces_number m parts owners st) 0 e))
-      go false e = unfold ascii in omega (arith, line_length (ascii "refused") (pieces_number m parts owners st ∷ []) (number_small, tt))
+      go false e = omega (arith, line_length (ascii "refused") (pieces_number m parts owners st ∷ []) (number_small, tt))
 
 text_length : (b : Bytes) → length (list_text b) ≤ 700000
 unfolding list_text listing_number
@@ -344,7 +343,7 @@ text_length b = go (ltb 65536 (length b))
   where
     go : (c : Bool) → length (cond c (line (ascii "too long") []) (cond (eqb (listing_number b) 0)
         (split_text (mesh_piece b) (split_of (mesh_piece b) (parts_piece b) (owners_piece b) (stencil_piece b))) (line (ascii "refused") (listing_number b ∷ [])))) ≤ 700000
-    go true = unfold ascii in omega (arith, line_length (ascii "too long") [] tt)
+    go true = omega (arith, line_length (ascii "too long") [] tt)
     go false = unfold pieces_text pieces_number listing_number in pieces_length (mesh_piece b) (parts_piece b) (owners_piece b) (stencil_piece b)
 
 -- ---- the whole text

@@ -3,30 +3,30 @@ ghost use Rattle.std.specs.Prelude.{◌≡◌, [], ◌∷◌};
 ghost use Rattle.split.specs.Lists.{split_number};
 ghost use Rattle.layout.specs.Answers.{refusal_number};
 ghost use Rattle.list_text.specs.Listing.{ascii, line};
-ghost use Rattle.list_text.specs.Printing.{Printed};
+ghost use Rattle.list_text.specs.Printing.{Put};
 ghost use Rattle.list_input.specs.Pieces.{pieces_text};
 
 use layout::Refusal;
 use layout::limits::{ELEMENT_PLACES, MOST_ELEMENTS, RECORD_PLACES, TABLE_BYTES};
 use list_parts::inner::{put_exports, put_imports, put_own};
-use list_ranges::inner::put_dimensions;
-use list_text::inner::put_line;
+use list_ranges::inner::{Row, put_dimensions};
+use list_text::inner::Printer;
 use mesh::inner::{cell_count, first_cell};
 use split_classes::inner::classify;
 use split_tables::inner::prepare;
 use walk_incidence::inner::Incidence;
 
 // The line of a refusal.
-pub fn put_refusal(refusal: Refusal, out: &mut [u8]) -> usize
-    ensures { Printed out.old out.new 0 result (line (ascii "refused") (refusal_number refusal ∷ [])) }
+pub fn put_refusal(refusal: Refusal, text: &mut Printer)
+    ensures { Put text.old text.new (line (ascii "refused") (refusal_number refusal ∷ [])) }
 {
-    put_line(b"refused", u32::from(refusal) as usize, out, 0)
+    text.put_line(b"refused", u32::from(refusal) as usize);
 }
 
 // The tables are prepared, and the lines of the parts are read off them, rising: of each part the lines of its cells, its imports, its exports and its ranges.
-pub fn list_accepted(m: &[u8], parts: u32, owners: &[u8], stencil: &[u8], out: &mut [u8]) -> usize
+pub fn list_accepted(m: &[u8], parts: u32, owners: &[u8], stencil: &[u8], text: &mut Printer)
     requires { split_number m.now parts owners.now (1 ∷ 1 ∷ []) stencil.now ≡ 0 }
-    ensures { Printed out.old out.new 0 result (pieces_text m.now parts owners.now stencil.now) }
+    ensures { Put text.old text.new (pieces_text m.now parts owners.now stencil.now) }
 {
     let mut incidence = Incidence {
         cell: [0; RECORD_PLACES],
@@ -49,18 +49,21 @@ pub fn list_accepted(m: &[u8], parts: u32, owners: &[u8], stencil: &[u8], out: &
         &mut class,
     );
     if let Err(refusal) = prepared {
-        return put_refusal(refusal, out);
+        return put_refusal(refusal, text);
     }
     let first = first_cell(m);
     let cells = cell_count(m);
     let count = parts as usize;
-    let mut t = put_line(b"parts", count, out, 0);
-    for i in 0..count {
-        classify(owners, &table, &ends, cells, i + 1, &mut class);
-        let u = put_own(&class, first, cells, i + 1, out, t);
-        let v = put_imports(&class, first, cells, count, out, u);
-        let w = put_exports(m, owners, &table, &ends, i + 1, count, out, v);
-        t = put_dimensions(m, &incidence, &class, &holders, out, w);
+    text.put_line(b"parts", count);
+    for i in 1..=count {
+        classify(owners, &table, &ends, cells, i, &mut class);
+        let row = Row {
+            class: &class[..cells],
+            first,
+        };
+        put_own(&row, i, text);
+        put_imports(&row, count, text);
+        put_exports(m, owners, &table, &ends, i, count, text);
+        put_dimensions(m, &incidence, &class, &holders, text);
     }
-    t
 }

@@ -1,16 +1,17 @@
-// The text of an input: it is cut into its pieces, one function a cut, and cut short they are as long as they are.
-ghost use Rattle.std.specs.Prelude.{◌≡◌, [], ◌∷◌, ◌≤◌, length, take, drop};
+// The text of an input: it is cut into its pieces, and cut short they are as long as they are.
+ghost use Rattle.std.specs.Prelude.{◌≡◌, cond, [], ◌∷◌, eqb, length, take, drop};
+ghost use Rattle.vocabulary.specs.Bytes.{byte_at};
 ghost use Rattle.layout.specs.Answers.{refused_as};
 ghost use Rattle.mesh.specs.Mesh.{mesh_length};
 ghost use Rattle.split.specs.Lists.{split_number};
 ghost use Rattle.list_text.specs.Listing.{list_text};
-ghost use Rattle.list_text.specs.Printing.{Printed};
-ghost use Rattle.list_input.specs.Pieces.{Listed, pieces_text, stencil_text, last_text, owners_text, map_text};
+ghost use Rattle.list_text.specs.Printing.{Put};
+ghost use Rattle.list_input.specs.Pieces.{Listed, pieces_text};
 
 use crate::accepted::{list_accepted, put_refusal};
 use layout::limits::{ELEMENT_PLACES, RECORD_PLACES};
-use layout::{Refusal, byte_at};
-use list_text::inner::{put_line, put_text};
+use layout::Refusal;
+use list_text::inner::Printer;
 use mesh::inner::{cell_count, elements_of, record_count};
 use split::inner::test_split;
 
@@ -23,66 +24,21 @@ fn test_input(m: &[u8], parts: u32, owners: &[u8], stencil: &[u8]) -> Result<(),
     test_split(m, parts, owners, 1, 1, stencil, &mut cell, &mut ends)
 }
 
-fn list_pieces(m: &[u8], parts: u32, owners: &[u8], stencil: &[u8], out: &mut [u8]) -> usize
-    ensures { Printed out.old out.new 0 result (pieces_text m.now parts owners.now stencil.now) }
+fn list_pieces(m: &[u8], parts: u32, owners: &[u8], stencil: &[u8], text: &mut Printer)
+    ensures { Put text.old text.new (pieces_text m.now parts owners.now stencil.now) }
 {
     match test_input(m, parts, owners, stencil) {
-        Ok(()) => list_accepted(m, parts, owners, stencil, out),
-        Err(refusal) => put_refusal(refusal, out),
+        Ok(()) => list_accepted(m, parts, owners, stencil, text),
+        Err(refusal) => put_refusal(refusal, text),
     }
 }
 
-// With a stencil that should have n bytes.
-fn list_stencil(
-    n: usize,
-    m: &[u8],
-    parts: u32,
-    owners: &[u8],
-    stencil: &[u8],
-    out: &mut [u8],
-) -> usize
-    ensures { Printed out.old out.new 0 result (stencil_text n m.now parts owners.now stencil.now) }
+// The first n bytes, or all where there are fewer, and the rest.
+fn cut(b: &[u8], n: usize) -> (&[u8], &[u8])
+    ensures { (result.0.now ≡ take n b.now) × (result.1.now ≡ drop n b.now) }
 {
-    if stencil.len() != n {
-        return list_pieces(m, parts, owners, &stencil[..0], out);
-    }
-    list_pieces(m, parts, owners, stencil, out)
-}
-
-// Where the first n bytes end: at the end of what there is, if that comes before.
-fn end_of(b: &[u8], n: usize) -> usize
-    ensures { (result ≤ length b.now) × (take result b.now ≡ take n b.now) × (drop result b.now ≡ drop n b.now) }
-{
-    if b.len() < n {
-        return b.len();
-    }
-    n
-}
-
-// With the length byte and the stencil.
-fn list_last(m: &[u8], parts: u32, owners: &[u8], last: &[u8], out: &mut [u8]) -> usize
-    ensures { Printed out.old out.new 0 result (last_text m.now parts owners.now last.now) }
-{
-    let n = byte_at(last, 0) as usize;
-    let e = end_of(last, 1);
-    list_stencil(n, m, parts, owners, &last[e..last.len()], out)
-}
-
-// With the owners and what comes after them.
-fn list_owners(cells: usize, m: &[u8], parts: u32, b: &[u8], out: &mut [u8]) -> usize
-    ensures { Printed out.old out.new 0 result (owners_text cells m.now parts b.now) }
-{
-    let e = end_of(b, cells);
-    list_last(m, parts, &b[..e], &b[e..b.len()], out)
-}
-
-// With P and what comes after it.
-fn list_map(cells: usize, m: &[u8], b: &[u8], out: &mut [u8]) -> usize
-    ensures { Printed out.old out.new 0 result (map_text cells m.now b.now) }
-{
-    let parts = byte_at(b, 0) as u32;
-    let e = end_of(b, 1);
-    list_owners(cells, m, parts, &b[e..b.len()], out)
+    let end = b.len().min(n);
+    b.split_at(end)
 }
 
 // The length of a mesh, by its head.
@@ -92,14 +48,29 @@ fn mesh_length(b: &[u8]) -> usize
     2 * (6 + elements_of(b) + 2 * record_count(b))
 }
 
-fn list_input(input: &[u8], out: &mut [u8]) -> usize
-    ensures { Printed out.old out.new 0 result (list_text input.now) }
+// The stencil after its length byte; the empty one, which is refused, where it does not have that length.
+fn stencil_of(last: &[u8]) -> &[u8]
+    ensures { result.now ≡ cond (eqb (length (drop 1 last.now)) (byte_at last.now 0)) (drop 1 last.now) [] }
+{
+    let (_, stencil) = cut(last, 1);
+    if stencil.len() == byte_at(last, 0) as usize {
+        stencil
+    } else {
+        &[]
+    }
+}
+
+fn list_input(input: &[u8], text: &mut Printer)
+    ensures { Put text.old text.new (list_text input.now) }
 {
     if 65536 < input.len() {
-        return put_text(b"too long\n", out, 0);
+        return text.put_text(b"too long\n");
     }
-    let e = end_of(input, mesh_length(input));
-    list_map(cell_count(input), &input[..e], &input[e..input.len()], out)
+    let (m, map) = cut(input, mesh_length(input));
+    let parts = u32::from(byte_at(map, 0));
+    let (_, rest) = cut(map, 1);
+    let (owners, last) = cut(rest, cell_count(input));
+    list_pieces(m, parts, owners, stencil_of(last), text);
 }
 
 // Puts what the list program prints for an input into a buffer, from its start on and as far as there is room, and gives its length there. In
@@ -107,5 +78,7 @@ fn list_input(input: &[u8], out: &mut [u8]) -> usize
 pub fn list_text(input: &[u8], out: &mut [u8]) -> usize
     ensures { Listed out.old out.new result (list_text input.now) }
 {
-    list_input(input, out)
+    let mut text = Printer { out, at: 0 };
+    list_input(input, &mut text);
+    text.at
 }

@@ -1,104 +1,55 @@
 // The lines of a part's cells, imports and exports: by the row of the part's classes, and for the exports by the rows of the others.
-ghost use Rattle.std.specs.Prelude.{◌++◌, ◌+◌, ◌≤◌, length, take};
+ghost use Rattle.std.specs.Prelude.{◌≤◌};
 ghost use Rattle.vocabulary.specs.Intervals.{blocks};
-ghost use Rattle.layout.specs.Limits.{most_elements, most_parts};
+ghost use Rattle.layout.specs.Limits.{most_parts};
 ghost use Rattle.mesh.specs.Mesh.{first_cell, cell_count};
 ghost use Rattle.mesh.specs.Accepted.{Accepted};
-ghost use Rattle.split_classes.specs.Classes.{class_cells};
-ghost use Rattle.list_text.specs.Listing.{spaced, line, line_unless_empty};
-ghost use Rattle.list_text.specs.Printing.{Printed};
-ghost use Rattle.list_ranges.specs.Lines.{passing, import_line, export_line, own_lines};
+ghost use Rattle.list_text.specs.Listing.{line};
+ghost use Rattle.list_text.specs.Printing.{Put};
+ghost use Rattle.list_ranges.specs.Lines.{cells_of, passing, import_line, export_line, own_lines};
 
 use layout::limits::MOST_ELEMENTS;
-use list_ranges::inner::put_class;
-use list_text::inner::{put_line, put_numbers, put_spaced, put_text};
+use list_ranges::inner::{Row, put_class};
+use list_text::inner::Printer;
 use mesh::inner::{cell_count, first_cell};
-use split_cells::inner::add_class;
 use split_classes::inner::{HALO, INTERIOR, classify};
 
 // The line of the cells of class k.
-fn put_cells(
-    label: &[u8],
-    class: &[u8],
-    first: usize,
-    cells: usize,
-    k: u8,
-    out: &mut [u8],
-    at: usize,
-) -> usize
-    requires { (first + cells ≤ 65536) × (cells ≤ most_elements) }
-    ensures { Printed out.old out.new at result (line label.now (class_cells class.now first cells k)) }
+fn put_cells(label: &[u8], row: &Row, k: u8, text: &mut Printer)
+    ensures { Put text.old text.new (line label.now (cells_of row.now k)) }
 {
-    let t = put_text(label, out, at);
-    put_class(class, first, cells, k, out, t)
+    text.put_text(label);
+    put_class(row, k, text);
 }
 
 // The lines of the cells of part i.
-pub fn put_own(
-    class: &[u8],
-    first: usize,
-    cells: usize,
-    i: usize,
-    out: &mut [u8],
-    at: usize,
-) -> usize
-    requires { (first + cells ≤ 65536) × (cells ≤ most_elements) }
-    ensures { Printed out.old out.new at result (own_lines class.now first cells i) }
+pub fn put_own(row: &Row, i: usize, text: &mut Printer)
+    ensures { Put text.old text.new (own_lines row.now i) }
 {
-    let t = put_line(b"part", i, out, at);
-    let u = put_cells(b"interior", class, first, cells, INTERIOR, out, t);
-    put_cells(b"halo", class, first, cells, HALO, out, u)
-}
-
-// The line of a list that is not empty.
-fn put_full(label: &[u8], j: usize, list: &[u16], n: usize, out: &mut [u8], at: usize) -> usize
-    requires { (n ≤ length list.now) × (1 ≤ n) }
-    ensures { Printed out.old out.new at result (line_unless_empty (label.now ++ spaced j) (take n list.now)) }
-{
-    let t = put_text(label, out, at);
-    let u = put_spaced(j, out, t);
-    put_numbers(list, n, out, u)
+    text.put_line(b"part", i);
+    put_cells(b"interior", row, INTERIOR, text);
+    put_cells(b"halo", row, HALO, text);
 }
 
 // The line of what passes between a part and part j, the cells of class k in a row, and nothing where that is empty.
-fn put_passing(
-    label: &[u8],
-    j: usize,
-    class: &[u8],
-    first: usize,
-    cells: usize,
-    k: u8,
-    out: &mut [u8],
-    at: usize,
-) -> usize
-    requires { (first + cells ≤ 65536) × (cells ≤ most_elements) }
-    ensures { Printed out.old out.new at result (passing label.now j (class_cells class.now first cells k)) }
+fn put_passing(label: &[u8], j: usize, row: &Row, k: u8, text: &mut Printer)
+    ensures { Put text.old text.new (passing label.now j (cells_of row.now k)) }
 {
-    let mut list = [0u16; MOST_ELEMENTS];
-    let n = add_class(class, first, cells, k, &mut list, 0);
-    if n < 1 {
-        return at;
+    if row.class.contains(&k) {
+        text.put_text(label);
+        text.put_spaced(j);
+        put_class(row, k, text);
     }
-    put_full(label, j, &list, n, out, at)
 }
 
 // The lines of the imports from each part, by rising part.
-pub fn put_imports(
-    class: &[u8],
-    first: usize,
-    cells: usize,
-    parts: usize,
-    out: &mut [u8],
-    at: usize,
-) -> usize
-    requires { (first + cells ≤ 65536) × (cells ≤ most_elements) × (parts ≤ most_parts) }
-    ensures { Printed out.old out.new at result (blocks 1 parts (import_line class.now first cells)) }
+pub fn put_imports(row: &Row, parts: usize, text: &mut Printer)
+    requires { parts ≤ most_parts }
+    ensures { Put text.old text.new (blocks 1 parts (import_line row.now)) }
 {
-    let mut t = at;
-    for j in 0..parts {
-        t = put_passing(b"import", j + 1, class, first, cells, (j + 1) as u8, out, t);
+    for j in 1..=parts {
+        put_passing(b"import", j, row, j as u8, text);
     }
-    t
 }
 
 // The lines of the exports of part i to each part, by rising part: each by the row of the part that they go to.
@@ -109,20 +60,20 @@ pub fn put_exports(
     ends: &[u16],
     i: usize,
     parts: usize,
-    out: &mut [u8],
-    at: usize,
-) -> usize
+    text: &mut Printer,
+)
     requires { Accepted m.now × (i ≤ most_parts) × (parts ≤ most_parts) }
-    ensures { Printed out.old out.new at result (blocks 1 parts (export_line owners.now table.now ends.now (first_cell m.now) (cell_count m.now) i)) }
+    ensures { Put text.old text.new (blocks 1 parts (export_line owners.now table.now ends.now (first_cell m.now) (cell_count m.now) i)) }
 {
     let first = first_cell(m);
     let cells = cell_count(m);
-    let mut t = at;
-    for j in 0..parts {
-        let other = j + 1;
+    for other in 1..=parts {
         let mut class = [0u8; MOST_ELEMENTS];
         classify(owners, table, ends, cells, other, &mut class);
-        t = put_passing(b"export", other, &class, first, cells, i as u8, out, t);
+        let row = Row {
+            class: &class[..cells],
+            first,
+        };
+        put_passing(b"export", other, &row, i as u8, text);
     }
-    t
 }

@@ -1,10 +1,15 @@
 -- The lines of a part by the rows of classes that the code reads them off. No public contract rests on this page. Assumes nothing.
-use Rattle.std.specs.Prelude.{List, [], ◌∷◌, ◌++◌, ℕ}
+use Rattle.std.specs.Prelude.{List, [], ◌∷◌, ◌++◌, ℕ, length}
 use Rattle.vocabulary.specs.Bytes.{Bytes}
 use Rattle.split.specs.Split.{split_of}
 use Rattle.split_classes.specs.Classes.{class_cells, part_cells}
 use Rattle.split_ranges.specs.Lowers.{range_of, row_range}
 use Rattle.list_text.specs.Listing.{ascii, spaced, line, line_unless_empty, part_text}
+use Rattle.list_ranges.specs.declared.row.Row.{Row}
+
+-- the numbers of class k in a row
+unfoldable pub cells_of : Row → ℕ → List ℕ
+cells_of row k = class_cells row.class.now row.first (length row.class.now) k
 
 -- the line of a range of dimension d
 unfoldable pub range_line : Bytes → ℕ → List ℕ → Bytes
@@ -31,16 +36,15 @@ unfoldable pub passing : Bytes → ℕ → List ℕ → Bytes
 passing label j vs = line_unless_empty (label ++ spaced j) vs
 
 -- the imports from part j, by the part's row, and the exports of part i to part j, by the tables
-unfoldable pub import_line : Bytes → ℕ → ℕ → ℕ → Bytes
-import_line class first cells j = passing (ascii "import") j (class_cells class first cells j)
+unfoldable pub import_line : Row → ℕ → Bytes
+import_line row j = passing (ascii "import") j (cells_of row j)
 
 unfoldable pub export_line : Bytes → Bytes → List ℕ → ℕ → ℕ → ℕ → ℕ → Bytes
 export_line owners table ends first cells i j = passing (ascii "export") j (part_cells owners table ends j first cells i)
 
 -- the lines of the cells of part i
-unfoldable pub own_lines : Bytes → ℕ → ℕ → ℕ → Bytes
-own_lines class first cells i =
-    line (ascii "part") (i ∷ []) ++ (line (ascii "interior") (class_cells class first cells 17) ++ line (ascii "halo") (class_cells class first cells 18))
+unfoldable pub own_lines : Row → ℕ → Bytes
+own_lines row i = line (ascii "part") (i ∷ []) ++ (line (ascii "interior") (cells_of row 17) ++ line (ascii "halo") (cells_of row 18))
 
 -- all lines of part i
 unfoldable pub part_of : Bytes → ℕ → Bytes → Bytes → ℕ → Bytes

@@ -1,7 +1,7 @@
 -- Texts put one after another. Assumes nothing.
 use mathlib.Core.Path.{◌≡◌, refl, sym, ap, ap₂, ◌∙◌, subst}
 use mathlib.Core.Bool.{Bool, true, false, cond}
-use mathlib.Core.List.{List, [], ◌∷◌, ◌++◌, map, append-nil}
+use mathlib.Core.List.{List, [], ◌∷◌, ◌++◌, append-nil}
 use Prim.Native.Nat.{ℕ, zero, suc, ◌+◌, ◌-◌, ◌/◌, ◌%◌, ◌≤◌, ◌<◌}
 use native.Mathlib.Numerals.{add-one}
 use native.Mathlib.Omega.{arith}
@@ -12,9 +12,9 @@ use borrow.Author.Tests.{ltb-true, ltb-false, lt-ltb, le-ltb}
 use Rattle.vocabulary.specs.Bytes.{Bytes, over}
 use Rattle.vocabulary.proofs.ByteLaws.{over_none, over_one, over_more}
 use Rattle.vocabulary.specs.Lists.{joined}
-use Rattle.vocabulary.proofs.ListLaws.{map_append, joined_last}
 use Rattle.list_text.specs.Listing.{ascii, digits, decimal, spaced, line}
-use Rattle.list_text.specs.Printing.{fitting, Printed, numbers}
+use Rattle.list_text.specs.declared.inner.Printer.{Printer}
+use Rattle.list_text.specs.Printing.{fitting, Printed, Put}
 
 -- ---- none, a byte, both
 
@@ -105,17 +105,18 @@ print_both a b c s t u xs ys X Y = record {
   bytes = Y.bytes ∙ over_both a b s t xs (fitting b t ys) X (fitting_twice b t ys) ∙ ap (over a s) (sym (fitting_both a b s t xs ys X));
 }
 
+-- ---- a printer
+
+pub put_none : (p : Printer) → Put p p []
+put_none p = record { same = refl; printed = print_none p.out.now p.at }
+
+pub put_both : (p q r : Printer) (xs ys : Bytes) → Put p q xs → Put q r ys → Put p r (xs ++ ys)
+put_both p q r xs ys X Y = record { same = Y.same ∙ X.same; printed = print_both p.out.now q.out.now r.out.now p.at q.at r.at xs ys X.printed Y.printed }
+
 -- ---- a text, byte by byte
 
-pub text_start : (text b : Bytes) (s : ℕ) → Printed b b s s (take 0 text)
-text_start text b s = print_none b s
-
-pub text_turn : (text a b c : Bytes) (s t u k : ℕ) → k < length text → Printed a b s t (take k text) → Printed b c t u (get_or text k 0 ∷ []) → Printed a c s u (take (k + 1) text)
-text_turn text a b c s t u k h X Y =
-    subst (Printed a c s u) (sym (rw add-one (take-suc text k 0 h))) (print_both a b c s t u (take k text) (get_or text k 0 ∷ []) X Y)
-
-pub text_end : (text a b : Bytes) (s t k : ℕ) → length text ≤ k → Printed a b s t (take k text) → Printed a b s t text
-text_end text a b s t k h X = subst (Printed a b s t) (take_all k text h) X
+pub text_turn : (text : Bytes) (p q r : Printer) (k : ℕ) → k < length text → Put p q (take k text) → Put q r (get_or text k 0 ∷ []) → Put p r (take (k + 1) text)
+text_turn text p q r k h X Y = subst (Put p r) (sym (rw add-one (take-suc text k 0 h))) (put_both p q r (take k text) (get_or text k 0 ∷ []) X Y)
 
 -- ---- decimals: more digits than a number has are none
 
@@ -131,14 +132,14 @@ enough zero k v h l = let z : ⊥ = omega arith in absurd z
 enough (suc n) zero v h l = let z : ⊥ = omega arith in absurd z
 enough (suc n) (suc k) v h l = more_than n k v (λ e. enough n k (v / 10) (omega (arith, ltb-false v 10 e)) (omega (arith, ltb-false v 10 e)))
 
-pub decimal_one : (a b : Bytes) (s t v : ℕ) → v < 10 → Printed a b s t ((48 + v) ∷ []) → Printed a b s t (decimal v)
-decimal_one a b s t v h X = subst (Printed a b s t) (sym one) X
+pub decimal_one : (p q : Printer) (v : ℕ) → v < 10 → Put p q ((48 + v) ∷ []) → Put p q (decimal v)
+decimal_one p q v h X = subst (Put p q) (sym one) X
   where
     one : decimal v ≡ (48 + v) ∷ []
     one = unfold decimal digits in rw (lt-ltb v 10 h) refl
 
-pub decimal_more : (a b c : Bytes) (s t u v : ℕ) → 10 ≤ v → Printed a b s t (decimal (v / 10)) → Printed b c t u ((48 + v % 10) ∷ []) → Printed a c s u (decimal v)
-decimal_more a b c s t u v h X Y = subst (Printed a c s u) (sym more) (print_both a b c s t u (decimal (v / 10)) ((48 + v % 10) ∷ []) X Y)
+pub decimal_more : (p q r : Printer) (v : ℕ) → 10 ≤ v → Put p q (decimal (v / 10)) → Put q r ((48 + v % 10) ∷ []) → Put p r (decimal v)
+decimal_more p q r v h X Y = subst (Put p r) (sym more) (put_both p q r (decimal (v / 10)) ((48 + v % 10) ∷ []) X Y)
   where
     last : digits (suc v) v ≡ digits v (v / 10) ++ ((48 + v % 10) ∷ [])
     last = unfold digits in ap (λ c. cond c ((48 + v) ∷ []) (digits v (v / 10) ++ ((48 + v % 10) ∷ []))) (le-ltb v 10 h)
@@ -146,41 +147,14 @@ decimal_more a b c s t u v h X Y = subst (Printed a c s u) (sym more) (print_bot
     more : decimal v ≡ decimal (v / 10) ++ ((48 + v % 10) ∷ [])
     more = unfold decimal in last ∙ ap (λ (ds : Bytes). ds ++ ((48 + v % 10) ∷ [])) (enough v (suc (v / 10)) (v / 10) (omega arith) (omega arith))
 
-pub spaced_told : (a b c : Bytes) (s t u v : ℕ) → Printed a b s t (32 ∷ []) → Printed b c t u (decimal v) → Printed a c s u (spaced v)
-unfolding spaced ascii
-spaced_told a b c s t u v X Y = print_both a b c s t u (32 ∷ []) (decimal v) X Y
+pub spaced_told : (p q r : Printer) (v : ℕ) → Put p q (ascii " ") → Put q r (decimal v) → Put p r (spaced v)
+unfolding spaced
+spaced_told p q r v X Y = put_both p q r (ascii " ") (decimal v) X Y
 
--- ---- numbers
+-- ---- lines
 
--- the first k numbers of a list
-unfoldable pub spaced_to : ℕ → List ℕ → Bytes
-spaced_to k list = joined (map spaced (take k list))
-
-pub spaced_start : (list : List ℕ) (b : Bytes) (s : ℕ) → Printed b b s s (spaced_to 0 list)
-unfolding spaced_to joined
-spaced_start list b s = print_none b s
-
-pub spaced_turn : (list : List ℕ) (a b c : Bytes) (s t u k n x : ℕ) → k < n → n ≤ length list → x ≡ get_or list k 0 → Printed a b s t (spaced_to k list) → Printed b c t u (spaced x)
-    → Printed a c s u (spaced_to (k + 1) list)
-spaced_turn list a b c s t u k n x g l e X Y = subst (Printed a c s u) (sym more) (print_both a b c s t u (spaced_to k list) (spaced (get_or list k 0)) X (rw e at Y))
-  where
-    longer : take (k + 1) list ≡ take k list ++ (get_or list k 0 ∷ [])
-    longer = rw add-one (take-suc list k 0 (omega arith))
-
-    more : spaced_to (k + 1) list ≡ spaced_to k list ++ spaced (get_or list k 0)
-    more = unfold spaced_to in
-        ap (λ (xs : List ℕ). joined (map spaced xs)) longer
-        ∙ ap joined (map_append spaced (take k list) (get_or list k 0 ∷ []))
-        ∙ joined_last (map spaced (take k list)) (spaced (get_or list k 0))
-
-pub numbers_told : (list : List ℕ) (a b c : Bytes) (s t u k n : ℕ) → k ≤ n → n ≤ k → Printed a b s t (spaced_to k list) → Printed b c t u (10 ∷ []) → Printed a c s u (numbers (take n list))
-unfolding numbers spaced_to ascii
-numbers_told list a b c s t u k n g h X Y =
-    let e : k ≡ n = omega arith in
-    subst (λ j. Printed a c s u (joined (map spaced (take j list)) ++ (10 ∷ []))) e (print_both a b c s t u (joined (map spaced (take k list))) (10 ∷ []) X Y)
-
-pub line_one : (label a b c d : Bytes) (s t u w v : ℕ) → Printed a b s t label → Printed b c t u (spaced v) → Printed c d u w (10 ∷ []) → Printed a d s w (line label (v ∷ []))
-unfolding line joined ascii
-line_one label a b c d s t u w v X Y Z =
-    print_both a b d s t w label ((spaced v ++ []) ++ (10 ∷ [])) X
-    (subst (λ (x : Bytes). Printed b d t w (x ++ (10 ∷ []))) (sym (append-nil (spaced v))) (print_both b c d t u w (spaced v) (10 ∷ []) Y Z))
+pub line_one : (label : Bytes) (p q r s : Printer) (v : ℕ) → Put p q label → Put q r (spaced v) → Put r s (ascii "\n") → Put p s (line label (v ∷ []))
+unfolding line joined
+line_one label p q r s v X Y Z =
+    put_both p q s label ((spaced v ++ []) ++ ascii "\n") X
+    (subst (λ (x : Bytes). Put q s (x ++ ascii "\n")) (sym (append-nil (spaced v))) (put_both q r s (spaced v) (ascii "\n") Y Z))

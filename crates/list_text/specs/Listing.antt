@@ -15,7 +15,7 @@ use Rattle.split.specs.Lists.{SplitInput, split_tests, size_tests, split_input, 
 
 -- ---- text
 
-unfoldable pub ascii : String → Bytes
+abbrev pub ascii : String → Bytes
 ascii Text.[] = []
 ascii (Text.◌∷◌ c s) = code c ∷ ascii s
 

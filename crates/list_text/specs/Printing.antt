@@ -2,6 +2,7 @@
 use Rattle.std.specs.Prelude.{◌≡◌, List, ◌++◌, map, ℕ, ◌+◌, ◌-◌, length, take}
 use Rattle.vocabulary.specs.Bytes.{Bytes, over}
 use Rattle.vocabulary.specs.Lists.{joined}
+use Rattle.list_text.specs.declared.inner.Printer.{Printer}
 use Rattle.list_text.specs.Listing.{ascii, spaced}
 
 -- what of a text has room from the place s on
@@ -13,6 +14,11 @@ pub record Printed (before after : Bytes) (s t : ℕ) (text : Bytes) : Type 0 wh
   pub size : length after ≡ length before
   pub end : t ≡ s + length (fitting before s text)
   pub bytes : after ≡ over before s (fitting before s text)
+
+-- what a printer put into the buffer that it has, between two of its states
+pub record Put (old new : Printer) (text : Bytes) : Type 0 where
+  pub same : new.out.ghost_name ≡ old.out.ghost_name
+  pub printed : Printed old.out.now new.out.now old.at new.at text
 
 -- what stands after a line's label
 unfoldable pub numbers : List ℕ → Bytes

@@ -1,65 +1,63 @@
-// Text put into a lent buffer from the place `at` on, as far as there is room. Each function gives the place after it.
-ghost use Rattle.std.specs.Prelude.{[], ◌∷◌, length, take, ◌≤◌};
-ghost use Rattle.list_text.specs.Listing.{decimal, spaced, line};
-ghost use Rattle.list_text.specs.Printing.{Printed, numbers};
+// Text put into a lent buffer, as far as there is room.
+ghost use Rattle.std.specs.Prelude.{[], ◌∷◌};
+ghost use Rattle.list_text.specs.Listing.{ascii, decimal, spaced, line};
+ghost use Rattle.list_text.specs.Printing.{Put};
 
-use layout::get_or;
+// A lent buffer, and the place after what was put there so far.
+#[derive(Drop)]
+pub struct Printer<'a> {
+    pub out: &'a mut [u8],
+    pub at: usize,
+}
 
-fn put_byte(x: u8, out: &mut [u8], at: usize) -> usize
-    ensures { Printed out.old out.new at result (x ∷ []) }
-{
-    if out.len() <= at {
-        return at;
+impl<'a> Printer<'a> {
+    fn put_byte(&mut self, x: u8)
+        ensures { Put self.old self.new (x ∷ []) }
+    {
+        if self.at < self.out.len() {
+            self.out[self.at] = x;
+            self.at += 1;
+        }
     }
-    out[at] = x;
-    at + 1
-}
 
-pub fn put_text(text: &[u8], out: &mut [u8], at: usize) -> usize
-    ensures { Printed out.old out.new at result text.now }
-{
-    let mut t = at;
-    for k in 0..text.len() {
-        t = put_byte(text[k], out, t);
+    pub fn put_text(&mut self, text: &[u8])
+        ensures { Put self.old self.new text.now }
+    {
+        for &c in text {
+            self.put_byte(c);
+        }
     }
-    t
-}
 
-// A number in decimal, by its last digit and what stands before it.
-fn put_decimal(v: usize, out: &mut [u8], at: usize) -> usize
-    ensures { Printed out.old out.new at result (decimal v) }
-{
-    if v < 10 {
-        return put_byte((48 + v) as u8, out, at);
+    // A number in decimal, by its last digit and what stands before it.
+    fn put_decimal(&mut self, v: usize)
+        ensures { Put self.old self.new (decimal v) }
+    {
+        if v < 10 {
+            return self.put_byte(b'0' + v as u8);
+        }
+        self.put_decimal(v / 10);
+        self.put_byte(b'0' + (v % 10) as u8);
     }
-    let t = put_decimal(v / 10, out, at);
-    put_byte((48 + v % 10) as u8, out, t)
-}
 
-pub fn put_spaced(v: usize, out: &mut [u8], at: usize) -> usize
-    ensures { Printed out.old out.new at result (spaced v) }
-{
-    let t = put_byte(32, out, at);
-    put_decimal(v, out, t)
-}
-
-// The first n numbers of a list, each after a space, and the end of the line.
-pub fn put_numbers(list: &[u16], n: usize, out: &mut [u8], at: usize) -> usize
-    requires { n ≤ length list.now }
-    ensures { Printed out.old out.new at result (numbers (take n list.now)) }
-{
-    let mut t = at;
-    for k in 0..n {
-        t = put_spaced(get_or(list, k, 0) as usize, out, t);
+    pub fn put_spaced(&mut self, v: usize)
+        ensures { Put self.old self.new (spaced v) }
+    {
+        self.put_byte(b' ');
+        self.put_decimal(v);
     }
-    put_byte(10, out, t)
-}
 
-// A line of one number.
-pub fn put_line(label: &[u8], v: usize, out: &mut [u8], at: usize) -> usize
-    ensures { Printed out.old out.new at result (line label.now (v ∷ [])) }
-{
-    let t = put_text(label, out, at);
-    let u = put_spaced(v, out, t);
-    put_byte(10, out, u)
+    pub fn end_line(&mut self)
+        ensures { Put self.old self.new (ascii "\n") }
+    {
+        self.put_byte(b'\n');
+    }
+
+    // A line of one number.
+    pub fn put_line(&mut self, label: &[u8], v: usize)
+        ensures { Put self.old self.new (line label.now (v ∷ [])) }
+    {
+        self.put_text(label);
+        self.put_spaced(v);
+        self.end_line();
+    }
 }

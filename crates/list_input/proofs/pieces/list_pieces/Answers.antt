@@ -8,4 +8,4 @@ pub list_accepted-requires : goal.list_accepted-requires
 list_accepted-requires c = sym c.in-Ok.ensures
 
 pub returns-in-Err : goal.returns-in-Err
-returns-in-Err c = refused_split _ _ _ _ _ _ _ _ c.in-Err.ensures (exit_some _ _ refl) c.put_refusal.ensures
+returns-in-Err c = refused_split _ _ _ _ _ _ _ c.in-Err.ensures (exit_some _ _ refl) c.put_refusal.ensures

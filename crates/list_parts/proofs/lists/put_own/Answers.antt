@@ -3,6 +3,4 @@ use Rattle.list_ranges.proofs.PartLaws.{own_told}
 use Rattle.list_parts.proofs.lists.put_own.Goals as goal
 
 pub returns : goal.returns
-returns c =
-    own_told _ _ _ _ _ _ _ _ _ _ _ _ c.put_line-t.ensures
-    c.put_cells-u.ensures c.put_cells.ensures
+returns c = search own_told
