@@ -10,7 +10,7 @@ ghost use Rattle.list_input.specs.Pieces.{Listed, pieces_text};
 
 use crate::accepted::{list_accepted, put_refusal};
 use layout::limits::{ELEMENT_PLACES, RECORD_PLACES};
-use layout::Refusal;
+use layout::{Refusal, byte_at};
 use list_text::inner::Printer;
 use mesh::inner::{cell_count, elements_of, record_count};
 use split::inner::test_split;
