@@ -21,7 +21,7 @@ use Rattle.part_state.specs.Checks.{Counts}
 use Rattle.part_state.specs.declared.places.Sizes.{Sizes}
 use Rattle.part_calls.specs.Calls.{all_taken, all_written, new_at, advanced_in, advance_tests_in, advance_number, advance_answer, advance_state}
 use Rattle.part_calls.specs.Opened.{Opened, advance_rest}
-use Rattle.part_calls.proofs.OpenedLaws.{whole, own_few, long, good_state, cut, lists_is}
+use Rattle.part_calls.proofs.OpenedLaws.{cut_length, whole, own_few, long, good_state, lists_is}
 use Rattle.part_update.proofs.RenewLaws.{new_four}
 use Rattle.layout.specs.Limits.{last_round, most_elements, most_parts}
 
@@ -67,7 +67,7 @@ round_put b x y z new changes round owned room there xe ye ze =
 -- ---- the answer
 
 module _ (b : Bytes) where
-  abbrev pub Answered : Answer → Bytes → Type 0
+  abbrev Answered : Answer → Bytes → Type 0
   Answered r x = (r ≡ advance_answer b) × (x ≡ advance_state b)
 
   refused : (n : ℕ) → advance_number b ≡ n → (n ≡ 0 → ⊥) → Answered (Refused n) b
@@ -83,63 +83,74 @@ module _ (b : Bytes) where
   unfolding advanced_in lists_in
   here lists changes round e = ap (λ r. over b changes (word_bytes r ++ (replicate (2 * most_parts) 0 ++ blocks 1 (owned_count lists) (new_at (lists_in lists) changes b)))) e
 
-  module _ (changes : ℕ) (o : Opened (take changes b) changes b) where
-    number_here : advance_number b ≡ advance_rest (lists_of b) (dynamic b) b
-    unfolding advance_number advance_tests_in advance_rest
-    number_here = simp (good_state (take changes b) changes b o)
+-- ---- the new round, where the lists end at `changes`
 
-    number_is : advance_number b ≡ advance_rest (lists_in (take changes b)) changes b
-    number_is = number_here ∙ ap₂ (λ (L : Lists) p. advance_rest L p b) (lists_is (take changes b) changes b o) (sym o.place_is)
+module _ (b lists was : Bytes) (changes : ℕ) (o : Opened (take changes b) changes b) (le : lists ≡ take changes b) (at : was ≡ b) where
+  length_is : length lists ≡ changes
+  length_is = ap length le ∙ cut_length b changes o
 
-    pub told_refused : (n : ℕ) → n ≡ advance_rest (lists_in (take changes b)) changes b → (n ≡ 0 → ⊥) → Answered (Refused n) b
-    told_refused n ne = refused n (number_is ∙ sym ne)
+  pub counts_here : (z : Sizes) → Counts (take changes b) z → Counts lists z
+  counts_here z C = subst (λ (x : Bytes). Counts x z) (sym le) C
 
-    pub told_done : (n : ℕ) → n ≡ advance_rest (lists_in (take changes b)) changes b → n ≡ 0 → (y : Bytes) → y ≡ advanced_in (lists_in (take changes b)) changes b → Answered (Done 0) y
-    told_done n ne z y ye =
-        let a = done (number_is ∙ sym ne ∙ z) in
-        (a.0, ye ∙ ap₂ (λ (L : Lists) p. advanced_in L p b) (sym (lists_is (take changes b) changes b o)) o.place_is ∙ a.1)
+  module _ (r : ℕ) (re : r ≡ word was (length lists)) where
+    round : r ≡ word b changes
+    round = re ∙ ap₂ (λ (x : Bytes) n. word x n) at length_is
 
-    pub next_put : (owned : ℕ) → owned ≡ owned_count (take changes b) → (r : ℕ) → r ≡ word b changes → (new x y : Bytes)
-        → x ≡ over new 0 (blocks 1 owned (new_at (lists_in (take changes b)) changes b)) → y ≡ over b changes (word_bytes (r + 1) ++ (replicate (2 * most_parts) 0 ++ take (4 * owned) x))
-        → y ≡ advanced_in (lists_in (take changes b)) changes b
-    next_put owned oe r re new x y xe ye =
-        let l : length (blocks 1 owned (new_at (lists_in (take changes b)) changes b)) ≡ 4 * owned =
-        fours_length 1 owned (new_at (lists_in (take changes b)) changes b) (λ t c. new_four (take changes b) changes b (1 + t)) in
-        let t : take (4 * owned) x ≡ blocks 1 owned (new_at (lists_in (take changes b)) changes b) =
-        ap (take (4 * owned)) (xe ∙ over_front new (blocks 1 owned (new_at (lists_in (take changes b)) changes b)))
-        ∙ take_at (blocks 1 owned (new_at (lists_in (take changes b)) changes b)) (drop (length (blocks 1 owned (new_at (lists_in (take changes b)) changes b))) new) (4 * owned) l in
-        ye
-        ∙ ap (λ (u : Bytes). over b changes (word_bytes (r + 1) ++ (replicate (2 * most_parts) 0 ++ u))) (t ∙ ap (λ n. blocks 1 n (new_at (lists_in (take changes b)) changes b)) oe)
-        ∙ here (take changes b) changes (r + 1) (ap (λ k. k + 1) re)
-
-    pub lists_there : changes ≤ length b
-    lists_there = omega (arith, long (take changes b) changes b o)
-
-    pub round_there : changes + 1 < length b
-    round_there = omega (arith, long (take changes b) changes b o)
-
-    pub round_small : (r : ℕ) → r ≡ word b changes → r + 1 < 65536
-    round_small r e = omega (arith, e, (whole (take changes b) changes b o).early)
+    pub round_small : r + 1 < 65536
+    round_small = omega (arith, round, (whole (take changes b) changes b o).early)
 
     pub owned_room : (z : Sizes) → Counts (take changes b) z → state_length changes z.owned ≤ length b
     owned_room z C = omega (arith, C.owned_is, own_few (take changes b) changes b o, long (take changes b) changes b o)
 
-    pub owned_few : (z : Sizes) → Counts (take (changes - 0) (drop 0 b)) z → z.owned ≤ most_elements
-    owned_few z C =
-        let e : z.owned ≡ owned_count (take changes b) = C.owned_is ∙ ap (λ (x : Bytes). owned_count x) (cut b changes) in
-        omega (arith, own_few (take changes b) changes b o, (whole (take changes b) changes b o).few)
+    pub next_put : (owned : ℕ) → owned ≡ owned_count (take changes b) → (new x y : Bytes) → x ≡ over new 0 (blocks 1 owned (new_at (lists_in lists) (length lists) was))
+        → y ≡ over b changes (word_bytes (r + 1) ++ (replicate (2 * most_parts) 0 ++ take (4 * owned) x)) → y ≡ advanced_in (lists_in (take changes b)) changes b
+    next_put owned oe new x y xe ye =
+        let depths : blocks 1 owned (new_at (lists_in lists) (length lists) was) ≡ blocks 1 owned (new_at (lists_in (take changes b)) changes b) =
+        ap₂ (λ (u : Bytes) n. blocks 1 owned (new_at (lists_in u) n was)) le length_is ∙ ap (λ u. blocks 1 owned (new_at (lists_in (take changes b)) changes u)) at in
+      let l : length (blocks 1 owned (new_at (lists_in (take changes b)) changes b)) ≡ 4 * owned =
+        fours_length 1 owned (new_at (lists_in (take changes b)) changes b) (λ t c. new_four (take changes b) changes b (1 + t)) in
+        let t : take (4 * owned) x ≡ blocks 1 owned (new_at (lists_in (take changes b)) changes b) =
+        ap (take (4 * owned)) (xe ∙ ap (over new 0) depths ∙ over_front new (blocks 1 owned (new_at (lists_in (take changes b)) changes b)))
+        ∙ take_at (blocks 1 owned (new_at (lists_in (take changes b)) changes b)) (drop (length (blocks 1 owned (new_at (lists_in (take changes b)) changes b))) new) (4 * owned) l in
+        ye
+        ∙ ap (λ (u : Bytes). over b changes (word_bytes (r + 1) ++ (replicate (2 * most_parts) 0 ++ u))) (t ∙ ap (λ n. blocks 1 n (new_at (lists_in (take changes b)) changes b)) oe)
+        ∙ here b (take changes b) changes (r + 1) (ap (λ k. k + 1) round)
 
--- ---- the lists as they are cut
+-- ---- by what the opened state has of the bytes
 
-pub rest_cut : (b : Bytes) (changes r : ℕ) → r ≡ advance_rest (lists_in (take (changes - 0) (drop 0 b))) changes b → r ≡ advance_rest (lists_in (take changes b)) changes b
-rest_cut b changes r e = e ∙ ap (λ (x : Bytes). advance_rest (lists_in x) changes b) (cut b changes)
+module _ (b lists : Bytes) {changes : ℕ} {was : Bytes} (opened : Opened lists changes was) (at : was ≡ b) where
+  o : Opened lists changes b
+  o = subst (λ x. Opened lists changes x) at opened
 
-pub counts_cut : (b : Bytes) (changes : ℕ) (z : Sizes) → Counts (take changes b) z → Counts (take (changes - 0) (drop 0 b)) z
-counts_cut b changes z C = subst (λ (x : Bytes). Counts x z) (sym (cut b changes)) C
+  pub opened_whole : Opened (take changes b) changes b
+  opened_whole = subst (λ (x : Bytes). Opened x changes b) o.lists_are o
 
-pub counts_whole : (b : Bytes) (changes : ℕ) (z : Sizes) → Counts (take (changes - 0) (drop 0 b)) z → Counts (take changes b) z
-counts_whole b changes z C = subst (λ (x : Bytes). Counts x z) (cut b changes) C
+  pub counts_whole : (z : Sizes) → Counts lists z → Counts (take changes b) z
+  counts_whole z C = subst (λ (x : Bytes). Counts x z) o.lists_are C
 
-pub renewed_cut : (b new x : Bytes) (changes owned : ℕ) → x ≡ over new 0 (blocks 1 owned (new_at (lists_in (take (changes - 0) (drop 0 b))) changes b))
-    → x ≡ over new 0 (blocks 1 owned (new_at (lists_in (take changes b)) changes b))
-renewed_cut b new x changes owned e = e ∙ ap (λ (y : Bytes). over new 0 (blocks 1 owned (new_at (lists_in y) changes b))) (cut b changes)
+  pub owned_few : (z : Sizes) → Counts lists z → z.owned ≤ most_elements
+  owned_few z C = omega (arith, C.owned_is, own_few lists changes b o, (whole lists changes b o).few)
+
+  number_here : advance_number b ≡ advance_rest (lists_of b) (dynamic b) b
+  unfolding advance_number advance_tests_in advance_rest
+  number_here = simp (good_state lists changes b o)
+
+  module _ (n : ℕ) (ne : n ≡ advance_rest (lists_in lists) changes was) where
+    number_is : advance_number b ≡ n
+    number_is =
+        number_here
+        ∙ ap₂ (λ (L : Lists) p. advance_rest L p b) (lists_is lists changes b o) (sym o.place_is)
+        ∙ sym (ne ∙ ap (λ x. advance_rest (lists_in lists) changes x) at)
+
+    pub told_refused : (n ≡ 0 → ⊥) → (Refused n ≡ advance_answer b) × (b ≡ advance_state b)
+    told_refused = refused b n number_is
+
+    pub told_done : n ≡ 0 → (y : Bytes) → y ≡ advanced_in (lists_in (take changes b)) changes b → (Done 0 ≡ advance_answer b) × (y ≡ advance_state b)
+    told_done z y ye =
+        let a = done b (number_is ∙ z) in (
+          a.0,
+          ye
+              ∙ ap (λ (x : Bytes). advanced_in (lists_in x) changes b) (sym o.lists_are)
+              ∙ ap₂ (λ (L : Lists) p. advanced_in L p b) (sym (lists_is lists changes b o)) o.place_is
+              ∙ a.1,
+        )

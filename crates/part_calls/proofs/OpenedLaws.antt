@@ -42,19 +42,19 @@ module _ (lists : Bytes) (changes : ℕ) (b : Bytes) (o : Opened lists changes b
   lists_is = ap lists_in (ap (λ x. take x b) (sym o.place_is) ∙ sym o.lists_are)
 
 -- the state that a call found by its test
-module _ (b : Bytes) (x : ℕ) (u : Bool) (ue : u ≡ is_state b) (uf : not u ≡ false) (e : x ≡ word_at b 0) (s : x < 65536) where
-  pub opened_here : Opened (take (2 * x) b) (2 * x) b
-  opened_here = record { lists_are = refl; place_is = ap (λ k. 2 * k) e; place_small = omega arith; state = sym ue ∙ not-false u uf }
+pub opened_here : (b : Bytes) (x : ℕ) (u : Bool) → u ≡ is_state b → not u ≡ false → x ≡ word_at b 0 → x < 65536 → Opened (take (2 * x) b) (2 * x) b
+opened_here b x u ue uf e s = record { lists_are = refl; place_is = ap (λ k. 2 * k) e; place_small = omega arith; state = sym ue ∙ not-false u uf }
 
-  pub opened_room : 2 * x ≤ length b
-  opened_room = omega (arith, long (take (2 * x) b) (2 * x) b opened_here)
+-- its lists, cut off
+module _ (b : Bytes) (changes : ℕ) (o : Opened (take changes b) changes b) where
+  pub opened_room : changes ≤ length b
+  opened_room = omega (arith, long (take changes b) changes b o)
 
-  pub opened_end : 2 * x ≡ length (take (2 * x) b)
-  opened_end = sym (length-take-le (2 * x) b opened_room)
+  pub cut_length : length (take changes b) ≡ changes
+  cut_length = length-take-le changes b opened_room
 
-  -- the same, where the lists are cut off
-  pub opened_cut : Opened (take (2 * x) b) (length (take (2 * x) b)) b
-  opened_cut = subst (λ k. Opened (take (2 * x) b) k b) opened_end opened_here
+  pub opened_cut : Opened (take changes b) (length (take changes b)) b
+  opened_cut = subst (λ k. Opened (take changes b) k b) (sym cut_length) o
 
 pub not_state : (b : Bytes) (u : Bool) → u ≡ is_state b → not u ≡ true → bad20 b ≡ true
 unfolding bad20

@@ -1,5 +1,5 @@
 // A state that a call has opened.
-ghost use Rattle.std.specs.Prelude.{◌≡◌, ◌+◌, ◌<◌, ◌≤◌, true, length, IfOk, IfErr};
+ghost use Rattle.std.specs.Prelude.{◌≡◌, ◌+◌, ◌<◌, ◌≤◌, true, length, take, IfOk, IfErr};
 ghost use Rattle.vocabulary.specs.Bytes.{over};
 ghost use Rattle.part_calls.specs.Opened.{Opened};
 
@@ -32,17 +32,18 @@ impl<'a> State<'a> {
             return Err(Refusal::State);
         }
         let changes = 2 * word_at(b, LENGTH);
-        Ok(State {
-            lists: &b[..changes],
-            bytes: b,
-        })
+        Ok(State::known(b, changes))
     }
 
-    // The place of what calls change.
-    pub fn changes(self) -> usize
-        ensures { (result ≡ changes_at self.entry) × (result < 131072) }
+    // A state that is known to be one, and where its lists end.
+    pub fn known(b: &'a [u8], changes: usize) -> State<'a>
+        requires { Opened (take changes b.now) changes b.now }
+        ensures { (result.lists.now ≡ take changes b.now) × (result.bytes.now ≡ b.now) }
     {
-        self.lists.len()
+        State {
+            lists: &b[..changes],
+            bytes: b,
+        }
     }
 
     pub fn round(self) -> usize

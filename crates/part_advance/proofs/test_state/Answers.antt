@@ -1,14 +1,15 @@
 -- `part_advance::test_state` meets its contract. Assumes nothing.
-use native.Mathlib.Omega.{arith}
-use Rattle.part_calls.proofs.OpenedLaws.{long, opened_cut}
-use Rattle.part_advance.proofs.AdvanceLaws.{rest_cut}
+use Rattle.part_advance.proofs.AdvanceLaws.{rest_24, rest_25, rest_26, rest_none}
 use Rattle.part_advance.proofs.test_state.Goals as goal
 
-pub slice_bounds-test_lists-end : goal.slice_bounds-test_lists-end
-slice_bounds-test_lists-end c = omega (arith, long _ _ _ c.requires)
+pub returns-then-not-all_taken : goal.returns-then-not-all_taken
+returns-then-not-all_taken c = search rest_24
 
-pub test_lists-requires : goal.test_lists-requires
-test_lists-requires c = opened_cut _ _ c.requires
+pub returns-then-not-all_written : goal.returns-then-not-all_written
+returns-then-not-all_written c = search rest_25
+
+pub returns-then-round-ge-LAST_ROUND : goal.returns-then-round-ge-LAST_ROUND
+returns-then-round-ge-LAST_ROUND c = search rest_26
 
 pub returns : goal.returns
-returns c = search rest_cut
+returns c = search rest_none
