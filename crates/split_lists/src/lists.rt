@@ -69,11 +69,11 @@ pub fn list(
     let wanted_class = range_class(wanted);
     if wanted_class == 0 {
         let n = cell_words(wanted, m, parts as usize, &class, i as usize, &mut ends);
-        return give(&ends, n, out);
+        return give(&ends[..n], out);
     }
     let k = dimension_of(wanted) as usize;
     let mut lower = [0u8; MOST_ELEMENTS];
     classify_lowers(m, &cell, &prev, &last, &class, &holders, k, &mut lower);
     let n = add_range(m, k, &lower, wanted_class, &mut ends);
-    give(&ends, n, out)
+    give(&ends[..n], out)
 }
