@@ -12,10 +12,13 @@ use layout::limits::RECORD_PLACES;
 use layout::put_at;
 use mesh::inner::{count_of, head_of, is_empty, read_record};
 
-// What a small mesh has at most: its arrays are small, since to clear them costs time at every call.
-pub const FEW_ELEMENTS: usize = 255;
+// The arrays of a small mesh, since to clear them costs time at every call: a place for each element's number from 0 on, for the elements of the
+// chains, and for each record's number from 0 on.
+pub const FEW_ENDS: usize = 256;
 
 pub const FEW_RECORDS: usize = 511;
+
+const FEW_RECORD_PLACES: usize = FEW_RECORDS + 1;
 
 fn point_headed(m: &[u8], points: usize) -> bool
     requires { points < 65536 }
@@ -84,18 +87,26 @@ fn write_marked(
     false
 }
 
-// The same with marks of its own: few where few records are counted, since to clear them costs time at every call.
+// The same with K marks of its own.
+fn write_with<const K: usize>(m: &[u8], d: usize, n: usize, r: usize, items: &mut [u16], ends: &mut [u16]) -> bool
+    requires { Sizes m.now d n r × Places n r items.old ends.old × (r < K) × (K ≤ 65536) }
+    ensures { (result ≡ some_of (all_records m.now) (ltb r) || repeats (all_records m.now))
+        × (result ≡ false → Wrote m.now n items.new ends.new) }
+{
+    let mut seen = [0u8; K];
+    write_marked(m, d, n, r, items, ends, &mut seen)
+}
+
+// Few marks where few records are counted.
 fn write_all(m: &[u8], d: usize, n: usize, r: usize, items: &mut [u16], ends: &mut [u16]) -> bool
     requires { Sizes m.now d n r × Places n r items.old ends.old }
     ensures { (result ≡ some_of (all_records m.now) (ltb r) || repeats (all_records m.now))
         × (result ≡ false → Wrote m.now n items.new ends.new) }
 {
     if r <= FEW_RECORDS {
-        let mut few = [0u8; FEW_RECORDS + 1];
-        write_marked(m, d, n, r, items, ends, &mut few)
+        write_with::<FEW_RECORD_PLACES>(m, d, n, r, items, ends)
     } else {
-        let mut seen = [0u8; RECORD_PLACES];
-        write_marked(m, d, n, r, items, ends, &mut seen)
+        write_with::<RECORD_PLACES>(m, d, n, r, items, ends)
     }
 }
 
