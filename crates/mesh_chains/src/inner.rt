@@ -28,7 +28,8 @@ fn point_headed(m: &[u8], points: usize) -> bool
 }
 
 // Follows the chain from record h on, marks what it meets and writes its elements down from place `from` on. Gives the place after the last of
-// them, and none where something is amiss: a record above r, or a marked one. Where nothing is amiss there is a place for every element.
+// them, and none where something is amiss: a record above r, or a marked one. Where nothing is amiss there is a place for every element. The count of
+// the turns is bounded, since the loop goes from record to record by bytes that anyone may have written.
 fn write_chain(
     m: &[u8],
     n: usize,
