@@ -1,5 +1,5 @@
 -- The elements of the chains met one chain after another: test 5. Assumes nothing.
-use mathlib.Core.Path.{◌≡◌, refl, sym, ap, ap₂, ◌∙◌}
+use mathlib.Core.Path.{◌≡◌, refl, sym, ap, ◌∙◌}
 use mathlib.Core.Bool.{Bool, true, false, ◌||◌}
 use mathlib.Core.List.{List, [], ◌∷◌}
 use Prim.Native.Nat.{ℕ, ◌+◌, ◌-◌, ◌≤◌, ◌<◌}
@@ -20,8 +20,7 @@ use Rattle.mesh.proofs.WalkLaws.{below_grows}
 use Rattle.mesh.proofs.MeetLaws.{outside, marks, fresh_tells}
 use Rattle.mesh.proofs.DimensionLaws.{below_next, lower_right, after_below, below_after, dimension_le}
 use Rattle.mesh.proofs.AcceptedLaws.{bare_point}
-use Rattle.mesh_chains.specs.Written.{stretch, MarksBelow, Written}
-use Rattle.mesh_chains.proofs.StretchLaws.{end_in, row_is}
+use Rattle.mesh_chains.specs.Written.{MarksBelow, Written}
 
 -- marks in zeros, above what they hold, and after some were set
 
@@ -54,9 +53,6 @@ module _ (m items ends : List ℕ) (W : Written m items ends) where
   pub few_elements : elements m ≤ most_elements
   few_elements = W.sizes.n_high
 
-  pub ends_there : elements m < length ends
-  ends_there = W.wrote.ends_long
-
   -- ---- the elements of dimension k, above points: `low` elements are of a lower one
 
   module _ (k : ℕ) (kl : 1 ≤ k) (kh : k ≤ top m) (low count : ℕ) (le : low ≡ below m k) (ce : count ≡ counted m k) where
@@ -83,16 +79,15 @@ module _ (m items ends : List ℕ) (W : Written m items ends) where
                 let z : ⊥ = omega (arith, below_after m e (k + 1) (omega arith) (omega (arith, dimension_le m e)) (omega arith), below_next m k) in absurd z
             go false t = omega (arith, least, ltb-false k (dimension m e) t)
 
-        pub end_here : (to : ℕ) → to ≡ get_or ends e 0 → to ≤ length items
-        end_here to te = rw te (end_in m items ends W e (omega (arith, dimension_in)))
+        pub row_here : (1 ≤ e) × (e ≤ elements m)
+        row_here = (omega arith, omega (arith, dimension_in))
 
-        module _ (from to : ℕ) (fe : from ≡ get_or ends (e - 1) 0) (te : to ≡ get_or ends e 0) (s t : List ℕ) (b : Bool) (u : MarksBelow (elements m) e s)
-            (f : met b t ≡ meet e low s (stretch items from to)) where
+        module _ (row : List ℕ) (re : row ≡ chain m e) (s t : List ℕ) (b : Bool) (u : MarksBelow (elements m) e s) (f : met b t ≡ meet e low s row) where
           chain_told : b ≡ bad_chain m e
           unfolding bad_chain
           chain_told =
               fresh_tells e low s (chain m e) t b (λ i q. let y : ⊥ = omega (arith, u.each i) in y) (omega (arith, dimension_in, u.long))
-              (f ∙ ap (meet e low s) (ap₂ (stretch items) fe te ∙ row_is m items ends W e (omega arith) (omega (arith, dimension_in))))
+              (f ∙ ap (meet e low s) re)
               ∙ ap (λ x. x || repeats (chain m e))
               (ap (λ x. some_of (chain m e) (outside x)) (le ∙ ap (below m) (sym dimension_is))
               ∙ some_of_cong _ _ (chain m e) (All_intro _ (chain m e) 0 (λ j q. lower_right m e (get_or (chain m e) j 0) W.sizes.d_high)))

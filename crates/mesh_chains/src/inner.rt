@@ -5,16 +5,20 @@ ghost use Rattle.vocabulary.specs.Lists.{repeats, some_of};
 ghost use Rattle.layout.specs.Limits.{most_elements, most_records};
 ghost use Rattle.mesh.specs.Mesh.{top, counted, below, elements, follow, all_records, headed, bad_chain, bad4, bad5};
 ghost use Rattle.mesh.specs.Meet.{Met, meet, Sizes};
-ghost use Rattle.mesh_chains.specs.Written.{HasNoted, note, stretch, Places, MarksBelow, Wrote, Written};
+ghost use Rattle.mesh_chains.specs.Written.{HasNoted, note, Places, MarksBelow, Wrote, Written};
 
+pub use crate::chains::Chains;
 use layout::limits::RECORD_PLACES;
 use layout::put_at;
 use mesh::inner::{count_of, head_of, is_empty, read_record};
 
-// What a small mesh has at most: its arrays are small, since to clear them costs time at every call.
-pub const FEW_ELEMENTS: usize = 255;
+// The arrays of a small mesh, since to clear them costs time at every call: a place for each element's number from 0 on, for the elements of the
+// chains, and for each record's number from 0 on.
+pub const FEW_ENDS: usize = 256;
 
 pub const FEW_RECORDS: usize = 511;
+
+const FEW_RECORD_PLACES: usize = FEW_RECORDS + 1;
 
 fn point_headed(m: &[u8], points: usize) -> bool
     requires { points < 65536 }
@@ -24,7 +28,8 @@ fn point_headed(m: &[u8], points: usize) -> bool
 }
 
 // Follows the chain from record h on, marks what it meets and writes its elements down from place `from` on. Gives the place after the last of
-// them, and none where something is amiss: a record above r, or a marked one. Where nothing is amiss there is a place for every element.
+// them, and none where something is amiss: a record above r, or a marked one. Where nothing is amiss there is a place for every element. The count of
+// the turns is bounded, since the loop goes from record to record by bytes that anyone may have written.
 fn write_chain(
     m: &[u8],
     n: usize,
@@ -83,18 +88,26 @@ fn write_marked(
     false
 }
 
-// The same with marks of its own: few where few records are counted, since to clear them costs time at every call.
+// The same with K marks of its own.
+fn write_with<const K: usize>(m: &[u8], d: usize, n: usize, r: usize, items: &mut [u16], ends: &mut [u16]) -> bool
+    requires { Sizes m.now d n r × Places n r items.old ends.old × (r < K) × (K ≤ 65536) }
+    ensures { (result ≡ some_of (all_records m.now) (ltb r) || repeats (all_records m.now))
+        × (result ≡ false → Wrote m.now n items.new ends.new) }
+{
+    let mut seen = [0u8; K];
+    write_marked(m, d, n, r, items, ends, &mut seen)
+}
+
+// Few marks where few records are counted.
 fn write_all(m: &[u8], d: usize, n: usize, r: usize, items: &mut [u16], ends: &mut [u16]) -> bool
     requires { Sizes m.now d n r × Places n r items.old ends.old }
     ensures { (result ≡ some_of (all_records m.now) (ltb r) || repeats (all_records m.now))
         × (result ≡ false → Wrote m.now n items.new ends.new) }
 {
     if r <= FEW_RECORDS {
-        let mut few = [0u8; FEW_RECORDS + 1];
-        write_marked(m, d, n, r, items, ends, &mut few)
+        write_with::<FEW_RECORD_PLACES>(m, d, n, r, items, ends)
     } else {
-        let mut seen = [0u8; RECORD_PLACES];
-        write_marked(m, d, n, r, items, ends, &mut seen)
+        write_with::<RECORD_PLACES>(m, d, n, r, items, ends)
     }
 }
 
@@ -109,35 +122,14 @@ pub fn bad4(m: &[u8], d: usize, n: usize, r: usize, items: &mut [u16], ends: &mu
     write_all(m, d, n, r, items, ends)
 }
 
-// The number at place i of a list that has one there.
-pub fn number_in(list: &[u16], i: usize) -> usize
-    requires { i < length list.now }
-    ensures { (result ≡ get_or list.now i 0) × (result < 65536) }
+// Marks the elements of a row; true where one is not from 1 to low, or is marked already.
+fn bad_items(row: &[u16], low: usize, mark: u16, marks: &mut [u16]) -> bool
+    requires { low < length marks.old }
+    ensures { Met.met result marks.new ≡ meet mark low marks.old row.now }
 {
-    list[i] as usize
-}
-
-// Marks the items from place `from` up to `to`; true where one is not from 1 to low, or is marked already.
-fn bad_items(
-    items: &[u16],
-    from: usize,
-    to: usize,
-    low: usize,
-    mark: u16,
-    marks: &mut [u16],
-) -> bool
-    requires { (to ≤ length items.now) × (low < length marks.old) }
-    ensures { Met.met result marks.new ≡ meet mark low marks.old (stretch items.now from to) }
-{
-    for t in from..to {
-        let g = number_in(items, t);
-        if g < 1 {
-            return true;
-        }
-        if low < g {
-            return true;
-        }
-        if marks[g] == mark {
+    for &item in row {
+        let g = usize::from(item);
+        if g < 1 || low < g || marks[g] == mark {
             return true;
         }
         marks[g] = mark;
@@ -146,24 +138,15 @@ fn bad_items(
 }
 
 // Whether something is wrong in the chain of an element of dimension k, where `low` elements are of a lower one. Every mark is at most low before.
-fn bad_dimension(
-    m: &[u8],
-    k: usize,
-    low: usize,
-    items: &[u16],
-    ends: &[u16],
-    marks: &mut [u16],
-) -> bool
-    requires { Written m.now items.now ends.now × (1 ≤ k) × (k ≤ top m.now) × (low ≡ below m.now k) × (low ≤ most_elements)
-        × MarksBelow (elements m.now) (low + 1) marks.old }
-    ensures { (result ≡ some (low + 1) (counted m.now k) (bad_chain m.now))
-        × MarksBelow (elements m.now) (below m.now (k + 1) + 1) marks.new }
+fn bad_dimension<'a>(chains: Chains<'a>, k: usize, low: usize, marks: &mut [u16]) -> bool
+    requires { (1 ≤ k) × (k ≤ top chains.mesh.now) × (low ≡ below chains.mesh.now k) × (low ≤ most_elements)
+        × MarksBelow (elements chains.mesh.now) (low + 1) marks.old }
+    ensures { let m = chains.entry.mesh.now in (result ≡ some (low + 1) (counted m k) (bad_chain m))
+        × MarksBelow (elements m) (below m (k + 1) + 1) marks.new }
 {
-    let count = count_of(m, k);
+    let count = count_of(chains.mesh, k);
     for e in low + 1..low + 1 + count {
-        let from = number_in(ends, e - 1);
-        let to = number_in(ends, e);
-        if bad_items(items, from, to, low, e as u16, marks) {
+        if bad_items(chains.row(e), low, e as u16, marks) {
             return true;
         }
     }
@@ -171,17 +154,17 @@ fn bad_dimension(
 }
 
 // Points have no chains. The marks that are left are numbers of elements.
-pub fn bad5(m: &[u8], d: usize, items: &[u16], ends: &[u16], marks: &mut [u16]) -> bool
-    requires { Written m.now items.now ends.now × (d ≡ top m.now) × MarksBelow (elements m.now) 1 marks.old }
-    ensures { (result ≡ bad5 m.now)
-        × (result ≡ false → MarksBelow (elements m.now) (elements m.now + 1) marks.new) }
+pub fn bad5<'a>(chains: Chains<'a>, d: usize, marks: &mut [u16]) -> bool
+    requires { (d ≡ top chains.mesh.now) × MarksBelow (elements chains.mesh.now) 1 marks.old }
+    ensures { let m = chains.entry.mesh.now in (result ≡ bad5 m)
+        × (result ≡ false → MarksBelow (elements m) (elements m + 1) marks.new) }
 {
-    let mut low = count_of(m, 0);
+    let mut low = count_of(chains.mesh, 0);
     for k in 1..1 + d {
-        if bad_dimension(m, k, low, items, ends, marks) {
+        if bad_dimension(chains, k, low, marks) {
             return true;
         }
-        low += count_of(m, k);
+        low += count_of(chains.mesh, k);
     }
     false
 }

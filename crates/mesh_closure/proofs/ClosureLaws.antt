@@ -6,10 +6,10 @@ use Prim.Native.Nat.{ℕ, ◌+◌, ◌*◌, ◌-◌, ◌≤◌, ◌<◌}
 use native.Mathlib.Omega.{arith}
 use lib.Dec.{eqb, ltb}
 use lib.ListN.{length, get_or, set, length-set}
-use lib.Seq.{get_or-set_same, get_or-set_other, get_or-take}
+use lib.Seq.{get_or-set_same, get_or-set_other}
 use borrow.Author.Tests.{eqb-true, eqb-false, eq-eqb, ne_eqb, ltb-true, ltb-false}
 use Rattle.vocabulary.specs.Intervals.{some, blocks}
-use Rattle.vocabulary.proofs.IntervalLaws.{some_none, blocks_all, blocks_inner, is_in_blocks}
+use Rattle.vocabulary.proofs.IntervalLaws.{some_none, some_cong, blocks_all, is_in_blocks}
 use Rattle.vocabulary.proofs.ScanLaws.{some_stop_from, some_turn_from, some_end_from}
 use Rattle.vocabulary.specs.Lists.{is_in, some_of, All}
 use Rattle.vocabulary.proofs.ListLaws.{or_nothing, some_of_cong, some_of_none, All_map, All_intro, All_get_or}
@@ -19,10 +19,10 @@ use Rattle.mesh.specs.Meet.{stamp, unlike}
 use Rattle.mesh.proofs.WalkLaws.{below_grows}
 use Rattle.mesh.proofs.DimensionLaws.{below_next, below_after, dimension_le}
 use Rattle.mesh.proofs.AcceptedLaws.{bare_point, lower_chain}
-use Rattle.mesh_chains.specs.Written.{stretch, chains, MarksBelow, Written}
-use Rattle.mesh_chains.proofs.StretchLaws.{end_in, rows_are, row_is}
+use Rattle.mesh_chains.specs.Written.{MarksBelow, Written}
 use Rattle.mesh_chains.proofs.ElementLaws.{marks_higher, set_marks}
-use Rattle.mesh_closure.specs.Rows.{leaves_by, Named, ChainRows}
+use Rattle.mesh_closure.specs.Rows.{leaves_by, Names}
+use Rattle.mesh_closure.proofs.RowLaws.{stamp_length}
 
 -- ---- all marks of a list
 
@@ -70,31 +70,11 @@ module _ (m items ends : List ℕ) (W : Written m items ends) (five : bad5 m ≡
   fine e l h =
       All_map (chain m e) (λ g w. (w.0, omega (arith, w.1, below_grows m (dimension m e) 4 (omega (arith, dimension_le m e, W.sizes.d_high))))) (lower e l h)
 
-  -- what is written before the end of a chain
-  item : (e t : ℕ) → e ≤ elements m → t < get_or ends e 0 → (1 ≤ get_or items t 0) × (get_or items t 0 ≤ elements m)
-  unfolding chains
-  item e t h l =
-      let q : 1 + 0 ≡ 1 = omega arith in
-      let a : length (blocks 1 e (chain m)) ≤ length (blocks 1 (elements m) (chain m)) = rw q at (blocks_inner 1 (chain m) 0 e (elements m) (omega arith)) in
-      let k : t < length (chains m (elements m)) = omega (arith, W.wrote.ends_are e h) in
-      let i : get_or (chains m (elements m)) t 0 ≡ get_or items t 0 = ap (λ (xs : List ℕ). get_or xs t 0) (sym W.wrote.items_are) ∙ get_or-take _ items t 0 k in
-      let w = All_get_or (λ g. (1 ≤ g) × (g ≤ elements m)) (chains m (elements m)) t 0
-      (blocks_all 1 (chain m) (λ g. (1 ≤ g) × (g ≤ elements m)) (elements m) (λ j p. fine (1 + j) (omega arith) (omega arith))) k in
-      (omega (arith, w.0), omega (arith, w.1))
-
-  named : (k e : ℕ) → elements m < k → e ≤ elements m → Named k items (get_or ends e 0)
-  named k e s h = record {
-    there = end_in m items ends W e h;
-    low = λ t l. (item e t h l).0;
-    high = λ t l. omega (arith, (item e t h l).1);
+  pub names_row : (e : ℕ) → 1 ≤ e → e ≤ elements m → Names (elements m) (chain m e)
+  names_row e l h = record {
+    low = λ t k. (All_get_or (λ g. (1 ≤ g) × (g ≤ elements m)) (chain m e) t 0 (fine e l h) k).0;
+    high = λ t k. (All_get_or (λ g. (1 ≤ g) × (g ≤ elements m)) (chain m e) t 0 (fine e l h) k).1;
   }
-
-  pub rows_here : (n v e to : ℕ) (s : List ℕ) → n ≡ elements m → MarksBelow n v s → e < 1 + n → to ≡ get_or ends e 0 → ChainRows (length s) items ends to
-  rows_here n v e to s ne u h te = rw te (record {
-    names = named (length s) e (omega (arith, u.long)) (omega arith);
-    ended = λ t l. omega (arith, (item e t (omega arith) l).1, W.wrote.ends_long);
-    row = λ t l. named (length s) (get_or items t 0) (omega (arith, u.long)) (item e t (omega arith) l).1;
-  })
 
   pub elements_few : (n : ℕ) → n ≡ elements m → n ≤ most_elements
   elements_few n ne = omega (arith, W.sizes.n_high)
@@ -137,23 +117,18 @@ module _ (m items ends : List ℕ) (W : Written m items ends) (five : bad5 m ≡
     unfolding bad6
     closed_end i g h = rw ne at (some_end_from 1 (unclosed m) n e i g h)
 
-    module _ (h : e < 1 + n) (from to : ℕ) (fe : from ≡ get_or ends (e - 1) 0) (te : to ≡ get_or ends e 0) (s t : List ℕ) (u : MarksBelow n (n + e) s)
-        (f : t ≡ stamp (n + e) s (stretch items from to)) (b : Bool) (q : b ≡ some_of (stretch items from to) (leaves_by items ends (n + e) t)) where
-      here : stretch items from to ≡ chain m e
-      here = ap₂ (stretch items) fe te ∙ row_is m items ends W e l (omega arith)
-
+    module _ (h : e < 1 + n) (s t : List ℕ) (u : MarksBelow n (n + e) s) (f : t ≡ stamp (n + e) s (chain m e)) (b : Bool)
+        (q : b ≡ some_of (chain m e) (leaves_by m (n + e) t)) where
       marked : (x : ℕ) → unlike (n + e) t x ≡ not (is_in x (chain m e))
       marked x =
-          ap (λ (y : List ℕ). unlike (n + e) y x) (f ∙ ap (stamp (n + e) s) here)
+          ap (λ (y : List ℕ). unlike (n + e) y x) f
           ∙ fresh_stamp n (n + e) x s (chain m e) u (All_map (chain m e) (λ g w. (w.0, omega (arith, w.1))) (fine e l (omega arith)))
 
       unclosed_told : b ≡ unclosed m e
       unfolding unclosed leaves_by leaves
       unclosed_told =
-          q ∙ ap (λ (xs : List ℕ). some_of xs (leaves_by items ends (n + e) t)) here
-          ∙ some_of_cong (leaves_by items ends (n + e) t) (leaves m e) (chain m e) (All_map (chain m e)
-          (λ x w. ap (λ (xs : List ℕ). some_of xs (unlike (n + e) t)) (row_is m items ends W x w.0 w.1) ∙ some_of_cong _ _ (chain m x)
-          (All_intro _ (chain m x) 0 (λ j p. marked (get_or (chain m x) j 0))))
+          q ∙ some_of_cong (leaves_by m (n + e) t) (leaves m e) (chain m e) (All_map (chain m e)
+          (λ x w. some_of_cong _ _ (chain m x) (All_intro _ (chain m x) 0 (λ j p. marked (get_or (chain m x) j 0))))
           (fine e l (omega arith)))
 
       pub unclosed_found : b ≡ true → true ≡ bad6 m
@@ -162,59 +137,53 @@ module _ (m items ends : List ℕ) (W : Written m items ends) (five : bad5 m ≡
 
       pub unclosed_turn : some 1 (e - 1) (unclosed m) ≡ false → b ≡ false → MarksBelow n (n + (e + 1)) t × (some 1 (e + 1 - 1) (unclosed m) ≡ false)
       unclosed_turn i y = (
-        rw f (marks_higher n (n + e + 1) _ _ (omega arith) (stamp_marks n (n + e) s (stretch items from to) (marks_higher n (n + e) _ s (omega arith) u))),
+        rw f (marks_higher n (n + e + 1) _ _ (omega arith) (stamp_marks n (n + e) s (chain m e) (marks_higher n (n + e) _ s (omega arith) u))),
         some_turn_from 1 (unclosed m) e b l i unclosed_told y,
       )
 
   -- ---- test 7
 
-  pub last_there : (n : ℕ) → n ≡ elements m → n < length ends
-  last_there n ne = omega (arith, W.wrote.ends_long)
-
-  pub last_named : (n v to : ℕ) (s : List ℕ) → n ≡ elements m → MarksBelow n v s → to ≡ get_or ends n 0 → Named (length s) items to
-  last_named n v to s ne u te = rw te (named (length s) n (omega (arith, u.long)) (omega arith))
-
   module _ (d n low : ℕ) (de : d ≡ top m) (ne : n ≡ elements m) (le : low ≡ below m d) where
     low_in : low ≤ n
     low_in = omega (arith, below_grows m d 4 (omega (arith, W.sizes.d_high)))
 
-    pub low_few : low ≤ most_elements
-    low_few = omega (arith, low_in, W.sizes.n_high)
+    pub low_room : low ≤ n
+    low_room = low_in
 
-    pub low_there : low < length ends
-    low_there = omega (arith, low_in, W.wrote.ends_long)
+    -- the cells are the last elements
+    last : low + cell_count m ≡ n
+    last = omega (arith, ap (below m) de, below_next m (top m), W.sizes.n_last)
 
-    module _ (from to v : ℕ) (fe : from ≡ get_or ends low 0) (te : to ≡ get_or ends n 0) (t s : List ℕ) (u : MarksBelow n v t) (f : s ≡ stamp v t (stretch items from to)) where
-      pub low_marked : low < length s
-      low_marked = omega (arith, low_in, ap length f, (stamp_marks n v t (stretch items from to) (marks_higher n v _ t (omega arith) u)).long)
+    rows : blocks (1 + low) (n - low) (chain m) ≡ blocks (first_cell m) (cell_count m) (chain m)
+    rows =
+        let q : 1 + low ≡ first_cell m = omega (arith, ap (below m) de) in
+        let r : n - low ≡ cell_count m = omega (arith, last) in
+        ap₂ (λ x y. blocks x y (chain m)) q r
 
-      -- the cells are the last elements
-      last : low + cell_count m ≡ n
-      last = omega (arith, ap (below m) de, below_next m (top m), W.sizes.n_last)
+    cells_fine : All (λ x. (1 ≤ x) × (x ≤ elements m)) (blocks (first_cell m) (cell_count m) (chain m))
+    cells_fine =
+        blocks_all (first_cell m) (chain m) (λ x. (1 ≤ x) × (x ≤ elements m)) (cell_count m)
+        (λ j h. fine (first_cell m + j) (omega arith) (omega (arith, last, ap (below m) de)))
 
-      rows : stretch items from to ≡ blocks (first_cell m) (cell_count m) (chain m)
-      rows =
-          let q : 1 + low ≡ first_cell m = omega (arith, ap (below m) de) in
-          ap₂ (stretch items) fe (te ∙ ap (λ x. get_or ends x 0) (sym last)) ∙ rows_are m items ends W low (cell_count m) (omega (arith, last))
-          ∙ ap (λ x. blocks x (cell_count m) (chain m)) q
+    module _ (row : List ℕ) (re : row ≡ blocks (1 + low) (n - low) (chain m)) where
+      pub names_cells : (v : ℕ) (s : List ℕ) → MarksBelow n v s → Names (length s - 1) row
+      names_cells v s u =
+          rw (re ∙ rows) (record {
+            low = λ t k. (All_get_or (λ g. (1 ≤ g) × (g ≤ elements m)) (blocks (first_cell m) (cell_count m) (chain m)) t 0 cells_fine k).0;
+            high = λ t k. omega (arith, (All_get_or (λ g. (1 ≤ g) × (g ≤ elements m)) (blocks (first_cell m) (cell_count m) (chain m)) t 0 cells_fine k).1, u.long);
+          })
 
-      bare_told : (g : ℕ) → unlike v s g ≡ bare m g
-      unfolding bare
-      bare_told g =
-          ap (λ (x : List ℕ). unlike v x g) (f ∙ ap (stamp v t) rows)
-          ∙ fresh_stamp n v g t (blocks (first_cell m) (cell_count m) (chain m)) u (rw ne (blocks_all (first_cell m) (chain m) (λ x. (1 ≤ x) × (x ≤ elements m)) (cell_count m)
-          (λ j h. fine (first_cell m + j) (omega arith) (omega (arith, last, ap (below m) de)))))
-          ∙ ap not (is_in_blocks g (first_cell m) (cell_count m) (chain m))
+      module _ (v : ℕ) (t s : List ℕ) (u : MarksBelow n v t) (f : s ≡ stamp v t row) where
+        pub low_marked : low < length s
+        low_marked = omega (arith, low_in, stamp_length v t s row f, u.long)
 
-      module _ (g : ℕ) (l : 1 ≤ g) where
-        pub bare_found : (x : ℕ) → x ≡ get_or s g 0 → (x ≡ v → ⊥) → g < 1 + low → true ≡ bad7 m
-        unfolding bad7 unlike
-        bare_found x e q h = rw (ap (below m) (sym de), ← le) (some_stop_from 1 (bare m) low g true (ap not (sym (ne_eqb (get_or s g 0) v (λ y. q (e ∙ y)))) ∙ bare_told g) refl l h)
+        bare_told : (g : ℕ) → unlike v s g ≡ bare m g
+        unfolding bare
+        bare_told g =
+            ap (λ (x : List ℕ). unlike v x g) (f ∙ ap (stamp v t) (re ∙ rows))
+            ∙ fresh_stamp n v g t (blocks (first_cell m) (cell_count m) (chain m)) u (rw ne cells_fine)
+            ∙ ap not (is_in_blocks g (first_cell m) (cell_count m) (chain m))
 
-        pub bare_turn : (x : ℕ) → some 1 (g - 1) (bare m) ≡ false → x ≡ get_or s g 0 → x ≡ v → some 1 (g + 1 - 1) (bare m) ≡ false
-        unfolding unlike
-        bare_turn x i e q = some_turn_from 1 (bare m) g false l i (ap not (sym (eq-eqb (get_or s g 0) v (sym e ∙ q))) ∙ bare_told g) refl
-
-    pub bare_end : (g : ℕ) → some 1 (g - 1) (bare m) ≡ false → g ≤ 1 + low → 1 + low ≤ g → false ≡ bad7 m
-    unfolding bad7
-    bare_end g i h k = rw (ap (below m) (sym de), ← le) (some_end_from 1 (bare m) low g i h k)
+        pub bare_all : (b : Bool) → b ≡ some 1 low (unlike v s) → b ≡ bad7 m
+        unfolding bad7
+        bare_all b q = q ∙ some_cong 1 (unlike v s) (bare m) low (λ i h. bare_told (1 + i)) ∙ ap (λ x. some 1 x (bare m)) (le ∙ ap (below m) de)

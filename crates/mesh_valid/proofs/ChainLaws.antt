@@ -4,21 +4,16 @@ use mathlib.Core.Bool.{cond}
 use mathlib.Core.List.{List}
 use Prim.Native.Nat.{ℕ, ◌+◌, ◌≤◌, ◌<◌}
 use native.Mathlib.Omega.{arith}
-use lib.ListN.{length, replicate}
+use lib.ListN.{length}
 use Rattle.vocabulary.specs.Lists.{Zeros}
 use Rattle.layout.specs.Limits.{element_places, most_records}
 use Rattle.mesh.specs.Mesh.{elements, bad4}
 use Rattle.mesh.specs.Meet.{Sizes}
 use Rattle.mesh_chains.specs.Written.{Places, MarksBelow, Written}
-use Rattle.mesh_chains.proofs.ElementLaws.{no_marks}
 
 -- test 4 accepts chains that are written down
 pub past_four : (m items ends : List ℕ) → Written m items ends → (x k : ℕ) → x ≡ k → x ≡ cond (bad4 m) 4 k
 past_four m items ends W x k e = rw W.four e
-
--- an array that was just made
-pub own_marks : (m : List ℕ) (n k : ℕ) → n ≡ elements m → n < k → MarksBelow (elements m) 1 (replicate k 0)
-own_marks m n k e h = no_marks (elements m) k (omega arith)
 
 -- the marks that test 5 leaves
 pub marks_left : (m s : List ℕ) (n : ℕ) → n ≡ elements m → MarksBelow (elements m) (elements m + 1) s → MarksBelow n (n + 1) s

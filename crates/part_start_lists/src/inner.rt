@@ -267,7 +267,7 @@ pub fn put_entries(
         ends.now plan.first order.now) ++ (blocks 1 plan.owned (row_words table.now ends.now plan.first
         order.now local.now) ++ map (local_in local.now) (take plan.sent list.now)))) }
 {
-    let t = put_list(b, s, order, plan.held);
+    let t = put_list(b, s, &order[..plan.held]);
     let u = put_row_ends(b, t, table, ends, plan.first, order, plan.owned);
     let w = put_rows(b, u, table, ends, plan.first, order, local, plan.owned);
     put_locals(b, w, list, plan.sent, local)

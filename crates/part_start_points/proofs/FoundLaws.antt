@@ -200,8 +200,10 @@ module _ (inc : Incidence) (list : List ℕ) (n : ℕ) (a : Bytes) (s : ℕ) (ro
     same_one : length b ≡ length a
     same_one = put_length a b s t (n ∷ []) P (omega (arith, P.count, many))
 
-    pub fit_list : (2 * (t + n) ≤ length b) × (t < 65536) × (n ≤ length list) × (n ≤ 65536)
-    fit_list = (omega (arith, P.count, many, same_one), omega (arith, P.count, many), there, omega (arith, many))
+    pub fit_list : (2 * (t + length (take n list)) ≤ length b) × (t < 65536) × (length (take n list) ≤ 65536)
+    fit_list =
+        let z : length (take n list) ≡ n = length-take-le n list there in
+        (omega (arith, P.count, many, same_one), omega (arith, P.count, many), omega (arith, many))
 
     module _ (c : Bytes) (u : ℕ) (Q : Put b c t u (take n list)) where
       after_list : u ≡ t + n

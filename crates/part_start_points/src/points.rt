@@ -137,7 +137,7 @@ fn put_listed(
     ensures { Put b.old b.new s result (point_words incidence.now local.now list.now n) }
 {
     let t = put_one(b, s, n);
-    let u = put_list(b, t, list, n);
+    let u = put_list(b, t, &list[..n]);
     let w = put_sizes(b, u, list, n, incidence);
     put_around(b, w, list, n, local, incidence)
 }

@@ -1,6 +1,6 @@
 -- What the registers of 32 and 64 bits hold of the numbers in a sum, a quotient, a mean and a comparison of depths. Assumes nothing.
 use mathlib.Core.Path.{◌≡◌, refl, sym, ap, ◌∙◌}
-use mathlib.Core.Bool.{true, false, cond, true≢false}
+use mathlib.Core.Bool.{Bool, true, false, cond, true≢false}
 use Prim.Native.Nat.{ℕ, zero, suc, ◌*◌, ◌/◌, ◌≤◌, ◌<◌, ◌^◌, zero-le}
 use native.Mathlib.Nat.{mul-zero, add-zero, mul-le-mul, mul-div-le, div-le_of_le-mul, lt-div-mul-add, div-eq_of_lt-le}
 use native.Mathlib.Omega.{arith}
@@ -15,7 +15,8 @@ use Rattle.layout.specs.Limits.{most_weight}
 use Rattle.depths.specs.Depths.{deepest}
 use Rattle.depths.specs.declared.Value.{Value}
 use Rattle.depths.specs.declared.Value.TheVariants.{Depth, Gap}
-use Rattle.round_rule.specs.Rules.{quotient}
+use Rattle.std.specs.Int.{int_min}
+use Rattle.round_rule.specs.Rules.{quotient, lesser}
 use Rattle.round_rule.specs.Code.{divided_by, lesser_of}
 use Rattle.round_rule.proofs.RuleLaws.{size_neg, size_add, size_times}
 
@@ -193,17 +194,15 @@ module _ (sum : ℤ) (w : ℕ) where
 -- ---- the lesser of two
 
 module _ (y : ℤ) (x : Value) (fy : SFits w32 y) where
-  module _ (z : ℤ) (e : x ≡ Depth z) (fz : SFits w32 z) where
-    test_is : lt_z (to_z w32 (of_z w32 y)) (to_z w32 (of_z w32 z)) ≡ lt_z y z
-    test_is = rw (to_z-of_z w32 y fy, to_z-of_z w32 z fz) refl
-
-    pub lesser_first : lt_z (to_z w32 (of_z w32 y)) (to_z w32 (of_z w32 z)) ≡ true → Depth (to_z w32 (of_z w32 y)) ≡ lesser_of y x
-    unfolding lesser_of
-    lesser_first t = rw e (ap Depth (to_z-of_z w32 y fy ∙ ap (λ b. cond b y z) (sym (sym test_is ∙ t))))
-
-    pub lesser_second : lt_z (to_z w32 (of_z w32 y)) (to_z w32 (of_z w32 z)) ≡ false → Depth (to_z w32 (of_z w32 z)) ≡ lesser_of y x
-    unfolding lesser_of
-    lesser_second t = rw e (ap Depth (to_z-of_z w32 z fz ∙ ap (λ b. cond b y z) (sym (sym test_is ∙ t))))
+  pub lesser_least : (z r : ℤ) → x ≡ Depth z → SFits w32 z → r ≡ int_min (to_z w32 (of_z w32 z)) (to_z w32 (of_z w32 y)) → Depth (to_z w32 (of_z w32 r)) ≡ lesser_of y x
+  unfolding lesser_of
+  lesser_least z r e fz m =
+      let q : r ≡ lesser y z = rw (to_z-of_z w32 y fy, to_z-of_z w32 z fz) at m in
+      rw (e, q) (ap Depth (to_z-of_z w32 (lesser y z) (go (lt_z y z))))
+    where
+      go : (b : Bool) → SFits w32 (cond b y z)
+      go true = fy
+      go false = fz
 
   pub lesser_alone : x ≡ Gap → Depth (to_z w32 (of_z w32 y)) ≡ lesser_of y x
   unfolding lesser_of

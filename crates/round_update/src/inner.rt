@@ -85,7 +85,8 @@ fn mean_by(sum: i64, w: usize) -> Value
     Value::Depth(quotient(sum, w))
 }
 
-// The mean over the n entries at `at` in b. Gaps are passed over, in the sum and in its divisor.
+// The mean over the n entries at `at` in b. Gaps are passed over, in the sum and in its divisor. It shares no loop with `plain_mean`: one for both would
+// take the weight and the place of an entry as closures, with a clause for what each gives, and is no plainer than two loops of ten lines.
 fn mean_of(weights: &[u8], b: &[u8], at: usize, n: usize, f: &[u8], base: usize) -> Value
     requires { PlacesThere 4 b.now at n f.now base × Weighed weights.now b.now at n }
     ensures { result ≡ mean_of weights.now (read_by weights.now 1 (olds_at f.now base (table_entries b.now at n))) }
@@ -129,12 +130,12 @@ fn lesser_of(y: i32, x: Value) -> Value
     ensures { result ≡ lesser_of y x }
 {
     match x {
-        Value::Depth(z) => Value::Depth(if y < z { y } else { z }),
+        Value::Depth(z) => Value::Depth(z.min(y)),
         Value::Gap => Value::Depth(y),
     }
 }
 
-// The least depth of the n entries.
+// The least depth of the n entries: a plain loop, since each turn reads two arrays by one number, as in the means.
 fn least_of(b: &[u8], at: usize, n: usize, f: &[u8], base: usize) -> Value
     requires { PlacesThere 4 b.now at n f.now base }
     ensures { result ≡ least_of (without_gaps (olds_at f.now base (table_entries b.now at n))) }

@@ -72,8 +72,8 @@ pub fn list(
         let mut lower = [0u8; MOST_ELEMENTS];
         classify_lowers(m, &incidence, &class, &holders, k, &mut lower);
         let n = add_range(m, k, &lower, range, &mut ends);
-        return give(&ends, n, out);
+        return give(&ends[..n], out);
     }
     let n = cell_words(wanted, m, parts as usize, &class, i as usize, &mut ends);
-    give(&ends, n, out)
+    give(&ends[..n], out)
 }

@@ -1,7 +1,7 @@
 -- `mesh_chains::inner::bad_dimension` meets its contract. The invariant: no chain so far is wrong, and every mark is below e. Assumes nothing.
 use mathlib.Core.Path.{◌≡◌}
 use mathlib.Core.Bool.{false}
-use Prim.Native.Nat.{◌+◌, ◌-◌, ◌≤◌, ◌<◌}
+use Prim.Native.Nat.{◌+◌, ◌-◌, ◌≤◌}
 use lib.ListN.{length}
 use Rattle.vocabulary.specs.Intervals.{some}
 use Rattle.layout.specs.Limits.{most_elements}
@@ -11,8 +11,8 @@ use Rattle.mesh_chains.proofs.inner.bad_dimension.Given as goal
 
 abbrev pub invariant-loop-e : goal.invariant-loop-e
 invariant-loop-e l = (l.low + 1 ≤ l.e) × (l.e ≤ l.low + 1 + l.count) × (l.e-end ≡ l.low + 1 + l.count)
-    × (l.low + l.count ≤ elements l.m) × (elements l.m ≤ most_elements) × (elements l.m < length l.ends) × (length l.marks ≡ length l.initial.marks) × MarksBelow (elements l.m) l.e l.marks ×
-    (some (l.low + 1) (l.e - (l.low + 1)) (bad_chain l.m) ≡ false)
+    × (l.low + l.count ≤ elements l.chains.mesh.now) × (elements l.chains.mesh.now ≤ most_elements) × (length l.marks ≡ length l.initial.marks)
+    × MarksBelow (elements l.chains.mesh.now) l.e l.marks × (some (l.low + 1) (l.e - (l.low + 1)) (bad_chain l.chains.mesh.now) ≡ false)
 
 abbrev pub decreases-loop-e : goal.decreases-loop-e
 decreases-loop-e l = l.e-end - l.e

@@ -1,13 +1,8 @@
--- `mesh_chains::inner::bad_items` meets its contract. The invariant: meeting what is left gives what meeting the whole stretch gives. Assumes nothing.
+-- `mesh_chains::inner::bad_items` meets its contract. The invariant: meeting what is left gives what meeting the whole row gives. Assumes nothing.
 use mathlib.Core.Path.{◌≡◌}
-use Prim.Native.Nat.{◌-◌}
-use lib.ListN.{length}
+use lib.ListN.{length, drop}
 use Rattle.mesh.specs.Meet.{meet}
-use Rattle.mesh_chains.specs.Written.{stretch}
 use Rattle.mesh_chains.proofs.inner.bad_items.Given as goal
 
-abbrev pub invariant-loop-t : goal.invariant-loop-t
-invariant-loop-t l = (length l.marks ≡ length l.initial.marks) × (meet l.mark l.low l.marks (stretch l.items l.t l.to) ≡ meet l.mark l.low l.initial.marks (stretch l.items l.from l.to))
-
-abbrev pub decreases-loop-t : goal.decreases-loop-t
-decreases-loop-t l = l.to - l.t
+abbrev pub invariant-loop-item : goal.invariant-loop-item
+invariant-loop-item l = (length l.marks ≡ length l.initial.marks) × (meet l.mark l.low l.marks (drop l.item-index l.row) ≡ meet l.mark l.low l.initial.marks l.row)

@@ -1,22 +1,16 @@
--- `mesh_closure::inner::any_unmarked` meets its contract. The invariant: what is left tells what the whole stretch tells. Assumes nothing.
-use mathlib.Core.Path.{refl}
-use Rattle.mesh_closure.proofs.RowLaws.{item_there, item_small, unlike_found, unlike_turn, try_done}
+-- `mesh_closure::inner::any_unmarked` meets its contract. Assumes nothing.
+use Rattle.std.proofs.lemmas.Iterator.{YieldsList-from_slice}
+use Rattle.std.proofs.lemmas.Iterator.Adapters.{serves_from_places}
+use Rattle.vocabulary.proofs.IteratorLaws.{some_of_ran}
+use Rattle.mesh.specs.Meet.{unlike}
+use Rattle.mesh_closure.proofs.RowLaws.{names_item}
+use borrow.Author.Rules.{rules}
+use borrow.Author.Tests.{tests}
 use Rattle.mesh_closure.proofs.inner.any_unmarked.Goals as goal
 
-pub loop-t-init : goal.loop-t-init
-loop-t-init c = refl
-
-pub number_in-g-requires : goal.number_in-g-requires
-number_in-g-requires c = search item_there
-
-pub bounds-marks-g : goal.bounds-marks-g
-bounds-marks-g c = search item_small
-
-pub returns-then-marks-g : goal.returns-then-marks-g
-returns-then-marks-g c = search unlike_found
-
-pub loop-t-preserved : goal.loop-t-preserved
-loop-t-preserved c = search unlike_turn
+pub any-requires-clause-callable : goal.any-requires-clause-callable
+any-requires-clause-callable c = serves_from_places (YieldsList-from_slice c.args.row.now c.iter.ensures.rest) (λ x q k. search (rules, tests)) (λ x k h e. let item = names_item _ _ _ _ c.requires h e in search rules)
 
 pub returns : goal.returns
-returns c = search try_done
+unfolding unlike
+returns c = some_of_ran _ c.any.ensures.ran (search rules) (λ x t q k. search (rules, tests))

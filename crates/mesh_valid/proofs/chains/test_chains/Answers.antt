@@ -6,4 +6,4 @@ pub returns-then-bad4 : goal.returns-then-bad4
 returns-then-bad4 c = search told_here
 
 pub test_written-requires : goal.test_written-requires
-test_written-requires c = (c.bad4.ensures.1 c.if-bad4.false, c.requires.0.d_is, c.requires.0.n_is, c.requires.0.n_high)
+test_written-requires c = (c.requires.0.d_is, c.requires.0.n_is, c.requires.0.n_high)

@@ -3,6 +3,7 @@ use mathlib.Core.Path.{refl, sym, ◌∙◌}
 use Prim.Native.Nat.{ℕ}
 use native.Mathlib.Omega.{arith}
 use lib.ListN.{length-replicate}
+use lib.Seq.{length-take-le}
 use Rattle.vocabulary.proofs.ListLaws.{zeros}
 use Rattle.layout.specs.Limits.{element_places, most_elements, record_places}
 use Rattle.layout.proofs.AnswerLaws.{exit_answer, exit_some}
@@ -54,29 +55,6 @@ cell_words-n-requires c =
     let f = facts _ _ _ _ _ wanted passed in
     (f.mesh, f.few, f.i_in.1, f.j_in.1)
 
-pub give-requires-2 : goal.give-requires-2
-give-requires-2 c =
-    let wanted = c.args.wanted in
-    let number = number_found _ _ _ _ _ wanted _ _ c.other_of.ensures c.in_ok-test_split.ensures in
-    let passed = sym number in
-    let told = c.in_ok-prepare.ensures in
-    let added = added_cells wanted _ _ _ _ _ _ _ _ (sym c.range_wanted.ensures ∙ c.in_default.is) c.cell_words-n.ensures in
-    give_fits _ _ _ _ _ wanted c.args.out.now passed (sym told.0) _ _ _ told.1 _
-    c.cell_count.ensures.0 _ _ c.row_of.ensures c.classify.ensures _ _ _ added
-    (omega (arith, length-replicate {A = ℕ} element_places 0))
-
-pub returns : goal.returns
-returns c =
-    let wanted = c.args.wanted in
-    let number = number_found _ _ _ _ _ wanted _ _ c.other_of.ensures c.in_ok-test_split.ensures in
-    let passed = sym number in
-    let told = c.in_ok-prepare.ensures in
-    let added = added_cells wanted _ _ _ _ _ _ _ _ (sym c.range_wanted.ensures ∙ c.in_default.is) c.cell_words-n.ensures in
-    give_list _ _ _ _ _ wanted c.args.out.now passed (sym told.0) _ _ _ told.1 _
-    c.cell_count.ensures.0 _ _ c.row_of.ensures c.classify.ensures _ _ _ added
-    (omega (arith, length-replicate {A = ℕ} element_places 0)) _ _
-    c.give-2.ensures
-
 pub classify_lowers-requires : goal.classify_lowers-requires
 classify_lowers-requires c = (c.in_ok-prepare.ensures.2, refl)
 
@@ -94,9 +72,37 @@ give-requires c =
     let passed = sym number in
     let told = c.in_ok-prepare.ensures in
     let added = added_range wanted _ _ _ _ _ _ _ _ (sym c.range_wanted.ensures ∙ c.in-Some.is) _ c.classify_lowers.ensures c.add_range-n.ensures in
+    let fits =
     give_fits _ _ _ _ _ wanted c.args.out.now passed (sym told.0) _ _ _ told.1 _
     c.cell_count.ensures.0 _ _ c.row_of.ensures c.classify.ensures _ _ _ added
-    (omega (arith, length-replicate {A = ℕ} element_places 0))
+    (omega (arith, length-replicate {A = ℕ} element_places 0)) in
+    omega (arith, fits.0, fits.1, length-take-le c.add_range-n.result c.add_range-n.new.list fits.0)
+
+pub slice_bounds-ends-end : goal.slice_bounds-ends-end
+slice_bounds-ends-end c =
+    let wanted = c.args.wanted in
+    let number = number_found _ _ _ _ _ wanted _ _ c.other_of.ensures c.in_ok-test_split.ensures in
+    let passed = sym number in
+    let told = c.in_ok-prepare.ensures in
+    let added = added_range wanted _ _ _ _ _ _ _ _ (sym c.range_wanted.ensures ∙ c.in-Some.is) _ c.classify_lowers.ensures c.add_range-n.ensures in
+    let fits =
+    give_fits _ _ _ _ _ wanted c.args.out.now passed (sym told.0) _ _ _ told.1 _
+    c.cell_count.ensures.0 _ _ c.row_of.ensures c.classify.ensures _ _ _ added
+    (omega (arith, length-replicate {A = ℕ} element_places 0)) in
+    search (rules, fits)
+
+pub slice_bounds-give-end : goal.slice_bounds-give-end
+slice_bounds-give-end c =
+    let wanted = c.args.wanted in
+    let number = number_found _ _ _ _ _ wanted _ _ c.other_of.ensures c.in_ok-test_split.ensures in
+    let passed = sym number in
+    let told = c.in_ok-prepare.ensures in
+    let added = added_range wanted _ _ _ _ _ _ _ _ (sym c.range_wanted.ensures ∙ c.in-Some.is) _ c.classify_lowers.ensures c.add_range-n.ensures in
+    let fits =
+    give_fits _ _ _ _ _ wanted c.args.out.now passed (sym told.0) _ _ _ told.1 _
+    c.cell_count.ensures.0 _ _ c.row_of.ensures c.classify.ensures _ _ _ added
+    (omega (arith, length-replicate {A = ℕ} element_places 0)) in
+    search (rules, fits)
 
 pub returns-in-Some : goal.returns-in-Some
 returns-in-Some c =
@@ -109,3 +115,54 @@ returns-in-Some c =
     c.cell_count.ensures.0 _ _ c.row_of.ensures c.classify.ensures _ _ _ added
     (omega (arith, length-replicate {A = ℕ} element_places 0)) _ _
     c.give.ensures
+
+pub give-requires-2 : goal.give-requires-2
+give-requires-2 c =
+    let wanted = c.args.wanted in
+    let number = number_found _ _ _ _ _ wanted _ _ c.other_of.ensures c.in_ok-test_split.ensures in
+    let passed = sym number in
+    let told = c.in_ok-prepare.ensures in
+    let added = added_cells wanted _ _ _ _ _ _ _ _ (sym c.range_wanted.ensures ∙ c.in_default.is) c.cell_words-n.ensures in
+    let fits =
+    give_fits _ _ _ _ _ wanted c.args.out.now passed (sym told.0) _ _ _ told.1 _
+    c.cell_count.ensures.0 _ _ c.row_of.ensures c.classify.ensures _ _ _ added
+    (omega (arith, length-replicate {A = ℕ} element_places 0)) in
+    omega (arith, fits.0, fits.1, length-take-le c.cell_words-n.result c.cell_words-n.new.list fits.0)
+
+pub slice_bounds-ends-end-2 : goal.slice_bounds-ends-end-2
+slice_bounds-ends-end-2 c =
+    let wanted = c.args.wanted in
+    let number = number_found _ _ _ _ _ wanted _ _ c.other_of.ensures c.in_ok-test_split.ensures in
+    let passed = sym number in
+    let told = c.in_ok-prepare.ensures in
+    let added = added_cells wanted _ _ _ _ _ _ _ _ (sym c.range_wanted.ensures ∙ c.in_default.is) c.cell_words-n.ensures in
+    let fits =
+    give_fits _ _ _ _ _ wanted c.args.out.now passed (sym told.0) _ _ _ told.1 _
+    c.cell_count.ensures.0 _ _ c.row_of.ensures c.classify.ensures _ _ _ added
+    (omega (arith, length-replicate {A = ℕ} element_places 0)) in
+    search (rules, fits)
+
+pub slice_bounds-give-end-2 : goal.slice_bounds-give-end-2
+slice_bounds-give-end-2 c =
+    let wanted = c.args.wanted in
+    let number = number_found _ _ _ _ _ wanted _ _ c.other_of.ensures c.in_ok-test_split.ensures in
+    let passed = sym number in
+    let told = c.in_ok-prepare.ensures in
+    let added = added_cells wanted _ _ _ _ _ _ _ _ (sym c.range_wanted.ensures ∙ c.in_default.is) c.cell_words-n.ensures in
+    let fits =
+    give_fits _ _ _ _ _ wanted c.args.out.now passed (sym told.0) _ _ _ told.1 _
+    c.cell_count.ensures.0 _ _ c.row_of.ensures c.classify.ensures _ _ _ added
+    (omega (arith, length-replicate {A = ℕ} element_places 0)) in
+    search (rules, fits)
+
+pub returns : goal.returns
+returns c =
+    let wanted = c.args.wanted in
+    let number = number_found _ _ _ _ _ wanted _ _ c.other_of.ensures c.in_ok-test_split.ensures in
+    let passed = sym number in
+    let told = c.in_ok-prepare.ensures in
+    let added = added_cells wanted _ _ _ _ _ _ _ _ (sym c.range_wanted.ensures ∙ c.in_default.is) c.cell_words-n.ensures in
+    give_list _ _ _ _ _ wanted c.args.out.now passed (sym told.0) _ _ _ told.1 _
+    c.cell_count.ensures.0 _ _ c.row_of.ensures c.classify.ensures _ _ _ added
+    (omega (arith, length-replicate {A = ℕ} element_places 0)) _ _
+    c.give-2.ensures
