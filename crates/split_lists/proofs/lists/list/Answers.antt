@@ -28,7 +28,7 @@ prepare-requires c =
     let number = number_found _ _ _ _ _ wanted _ _ c.other_of.ensures c.in_ok-test_split.ensures in
     let passed = sym number in
     let f = facts _ _ _ _ _ wanted passed in
-    (f.mesh, f.map, f.stencil, refl, search rules, refl, refl)
+    (f.mesh, f.map, f.stencil, refl, refl)
 
 pub returns-in_err-prepare : goal.returns-in_err-prepare
 returns-in_err-prepare c =
