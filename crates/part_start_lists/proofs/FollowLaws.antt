@@ -53,11 +53,11 @@ stamped_one k x a b l e = record { room = ap length e ∙ length-set a x k ∙ l
 -- ---- the reach of a cell
 
 module _ (table : Bytes) (k a : ℕ) where
-  pub entries_start : (s : Bytes) → length s ≡ most_elements → Stamped k s s (has_entry table a (a - a))
+  pub entries_start : (t : ℕ) (s : Bytes) → t ≡ a → length s ≡ most_elements → Stamped k s s (has_entry table a (t - a))
   unfolding has_entry
-  entries_start s l =
-      let z : a - a ≡ 0 = omega arith in
-      stamped_none k s (λ x. some a (a - a) (λ t. eqb (word_at table (2 * t)) x)) l
+  entries_start t s e l =
+      let z : t - a ≡ 0 = omega arith in
+      stamped_none k s (λ x. some a (t - a) (λ t. eqb (word_at table (2 * t)) x)) l
       (λ x. ap (λ n. some a n (λ t. eqb (word_at table (2 * t)) x)) z ∙ some_start a (λ t. eqb (word_at table (2 * t)) x))
 
   pub entries_turn : (t x : ℕ) (s s₁ s₂ : Bytes) → a ≤ t → Stamped k s s₁ (has_entry table a (t - a)) → x ≡ word_at table (2 * t) → s₂ ≡ set s₁ x k
@@ -77,13 +77,14 @@ module _ (table : Bytes) (k a : ℕ) where
       next : t - a + 1 ≡ t + 1 - a
       next = omega arith
 
-pub entries_end : (table : Bytes) (ends : List ℕ) (q k : ℕ) (s s₁ : Bytes) (a z t : ℕ) → a ≡ get_or ends q 0 → z ≡ get_or ends (q + 1) 0 → z ≤ t → (t ≤ z) ⊎ (t ≡ a)
-    → Stamped k s s₁ (has_entry table a (t - a)) → Stamped k s s₁ (reach_has table ends q)
+pub entries_end : (table : Bytes) (ends : List ℕ) (q k : ℕ) (s s₁ : Bytes) (t : ℕ) → get_or ends (q + 1) 0 ≤ t → (t ≤ get_or ends (q + 1) 0) ⊎ (t ≡ get_or ends q 0)
+    → Stamped k s s₁ (has_entry table (get_or ends q 0) (t - get_or ends q 0)) → Stamped k s s₁ (reach_has table ends q)
 unfolding reach_has
-entries_end table ends q k s s₁ a z t ae ze l c P =
-    stamped_as k s s₁ (has_entry table a (t - a)) (λ x. has_entry table (get_or ends q 0) (get_or ends (q + 1) 0 - get_or ends q 0) x) (λ x. ap₂ (λ u n. has_entry table u n x) ae whole) P
+entries_end table ends q k s s₁ t l c P =
+    stamped_as k s s₁ (has_entry table (get_or ends q 0) (t - get_or ends q 0)) (λ x. has_entry table (get_or ends q 0) (get_or ends (q + 1) 0 - get_or ends q 0) x)
+    (λ x. ap (λ n. has_entry table (get_or ends q 0) n x) whole) P
   where
-    whole : t - a ≡ get_or ends (q + 1) 0 - get_or ends q 0
+    whole : t - get_or ends q 0 ≡ get_or ends (q + 1) 0 - get_or ends q 0
     whole = ⊎_elim (λ g. omega arith) (λ g. omega arith) c
 
 -- ---- the cells of a group, by what is left of it

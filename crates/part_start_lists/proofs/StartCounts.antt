@@ -24,9 +24,6 @@ module _ (table : Bytes) (ends : List ℕ) (first : ℕ) (order : List ℕ) (l q
   unfolding row_size place_at
   size_is = ap₂ (λ x y. x - y) (ap (λ x. get_or ends (x + 1) 0) (sym qe) ∙ sym te) (ap (λ x. get_or ends x 0) (sym qe) ∙ sym fe)
 
-  pub size_none : to < from → 0 ≡ row_size table ends first order l
-  size_none h = (let z : 0 ≡ to - from = omega arith in z) ∙ sym size_is
-
   pub size_some : to - from ≡ row_size table ends first order l
   size_some = sym size_is
 

@@ -7,34 +7,25 @@ ghost use Rattle.split_classes.specs.Groups.{group};
 ghost use Rattle.part_start_lists.specs.Starting.{Stamped, reached_from, Below, class_among, sent_ends, sent_list, OwnersFew, Sent};
 
 use crate::inner::Plan;
-use layout::{get_or, put_at, word_at};
+use layout::{get_or, put_at};
 use split_cells::inner::add_place;
 use split_classes::inner::{CLASSES, clear_row, group_cells};
+use walk_reach_table::inner::ReachTable;
 
 // Stamps the cells in the reach of the cell at place q with k.
-pub fn stamp_reach(table: &[u8], ends: &[u16], q: usize, k: u8, stamps: &mut [u8])
+pub fn stamp_reach(reaches: &ReachTable, q: usize, k: u8, stamps: &mut [u8])
     requires { (q < 65536) × (length stamps.old ≡ most_elements) }
-    ensures { Stamped k stamps.old stamps.new (reach_has table.now ends.now q) }
+    ensures { Stamped k stamps.old stamps.new (reach_has reaches.now.entries reaches.now.ends q) }
 {
-    let from = get_or(ends, q, 0) as usize;
-    let to = get_or(ends, q + 1, 0) as usize;
-    for t in from..to {
-        put_at(stamps, word_at(table, 2 * t), k);
+    for t in reaches.start(q)..reaches.end(q) {
+        put_at(stamps, reaches.place(t), k);
     }
 }
 
 // Stamps the cells with k that the cells of a group reach, from link s on.
-fn stamp_group(
-    table: &[u8],
-    ends: &[u16],
-    next: &[u16],
-    s: u16,
-    cells: usize,
-    k: u8,
-    stamps: &mut [u8],
-)
+fn stamp_group(reaches: &ReachTable, next: &[u16], s: u16, cells: usize, k: u8, stamps: &mut [u8])
     requires { length stamps.old ≡ most_elements }
-    ensures { Stamped k stamps.old stamps.new (reached_from table.now ends.now (group next.now cells s)) }
+    ensures { Stamped k stamps.old stamps.new (reached_from reaches.now.entries reaches.now.ends (group next.now cells s)) }
 {
     let mut link = s;
     for _j in 0..cells {
@@ -42,7 +33,7 @@ fn stamp_group(
             return;
         }
         let q = link as usize - 1;
-        stamp_reach(table, ends, q, k, stamps);
+        stamp_reach(reaches, q, k, stamps);
         link = get_or(next, q, 0);
     }
 }
@@ -79,8 +70,7 @@ fn add_stamped(
 // exports nothing. Once all exports are found, the later parts take none.
 pub fn find_sent(
     owners: &[u8],
-    table: &[u8],
-    ends: &[u16],
+    reaches: &ReachTable,
     plan: Plan,
     stamps: &mut [u8],
     next: &mut [u16],
@@ -96,10 +86,10 @@ pub fn find_sent(
         × (length stamps.old ≡ most_elements)
         × (most_elements ≤ length next.old)
         × (sent.old ≡ replicate (most_parts + 1) 0)
-        × (plan.sent ≡ sent_ends owners.now table.now ends.now plan.part plan.first plan.cells most_parts) }
-    ensures { Appended list.old list.new 0 result (sent_list owners.now table.now ends.now plan.part plan.first
+        × (plan.sent ≡ sent_ends owners.now reaches.now.entries reaches.now.ends plan.part plan.first plan.cells most_parts) }
+    ensures { Appended list.old list.new 0 result (sent_list owners.now reaches.now.entries reaches.now.ends plan.part plan.first
         plan.cells most_parts)
-        × Sent owners.now table.now ends.now plan.part plan.cells most_parts sent.new }
+        × Sent owners.now reaches.now.entries reaches.now.ends plan.part plan.cells most_parts sent.new }
 {
     let mut start = [0u16; CLASSES];
     group_cells(owners, plan.cells, &mut start, next);
@@ -115,7 +105,7 @@ pub fn find_sent(
         }
         let k = (j + 1) as u8;
         let other = get_or(&start, j + 1, 0);
-        stamp_group(table, ends, next, other, plan.cells, k, stamps);
+        stamp_group(reaches, next, other, plan.cells, k, stamps);
         let t = add_stamped(next, own, stamps, plan.first, plan.cells, k, list, n);
         put_at(sent, j + 1, (t - n) as u16);
         n = t;

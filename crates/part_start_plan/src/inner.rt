@@ -20,6 +20,7 @@ use part_start_lists::inner::{Asked, Plan, count_exports, make_plan, put_cells};
 use part_start_points::inner::{Sought, count_points, put_points};
 use part_state::inner::DEPTHS;
 use walk_incidence::inner::Incidence;
+use walk_reach_table::inner::ReachTable;
 
 // Writes what stands behind the lists at round 0: the round, the flags, and the depths of the held cells.
 pub fn put_rest(b: &mut [u8], plan: Plan, f: &[u8], order: &[u16])
@@ -52,8 +53,7 @@ pub fn draw_plan(
     owners: &[u8],
     i: u32,
     stencil: &[u8],
-    table: &[u8],
-    ends: &[u16],
+    reaches: &ReachTable,
     holders: &[u8],
     class: &mut [u8],
     incidence: &mut Incidence,
@@ -61,11 +61,11 @@ pub fn draw_plan(
 ) -> Plan
     requires { (split_number m.now parts owners.now (i ∷ i ∷ []) stencil.now ≡ 0)
         × (sizes_number m.now parts owners.now stencil.now ≡ 0)
-        × Prepared m.now parts owners.now stencil.now table.now ends.now holders.now
+        × Prepared m.now parts owners.now stencil.now reaches.now.entries reaches.now.ends holders.now
         × Turned m.now incidence.old
         × (length class.old ≡ most_elements)
         × (got.old ≡ replicate 19 0) }
-    ensures { Planned m.now parts owners.now i stencil.now table.now ends.now incidence.new.prev got.new result
+    ensures { Planned m.now parts owners.now i stencil.now reaches.now.entries reaches.now.ends incidence.new.prev got.new result
         × (incidence.new.cell ≡ incidence.old.cell)
         × (length incidence.new.prev ≡ length incidence.old.prev)
         × (incidence.new.last ≡ incidence.old.last) }
@@ -84,8 +84,7 @@ pub fn draw_plan(
         asked,
         sent,
         owners,
-        table,
-        ends,
+        reaches,
         class,
         &mut incidence.prev,
         got,

@@ -15,6 +15,7 @@ use part_start_lists::inner::stamp_reach;
 use split::inner::owner_of;
 use split_classes::inner::clear_row;
 use walk_incidence::inner::{Incidence, MeshSizes};
+use walk_reach_table::inner::ReachTable;
 
 // Whether element g is a point at which some cell bears no stamp.
 fn unstamped_at(sought: Sought, stamps: &[u8], incidence: &Incidence, g: usize) -> bool
@@ -60,25 +61,24 @@ fn cell_outside(
     sizes: MeshSizes,
     sought: Sought,
     owners: &[u8],
-    table: &[u8],
-    ends: &[u16],
+    reaches: &ReachTable,
     c: usize,
     stamps: &mut [u8],
     incidence: &Incidence,
 ) -> bool
     requires { Accepted m.now × Sized m.now sizes × (sought.first ≤ c) × (c < 65536) × RowCleared most_elements stamps.old }
-    ensures { (result ≡ cell_outside m.now incidence.now owners.now table.now
-        ends.now sought.first sought.points sought.part c)
+    ensures { (result ≡ cell_outside m.now incidence.now owners.now reaches.now.entries
+        reaches.now.ends sought.first sought.points sought.part c)
         × RowCleared most_elements stamps.new }
 {
     let q = c - sought.first;
     if owner_of(owners, q) as usize != sought.part {
         return false;
     }
-    stamp_reach(table, ends, q, 1, stamps);
+    stamp_reach(reaches, q, 1, stamps);
     let h = head_of(m, c);
     let outside = chain_unstamped(m, sizes, h, sought, stamps, incidence);
-    stamp_reach(table, ends, q, 0, stamps);
+    stamp_reach(reaches, q, 0, stamps);
     outside
 }
 
@@ -88,18 +88,17 @@ pub fn some_outside(
     sizes: MeshSizes,
     sought: Sought,
     owners: &[u8],
-    table: &[u8],
-    ends: &[u16],
+    reaches: &ReachTable,
     stamps: &mut [u8],
     incidence: &Incidence,
 ) -> bool
     requires { Accepted m.now × Sized m.now sizes × (sought.first ≡ sizes.first) × (length stamps.old ≡ most_elements) }
-    ensures { result ≡ some_outside m.now incidence.now owners.now table.now
-        ends.now sought.first sought.points sought.part sizes.cells }
+    ensures { result ≡ some_outside m.now incidence.now owners.now reaches.now.entries
+        reaches.now.ends sought.first sought.points sought.part sizes.cells }
 {
     clear_row(stamps);
     for c in sought.first..sought.first + sizes.cells {
-        if cell_outside(m, sizes, sought, owners, table, ends, c, stamps, incidence) {
+        if cell_outside(m, sizes, sought, owners, reaches, c, stamps, incidence) {
             return true;
         }
     }

@@ -3,7 +3,6 @@ ghost use Rattle.std.specs.Prelude.{◌≡◌, false, ◌*◌, ◌≤◌, length
 ghost use Rattle.vocabulary.specs.Bytes.{over};
 ghost use Rattle.vocabulary.specs.Intervals.{blocks};
 ghost use Rattle.layout.specs.Answers.{answer_of};
-ghost use Rattle.layout.specs.Limits.{element_places};
 ghost use Rattle.depths.specs.Depths.{deepest, value_bytes, Within};
 ghost use Rattle.mesh.specs.Mesh.{top, mesh_number};
 ghost use Rattle.mesh.specs.Walks.{steps, bad10};
@@ -15,46 +14,46 @@ ghost use Rattle.round.specs.Rows.{row_new, Row, Rows};
 use crate::bad_field;
 use depths::Value;
 use depths::inner::put_value;
+use layout::Refusal;
 use layout::limits::{ELEMENT_PLACES, RECORD_PLACES, TABLE_BYTES};
-use layout::{Refusal, get_or};
 use mesh::inner::{cell_count, top_of};
 use mesh_valid::inner::test_mesh_in;
 use round_rule::{Kind, bad_weights};
 use round_update::inner::new_depth;
 use walk_incidence::inner::Incidence;
-use walk_reach_table::inner::reach_table;
+use walk_reach_table::inner::{ReachTable, reach_table};
 use walk_stencil::bad_stencil;
 
 // The new value of the cell at place j, from its row of the table.
-fn new_at(kind: Kind, weights: &[u8], table: &[u8], ends: &[u16], f: &[u8], j: usize) -> Value
-    requires { (j ≤ 65535) × Row (kind_number kind) weights.now table.now ends.now f.now j }
-    ensures { (value_bytes result ≡ row_new (kind_number kind) weights.now table.now ends.now f.now j) × Within deepest result }
+fn new_at(kind: Kind, weights: &[u8], reaches: &ReachTable, f: &[u8], j: usize) -> Value
+    requires { (j ≤ 65535) × Row (kind_number kind) weights.now reaches.now.entries reaches.now.ends f.now j }
+    ensures { (value_bytes result ≡ row_new (kind_number kind) weights.now reaches.now.entries reaches.now.ends f.now j) × Within deepest result }
 {
-    let from = get_or(ends, j, 0) as usize;
-    let to = get_or(ends, j + 1, 0) as usize;
-    new_depth(kind, weights, table, 4 * from, to - from, f, 0, j)
+    let start = reaches.start(j);
+    new_depth(
+        kind,
+        weights,
+        &reaches.entries,
+        4 * start,
+        reaches.end(j) - start,
+        f,
+        0,
+        j,
+    )
 }
 
 // The new values of all cells: f is only read and out only written, so every one comes from old ones.
-fn renew(
-    kind: Kind,
-    weights: &[u8],
-    table: &[u8],
-    ends: &[u16],
-    cells: usize,
-    f: &[u8],
-    out: &mut [u8],
-)
-    requires { Rows (kind_number kind) weights.now table.now ends.now cells f.now × (4 * cells ≤ length out.old) }
-    ensures { out.new ≡ over out.old 0 (blocks 0 cells (row_new (kind_number kind) weights.now table.now ends.now f.now)) }
+fn renew(kind: Kind, weights: &[u8], reaches: &ReachTable, cells: usize, f: &[u8], out: &mut [u8])
+    requires { Rows (kind_number kind) weights.now reaches.now.entries reaches.now.ends cells f.now × (4 * cells ≤ length out.old) }
+    ensures { out.new ≡ over out.old 0 (blocks 0 cells (row_new (kind_number kind) weights.now reaches.now.entries reaches.now.ends f.now)) }
 {
     for j in 0..cells {
-        let x = new_at(kind, weights, table, ends, f, j);
+        let x = new_at(kind, weights, reaches, f, j);
         put_value(out, 4 * j, x);
     }
 }
 
-// The round on an accepted mesh, stencil and rule. The incidence and the ends are work space.
+// The round on an accepted mesh, stencil and rule. The incidence is work space.
 fn round_on(
     m: &[u8],
     stencil: &[u8],
@@ -63,16 +62,17 @@ fn round_on(
     f: &[u8],
     out: &mut [u8],
     incidence: &mut Incidence,
-    ends: &mut [u16],
 ) -> Result<u32, Refusal>
-    requires { (mesh_number m.now ≡ 0) × (bad10 (top m.now) stencil.now ≡ false) × (bad11 (kind_number kind) (steps stencil.now) weights.now ≡ false)
-        × (length ends.old ≡ element_places) }
+    requires { (mesh_number m.now ≡ 0) × (bad10 (top m.now) stencil.now ≡ false) × (bad11 (kind_number kind) (steps stencil.now) weights.now ≡ false) }
     ensures { let I = round_input m.now stencil.now (kind_number kind) weights.now f.now in
         (answer_of result ≡ round_answer I out.old) × (out.new ≡ round_out I out.old) }
 {
     // the table is written even where the reaches are too many, so it stands in an array of our own
-    let mut table = [0u8; TABLE_BYTES];
-    if reach_table(m, stencil, incidence, &mut table, ends).is_none() {
+    let mut reaches = ReachTable {
+        entries: [0; TABLE_BYTES],
+        ends: [0; ELEMENT_PLACES],
+    };
+    if reach_table(m, stencil, incidence, &mut reaches).is_none() {
         return Err(Refusal::Reach);
     }
     let cells = cell_count(m);
@@ -82,12 +82,12 @@ fn round_on(
     if out.len() < 4 * cells {
         return Err(Refusal::Output);
     }
-    renew(kind, weights, &table, ends, cells, f, out);
+    renew(kind, weights, &reaches, cells, f, out);
     Ok(cells as u32)
 }
 
-// One undivided round: mesh, stencil, rule kind and weights, field. The new field stands at the front of `out`. The mesh is tested in arrays that the
-// reaches are found in afterwards.
+// One undivided round: mesh, stencil, rule kind and weights, field. The new field stands at the front of `out`. The mesh is tested in arrays that
+// have the incidence afterwards.
 pub fn undivided_round(
     m: &[u8],
     stencil: &[u8],
@@ -104,8 +104,7 @@ pub fn undivided_round(
         prev: [0; RECORD_PLACES],
         last: [0; ELEMENT_PLACES],
     };
-    let mut ends = [0u16; ELEMENT_PLACES];
-    test_mesh_in(m, &mut incidence.cell, &mut ends)?;
+    test_mesh_in(m, &mut incidence.cell, &mut incidence.last)?;
     if bad_stencil(top_of(m), stencil) {
         return Err(Refusal::Stencil);
     }
@@ -113,14 +112,5 @@ pub fn undivided_round(
     if bad_weights(kind, stencil.len() - 1, weights) {
         return Err(Refusal::Rule);
     }
-    round_on(
-        m,
-        stencil,
-        kind,
-        weights,
-        f,
-        out,
-        &mut incidence,
-        &mut ends,
-    )
+    round_on(m, stencil, kind, weights, f, out, &mut incidence)
 }

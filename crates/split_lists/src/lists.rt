@@ -13,10 +13,11 @@ use split_ranges::inner::{add_range, classify_lowers};
 use split_tables::inner::prepare;
 use split_wanted::inner::{cell_words, other_of, range_wanted, row_of};
 use walk_incidence::inner::Incidence;
+use walk_reach_table::inner::ReachTable;
 use word_lists::inner::give;
 
-// The call. A list that names no other part is tried as if it named its own part twice. The mesh is tested in arrays that hold the inverted chains and
-// the ends of the reaches afterwards. Once the row of classes is made those ends are not needed, and the list is made in their array.
+// The call. A list that names no other part is tried as if it named its own part twice. The mesh is tested in arrays that have the incidence
+// afterwards. Once the row of classes is made the ends of the reaches are not needed, and the list is made in their array.
 pub fn list(
     wanted: Wanted,
     m: &[u8],
@@ -34,7 +35,6 @@ pub fn list(
         prev: [0; RECORD_PLACES],
         last: [0; ELEMENT_PLACES],
     };
-    let mut ends = [0u16; ELEMENT_PLACES];
     test_split(
         m,
         parts,
@@ -43,9 +43,12 @@ pub fn list(
         other_of(wanted, i),
         stencil,
         &mut incidence.cell,
-        &mut ends,
+        &mut incidence.last,
     )?;
-    let mut table = [0u8; TABLE_BYTES];
+    let mut reaches = ReachTable {
+        entries: [0; TABLE_BYTES],
+        ends: [0; ELEMENT_PLACES],
+    };
     let mut holders = [0u8; MOST_ELEMENTS];
     let mut class = [0u8; MOST_ELEMENTS];
     prepare(
@@ -54,15 +57,13 @@ pub fn list(
         owners,
         stencil,
         &mut incidence,
-        &mut table,
-        &mut ends,
+        &mut reaches,
         &mut holders,
         &mut class,
     )?;
     classify(
         owners,
-        &table,
-        &ends,
+        &reaches,
         cell_count(m),
         row_of(wanted, i) as usize,
         &mut class,
@@ -71,9 +72,16 @@ pub fn list(
         let k = dimension as usize;
         let mut lower = [0u8; MOST_ELEMENTS];
         classify_lowers(m, &incidence, &class, &holders, k, &mut lower);
-        let n = add_range(m, k, &lower, range, &mut ends);
-        return give(&ends[..n], out);
+        let n = add_range(m, k, &lower, range, &mut reaches.ends);
+        return give(&reaches.ends[..n], out);
     }
-    let n = cell_words(wanted, m, parts as usize, &class, i as usize, &mut ends);
-    give(&ends[..n], out)
+    let n = cell_words(
+        wanted,
+        m,
+        parts as usize,
+        &class,
+        i as usize,
+        &mut reaches.ends,
+    );
+    give(&reaches.ends[..n], out)
 }

@@ -2,7 +2,7 @@
 // and 13.
 ghost use Rattle.std.specs.Prelude.{◌≡◌, true, false, [], ◌≤◌, length, OnOk};
 ghost use Rattle.layout.specs.Answers.{refusal_number, refused_as};
-ghost use Rattle.layout.specs.Limits.{element_places, most_elements, table_bytes};
+ghost use Rattle.layout.specs.Limits.{most_elements};
 ghost use Rattle.mesh.specs.Mesh.{top};
 ghost use Rattle.mesh.specs.Walks.{bad10, bad13};
 ghost use Rattle.mesh.specs.Accepted.{Accepted};
@@ -16,7 +16,7 @@ use layout::limits::{ELEMENT_PLACES, MOST_HELD};
 use split_classes::inner::count_holders;
 use walk_incidence::inner::Incidence;
 use walk_part_reach::inner::count_all;
-use walk_reach_table::inner::reach_all;
+use walk_reach_table::inner::{ReachTable, reach_all};
 use walk_steps::inner::{Space, Walker};
 
 // Which of the tests 12 and 13 refuses first, where the reaches have too many entries for the table: how many cells the parts hold together is told
@@ -42,15 +42,14 @@ pub fn prepare(
     owners: &[u8],
     stencil: &[u8],
     incidence: &mut Incidence,
-    table: &mut [u8],
-    ends: &mut [u16],
+    reaches: &mut ReachTable,
     holders: &mut [u8],
     class: &mut [u8],
 ) -> Result<(), Refusal>
-    requires { Accepted m.now × (bad8 m.now parts owners.now [] ≡ false) × (bad10 (top m.now) stencil.now ≡ false) × (length table.old ≡ table_bytes)
-        × (length ends.old ≡ element_places) × (length holders.old ≡ most_elements) × (length class.old ≡ most_elements) }
+    requires { Accepted m.now × (bad8 m.now parts owners.now [] ≡ false) × (bad10 (top m.now) stencil.now ≡ false)
+        × (length holders.old ≡ most_elements) × (length class.old ≡ most_elements) }
     ensures { (refused_as result ≡ sizes_number m.now parts owners.now stencil.now)
-        × OnOk result (Prepared m.now parts owners.now stencil.now table.new ends.new holders.new)
+        × OnOk result (Prepared m.now parts owners.now stencil.now reaches.new.entries reaches.new.ends holders.new)
         × Turned m.now incidence.new }
 {
     incidence.invert(m);
@@ -61,13 +60,12 @@ pub fn prepare(
         found: [0; ELEMENT_PLACES],
         layers: [0; ELEMENT_PLACES],
     };
-    if reach_all(walker, &mut space, table, ends).is_none() {
+    if reach_all(walker, &mut space, reaches).is_none() {
         return Err(overflow(walker, parts, owners, &mut space));
     }
     let held = count_holders(
         owners,
-        table,
-        ends,
+        reaches,
         walker.sizes.cells,
         parts as usize,
         class,

@@ -1,2 +1,2 @@
 // The table of the reaches.
-pub use crate::table::{reach_all, reach_table};
+pub use crate::table::{ReachTable, reach_all, reach_table};

@@ -1,10 +1,10 @@
 // The reaches of all cells as a table.
-ghost use Rattle.std.specs.Prelude.{◌≡◌, true, false, [], ◌∷◌, ◌+◌, ◌-◌, ◌*◌, ◌/◌, ◌<◌, ◌≤◌, length, set, MatchOption};
+ghost use Rattle.std.specs.Prelude.{◌≡◌, true, false, [], ◌∷◌, ◌+◌, ◌-◌, ◌*◌, ◌/◌, ◌<◌, ◌≤◌, length, get_or, set, MatchOption};
 ghost use Rattle.vocabulary.specs.Bytes.{over};
 ghost use Rattle.vocabulary.specs.Lists.{Zeros};
 ghost use Rattle.vocabulary.specs.Intervals.{blocks};
-ghost use Rattle.layout.specs.Words.{bytes_of};
-ghost use Rattle.layout.specs.Limits.{element_places, most_reached, table_bytes};
+ghost use Rattle.layout.specs.Words.{bytes_of, word_at};
+ghost use Rattle.layout.specs.Limits.{element_places, most_reached};
 ghost use Rattle.walk_reach_table.specs.Tables.{row, Cleared, Emitted, reach_entries, Tabled};
 ghost use Rattle.walk_steps.specs.Walking.{Ready};
 ghost use Rattle.walk_near_cells.specs.NearCells.{WalksReady};
@@ -14,8 +14,8 @@ ghost use Rattle.mesh.specs.Walks.{bad10, bad13};
 ghost use Rattle.mesh.specs.Accepted.{Accepted, Cell};
 
 use layout::inner::put_word;
-use layout::limits::{ELEMENT_PLACES, MOST_ELEMENTS, MOST_REACHED};
-use layout::put_at;
+use layout::limits::{ELEMENT_PLACES, MOST_ELEMENTS, MOST_REACHED, TABLE_BYTES};
+use layout::{get_or, put_at, word_at};
 use walk_frontier::inner::index_at;
 use walk_incidence::inner::Incidence;
 use walk_near_cells::inner::{near_rows, walk_near};
@@ -24,19 +24,66 @@ use walk_steps::inner::{Space, Walker};
 // The first mark above those that the rows of near cells take: two a cell.
 const AFTER_ROWS: usize = 2 * MOST_ELEMENTS + 1;
 
+// For each cell in rising order the table has the cells of its reach, rising: an entry of two words for each, its place from 0 and its layer. `ends` has
+// how many entries there are up to each cell.
+#[derive(Drop)]
+pub struct ReachTable {
+    pub entries: [u8; TABLE_BYTES],
+    pub ends: [u16; ELEMENT_PLACES],
+}
+
+impl ReachTable {
+    // How many entries come before those of the cell at place q,
+    pub fn start(&self, q: usize) -> usize
+        ensures { (result ≡ get_or self.now.ends q 0) × (result < 65536) }
+    {
+        usize::from(get_or(&self.ends, q, 0))
+    }
+
+    // and how many up to the last of them.
+    pub fn end(&self, q: usize) -> usize
+        requires { q < 65536 }
+        ensures { (result ≡ get_or self.now.ends (q + 1) 0) × (result < 65536) }
+    {
+        self.start(q + 1)
+    }
+
+    // The place of the cell of entry t,
+    pub fn place(&self, t: usize) -> usize
+        requires { t < 65536 }
+        ensures { (result ≡ word_at self.now.entries (2 * t)) × (result < 65536) }
+    {
+        word_at(&self.entries, 2 * t)
+    }
+
+    // and its layer.
+    pub fn layer(&self, t: usize) -> usize
+        requires { t < 65536 }
+        ensures { (result ≡ word_at self.now.entries (2 * t + 1)) × (result < 65536) }
+    {
+        word_at(&self.entries, 2 * t + 1)
+    }
+}
+
 // Writes entry t.
-fn put_entry(table: &mut [u8], t: usize, place: usize, layer: usize)
-    requires { (t < most_reached) × (length table.old ≡ table_bytes) × (place < 65536) × (layer < 65536) }
-    ensures { table.new ≡ over table.old (4 * t) (bytes_of (place ∷ layer ∷ [])) }
+fn put_entry(entries: &mut [u8; TABLE_BYTES], t: usize, place: usize, layer: usize)
+    requires { (t < most_reached) × (place < 65536) × (layer < 65536) }
+    ensures { entries.new ≡ over entries.old (4 * t) (bytes_of (place ∷ layer ∷ [])) }
 {
-    put_word(table, 4 * t, place);
-    put_word(table, 4 * t + 2, layer);
+    put_word(entries, 4 * t, place);
+    put_word(entries, 4 * t + 2, layer);
 }
 
 // The entry at place q, if that cell has a layer, which is cleared. Gives how many entries there are then, and None where there is no room.
-fn emit_one(layers: &mut [u16], first: usize, q: usize, table: &mut [u8], t: usize) -> Option<usize>
-    requires { (first < 65536) × (q < 65536) × (t ≤ most_reached) × (length table.old ≡ table_bytes) }
-    ensures { MatchOption result (most_reached < t + length (row layers.old first q) / 2) (Emitted table.old table.new t (row layers.old first q))
+fn emit_one(
+    layers: &mut [u16],
+    first: usize,
+    q: usize,
+    entries: &mut [u8; TABLE_BYTES],
+    t: usize,
+) -> Option<usize>
+    requires { (first < 65536) × (q < 65536) × (t ≤ most_reached) }
+    ensures { MatchOption result (most_reached < t + length (row layers.old first q) / 2) (Emitted entries.old entries.new t (row layers.old first q))
         × (layers.new ≡ set layers.old (first + q) 0) }
 {
     let x = index_at(layers, first + q);
@@ -47,7 +94,7 @@ fn emit_one(layers: &mut [u16], first: usize, q: usize, table: &mut [u8], t: usi
     if MOST_REACHED <= t {
         return None;
     }
-    put_entry(table, t, q, x - 1);
+    put_entry(entries, t, q, x - 1);
     Some(t + 1)
 }
 
@@ -57,16 +104,16 @@ fn emit(
     first: usize,
     low: usize,
     high: usize,
-    table: &mut [u8],
+    entries: &mut [u8; TABLE_BYTES],
     t: usize,
 ) -> Option<usize>
-    requires { (first ≤ low) × (high ≤ element_places) × (length layers.old ≡ element_places) × (t ≤ most_reached) × (length table.old ≡ table_bytes) }
+    requires { (first ≤ low) × (high ≤ element_places) × (length layers.old ≡ element_places) × (t ≤ most_reached) }
     ensures { MatchOption result (most_reached < t + length (blocks (low - first) (high - low) (row layers.old first)) / 2)
-        (λ u. Emitted table.old table.new t (blocks (low - first) (high - low) (row layers.old first)) u × Cleared low high layers.old layers.new) }
+        (λ u. Emitted entries.old entries.new t (blocks (low - first) (high - low) (row layers.old first)) u × Cleared low high layers.old layers.new) }
 {
     let mut s = t;
     for x in low..high {
-        s = emit_one(layers, first, x - first, table, s)?;
+        s = emit_one(layers, first, x - first, entries, s)?;
     }
     Some(s)
 }
@@ -79,49 +126,43 @@ fn reach_of(
     c: usize,
     mark: usize,
     space: &mut Space,
-    table: &mut [u8],
+    entries: &mut [u8; TABLE_BYTES],
     t: usize,
 ) -> Option<usize>
     requires { Ready walker × Cell walker.mesh.now c × WalksReady walker.mesh.now walker.stencil.now rows mark space.old × (mark ≤ 60000)
-        × (length table.old ≡ table_bytes) × (t ≤ most_reached) }
+        × (t ≤ most_reached) }
     ensures { MatchOption result (most_reached < t + length (reach_entries walker.entry.mesh.now walker.entry.stencil.now c) / 2)
-        (λ u. Emitted table.old table.new t (reach_entries walker.entry.mesh.now walker.entry.stencil.now c) u
+        (λ u. Emitted entries.old entries.new t (reach_entries walker.entry.mesh.now walker.entry.stencil.now c) u
         × WalksReady walker.entry.mesh.now walker.entry.stencil.now rows (mark + length walker.entry.stencil.now) space.new) }
 {
     let first = walker.sizes.first;
     match rows {
         Some(w) => {
             let b = walk_near(walker, w, c, space);
-            emit(&mut space.from, first, b.low, b.high, table, t)
+            emit(&mut space.from, first, b.low, b.high, entries, t)
         }
         None => {
             space.from[0] = c as u16;
             let b = walker.walk(1, walker.stencil.len() - 1, mark, space);
-            emit(&mut space.layers, first, b.low, b.high, table, t)
+            emit(&mut space.layers, first, b.low, b.high, entries, t)
         }
     }
 }
 
-// The reaches of all cells under an accepted stencil: how many entries they have, and None where those are too many for the table. For each cell in rising
-// order the table has the cells of its reach, rising, as their places from 0 and their layers, and `ends` how many entries there are up to each cell.
-pub fn reach_all(
-    walker: Walker,
-    space: &mut Space,
-    table: &mut [u8],
-    ends: &mut [u16],
-) -> Option<usize>
-    requires { Ready walker × Under 1 space.old.marks × Zeros element_places space.old.layers × (length table.old ≡ table_bytes) × (length ends.old ≡ element_places) }
+// The reaches of all cells under an accepted stencil: how many entries they have, and None where those are too many for the table.
+pub fn reach_all(walker: Walker, space: &mut Space, reaches: &mut ReachTable) -> Option<usize>
+    requires { Ready walker × Under 1 space.old.marks × Zeros element_places space.old.layers }
     ensures { MatchOption result (bad13 walker.entry.mesh.now walker.entry.stencil.now ≡ true)
-        (λ t. Tabled walker.entry.mesh.now walker.entry.stencil.now table.old table.new ends.new t × (length space.new.marks ≡ element_places)) }
+        (λ t. Tabled walker.entry.mesh.now walker.entry.stencil.now reaches.old.entries reaches.new.entries reaches.new.ends t × (length space.new.marks ≡ element_places)) }
 {
     let rows = near_rows(walker, space);
     let mut t = 0;
     let mut mark = AFTER_ROWS;
-    ends[0] = 0;
+    reaches.ends[0] = 0;
     for q in 0..walker.sizes.cells {
-        t = reach_of(walker, rows, walker.sizes.first + q, mark, space, table, t)?;
+        t = reach_of(walker, rows, walker.sizes.first + q, mark, space, &mut reaches.entries, t)?;
         mark += walker.stencil.len();
-        ends[q + 1] = t as u16;
+        reaches.ends[q + 1] = t as u16;
     }
     Some(t)
 }
@@ -131,11 +172,10 @@ pub fn reach_table(
     m: &[u8],
     stencil: &[u8],
     incidence: &mut Incidence,
-    table: &mut [u8],
-    ends: &mut [u16],
+    reaches: &mut ReachTable,
 ) -> Option<usize>
-    requires { Accepted m.now × (bad10 (top m.now) stencil.now ≡ false) × (length table.old ≡ table_bytes) × (length ends.old ≡ element_places) }
-    ensures { MatchOption result (bad13 m.now stencil.now ≡ true) (Tabled m.now stencil.now table.old table.new ends.new) }
+    requires { Accepted m.now × (bad10 (top m.now) stencil.now ≡ false) }
+    ensures { MatchOption result (bad13 m.now stencil.now ≡ true) (Tabled m.now stencil.now reaches.old.entries reaches.new.entries reaches.new.ends) }
 {
     incidence.invert(m);
     let mut space = Space {
@@ -144,5 +184,5 @@ pub fn reach_table(
         found: [0; ELEMENT_PLACES],
         layers: [0; ELEMENT_PLACES],
     };
-    reach_all(Walker::new(m, stencil, incidence), &mut space, table, ends)
+    reach_all(Walker::new(m, stencil, incidence), &mut space, reaches)
 }

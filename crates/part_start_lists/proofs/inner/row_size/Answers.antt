@@ -1,10 +1,8 @@
 -- `part_start_lists::inner::row_size` meets its contract. Assumes nothing.
-use Rattle.part_start_lists.proofs.StartCounts.{size_none, size_some}
+use mathlib.Core.Path.{◌∙◌}
+use Rattle.part_start_lists.proofs.StartCounts.{size_some}
 use borrow.Author.Rules.{rules}
 use Rattle.part_start_lists.proofs.inner.row_size.Goals as goal
 
-pub returns-then-to-from : goal.returns-then-to-from
-returns-then-to-from c = (search size_none, search rules)
-
-pub returns-else-to-from : goal.returns-else-to-from
-returns-else-to-from c = (search size_some, search rules)
+pub returns : goal.returns
+returns c = (c.saturating_sub.ensures ∙ size_some _ _ _ _ _ _ _ _ c.place_at-q.ensures.0 c.start.ensures.0 c.end.ensures.0, search rules)

@@ -6,7 +6,7 @@ use Rattle.round.proofs.UndividedLaws.{told_13, told_14, told_16, told_done, row
 use Rattle.round.proofs.undivided.round_on.Goals as goal
 
 pub reach_table-requires : goal.reach_table-requires
-reach_table-requires c = (accepted_mesh _ c.requires.0, c.requires.1, refl, c.requires.3)
+reach_table-requires c = (accepted_mesh _ c.requires.0, c.requires.1)
 
 pub returns-then-is_none : goal.returns-then-is_none
 returns-then-is_none c = told_13 _ _ _ _ _ _ c.requires.0 c.requires.1 c.requires.2 (absent _ _ _ c.if-is_none.ensures c.reach_table.ensures)

@@ -10,7 +10,6 @@ use Rattle.layout.proofs.AnswerLaws.{exit_answer, exit_some}
 use Rattle.walk_stencil.proofs.StencilLaws.{accepted_stencil, stencil_some}
 use Rattle.round_rule.proofs.KindLaws.{unknown_rule}
 use Rattle.round.proofs.UndividedLaws.{rule_good, told_mesh, told_10, told_unknown, told_11, told_kind}
-use borrow.Author.Rules.{rules}
 use Rattle.round.proofs.undivided.undivided_round.Goals as goal
 
 pub test_mesh_in-requires : goal.test_mesh_in-requires
@@ -45,7 +44,6 @@ round_on-requires c = (
   sym c.in_ok-test_mesh_in.ensures,
   accepted_stencil _ _ c.top_of.ensures.0 c.bad_stencil.ensures c.if-bad_stencil.false,
   rule_good _ _ _ _ c.bad_weights.ensures c.if-bad_weights.false,
-  search rules,
 )
 
 pub returns : goal.returns

@@ -29,7 +29,7 @@ prepare-requires c =
     let number = number_found _ _ _ _ _ wanted _ _ c.other_of.ensures c.in_ok-test_split.ensures in
     let passed = sym number in
     let f = facts _ _ _ _ _ wanted passed in
-    (f.mesh, f.map, f.stencil, refl, search rules, refl, refl)
+    (f.mesh, f.map, f.stencil, refl, refl)
 
 pub returns-in_err-prepare : goal.returns-in_err-prepare
 returns-in_err-prepare c =
@@ -78,8 +78,8 @@ give-requires c =
     (omega (arith, length-replicate {A = ℕ} element_places 0)) in
     omega (arith, fits.0, fits.1, length-take-le c.add_range-n.result c.add_range-n.new.list fits.0)
 
-pub slice_bounds-ends-end : goal.slice_bounds-ends-end
-slice_bounds-ends-end c =
+pub slice_bounds-reaches-end : goal.slice_bounds-reaches-end
+slice_bounds-reaches-end c =
     let wanted = c.args.wanted in
     let number = number_found _ _ _ _ _ wanted _ _ c.other_of.ensures c.in_ok-test_split.ensures in
     let passed = sym number in
@@ -129,8 +129,8 @@ give-requires-2 c =
     (omega (arith, length-replicate {A = ℕ} element_places 0)) in
     omega (arith, fits.0, fits.1, length-take-le c.cell_words-n.result c.cell_words-n.new.list fits.0)
 
-pub slice_bounds-ends-end-2 : goal.slice_bounds-ends-end-2
-slice_bounds-ends-end-2 c =
+pub slice_bounds-reaches-end-2 : goal.slice_bounds-reaches-end-2
+slice_bounds-reaches-end-2 c =
     let wanted = c.args.wanted in
     let number = number_found _ _ _ _ _ wanted _ _ c.other_of.ensures c.in_ok-test_split.ensures in
     let passed = sym number in

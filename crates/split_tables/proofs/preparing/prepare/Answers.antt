@@ -13,14 +13,14 @@ use Rattle.split_tables.proofs.PreparedLaws.{tables_held, tables_passed, tables_
 use Rattle.split_tables.proofs.preparing.prepare.Goals as goal
 
 pub reach_all-requires : goal.reach_all-requires
-reach_all-requires c = (c.new-walker.ensures.0, under_none, zeros element_places, c.requires.3, c.requires.4)
+reach_all-requires c = (c.new-walker.ensures.0, under_none, zeros element_places)
 
 pub count_holders-held-requires : goal.count_holders-held-requires
 count_holders-held-requires c = (
   cells_few _ _ c.requires.0 (c.new-walker.ensures.0.sized.cells_is ∙ ap (λ r. cell_count r.now) c.new-walker.ensures.1),
   (map_facts _ _ _ [] c.requires.1).few,
-  c.requires.6,
-  c.requires.5,
+  c.requires.4,
+  c.requires.3,
   omega (arith, (present _ _ _ c.if-is_none.ensures c.reach_all.ensures).1.1),
 )
 

@@ -7,4 +7,4 @@ use Rattle.walk_reach_table.proofs.table.emit.Given as goal
 abbrev pub invariant-loop-x : goal.invariant-loop-x
 invariant-loop-x l =
     (l.low ≤ l.x) × (l.x - l.low ≤ l.high - l.low) × Cleared l.low l.x l.initial.layers l.layers
-    × Emitted l.initial.table l.table l.t (blocks (l.low - l.first) (l.x - l.low) (row l.initial.layers l.first)) l.s
+    × Emitted l.initial.entries l.entries l.t (blocks (l.low - l.first) (l.x - l.low) (row l.initial.layers l.first)) l.s

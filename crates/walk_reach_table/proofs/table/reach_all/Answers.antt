@@ -9,7 +9,7 @@ use borrow.Author.Rules.{rules}
 use Rattle.walk_reach_table.proofs.table.reach_all.Goals as goal
 
 pub loop-q-init : goal.loop-q-init
-loop-q-init c = (search rules, search rules, c.near_rows-rows.ensures, table_start _ _ _, ends_start _ _ c.args.ends.now _ c.requires.4 refl)
+loop-q-init c = (search rules, search rules, c.near_rows-rows.ensures, table_start _ _ _, ends_start _ _ c.args.reaches.now.ends _ (search rules) refl)
 
 pub reach_of-requires : goal.reach_of-requires
 reach_of-requires c = (
@@ -17,7 +17,6 @@ reach_of-requires c = (
   cell_at _ c.requires.0.ground.turned.mesh _ _ _ c.requires.0.sized.first_is c.requires.0.sized.cells_is c.loop-q-test.true,
   c.loop-q.invariant.2,
   omega (arith, c.loop-q.invariant.1, cells_few _ _ c.requires.0.ground.turned.mesh c.requires.0.sized.cells_is),
-  search rules,
   c.loop-q.invariant.3.few,
 )
 
@@ -26,12 +25,12 @@ returns-in_err-t c = rw c.from_residual.ensures (table_over _ _ _ _ _ c.requires
 
 pub loop-q-preserved : goal.loop-q-preserved
 loop-q-preserved c =
-    let E = table_turn _ _ _ _ _ c.requires.0.sized.first_is refl _ _ _ _ _ c.requires.3 c.loop-q.invariant.3 c.in_ok-t.ensures.0 in (
+    let E = table_turn _ _ _ _ _ c.requires.0.sized.first_is refl _ _ _ _ _ (search rules) c.loop-q.invariant.3 c.in_ok-t.ensures.0 in (
       search rules,
       omega (arith, c.loop-q.invariant.1, (stencil_parts _ _ c.requires.0.ground.stencil).1),
       c.in_ok-t.ensures.1,
       E,
-      ends_turn _ _ _ _ _ c.requires.0.sized.first_is refl _ _ _ c.loop-q.ends _ _ c.requires.0.ground.turned.mesh c.requires.0.sized.cells_is c.loop-q-test.true
+      ends_turn _ _ _ _ _ c.requires.0.sized.first_is refl _ _ _ c.loop-q.reaches.ends _ _ c.requires.0.ground.turned.mesh c.requires.0.sized.cells_is c.loop-q-test.true
           (search rules) E c.loop-q.invariant.4 refl,
     )
 

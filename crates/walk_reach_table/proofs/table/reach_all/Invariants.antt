@@ -7,4 +7,4 @@ use Rattle.walk_reach_table.proofs.table.reach_all.Given as goal
 abbrev pub invariant-loop-q : goal.invariant-loop-q
 invariant-loop-q l =
     (l.q ≤ l.walker.sizes.cells) × (l.mark ≤ 4001 + 9 * l.q) × WalksReady l.walker.mesh.now l.walker.stencil.now l.rows l.mark l.space
-    × Emitted l.initial.table l.table 0 (table_words l.walker.mesh.now l.walker.stencil.now l.q) l.t × EndTable l.walker.mesh.now l.walker.stencil.now l.ends l.q
+    × Emitted l.initial.reaches.entries l.reaches.entries 0 (table_words l.walker.mesh.now l.walker.stencil.now l.q) l.t × EndTable l.walker.mesh.now l.walker.stencil.now l.reaches.ends l.q

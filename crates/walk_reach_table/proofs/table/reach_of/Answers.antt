@@ -15,7 +15,6 @@ emit-requires c = (
   omega (arith, c.requires.0.sized.first_is, c.walk_near-b.ensures.1.starts),
   high_small _ _ _ _ c.requires.0.ground.turned.mesh c.walk_near-b.ensures.1,
   c.walk_near-b.ensures.0.size,
-  c.requires.5,
   c.requires.4,
 )
 
@@ -44,7 +43,6 @@ emit-requires-in-None c = (
   omega (arith, c.requires.0.sized.first_is, c.walk-b.ensures.1.starts),
   high_small _ _ _ _ c.requires.0.ground.turned.mesh c.walk-b.ensures.1,
   c.walk-b.ensures.0.size,
-  c.requires.5,
   c.requires.4,
 )
 

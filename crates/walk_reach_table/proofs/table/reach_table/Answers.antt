@@ -5,4 +5,4 @@ use Rattle.mesh.proofs.MeetLaws.{under_none}
 use Rattle.walk_reach_table.proofs.table.reach_table.Goals as goal
 
 pub reach_all-requires : goal.reach_all-requires
-reach_all-requires c = (c.new.ensures.0, under_none, zeros element_places, c.requires.2, c.requires.3)
+reach_all-requires c = (c.new.ensures.0, under_none, zeros element_places)
