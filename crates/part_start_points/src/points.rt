@@ -35,8 +35,7 @@ fn find_points(sought: Sought, owners: &[u8], incidence: &Incidence, list: &mut 
 {
     let mut n = 0;
     for p in 1..sought.points + 1 {
-        let t = number_at(&incidence.last, p) as usize;
-        if !some_at(owners, sought.first, sought.part, incidence, t) {
+        if !some_at(owners, sought.first, sought.part, incidence, p) {
             continue;
         }
         put_number_at(list, n, p as u16);
@@ -51,7 +50,7 @@ fn size_at(list: &[u16], k: usize, incidence: &Incidence) -> usize
     ensures { (result ≡ size_at incidence.now list.now k) × (result ≤ record_places) }
 {
     let p = number_at(list, k - 1) as usize;
-    trail_length(incidence, number_at(&incidence.last, p) as usize)
+    trail_length(incidence, p)
 }
 
 // How many cells there are at the first n points of a list together.
@@ -111,13 +110,7 @@ fn put_around(
     let mut t = s;
     for k in 1..n + 1 {
         let p = number_at(list, k - 1) as usize;
-        t = put_trail(
-            b,
-            t,
-            incidence,
-            number_at(&incidence.last, p) as usize,
-            local,
-        );
+        t = put_trail(b, t, incidence, p, local);
     }
     t
 }
