@@ -49,7 +49,7 @@ fn size_at(list: &[u16], k: usize, incidence: &Incidence) -> usize
     requires { 1 ≤ k }
     ensures { (result ≡ size_at incidence.now list.now k) × (result ≤ record_places) }
 {
-    let p = number_at(list, k - 1) as usize;
+    let p = get_or(list, k - 1, 0) as usize;
     trail_length(incidence, p)
 }
 
@@ -109,7 +109,7 @@ fn put_around(
 {
     let mut t = s;
     for k in 1..n + 1 {
-        let p = number_at(list, k - 1) as usize;
+        let p = get_or(list, k - 1, 0) as usize;
         t = put_trail(b, t, incidence, p, local);
     }
     t

@@ -8,7 +8,7 @@ ghost use Rattle.vocabulary.specs.Intervals.{blocks};
 ghost use Rattle.layout.specs.Limits.{most_elements, most_records};
 ghost use Rattle.mesh.specs.Mesh.{elements, element_in, follow};
 
-use layout::{number_at, put_number_at};
+use layout::{get_or, put_at};
 use mesh::inner::{head_of, read_record};
 use walk_incidence::inner::{Incidence, MeshSizes};
 

@@ -5,7 +5,7 @@ ghost use Rattle.walk_incidence.specs.Links.{cells_on};
 
 use crate::inner::Incidence;
 use layout::limits::RECORD_PLACES;
-use layout::number_at;
+use layout::get_or;
 
 // What is left of a trail: the entries from `entry` on, of which there are at most `left`.
 #[derive(Drop)]
@@ -28,8 +28,8 @@ impl<'a> Iterator for Trail<'a> {
         if self.left == 0 || self.entry == 0 {
             return None;
         }
-        let cell = number_at(&self.incidence.cell, self.entry);
-        self.entry = number_at(&self.incidence.prev, self.entry) as usize;
+        let cell = get_or(&self.incidence.cell, self.entry, 0);
+        self.entry = get_or(&self.incidence.prev, self.entry, 0) as usize;
         self.left -= 1;
         Some(cell)
     }
@@ -44,7 +44,7 @@ impl Incidence {
     {
         Trail {
             incidence: self,
-            entry: number_at(&self.last, e) as usize,
+            entry: get_or(&self.last, e, 0) as usize,
             left: RECORD_PLACES,
         }
     }

@@ -13,10 +13,10 @@ returns-then-self-eq0-clause-steps c = elim c.then-self-eq0.branch [
 ]
 
 pub returns-clause-steps : goal.returns-clause-steps
-returns-clause-steps c = trail_next _ _ _ _ _ _ c.if-self-eq0.false c.if-self-eq0-2.false c.number_at-cell.ensures c.number_at.ensures
+returns-clause-steps c = trail_next _ _ _ _ _ _ c.if-self-eq0.false c.if-self-eq0-2.false c.get_or-cell.ensures c.get_or.ensures
 
 pub returns-clause-goes : goal.returns-clause-goes
 returns-clause-goes c =
-    let e = trail_next _ _ _ _ _ _ c.if-self-eq0.false c.if-self-eq0-2.false c.number_at-cell.ensures c.number_at.ensures in
+    let e = trail_next _ _ _ _ _ _ c.if-self-eq0.false c.if-self-eq0-2.false c.get_or-cell.ensures c.get_or.ensures in
     let l = ap length e in
     record { on = λ f. (tt, tt, omega (arith, l)); keeps = tt; rests = λ f. tt }
