@@ -42,7 +42,8 @@ module _ (inc : Incidence) (owners : Bytes) (first i : ℕ) where
 
     told : meets (1 + (p - 1)) ≡ b
     unfolding cells_on
-    told = ap (λ x. some_at owners first i (trail inc.cell inc.prev record_places (get_or inc.last x 0))) here ∙ ap (λ x. some_at owners first i (trail inc.cell inc.prev record_places x)) (sym te) ∙ sym be
+    told = ap (λ x. some_at owners first i (trail inc.cell inc.prev record_places (get_or inc.last x 0))) here
+        ∙ ap (λ x. some_at owners first i (trail inc.cell inc.prev record_places x)) (sym te) ∙ sym be
 
     pub found_no : not b ≡ true → Found list n (points_on inc owners first i (p + 1 - 1))
     unfolding points_on
@@ -117,7 +118,8 @@ module _ (inc : Incidence) (local list : List ℕ) where
     around_room small same =
         let w = many_room (around_on inc local list) n (size_ends inc list n) (around_long n) (size_at inc list) around_size a b s u k low high room small same P in
         let f = many_fit (around_on inc local list) n k low high in
-        let q : length (trail inc.cell inc.prev record_places t) ≡ size_at inc list k = unfold size_at in trail_length inc.cell inc.prev record_places t ∙ ap (trail_count inc.prev record_places) entry in
+        let q : length (trail inc.cell inc.prev record_places t) ≡ size_at inc list k =
+        unfold size_at in trail_length inc.cell inc.prev record_places t ∙ ap (trail_count inc.prev record_places) entry in
         (omega (arith, w.0), omega (arith, P.count, around_size k, around_long n))
 
     pub around_turn : (c : Bytes) (v : ℕ) → Put b c u v (map (local_in local) (trail inc.cell inc.prev record_places t)) → Put a c s v (blocks 1 (k + 1 - 1) (around_on inc local list))

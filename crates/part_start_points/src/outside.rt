@@ -9,7 +9,6 @@ ghost use Rattle.part_start_points.specs.Outside.{unstamped_at, chain_unstamped,
 
 use crate::points::Sought;
 use crate::trails::some_at;
-use layout::get_or;
 use mesh::inner::{head_of, read_record};
 use part_start_lists::inner::stamp_reach;
 use split::inner::owner_of;
@@ -24,8 +23,7 @@ fn unstamped_at(sought: Sought, stamps: &[u8], incidence: &Incidence, g: usize) 
     if sought.points < g {
         return false;
     }
-    let t = get_or(&incidence.last, g, 0) as usize;
-    some_at(stamps, sought.first, 0, incidence, t)
+    some_at(stamps, sought.first, 0, incidence, g)
 }
 
 // Whether there is such a point in the chain from record h on.

@@ -35,8 +35,7 @@ fn find_points(sought: Sought, owners: &[u8], incidence: &Incidence, list: &mut 
 {
     let mut n = 0;
     for p in 1..sought.points + 1 {
-        let t = get_or(&incidence.last, p, 0) as usize;
-        if !some_at(owners, sought.first, sought.part, incidence, t) {
+        if !some_at(owners, sought.first, sought.part, incidence, p) {
             continue;
         }
         put_at(list, n, p as u16);
@@ -51,7 +50,7 @@ fn size_at(list: &[u16], k: usize, incidence: &Incidence) -> usize
     ensures { (result ≡ size_at incidence.now list.now k) × (result ≤ record_places) }
 {
     let p = get_or(list, k - 1, 0) as usize;
-    trail_length(incidence, get_or(&incidence.last, p, 0) as usize)
+    trail_length(incidence, p)
 }
 
 // How many cells there are at the first n points of a list together.
@@ -111,13 +110,7 @@ fn put_around(
     let mut t = s;
     for k in 1..n + 1 {
         let p = get_or(list, k - 1, 0) as usize;
-        t = put_trail(
-            b,
-            t,
-            incidence,
-            get_or(&incidence.last, p, 0) as usize,
-            local,
-        );
+        t = put_trail(b, t, incidence, p, local);
     }
     t
 }

@@ -1,18 +1,18 @@
 -- Classes of lower elements as the code tells them. Assumes nothing.
 use mathlib.Core.Path.{◌≡◌, refl, sym, ap, ap₂, ◌∙◌}
-use mathlib.Core.Bool.{Bool, true, false, not, ◌||◌, cond}
+use mathlib.Core.Bool.{Bool, true, false, not, cond}
 use mathlib.Core.List.{List}
-use Prim.Native.Nat.{ℕ, suc, ◌+◌, ◌-◌, ◌≤◌, ◌<◌}
+use Prim.Native.Nat.{ℕ, ◌-◌, ◌<◌}
 use native.Mathlib.Omega.{arith}
 use lib.Dec.{eqb, leb, ltb}
 use borrow.Author.Tests.{eq-eqb, ne_eqb}
-use lib.ListN.{get_or}
+use lib.ListN.{length}
+use Rattle.std.specs.Bool.{MatchBool}
+use Rattle.std.specs.List.{AllWithin, HoldsAt}
 use Rattle.vocabulary.specs.Bytes.{Bytes, byte_at}
-use Rattle.vocabulary.specs.Lists.{some_of}
-use Rattle.layout.specs.Limits.{record_places}
+use Rattle.vocabulary.proofs.ListLaws.{some_of_has, some_of_none, All_intro}
 use Rattle.walk_incidence.specs.declared.inner.Incidence.{Incidence}
-use Rattle.walk_incidence.specs.Links.{trail}
-use Rattle.walk_incidence.proofs.TrailLaws.{trail_end, trail_more}
+use Rattle.walk_incidence.specs.Links.{cells_on}
 use Rattle.split_classes.specs.Classes.{held_one}
 use Rattle.split_ranges.specs.declared.inner.Side.{Side}
 use Rattle.split_ranges.specs.declared.inner.Side.TheVariants.{Mine, Anothers, Held, HeldByAnother}
@@ -46,75 +46,37 @@ module _ (class holders : Bytes) (q : ℕ) (side : Side) (x : ℕ) where
   unfolding side_at
   side_elsewhere y s e f = rw s (ap₂ ltb e f)
 
--- ---- a trail
+-- ---- the cells at an element
 
-module _ (cell prev : List ℕ) (first : ℕ) (side : Side) (class holders : Bytes) where
-  -- the rest of the trail tells what the whole does
-  pub record Rest (t k s : ℕ) : Type 0 where
-    pub same : some_side (trail cell prev (record_places - k) s) first side class holders ≡ some_side (trail cell prev record_places t) first side class holders
-
-  pub rest_start : (t : ℕ) → Rest t 0 t
-  rest_start t = record { same = refl }
-
-  pub rest_end : (t k s : ℕ) → s < 1 → Rest t k s → false ≡ some_side (trail cell prev record_places t) first side class holders
-  rest_end t k s h R = none ∙ R.same
-    where
-      z : s ≡ 0
-      z = omega arith
-
-      none : false ≡ some_side (trail cell prev (record_places - k) s) first side class holders
-      none = rw (z, trail_end cell prev (record_places - k)) (unfold some_side some_of in refl)
-
-  pub rest_spent : (t k s : ℕ) → record_places ≤ k → Rest t k s → false ≡ some_side (trail cell prev record_places t) first side class holders
-  rest_spent t k s h R = none ∙ R.same
-    where
-      z : record_places - k ≡ 0
-      z = omega arith
-
-      none : false ≡ some_side (trail cell prev (record_places - k) s) first side class holders
-      none = rw z (unfold some_side some_of trail in refl)
-
-  module _ (t k s : ℕ) (h : k < record_places) (low : 1 ≤ s) (x q : ℕ) (xe : x ≡ get_or cell s 0) (qe : q ≡ x - first) (b : Bool) (be : b ≡ side_at side class holders q) where
-    next : some_side (trail cell prev (record_places - k) s) first side class holders
-        ≡ b || some_side (trail cell prev (record_places - (k + 1)) (get_or prev s 0)) first side class holders
-    next =
-        let l : record_places - k ≡ suc (record_places - (k + 1)) = omega arith in
-        ap (λ n. some_side (trail cell prev n s) first side class holders) l
-        ∙ ap (λ xs. some_side xs first side class holders) (trail_more cell prev (record_places - (k + 1)) s (omega arith))
-        ∙ (unfold some_side some_of in ap (λ c. c || some_of (trail cell prev (record_places - (k + 1)) (get_or prev s 0)) (λ y. side_at side class holders (y - first)))
-        (ap (side_at side class holders) (ap (λ y. y - first) (sym xe) ∙ sym qe) ∙ sym be))
-
-    pub rest_found : Rest t k s → b ≡ true → true ≡ some_side (trail cell prev record_places t) first side class holders
-    rest_found R e = sym (ap (λ c. c || some_side (trail cell prev (record_places - (k + 1)) (get_or prev s 0)) first side class holders) e) ∙ sym next ∙ R.same
-
-    pub rest_turn : (u : ℕ) → Rest t k s → b ≡ false → u ≡ get_or prev s 0 → Rest t (k + 1) u
-    rest_turn u R e ue = record {
-      same =
-          ap (λ v. some_side (trail cell prev (record_places - (k + 1)) v) first side class holders) ue
-          ∙ sym (ap (λ c. c || some_side (trail cell prev (record_places - (k + 1)) (get_or prev s 0)) first side class holders) e)
-          ∙ sym next
-          ∙ R.same;
-    }
+-- what an `any` over them answers
+pub any_side : (r : Bool) (cells : List ℕ) (first : ℕ) (side : Side) (class holders : Bytes)
+    → MatchBool r ((k : ℕ) × (k < length cells) × HoldsAt (λ y. side_at side class holders (y - first) ≡ true) cells k)
+    (AllWithin (λ y. side_at side class holders (y - first) ≡ false) cells 0 (length cells))
+    → r ≡ some_side cells first side class holders
+unfolding some_side
+any_side true cells first side class holders w = sym (some_of_has (λ y. side_at side class holders (y - first)) cells 0 w.0 w.1 (w.2 0))
+any_side false cells first side class holders w =
+    sym (some_of_none (λ y. side_at side class holders (y - first)) cells (All_intro _ cells 0 (λ l h. w l 0 (omega arith) h)))
 
 -- ---- classes, by the last answer y
 
-module _ (y : Bool) (w : Incidence) (first : ℕ) (class holders : Bytes) (e t : ℕ) (te : t ≡ get_or w.last e 0) (a : Bool)
-    (ae : a ≡ some_side (trail w.cell w.prev record_places t) first Mine class holders) (b : Bool) where
+module _ (y : Bool) (w : Incidence) (first : ℕ) (class holders : Bytes) (e : ℕ) (a : Bool)
+    (ae : a ≡ some_side (cells_on w e) first Mine class holders) (b : Bool) where
   abbrev told : Side → Bool
-  told side = some_side (trail w.cell w.prev record_places t) first side class holders
+  told side = some_side (cells_on w e) first side class holders
 
   range_class_is : trail_class w first class holders e ≡ cond (told Mine) (cond (told Anothers) 3 (cond (told HeldByAnother) 2 1)) (cond (told Held) 4 0)
   unfolding trail_class lower_class
-  range_class_is = ap (λ u. lower_class (trail w.cell w.prev record_places u) first class holders) (sym te)
+  range_class_is = refl
 
-  pub is_shared : a ≡ true → b ≡ some_side (trail w.cell w.prev record_places t) first Anothers class holders → b ≡ true → 3 ≡ trail_class w first class holders e
+  pub is_shared : a ≡ true → b ≡ some_side (cells_on w e) first Anothers class holders → b ≡ true → 3 ≡ trail_class w first class holders e
   is_shared at be bt = sym (range_class_is ∙ ap₂ (λ x z. cond x (cond z 3 (cond (told HeldByAnother) 2 1)) (cond (told Held) 4 0)) (sym ae ∙ at) (sym be ∙ bt))
 
-  pub is_alone : (c : Bool) → a ≡ true → b ≡ some_side (trail w.cell w.prev record_places t) first Anothers class holders → b ≡ false
-      → c ≡ some_side (trail w.cell w.prev record_places t) first HeldByAnother class holders
+  pub is_alone : (c : Bool) → a ≡ true → b ≡ some_side (cells_on w e) first Anothers class holders → b ≡ false
+      → c ≡ some_side (cells_on w e) first HeldByAnother class holders
       → c ≡ y → cond y 2 1 ≡ trail_class w first class holders e
   is_alone c at be bf ce ct =
       sym (range_class_is ∙ ap₂ (λ x z. cond x (cond z 3 (cond (told HeldByAnother) 2 1)) (cond (told Held) 4 0)) (sym ae ∙ at) (sym be ∙ bf) ∙ ap (λ x. cond x 2 1) (sym ce ∙ ct))
 
-  pub is_theirs : a ≡ false → b ≡ some_side (trail w.cell w.prev record_places t) first Held class holders → b ≡ y → cond y 4 0 ≡ trail_class w first class holders e
+  pub is_theirs : a ≡ false → b ≡ some_side (cells_on w e) first Held class holders → b ≡ y → cond y 4 0 ≡ trail_class w first class holders e
   is_theirs af be bt = sym (range_class_is ∙ ap₂ (λ x z. cond x (cond (told Anothers) 3 (cond (told HeldByAnother) 2 1)) (cond z 4 0)) (sym ae ∙ af) (sym be ∙ bt))

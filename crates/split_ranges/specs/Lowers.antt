@@ -1,13 +1,13 @@
 -- How the code tells what a part makes of lower elements: from the classes of the cells and how many parts hold each. No public contract rests
 -- on this page; the laws in proofs/ tie it to the definitions. Assumes nothing.
-use Rattle.std.specs.Prelude.{◌≡◌, Bool, not, cond, List, [], ℕ, ◌+◌, ◌-◌, ◌<◌, eqb, leb, ltb, length, get_or}
+use Rattle.std.specs.Prelude.{◌≡◌, Bool, not, cond, List, [], ℕ, ◌+◌, ◌-◌, ◌<◌, eqb, leb, ltb, length}
 use Rattle.vocabulary.specs.Bytes.{Bytes, byte_at}
 use Rattle.vocabulary.specs.Lists.{some_of}
-use Rattle.layout.specs.Limits.{most_elements, record_places}
+use Rattle.layout.specs.Limits.{most_elements}
 use Rattle.mesh.specs.Mesh.{top, counted, below, first_cell}
 use Rattle.mesh.specs.Walks.{cells_at}
 use Rattle.walk_incidence.specs.declared.inner.Incidence.{Incidence}
-use Rattle.walk_incidence.specs.Links.{trail}
+use Rattle.walk_incidence.specs.Links.{cells_on}
 use Rattle.split.specs.Split.{range}
 use Rattle.split_classes.specs.Classes.{held_one, class_cells}
 use Rattle.split_ranges.specs.declared.inner.Side.{Side}
@@ -33,7 +33,7 @@ lower_class cells first class holders =
 
 -- by the cells on an element's trail, or by those incident to it
 unfoldable pub trail_class : Incidence → ℕ → Bytes → Bytes → ℕ → ℕ
-trail_class w first class holders e = lower_class (trail w.cell w.prev record_places (get_or w.last e 0)) first class holders
+trail_class w first class holders e = lower_class (cells_on w e) first class holders
 
 unfoldable pub element_class : Bytes → Bytes → Bytes → ℕ → ℕ
 element_class m class holders e = lower_class (cells_at m e) (first_cell m) class holders

@@ -1,13 +1,12 @@
 // What a part makes of the lower elements, and the ranges of those of one class.
 ghost use Rattle.std.specs.Prelude.{◌≡◌, length};
-ghost use Rattle.layout.specs.Limits.{most_elements, record_places};
+ghost use Rattle.layout.specs.Limits.{most_elements};
 ghost use Rattle.mesh.specs.Accepted.{Accepted};
-ghost use Rattle.walk_incidence.specs.Links.{trail, Turned};
+ghost use Rattle.walk_incidence.specs.Links.{cells_on, Turned};
 ghost use Rattle.split_classes.specs.Classes.{held_one, Appended};
 ghost use Rattle.split_ranges.specs.Lowers.{side_at, some_side, trail_class, Lowered, row_range};
 
-use layout::limits::RECORD_PLACES;
-use layout::{byte_at, get_or};
+use layout::byte_at;
 use mesh::inner::{below_of, count_of, first_cell, top_of};
 use split::inner::place_from;
 use split_cells::inner::add_class;
@@ -54,46 +53,34 @@ fn has_side(side: Side, class: &[u8], holders: &[u8], q: usize) -> bool
     }
 }
 
-// Whether one of the cells from entry t on passes.
+// Whether one of the cells at element e passes.
 fn some_cell(
     incidence: &Incidence,
-    t: usize,
+    e: usize,
     first: usize,
     side: Side,
     class: &[u8],
     holders: &[u8],
 ) -> bool
-    ensures { result ≡ some_side (trail incidence.now.cell incidence.now.prev record_places t) first side class.now holders.now }
+    ensures { result ≡ some_side (cells_on incidence.now e) first side class.now holders.now }
 {
-    let mut s = t;
-    for _k in 0..RECORD_PLACES {
-        if s < 1 {
-            return false;
-        }
-        let q = place_from(first, get_or(&incidence.cell, s, 0) as usize);
-        if has_side(side, class, holders, q) {
-            return true;
-        }
-        s = get_or(&incidence.prev, s, 0) as usize;
-    }
-    false
+    incidence.cells_at(e).any(|c| has_side(side, class, holders, place_from(first, c as usize)))
 }
 
 // What the part makes of element e: its class, and 0 if it does not hold it.
 fn lower_class(incidence: &Incidence, first: usize, class: &[u8], holders: &[u8], e: usize) -> u8
     ensures { result ≡ trail_class incidence.now first class.now holders.now e }
 {
-    let t = get_or(&incidence.last, e, 0) as usize;
-    if some_cell(incidence, t, first, Side::Mine, class, holders) {
-        if some_cell(incidence, t, first, Side::Anothers, class, holders) {
+    if some_cell(incidence, e, first, Side::Mine, class, holders) {
+        if some_cell(incidence, e, first, Side::Anothers, class, holders) {
             return SHARED;
         }
-        if some_cell(incidence, t, first, Side::HeldByAnother, class, holders) {
+        if some_cell(incidence, e, first, Side::HeldByAnother, class, holders) {
             return EXPOSED;
         }
         return PRIVATE;
     }
-    if some_cell(incidence, t, first, Side::Held, class, holders) {
+    if some_cell(incidence, e, first, Side::Held, class, holders) {
         return COPIED;
     }
     0

@@ -2,7 +2,7 @@
 use mathlib.Core.Path.{◌≡◌, refl, sym, ap, ap₂, ◌∙◌, subst}
 use mathlib.Core.Bool.{Bool, true, false, ◌||◌, ◌&&◌, cond}
 use mathlib.Core.List.{List, [], ◌∷◌, ◌++◌, map}
-use Prim.Native.Nat.{ℕ, suc, ◌+◌, ◌-◌, ◌≤◌, ◌<◌}
+use Prim.Native.Nat.{ℕ, ◌+◌, ◌-◌, ◌≤◌, ◌<◌}
 use native.Mathlib.Nat.{zero-add}
 use native.Mathlib.Numerals.{add-one}
 use native.Mathlib.Omega.{arith}
@@ -16,13 +16,12 @@ use Rattle.vocabulary.proofs.ListLaws.{or_nothing, or_always, or_assoc, and_righ
 use Rattle.vocabulary.specs.Bytes.{Bytes}
 use Rattle.vocabulary.specs.Intervals.{blocks}
 use Rattle.vocabulary.proofs.IntervalLaws.{blocks_turn, at_last}
-use Rattle.layout.specs.Limits.{most_elements, record_places}
+use Rattle.layout.specs.Limits.{most_elements}
 use Rattle.mesh.specs.Mesh.{record_count, head_of, element_in, next_of, follow, records, chain}
 use Rattle.mesh.proofs.FollowLaws.{chain_ended, chain_spent, chain_more}
 use Rattle.walk_frontier.specs.Visits.{Frontier, Toward, with, between, down, up, Grown, Upward}
 use Rattle.walk_incidence.specs.declared.inner.Incidence.{Incidence}
-use Rattle.walk_incidence.specs.Links.{trail}
-use Rattle.walk_incidence.proofs.TrailLaws.{trail_end, trail_more}
+use Rattle.walk_incidence.specs.Links.{cells_on}
 
 -- ---- what was gathered before stays in front
 
@@ -167,35 +166,6 @@ module _ (m : Bytes) (lo hi n k i : ℕ) (f : ℕ → ℕ) where
       → between lo hi (map f (follow m (n - k) i)) ≡ between lo hi (g ∷ []) ++ between lo hi (map f (follow m (n - (k + 1)) x))
   between_more g x h z e y = rw (e, y, chain_more m n k i h z) (between_append lo hi (f i ∷ []) (map f (follow m (n - (k + 1)) (next_of m i))))
 
--- ---- the loop over a trail
-
-module _ (cell prev : List ℕ) (n k i : ℕ) where
-  pub trail_ended : i < 1 → trail cell prev (n - k) i ≡ []
-  trail_ended h = let z : i ≡ 0 = omega arith in rw z (trail_end cell prev (n - k))
-
-  pub trail_spent : n ≤ k → trail cell prev (n - k) i ≡ []
-  unfolding trail
-  trail_spent h = let z : n - k ≡ 0 = omega arith in rw z
-
-  trail_opened : k < n → 1 ≤ i → trail cell prev (n - k) i ≡ get_or cell i 0 ∷ trail cell prev (n - (k + 1)) (get_or prev i 0)
-  trail_opened h z = let q : n - k ≡ suc (n - (k + 1)) = omega arith in rw q (trail_more cell prev (n - (k + 1)) i (omega arith))
-
-  pub trail_next : (x y : ℕ) → k < n → 1 ≤ i → x ≡ get_or cell i 0 → y ≡ get_or prev i 0 → trail cell prev (n - k) i ≡ (x ∷ []) ++ trail cell prev (n - (k + 1)) y
-  trail_next x y h z e f = rw (e, f) (trail_opened h z)
-
-  module _ (A : All (λ y. (1 ≤ y) × (y ≤ most_elements)) (trail cell prev (n - k) i)) (h : k < n) (z : 1 ≤ i) where
-    all_opened : All (λ y. (1 ≤ y) × (y ≤ most_elements)) (get_or cell i 0 ∷ trail cell prev (n - (k + 1)) (get_or prev i 0))
-    all_opened = rw (trail_opened h z) at A
-
-    pub trail_low : (x : ℕ) → x ≡ get_or cell i 0 → 1 ≤ x
-    trail_low x e = omega (arith, all_opened.0.0)
-
-    pub trail_high : (x : ℕ) → x ≡ get_or cell i 0 → x ≤ most_elements
-    trail_high x e = omega (arith, all_opened.0.1)
-
-    pub trail_rest : (y : ℕ) → y ≡ get_or prev i 0 → All (λ y. (1 ≤ y) × (y ≤ most_elements)) (trail cell prev (n - (k + 1)) y)
-    trail_rest y e = rw e all_opened.1
-
 -- ---- the loops over a list of elements
 
 pub step_start : (found : List ℕ) (n : ℕ) (g : ℕ → List ℕ) → Toward found n [] (with found n (blocks 0 0 g))
@@ -223,13 +193,13 @@ pub down_is : (m : Bytes) (r lo hi h x j : ℕ) (from : List ℕ) → r ≡ reco
 unfolding down chain records
 down_is m r lo hi h x j from re xe he = rw (he, xe, re)
 
-pub up_is : (w : Incidence) (from : List ℕ) (x u j : ℕ) → x ≡ get_or from j 0 → u ≡ get_or w.last x 0 → trail w.cell w.prev record_places u ≡ up w from j
+pub up_is : (w : Incidence) (from : List ℕ) (j : ℕ) → cells_on w (get_or from j 0) ≡ up w from j
 unfolding up
-up_is w from x u j xe ue = rw (ue, xe)
+up_is w from j = refl
 
-pub up_fits : (w : Incidence) (from : List ℕ) (x u j : ℕ) → Upward w from → j < length from → x ≡ get_or from j 0 → u ≡ get_or w.last x 0
-    → All (λ y. (1 ≤ y) × (y ≤ most_elements)) (trail w.cell w.prev record_places u)
-up_fits w from x u j U h xe ue = rw (up_is w from x u j xe ue) (U.each j h)
+pub up_fits : (w : Incidence) (from : List ℕ) (j : ℕ) → Upward w from → j < length from → All (λ y. (1 ≤ y) × (y ≤ most_elements)) (cells_on w (get_or from j 0))
+unfolding up
+up_fits w from j U h = U.each j h
 
 -- ---- the loop over a list that is gathered itself
 

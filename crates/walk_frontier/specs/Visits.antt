@@ -2,10 +2,10 @@
 use Rattle.std.specs.Prelude.{◌≡◌, Bool, ◌||◌, ◌&&◌, false, cond, List, [], ◌∷◌, ℕ, ◌≤◌, ◌<◌, eqb, ltb, leb, length, get_or, take}
 use Rattle.vocabulary.specs.Bytes.{Bytes}
 use Rattle.vocabulary.specs.Lists.{is_in, repeats, All}
-use Rattle.layout.specs.Limits.{element_places, most_elements, record_places}
+use Rattle.layout.specs.Limits.{element_places, most_elements}
 use Rattle.mesh.specs.Mesh.{chain}
 use Rattle.walk_incidence.specs.declared.inner.Incidence.{Incidence}
-use Rattle.walk_incidence.specs.Links.{trail}
+use Rattle.walk_incidence.specs.Links.{cells_on}
 
 -- those after lo and up to hi
 unfoldable pub between : ℕ → ℕ → List ℕ → List ℕ
@@ -48,7 +48,7 @@ down m lo hi from j = between lo hi (chain m (get_or from j 0))
 
 -- what a step up gathers from the j-th of the elements in `from`: its cells
 unfoldable pub up : Incidence → List ℕ → ℕ → List ℕ
-up x from j = trail x.cell x.prev record_places (get_or x.last (get_or from j 0) 0)
+up x from j = cells_on x (get_or from j 0)
 
 -- what a step up gathers are elements
 pub record Upward (x : Incidence) (from : List ℕ) : Type 0 where

@@ -1,14 +1,13 @@
 // Elements gathered in a step of a walk, each once.
 ghost use Rattle.std.specs.Prelude.{◌≡◌, length, get_or, [], ◌∷◌, map, ◌+◌, ◌<◌, ◌≤◌};
 ghost use Rattle.walk_frontier.specs.Visits.{Frontier, Toward, with, between, down, up, Added, Upward};
-ghost use Rattle.walk_incidence.specs.Links.{trail};
+ghost use Rattle.walk_incidence.specs.Links.{cells_on};
 ghost use Rattle.walk_incidence.specs.Sizes.{Sized};
 ghost use Rattle.vocabulary.specs.Lists.{All};
 ghost use Rattle.vocabulary.specs.Intervals.{blocks};
-ghost use Rattle.layout.specs.Limits.{most_elements, most_records, record_places};
+ghost use Rattle.layout.specs.Limits.{most_elements, most_records};
 ghost use Rattle.mesh.specs.Mesh.{elements, element_in, follow};
 
-use layout::limits::RECORD_PLACES;
 use layout::{get_or, put_at};
 use mesh::inner::{head_of, read_record};
 use walk_incidence::inner::{Incidence, MeshSizes};
@@ -87,28 +86,23 @@ pub fn visit_chain(
     s
 }
 
-// Gathers the cells from entry t on.
-pub fn visit_trail(
+// Gathers the cells at element e.
+pub fn visit_cells(
     incidence: &Incidence,
-    t: usize,
+    e: usize,
     mark: u16,
     marks: &mut [u16],
     found: &mut [u16],
     count: usize,
 ) -> usize
-    requires { All (λ y. (1 ≤ y) × (y ≤ most_elements)) (trail incidence.now.cell incidence.now.prev record_places t)
+    requires { All (λ y. (1 ≤ y) × (y ≤ most_elements)) (cells_on incidence.now e)
         × Frontier mark marks.old found.old count × (count ≤ most_elements) }
     ensures { Added mark marks.new found.old count found.new result
-        (with found.old count (trail incidence.now.cell incidence.now.prev record_places t)) }
+        (with found.old count (cells_on incidence.now e)) }
 {
-    let mut i = t;
     let mut s = count;
-    for _k in 0..RECORD_PLACES {
-        if i < 1 {
-            return s;
-        }
-        s = visit(mark, index_at(&incidence.cell, i), marks, found, s);
-        i = index_at(&incidence.prev, i);
+    for c in incidence.cells_at(e) {
+        s = visit(mark, c as usize, marks, found, s);
     }
     s
 }
@@ -165,8 +159,7 @@ pub fn step_up(
 {
     let mut s = base;
     for &y in from {
-        let t = index_at(&incidence.last, y as usize);
-        s = visit_trail(incidence, t, mark, marks, found, s);
+        s = visit_cells(incidence, y as usize, mark, marks, found, s);
     }
     s
 }

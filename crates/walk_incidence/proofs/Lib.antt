@@ -1,3 +1,4 @@
 pub mod LinkLaws
 pub mod TrailLaws
 pub mod TurnedLaws
+pub mod TrailSteps

@@ -36,6 +36,10 @@ unfoldable pub trail : List ℕ → List ℕ → ℕ → ℕ → List ℕ
 trail cell prev zero s = []
 trail cell prev (suc n) s = elim (eqb s 0) [ true ↦ [] | false ↦ get_or cell s 0 ∷ trail cell prev n (get_or prev s 0) ]
 
+-- the cells at element e
+abbrev pub cells_on : Incidence → ℕ → List ℕ
+cells_on w e = trail w.cell w.prev record_places (get_or w.last e 0)
+
 -- of the n numbers from a on, those that pass, falling: the order in which a trail has its cells
 unfoldable pub picked_down : ℕ → ℕ → (ℕ → Bool) → List ℕ
 picked_down a zero p = []
@@ -55,5 +59,5 @@ pub record Turned (m : Bytes) (w : Incidence) : Type 0 where
   pub prev_room : length w.prev ≡ record_places
   pub last_room : length w.last ≡ element_places
   pub mesh : Accepted m
-  pub told : (x y : ℕ) → x ≤ most_elements → is_in y (trail w.cell w.prev record_places (get_or w.last x 0)) ≡ is_cell_number m y && is_in x (chain m y)
-  pub trail_is : (x : ℕ) → x ≤ most_elements → trail w.cell w.prev record_places (get_or w.last x 0) ≡ cells_with m (first_cell m) (cell_count m) x
+  pub told : (x y : ℕ) → x ≤ most_elements → is_in y (cells_on w x) ≡ is_cell_number m y && is_in x (chain m y)
+  pub trail_is : (x : ℕ) → x ≤ most_elements → cells_on w x ≡ cells_with m (first_cell m) (cell_count m) x

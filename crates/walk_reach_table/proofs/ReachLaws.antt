@@ -118,7 +118,8 @@ module _ (m st : Bytes) (w : Incidence) (c low high first : ℕ) (layers : List 
       bare i e = unfold row in ap (λ b. cond b [] (i ∷ (get_or layers (first + i) 0 - 1) ∷ [])) (eq-eqb (get_or layers (first + i) 0) 0 e)
 
   pub emitted_cell : (s : ℕ) (t : Option ℕ) (before after : Bytes) {Q Q' : ℕ → Type 0} → ((u : ℕ) → Q u → Q' u)
-      → MatchOption t (most_reached < s + length (blocks (low - first) (high - low) (row layers first)) / 2) (λ u. Emitted before after s (blocks (low - first) (high - low) (row layers first)) u × Q u)
+      → MatchOption t (most_reached < s + length (blocks (low - first) (high - low) (row layers first)) / 2)
+      (λ u. Emitted before after s (blocks (low - first) (high - low) (row layers first)) u × Q u)
       → MatchOption t (most_reached < s + length (reach_entries m st c) / 2) (λ u. Emitted before after s (reach_entries m st c) u × Q' u)
   emitted_cell s None before after g h = subst (λ ws. most_reached < s + length ws / 2) words_are h
   emitted_cell s (Some u) before after g h = (subst (λ ws. Emitted before after s ws u) words_are h.0, g u h.1)

@@ -284,7 +284,8 @@ apart z xs ys e = go (is_in z xs) refl (is_in z ys) refl ∙ ap (λ b. b && not 
 
 module _ (m st : Bytes) (w : Incidence) (cs : List ℕ) (single : Bool) (j v n base s n' low high low' high' met' : ℕ) (a b : Space)
     (G : Ground m st w) (C : All (Cell m) cs) (se : single ≡ through_one st) (h : suc j < length st) (W : WalkDone m st single cs j v a n base)
-    (T : Added (mark_at single v j) b.marks a.found base b.found s (or_among a.found base (stepped m (byte_at st (suc j)) (take n a.from)))) (r : length b.from ≡ element_places) (A : Arrived (suc j) single base (take s b.found) a.from b.from a.layers b.layers low high n' low' high' met') where
+    (T : Added (mark_at single v j) b.marks a.found base b.found s (or_among a.found base (stepped m (byte_at st (suc j)) (take n a.from))))
+    (r : length b.from ≡ element_places) (A : Arrived (suc j) single base (take s b.found) a.from b.from a.layers b.layers low high n' low' high' met') where
   abbrev level : List ℕ
   level = drop base (take s b.found)
 
@@ -488,7 +489,8 @@ ends_more m st w cs single k v n base s n' low high low' high' met' a b G C se h
     inside false q =
         let o = eqb-false (k % 2) 1 q in
         within_cells m k low high low' high' (cells_among k new) new a.layers b.layers A.notes (λ z q. unfold cells_among in (and_true (eqb (k % 2) 0) (is_in z new) q).1) W.1
-        (subst (All (Cell m)) A.moved (each_of m st G.turned.mesh G.stencil cs C _ single k n' b.from here.ends (λ z e. walked_even m st G.turned.mesh G.stencil cs C k z h (omega arith) e))) (A.even o)
+        (subst (All (Cell m)) A.moved
+        (each_of m st G.turned.mesh G.stencil cs C _ single k n' b.from here.ends (λ z e. walked_even m st G.turned.mesh G.stencil cs C k z h (omega arith) e))) (A.even o)
 
 -- a walk from one cell, put in front of `from`
 pub front : (from after : List ℕ) (c : ℕ) → length from ≡ element_places → after ≡ set from 0 c → take 1 after ≡ c ∷ []

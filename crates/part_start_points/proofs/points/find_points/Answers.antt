@@ -19,7 +19,7 @@ loop-p-preserved c =
       search rules,
       search rules,
       search rules,
-      found_yes _ _ _ _ _ _ _ _ inv.1 inv.5 c.get_or-t.ensures _
+      found_yes _ _ _ _ _ _ _ _ inv.1 inv.5 refl _
           c.some_at.ensures _ _ _ _ (ap not c.if-not-some_at.false) inv.3
           c.loop-p-test.true inv.0
           c.requires.1 inv.4 c.put_at.ensures,

@@ -14,7 +14,7 @@ put_trail-t-requires c =
     let inv = c.loop-k.invariant in
     let pre = c.requires in
     around_room _ _ _ _ _ _ _ inv.1 (omega (arith, inv.0, c.loop-k-test.true)) c.get_or-p.ensures
-    c.get_or.ensures _ _ _ _ pre.0 inv.4 pre.1 inv.3
+    refl _ _ _ _ pre.0 inv.4 pre.1 inv.3
 
 pub loop-k-preserved : goal.loop-k-preserved
 loop-k-preserved c =
@@ -25,7 +25,7 @@ loop-k-preserved c =
       search rules,
       search rules,
       around_turn _ _ _ _ _ _ _ inv.1 (omega (arith, inv.0, c.loop-k-test.true))
-          c.get_or-p.ensures c.get_or.ensures _ _ _ _ pre.0 inv.4 _ _
+          c.get_or-p.ensures refl _ _ _ _ pre.0 inv.4 _ _
           c.put_trail-t.ensures,
     )
 

@@ -1,18 +1,17 @@
--- `part_start_points::trails::some_at` meets its contract. The invariant: the rest of the trail tells what the whole does. Assumes nothing.
-use Rattle.part_start_points.proofs.TrailSteps.{some_begin, some_over, some_spent, some_here, some_further}
+-- `part_start_points::trails::some_at` meets its contract. Assumes nothing.
+use mathlib.Core.Path.{◌≡◌}
+use Prim.Native.Nat.{◌-◌}
+use Rattle.std.proofs.lemmas.Iterator.{cases_from_any}
+use Rattle.std.proofs.lemmas.Iterator.Consumers.{YieldsList-from_first}
+use borrow.Author.Rules.{rules}
+use borrow.Author.Tests.{tests}
+use Rattle.vocabulary.specs.Bytes.{byte_at}
+use Rattle.walk_incidence.specs.Trails.{rest}
+use Rattle.part_start_points.proofs.TrailSteps.{any_at}
 use Rattle.part_start_points.proofs.trails.some_at.Goals as goal
 
-pub loop-j-init : goal.loop-j-init
-loop-j-init c = search some_begin
-
-pub returns-then-s-lt1 : goal.returns-then-s-lt1
-returns-then-s-lt1 c = search some_over
-
-pub returns-then-byte_at-k : goal.returns-then-byte_at-k
-returns-then-byte_at-k c = search some_here
-
-pub loop-j-preserved : goal.loop-j-preserved
-loop-j-preserved c = search some_further
-
 pub returns : goal.returns
-returns c = search some_spent
+returns c =
+    any_at _ _ c.args.row.now c.args.first c.args.k
+    (cases_from_any c.any.new.self _ _ (λ y. byte_at c.args.row.now (y - c.args.first) ≡ c.args.k) (λ y. byte_at c.args.row.now (y - c.args.first) ≡ c.args.k → ⊥) c.any.ensures.ran
+    (YieldsList-from_first (λ y. y) rest _ c.cells_at.ensures) (λ x q k. search (rules, tests)) (λ x q k. search (rules, tests)))

@@ -1,16 +1,20 @@
--- `part_start_points::trails::trail_length` meets its contract. The invariant: n cells are counted, and the rest makes the whole. Assumes nothing.
-use Rattle.part_start_points.proofs.TrailSteps.{count_begin, count_over, count_spent, count_turn}
-use borrow.Author.Rules.{rules}
+-- `part_start_points::trails::trail_length` meets its contract. Assumes nothing.
+use native.Mathlib.Omega.{arith}
+use mathlib.Core.Logic.{inl}
+use mathlib.Core.Path.{ap}
+use lib.ListN.{length, get_or}
+use Rattle.std.proofs.lemmas.Iterator.Consumers.{YieldsList-from_first, count_from_yields_List}
+use Rattle.layout.specs.Limits.{record_places}
+use Rattle.walk_incidence.specs.Trails.{rest}
+use Rattle.part_start_points.proofs.TrailSteps.{trail_most}
 use Rattle.part_start_points.proofs.trails.trail_length.Goals as goal
 
-pub loop-j-init : goal.loop-j-init
-loop-j-init c = (search rules, search rules, search count_begin)
-
-pub returns-then-s-lt1 : goal.returns-then-s-lt1
-returns-then-s-lt1 c = (search count_over, search rules)
-
-pub loop-j-preserved : goal.loop-j-preserved
-loop-j-preserved c = (search rules, search rules, search count_turn)
+pub count-requires-clause-fits : goal.count-requires-clause-fits
+count-requires-clause-fits c =
+    let m = trail_most c.args.incidence.now.cell c.args.incidence.now.prev record_places (get_or c.args.incidence.now.last c.args.e 0) in
+    inl (omega (arith, m, ap length c.cells_at.ensures))
 
 pub returns : goal.returns
-returns c = (search count_spent, search rules)
+returns c =
+    let e = count_from_yields_List _ _ c.count.ensures.ran (YieldsList-from_first (λ y. y) rest _ c.cells_at.ensures) in
+    (e, omega (arith, e, trail_most c.args.incidence.now.cell c.args.incidence.now.prev record_places (get_or c.args.incidence.now.last c.args.e 0)))

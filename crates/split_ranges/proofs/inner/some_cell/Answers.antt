@@ -1,24 +1,19 @@
--- `split_ranges::inner::some_cell` meets its contract. The invariant: the rest of the trail tells what the whole does. Assumes nothing.
-use Rattle.split_ranges.proofs.SideLaws.{rest_start, rest_end, rest_spent, rest_found, rest_turn}
+-- `split_ranges::inner::some_cell` meets its contract. Assumes nothing.
+use mathlib.Core.Bool.{true, false}
+use mathlib.Core.Path.{◌≡◌}
+use Prim.Native.Nat.{◌-◌}
+use Rattle.std.proofs.lemmas.Iterator.{cases_from_any}
+use Rattle.std.proofs.lemmas.Iterator.Consumers.{YieldsList-from_first}
+use borrow.Author.Rules.{rules}
+use borrow.Author.Tests.{tests}
+use Rattle.walk_incidence.specs.Trails.{rest}
+use Rattle.split_ranges.specs.Lowers.{side_at}
+use Rattle.split_ranges.proofs.SideLaws.{any_side}
 use Rattle.split_ranges.proofs.inner.some_cell.Goals as goal
 
-pub loop-k-init : goal.loop-k-init
-loop-k-init c = search rest_start
-
-pub returns-then-s-lt1 : goal.returns-then-s-lt1
-returns-then-s-lt1 c = search rest_end
-
-pub returns-then-has_side : goal.returns-then-has_side
-returns-then-has_side c =
-    rest_found _ _ _ _ _ _ _ _ _ c.loop-k-test.true c.if-s-lt1.false _ _
-    c.get_or.ensures c.place_from-q.ensures.0 _ c.has_side.ensures c.loop-k.invariant
-    c.if-has_side.true
-
-pub loop-k-preserved : goal.loop-k-preserved
-loop-k-preserved c =
-    rest_turn _ _ _ _ _ _ _ _ _ c.loop-k-test.true c.if-s-lt1.false _ _
-    c.get_or.ensures c.place_from-q.ensures.0 _ c.has_side.ensures _
-    c.loop-k.invariant c.if-has_side.false c.get_or-s.ensures
-
 pub returns : goal.returns
-returns c = search rest_spent
+returns c =
+    any_side _ _ c.args.first c.args.side c.args.class.now c.args.holders.now
+    (cases_from_any c.any.new.self _ _ (λ y. side_at c.args.side c.args.class.now c.args.holders.now (y - c.args.first) ≡ true)
+    (λ y. side_at c.args.side c.args.class.now c.args.holders.now (y - c.args.first) ≡ false) c.any.ensures.ran
+    (YieldsList-from_first (λ y. y) rest _ c.cells_at.ensures) (λ x q k. search (rules, tests)) (λ x q k. search (rules, tests)))

@@ -20,7 +20,8 @@ loop-j-init c = (search rules, level_none _ _ _ _ _ _ _ _ c.requires.3 c.reach_c
 
 pub reach_level-s-requires : goal.reach_level-s-requires
 reach_level-s-requires c = (
-  fits_at _ _ _ _ (subst (λ l. NearGround c.args.walker.mesh.now c.args.walker.stencil.now l c.args.w) (sym c.loop-j.invariant.2) c.requires.1) _ c.requires.2 _ c.requires.0.sized.first_is _ _ _ _ _ c.loop-j.invariant.1 (search rules),
+  fits_at _ _ _ _ (subst (λ l. NearGround c.args.walker.mesh.now c.args.walker.stencil.now l c.args.w) (sym c.loop-j.invariant.2) c.requires.1)
+      _ c.requires.2 _ c.requires.0.sized.first_is _ _ _ _ _ c.loop-j.invariant.1 (search rules),
   omega (arith, (stencil_parts _ _ c.requires.1.stencil).1),
   c.loop-j.invariant.1.listed,
 )
@@ -28,7 +29,8 @@ reach_level-s-requires c = (
 pub loop-j-preserved : goal.loop-j-preserved
 loop-j-preserved c = (
   search rules,
-  level_next _ _ _ _ (subst (λ l. NearGround c.args.walker.mesh.now c.args.walker.stencil.now l c.args.w) (sym c.loop-j.invariant.2) c.requires.1) _ c.requires.2 _ c.requires.0.sized.first_is _ _ _ _ _ c.loop-j.invariant.1 _ _ _ (search rules) c.reach_level-s.ensures,
+  level_next _ _ _ _ (subst (λ l. NearGround c.args.walker.mesh.now c.args.walker.stencil.now l c.args.w) (sym c.loop-j.invariant.2) c.requires.1)
+      _ c.requires.2 _ c.requires.0.sized.first_is _ _ _ _ _ c.loop-j.invariant.1 _ _ _ (search rules) c.reach_level-s.ensures,
   search rules,
   search rules,
 )

@@ -13,6 +13,7 @@ loop-q-preserved c = (
   under_more _ _ _ (omega arith) c.near_to-s.ensures.2,
   search rules,
   search rules,
-  rows_turn _ _ _ _ _ _ _ _ _ (subst (λ l. Filled c.args.walker.mesh.now c.args.a l c.args.w c.loop-q.q) (sym c.near_to-s.ensures.4) c.loop-q.invariant.4) c.near_to-s.ensures.0 (ap (λ x. x + c.loop-q.q) c.requires.0.sized.first_is) c.if-w-s.false
+  rows_turn _ _ _ _ _ _ _ _ _ (subst (λ l. Filled c.args.walker.mesh.now c.args.a l c.args.w c.loop-q.q) (sym c.near_to-s.ensures.4) c.loop-q.invariant.4)
+      c.near_to-s.ensures.0 (ap (λ x. x + c.loop-q.q) c.requires.0.sized.first_is) c.if-w-s.false
       (search rules) c.put_row.ensures,
 )
