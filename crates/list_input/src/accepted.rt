@@ -15,6 +15,7 @@ use mesh::inner::{cell_count, first_cell};
 use split_classes::inner::classify;
 use split_tables::inner::prepare;
 use walk_incidence::inner::Incidence;
+use walk_reach_table::inner::ReachTable;
 
 // The line of a refusal.
 pub fn put_refusal(refusal: Refusal, out: &mut [u8]) -> usize
@@ -33,8 +34,10 @@ pub fn list_accepted(m: &[u8], parts: u32, owners: &[u8], stencil: &[u8], out: &
         prev: [0; RECORD_PLACES],
         last: [0; ELEMENT_PLACES],
     };
-    let mut table = [0u8; TABLE_BYTES];
-    let mut ends = [0u16; ELEMENT_PLACES];
+    let mut reaches = ReachTable {
+        entries: [0; TABLE_BYTES],
+        ends: [0; ELEMENT_PLACES],
+    };
     let mut holders = [0u8; MOST_ELEMENTS];
     let mut class = [0u8; MOST_ELEMENTS];
     let prepared = prepare(
@@ -43,8 +46,7 @@ pub fn list_accepted(m: &[u8], parts: u32, owners: &[u8], stencil: &[u8], out: &
         owners,
         stencil,
         &mut incidence,
-        &mut table,
-        &mut ends,
+        &mut reaches,
         &mut holders,
         &mut class,
     );
@@ -56,10 +58,10 @@ pub fn list_accepted(m: &[u8], parts: u32, owners: &[u8], stencil: &[u8], out: &
     let count = parts as usize;
     let mut t = put_line(b"parts", count, out, 0);
     for i in 0..count {
-        classify(owners, &table, &ends, cells, i + 1, &mut class);
+        classify(owners, &reaches, cells, i + 1, &mut class);
         let u = put_own(&class, first, cells, i + 1, out, t);
         let v = put_imports(&class, first, cells, count, out, u);
-        let w = put_exports(m, owners, &table, &ends, i + 1, count, out, v);
+        let w = put_exports(m, owners, &reaches, i + 1, count, out, v);
         t = put_dimensions(m, &incidence, &class, &holders, out, w);
     }
     t

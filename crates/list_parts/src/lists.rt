@@ -15,6 +15,7 @@ use list_text::inner::{put_line, put_numbers, put_spaced, put_text};
 use mesh::inner::{cell_count, first_cell};
 use split_cells::inner::add_class;
 use split_classes::inner::{HALO, INTERIOR, classify};
+use walk_reach_table::inner::ReachTable;
 
 // The line of the cells of class k.
 fn put_cells(
@@ -105,15 +106,14 @@ pub fn put_imports(
 pub fn put_exports(
     m: &[u8],
     owners: &[u8],
-    table: &[u8],
-    ends: &[u16],
+    reaches: &ReachTable,
     i: usize,
     parts: usize,
     out: &mut [u8],
     at: usize,
 ) -> usize
     requires { Accepted m.now × (i ≤ most_parts) × (parts ≤ most_parts) }
-    ensures { Printed out.old out.new at result (blocks 1 parts (export_line owners.now table.now ends.now (first_cell m.now) (cell_count m.now) i)) }
+    ensures { Printed out.old out.new at result (blocks 1 parts (export_line owners.now reaches.now.entries reaches.now.ends (first_cell m.now) (cell_count m.now) i)) }
 {
     let first = first_cell(m);
     let cells = cell_count(m);
@@ -121,7 +121,7 @@ pub fn put_exports(
     for j in 0..parts {
         let other = j + 1;
         let mut class = [0u8; MOST_ELEMENTS];
-        classify(owners, table, ends, cells, other, &mut class);
+        classify(owners, reaches, cells, other, &mut class);
         t = put_passing(b"export", other, &class, first, cells, i as u8, out, t);
     }
     t

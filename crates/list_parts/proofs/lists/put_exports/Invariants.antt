@@ -11,7 +11,7 @@ use Rattle.list_parts.proofs.lists.put_exports.Given as goal
 abbrev pub invariant-loop-j : goal.invariant-loop-j
 invariant-loop-j l =
     (l.first + l.cells ≤ 65536) × (l.cells ≤ most_elements) × (l.j ≤ l.parts) × (length l.out ≡ length l.initial.out)
-    × Printed l.initial.out l.out l.at l.t (blocks 1 l.j (export_line l.owners l.table l.ends l.first l.cells l.i))
+    × Printed l.initial.out l.out l.at l.t (blocks 1 l.j (export_line l.owners l.reaches.entries l.reaches.ends l.first l.cells l.i))
 
 abbrev pub decreases-loop-j : goal.decreases-loop-j
 decreases-loop-j l = l.parts - l.j
