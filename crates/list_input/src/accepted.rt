@@ -15,6 +15,7 @@ use mesh::inner::{cell_count, first_cell};
 use split_classes::inner::classify;
 use split_tables::inner::prepare;
 use walk_incidence::inner::Incidence;
+use walk_reach_table::inner::ReachTable;
 
 // The line of a refusal.
 pub fn put_refusal(refusal: Refusal, text: &mut Printer)
@@ -33,8 +34,10 @@ pub fn list_accepted(m: &[u8], parts: u32, owners: &[u8], stencil: &[u8], text: 
         prev: [0; RECORD_PLACES],
         last: [0; ELEMENT_PLACES],
     };
-    let mut table = [0u8; TABLE_BYTES];
-    let mut ends = [0u16; ELEMENT_PLACES];
+    let mut reaches = ReachTable {
+        entries: [0; TABLE_BYTES],
+        ends: [0; ELEMENT_PLACES],
+    };
     let mut holders = [0u8; MOST_ELEMENTS];
     let mut class = [0u8; MOST_ELEMENTS];
     let prepared = prepare(
@@ -43,8 +46,7 @@ pub fn list_accepted(m: &[u8], parts: u32, owners: &[u8], stencil: &[u8], text: 
         owners,
         stencil,
         &mut incidence,
-        &mut table,
-        &mut ends,
+        &mut reaches,
         &mut holders,
         &mut class,
     );
@@ -56,14 +58,14 @@ pub fn list_accepted(m: &[u8], parts: u32, owners: &[u8], stencil: &[u8], text: 
     let count = parts as usize;
     text.put_line(b"parts", count);
     for i in 1..=count {
-        classify(owners, &table, &ends, cells, i, &mut class);
+        classify(owners, &reaches, cells, i, &mut class);
         let row = Row {
             class: &class[..cells],
             first,
         };
         put_own(&row, i, text);
         put_imports(&row, count, text);
-        put_exports(m, owners, &table, &ends, i, count, text);
+        put_exports(m, owners, &reaches, i, count, text);
         put_dimensions(m, &incidence, &class, &holders, text);
     }
 }

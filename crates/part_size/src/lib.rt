@@ -14,8 +14,9 @@ use split::inner::test_split;
 use split_classes::inner::CLASSES;
 use split_tables::inner::prepare;
 use walk_incidence::inner::Incidence;
+use walk_reach_table::inner::ReachTable;
 
-// How many bytes the state of part i needs. The mesh is tested in arrays that hold the inverted chains and the ends of the reaches afterwards.
+// How many bytes the state of part i needs. The mesh is tested in arrays that have the incidence afterwards.
 pub fn state_size(
     m: &[u8],
     parts: u32,
@@ -30,7 +31,6 @@ pub fn state_size(
         prev: [0; RECORD_PLACES],
         last: [0; ELEMENT_PLACES],
     };
-    let mut ends = [0u16; ELEMENT_PLACES];
     test_split(
         m,
         parts,
@@ -39,9 +39,12 @@ pub fn state_size(
         i,
         stencil,
         &mut incidence.cell,
-        &mut ends,
+        &mut incidence.last,
     )?;
-    let mut table = [0u8; TABLE_BYTES];
+    let mut reaches = ReachTable {
+        entries: [0; TABLE_BYTES],
+        ends: [0; ELEMENT_PLACES],
+    };
     let mut holders = [0u8; MOST_ELEMENTS];
     let mut class = [0u8; MOST_ELEMENTS];
     let mut got = [0u16; CLASSES];
@@ -51,8 +54,7 @@ pub fn state_size(
         owners,
         stencil,
         &mut incidence,
-        &mut table,
-        &mut ends,
+        &mut reaches,
         &mut holders,
         &mut class,
     )?;
@@ -62,8 +64,7 @@ pub fn state_size(
         owners,
         i,
         stencil,
-        &table,
-        &ends,
+        &reaches,
         &holders,
         &mut class,
         &mut incidence,

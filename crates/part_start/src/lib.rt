@@ -18,11 +18,12 @@ use split::inner::test_split;
 use split_classes::inner::CLASSES;
 use split_tables::inner::prepare;
 use walk_incidence::inner::{Incidence, sizes_of};
+use walk_reach_table::inner::ReachTable;
 
 // Makes the state of part i at round 0 at the front of b: mesh, number of parts and owners, the part, stencil, rule kind and weights, field. The mesh is
-// tested in arrays that hold the incidence and the ends of the reaches afterwards. Once the points are counted and tested the chains are not needed for a
+// tested in arrays that have the incidence afterwards. Once the points are counted and tested the chains are not needed for a
 // while: the order, the local numbers and the exports stand in their arrays. `last` has the cells linked by owner before it has the local numbers, which
-// `ends` takes over before the chains are turned round once more.
+// the ends of the reaches make room for before the chains are turned round once more.
 pub fn start(
     m: &[u8],
     parts: u32,
@@ -42,7 +43,6 @@ pub fn start(
         prev: [0; RECORD_PLACES],
         last: [0; ELEMENT_PLACES],
     };
-    let mut ends = [0u16; ELEMENT_PLACES];
     test_split(
         m,
         parts,
@@ -51,12 +51,15 @@ pub fn start(
         i,
         stencil,
         &mut incidence.cell,
-        &mut ends,
+        &mut incidence.last,
     )?;
     if bad_rule(kind, stencil.len() - 1, weights) {
         return Err(Refusal::Rule);
     }
-    let mut table = [0u8; TABLE_BYTES];
+    let mut reaches = ReachTable {
+        entries: [0; TABLE_BYTES],
+        ends: [0; ELEMENT_PLACES],
+    };
     let mut holders = [0u8; MOST_ELEMENTS];
     let mut class = [0u8; MOST_ELEMENTS];
     let mut got = [0u16; CLASSES];
@@ -67,8 +70,7 @@ pub fn start(
         owners,
         stencil,
         &mut incidence,
-        &mut table,
-        &mut ends,
+        &mut reaches,
         &mut holders,
         &mut class,
     )?;
@@ -81,8 +83,7 @@ pub fn start(
         sizes_of(m),
         sought,
         owners,
-        &table,
-        &ends,
+        &reaches,
         &mut class,
         &incidence,
     );
@@ -92,8 +93,7 @@ pub fn start(
         owners,
         i,
         stencil,
-        &table,
-        &ends,
+        &reaches,
         &holders,
         &mut class,
         &mut incidence,
@@ -105,8 +105,7 @@ pub fn start(
     }
     find_sent(
         owners,
-        &table,
-        &ends,
+        &reaches,
         p,
         &mut class,
         &mut incidence.last,
@@ -118,15 +117,14 @@ pub fn start(
     put_entries(
         b,
         s,
-        &table,
-        &ends,
+        &reaches,
         p,
         &incidence.prev,
         &incidence.last,
         &incidence.cell,
     );
     put_rest(b, p, f, &incidence.prev);
-    ends.copy_from_slice(&incidence.last);
+    reaches.ends.copy_from_slice(&incidence.last);
     add_points(
         b,
         p.front,
@@ -134,7 +132,7 @@ pub fn start(
         sought,
         outside,
         owners,
-        &ends,
+        &reaches.ends,
         &mut incidence,
     );
     Ok(size as u32)

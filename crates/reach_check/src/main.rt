@@ -8,11 +8,11 @@ ghost use Rattle.mesh.specs.Mesh.{top};
 ghost use Rattle.mesh.specs.Walks.{bad10};
 
 use layout::limits::{ELEMENT_PLACES, RECORD_PLACES, TABLE_BYTES};
-use layout::{Refusal, byte_at, get_or, word_at};
+use layout::{Refusal, byte_at};
 use mesh::inner::{cell_count, first_cell, top_of};
 use mesh_valid::test_mesh;
 use walk_incidence::inner::Incidence;
-use walk_reach_table::inner::reach_table;
+use walk_reach_table::inner::{ReachTable, reach_table};
 use walk_stencil::bad_stencil;
 
 fn refuse(refusal: Refusal) {
@@ -21,33 +21,26 @@ fn refuse(refusal: Refusal) {
     io::write_all(1, b"\n");
 }
 
-// One line: the cell, and the entries of its reach.
-fn print_row(first: usize, cell: usize, table: &[u8], from: u16, to: u16)
-    requires { first < 65536 }
+// One line: the cell at place q, and the entries of its reach.
+fn print_row(first: usize, q: usize, reaches: &ReachTable)
+    requires { (first < 65536) × (q < 65536) }
 {
-    io::print_decimal(1, cell as u64);
+    io::print_decimal(1, (first + q) as u64);
     io::write_all(1, b":");
-    for i in from..to {
-        let k = 2 * i as usize;
+    for t in reaches.start(q)..reaches.end(q) {
         io::write_all(1, b" ");
-        io::print_decimal(1, (first + word_at(table, k)) as u64);
+        io::print_decimal(1, (first + reaches.place(t)) as u64);
         io::write_all(1, b"/");
-        io::print_decimal(1, word_at(table, k + 1) as u64);
+        io::print_decimal(1, reaches.layer(t) as u64);
     }
     io::write_all(1, b"\n");
 }
 
-fn print_rows(first: usize, cells: usize, table: &[u8], ends: &[u16])
+fn print_rows(first: usize, cells: usize, reaches: &ReachTable)
     requires { (first < 65536) × (cells < 65536) }
 {
-    for j in 0..cells {
-        print_row(
-            first,
-            first + j,
-            table,
-            get_or(ends, j, 0),
-            get_or(ends, j + 1, 0),
-        );
+    for q in 0..cells {
+        print_row(first, q, reaches);
     }
 }
 
@@ -59,12 +52,14 @@ fn print_reaches(m: &[u8], stencil: &[u8])
         prev: [0; RECORD_PLACES],
         last: [0; ELEMENT_PLACES],
     };
-    let mut table = [0u8; TABLE_BYTES];
-    let mut ends = [0u16; ELEMENT_PLACES];
-    if reach_table(m, stencil, &mut incidence, &mut table, &mut ends).is_none() {
+    let mut reaches = ReachTable {
+        entries: [0; TABLE_BYTES],
+        ends: [0; ELEMENT_PLACES],
+    };
+    if reach_table(m, stencil, &mut incidence, &mut reaches).is_none() {
         refuse(Refusal::Reach);
     } else {
-        print_rows(first_cell(m), cell_count(m), &table, &ends);
+        print_rows(first_cell(m), cell_count(m), &reaches);
     }
 }
 

@@ -22,7 +22,7 @@ returns-in_err-test_split c =
 pub prepare-requires : goal.prepare-requires
 prepare-requires c =
     let f = passed_facts _ _ _ _ _ _ (sym c.in_ok-test_split.ensures) in
-    (f.mesh, f.map, f.stencil, refl, search rules, refl, refl)
+    (f.mesh, f.map, f.stencil, refl, refl)
 
 pub returns-in_err-prepare : goal.returns-in_err-prepare
 returns-in_err-prepare c =

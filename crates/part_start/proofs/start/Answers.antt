@@ -37,7 +37,7 @@ pub prepare-requires : goal.prepare-requires
 prepare-requires c =
     let sn = sym c.in_ok-test_split.ensures in
     let f = passed_facts _ _ _ _ _ _ sn in
-    (f.mesh, f.map, f.stencil, refl, search rules, refl, refl)
+    (f.mesh, f.map, f.stencil, refl, refl)
 
 pub returns-in_err-prepare : goal.returns-in_err-prepare
 returns-in_err-prepare c =

@@ -1,7 +1,7 @@
 -- `list_input::accepted::list_accepted` meets its contract. The invariant: the parts before i are put. Assumes nothing.
 use mathlib.Core.Path.{refl}
 use native.Mathlib.Omega.{arith}
-use Rattle.layout.specs.Limits.{element_places, most_elements, table_bytes}
+use Rattle.layout.specs.Limits.{most_elements}
 use Rattle.layout.proofs.AnswerLaws.{exit_some}
 use Rattle.mesh.proofs.AcceptedLaws.{cells_few}
 use Rattle.split.proofs.PassedLaws.{passed_facts}
@@ -15,7 +15,7 @@ use Rattle.list_input.proofs.accepted.list_accepted.Goals.{After-put_dimensions}
 pub prepare-prepared-requires : goal.prepare-prepared-requires
 prepare-prepared-requires c =
     let f = passed_facts _ _ _ _ _ _ c.requires in
-    (f.mesh, f.map, f.stencil, refl {a = table_bytes}, refl {a = element_places}, refl {a = most_elements}, refl {a = most_elements})
+    (f.mesh, f.map, f.stencil, refl {a = most_elements}, refl {a = most_elements})
 
 pub returns-in-Err : goal.returns-in-Err
 returns-in-Err c = refused_sizes _ _ _ _ _ _ c.requires _ c.in-Err.ensures.0 (exit_some _ _ refl) c.put_refusal.ensures
