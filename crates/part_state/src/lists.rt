@@ -77,54 +77,51 @@ fn valid_globals(lists: &[u8], held: usize) -> bool
     (1..1 + held).all(|l| is_cell(Global(word_there(lists, GLOBALS + l) as u16), first, cells))
 }
 
-// Entry t of the reaches, whose entries begin at word `at`: a held cell, at an even layer of at most `steps`.
-fn valid_entry(lists: &[u8], at: usize, held: usize, steps: usize, t: usize) -> bool
-    requires { Tested lists.now at held steps × (2 * (at + 2 * t) + 3 < length lists.now) }
-    ensures { result ≡ valid_entry lists.now t }
-{
-    let layer = word_there(lists, at + 2 * t + 1);
-    up_to(held, word_there(lists, at + 2 * t)) && layer % 2 == 0 && layer <= steps
-}
-
-// Whether entry t is that of cell l itself.
-#[tactic(auto, unfolding(crate::specs::Checks::own_entry))]
-fn own_entry(lists: &[u8], at: usize, held: usize, steps: usize, l: usize, t: usize) -> bool
-    requires { Tested lists.now at held steps × (2 * (at + 2 * t) + 3 < length lists.now) }
-    ensures { result ≡ own_entry lists.now l t }
-{
-    word_there(lists, at + 2 * t) == l && word_there(lists, at + 2 * t + 1) == 0
-}
-
-// Whether the entries from `from` up to `to` are valid.
-fn valid_rest(lists: &[u8], at: usize, held: usize, steps: usize, from: usize, to: usize) -> bool
-    requires { Tested lists.now at held steps × (from ≤ to) × (2 * (at + 2 * to) ≤ length lists.now) }
-    ensures { result ≡ every from (to - from) (valid_entry lists.now) }
-{
-    (from..to).all(|t| valid_entry(lists, at, held, steps, t))
-}
-
-// The same, and whether the entry of cell l itself is among them. Where it is found, only the entries after it are left to test.
-fn valid_row(
-    lists: &[u8],
+// The entries of the reaches: the word at which they begin, and what they are tested by.
+#[derive(Clone, Copy)]
+struct Entries<'a> {
+    lists: &'a [u8],
     at: usize,
     held: usize,
     steps: usize,
-    l: usize,
-    from: usize,
-    to: usize,
-) -> bool
-    requires { Tested lists.now at held steps × (from ≤ to) × (2 * (at + 2 * to) ≤ length lists.now) }
-    ensures { result ≡ every from (to - from) (valid_entry lists.now) && some from (to - from) (own_entry lists.now l) }
-{
-    for t in from..to {
-        if !valid_entry(lists, at, held, steps, t) {
-            return false;
-        }
-        if own_entry(lists, at, held, steps, l, t) {
-            return valid_rest(lists, at, held, steps, t + 1, to);
-        }
+    ghost tested: { Tested lists.now at held steps },
+}
+
+impl<'a> Entries<'a> {
+    // Whether entry t is a held cell, at an even layer of at most `steps`.
+    fn is_valid(self, t: usize) -> bool
+        requires { 2 * (self.at + 2 * t) + 3 < length self.lists.now }
+        ensures { result ≡ valid_entry self.entry.lists.now t }
+    {
+        let layer = word_there(self.lists, self.at + 2 * t + 1);
+        up_to(self.held, word_there(self.lists, self.at + 2 * t)) && layer % 2 == 0 && layer <= self.steps
     }
-    false
+
+    // Whether entry t is that of cell l itself.
+    #[tactic(auto, unfolding(crate::specs::Checks::own_entry))]
+    fn is_own(self, l: usize, t: usize) -> bool
+        requires { 2 * (self.at + 2 * t) + 3 < length self.lists.now }
+        ensures { result ≡ own_entry self.entry.lists.now l t }
+    {
+        word_there(self.lists, self.at + 2 * t) == l && word_there(self.lists, self.at + 2 * t + 1) == 0
+    }
+
+    // Whether the entries from `from` up to `to` are valid, and that of cell l itself is among them. Where it is found, only the entries after it are left to
+    // test: so each entry is read once, and this is a loop and not `all` and `any`.
+    fn are_row(self, l: usize, from: usize, to: usize) -> bool
+        requires { (from ≤ to) × (2 * (self.at + 2 * to) ≤ length self.lists.now) }
+        ensures { result ≡ every from (to - from) (valid_entry self.entry.lists.now) && some from (to - from) (own_entry self.entry.lists.now l) }
+    {
+        for t in from..to {
+            if !self.is_valid(t) {
+                return false;
+            }
+            if self.is_own(l, t) {
+                return (t + 1..to).all(|u| self.is_valid(u));
+            }
+        }
+        false
+    }
 }
 
 // The end at word i, which is no less than `from`. It is given as the greater of the two: so a loop that runs to it took fewer instructions than with the
@@ -141,13 +138,17 @@ fn valid_rows(lists: &[u8], sizes: Sizes) -> bool
     requires { Fitting lists.now sizes × (all_of (end_tests lists.now) ≡ true) }
     ensures { result ≡ every 1 sizes.owned (valid_row lists.now) }
 {
-    let steps = word_there(lists, STEPS);
     let ends = sizes.reach_word();
-    let at = sizes.entry_word();
+    let entries = Entries {
+        lists,
+        at: sizes.entry_word(),
+        held: sizes.held,
+        steps: word_there(lists, STEPS),
+    };
     let mut from = 0;
     for l in 1..1 + sizes.owned {
         let to = end_there(lists, ends + l, from);
-        if !valid_row(lists, at, sizes.held, steps, l, from, to) {
+        if !entries.are_row(l, from, to) {
             return false;
         }
         from = to;

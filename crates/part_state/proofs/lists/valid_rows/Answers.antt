@@ -5,17 +5,20 @@ use Rattle.part_state.proofs.ListChecks.{rows_start, rows_next, row_above, row_t
 use borrow.Author.Rules.{rules}
 use Rattle.part_state.proofs.lists.valid_rows.Goals as goal
 
+pub invariant_of-entries : goal.invariant_of-entries
+invariant_of-entries c = record { tested = search row_tested }
+
 pub loop-l-init : goal.loop-l-init
 loop-l-init c = (refl, search rules, search rules, search rows_start, search every_start_from)
 
 pub end_there-to-requires : goal.end_there-to-requires
 end_there-to-requires c = (search rules, search row_above)
 
-pub valid_row-requires : goal.valid_row-requires
-valid_row-requires c = (search row_tested, search row_rises, search row_room)
+pub are_row-requires : goal.are_row-requires
+are_row-requires c = (search row_rises, search row_room)
 
-pub returns-then-not-valid_row : goal.returns-then-not-valid_row
-returns-then-not-valid_row c = search (every_stop_from, row_told)
+pub returns-then-not-are_row : goal.returns-then-not-are_row
+returns-then-not-are_row c = search (every_stop_from, row_told)
 
 pub loop-l-preserved : goal.loop-l-preserved
 loop-l-preserved c = (search rules, search rules, search rules, search rows_next, search (every_turn_from, row_told))
