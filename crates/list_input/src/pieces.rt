@@ -9,8 +9,8 @@ ghost use Rattle.list_text.specs.Printing.{Put};
 ghost use Rattle.list_input.specs.Pieces.{Listed, pieces_text};
 
 use crate::accepted::{list_accepted, put_refusal};
-use layout::{Refusal, byte_at};
 use layout::limits::{ELEMENT_PLACES, RECORD_PLACES};
+use layout::{Refusal, byte_at};
 use list_text::inner::Printer;
 use mesh::inner::{cell_count, elements_of, record_count};
 use split::inner::test_split;

@@ -8,30 +8,30 @@ ghost use Rattle.mesh.specs.Mesh.{top};
 ghost use Rattle.mesh.specs.Walks.{bad10};
 
 use layout::limits::{ELEMENT_PLACES, MOST_REACHED, RECORD_PLACES, TABLE_BYTES};
-use layout::{Refusal, byte_at, get_or, word_at};
+use layout::{Refusal, byte_at, word_at};
 use mesh::inner::{cell_count, first_cell, top_of};
 use mesh_valid::test_mesh;
 use walk_reach_table::inner::reach_table;
 use walk_stencil::bad_stencil;
 
+// Printed by the calls of `io`, as all here: formats would need the runtime in each function, or a writer of this program's own.
 fn refuse(refusal: Refusal) {
     io::write_all(1, b"refused ");
     io::print_decimal(1, u64::from(u32::from(refusal)));
     io::write_all(1, b"\n");
 }
 
-// One line: the cell, and the entries of its reach.
-fn print_row(first: usize, cell: usize, table: &[u8], from: u16, to: u16)
+// One line: the cell, and the entries of its reach, each two words.
+fn print_row(first: usize, cell: usize, entries: &[u8])
     requires { first < 65536 }
 {
     io::print_decimal(1, cell as u64);
     io::write_all(1, b":");
-    for i in from..to {
-        let k = 2 * i as usize;
+    for entry in entries.chunks_exact(4) {
         io::write_all(1, b" ");
-        io::print_decimal(1, (first + word_at(table, k)) as u64);
+        io::print_decimal(1, (first + word_at(entry, 0)) as u64);
         io::write_all(1, b"/");
-        io::print_decimal(1, word_at(table, k + 1) as u64);
+        io::print_decimal(1, word_at(entry, 1) as u64);
     }
     io::write_all(1, b"\n");
 }
@@ -39,14 +39,10 @@ fn print_row(first: usize, cell: usize, table: &[u8], from: u16, to: u16)
 fn print_rows(first: usize, cells: usize, table: &[u8], ends: &[u16])
     requires { (first < 65536) × (cells < 65536) }
 {
-    for j in 0..cells {
-        print_row(
-            first,
-            first + j,
-            table,
-            get_or(ends, j, 0),
-            get_or(ends, j + 1, 0),
-        );
+    for (j, row) in ends.windows(2).take(cells).enumerate() {
+        let from = 4 * row[0] as usize;
+        let to = 4 * row[1] as usize;
+        print_row(first, first + j, table.get(from..to).unwrap_or(&[]));
     }
 }
 
@@ -77,10 +73,11 @@ fn answer(stencil: &[u8], m: &[u8]) {
 // Parts the input: a stencil length, the stencil, the mesh.
 fn parted(input: &[u8]) {
     let end = 1 + byte_at(input, 0) as usize;
-    if input.len() < end {
-        io::write_all(1, b"too short\n");
-    } else {
-        answer(&input[1..end], &input[end..input.len()]);
+    match input.split_at_checked(end) {
+        Some((head, m)) => answer(&head[1..], m),
+        None => {
+            io::write_all(1, b"too short\n");
+        }
     }
 }
 

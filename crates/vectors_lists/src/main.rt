@@ -16,21 +16,48 @@ fn show<F: FnOnce(&[u8], &mut [u8]) -> Result<u32, Refusal>>(name: &str, call: F
 }
 
 fn cells(i: u32) {
-    show("interior", |m, out| split_lists::interior(m, 2, &OWNERS, i, &STENCIL, out));
-    show("halo", |m, out| split_lists::halo(m, 2, &OWNERS, i, &STENCIL, out));
-    show("local order", |m, out| split_lists::local_order(m, 2, &OWNERS, i, &STENCIL, out));
+    show(
+        "interior",
+        |m, out| split_lists::interior(m, 2, &OWNERS, i, &STENCIL, out),
+    );
+    show(
+        "halo",
+        |m, out| split_lists::halo(m, 2, &OWNERS, i, &STENCIL, out),
+    );
+    show(
+        "local order",
+        |m, out| split_lists::local_order(m, 2, &OWNERS, i, &STENCIL, out),
+    );
 }
 
 fn passing(i: u32, j: u32) {
-    show("imports", |m, out| split_lists::imports(m, 2, &OWNERS, i, &STENCIL, j, out));
-    show("exports", |m, out| split_lists::exports(m, 2, &OWNERS, i, &STENCIL, j, out));
+    show(
+        "imports",
+        |m, out| split_lists::imports(m, 2, &OWNERS, i, &STENCIL, j, out),
+    );
+    show(
+        "exports",
+        |m, out| split_lists::exports(m, 2, &OWNERS, i, &STENCIL, j, out),
+    );
 }
 
 fn points(i: u32) {
-    show("private points", |m, out| split_lists::private_range(m, 2, &OWNERS, i, &STENCIL, 0, out));
-    show("exposed points", |m, out| split_lists::exposed_range(m, 2, &OWNERS, i, &STENCIL, 0, out));
-    show("shared points", |m, out| split_lists::shared_range(m, 2, &OWNERS, i, &STENCIL, 0, out));
-    show("copied points", |m, out| split_lists::copied_range(m, 2, &OWNERS, i, &STENCIL, 0, out));
+    show(
+        "private points",
+        |m, out| split_lists::private_range(m, 2, &OWNERS, i, &STENCIL, 0, out),
+    );
+    show(
+        "exposed points",
+        |m, out| split_lists::exposed_range(m, 2, &OWNERS, i, &STENCIL, 0, out),
+    );
+    show(
+        "shared points",
+        |m, out| split_lists::shared_range(m, 2, &OWNERS, i, &STENCIL, 0, out),
+    );
+    show(
+        "copied points",
+        |m, out| split_lists::copied_range(m, 2, &OWNERS, i, &STENCIL, 0, out),
+    );
 }
 
 // The lists of part i, beside part j.
@@ -42,7 +69,10 @@ fn lists(i: u32, j: u32) {
 }
 
 fn interior(name: &str, parts: u32, owners: &[u8], i: u32, stencil: &[u8]) {
-    show(name, |m, out| split_lists::interior(m, parts, owners, i, stencil, out));
+    show(
+        name,
+        |m, out| split_lists::interior(m, parts, owners, i, stencil, out),
+    );
 }
 
 fn part(name: &str, parts: u32, i: u32) {

@@ -12,7 +12,7 @@ use vectors_print::{
 // What part 1 of the five cells needs.
 type State = [u8; 224];
 
-// Starts part 1 of the five cells.
+// Starts part 1 of the five cells. `vectors_run` has the same for both parts: what they share, `vectors_print`, knows no calls.
 fn start(name: &str, b: &mut State) {
     let m = five_cells();
     let field = five_values("0 100 0 200 0 300 0 400 0 500");
@@ -26,24 +26,22 @@ fn take(name: &str, b: &mut State) {
     say(name, a);
 }
 
-// Into no bytes, and into one byte too few.
-fn points_nowhere(name: &str, b: &State) {
-    let mut out = [0u8; 1];
-    say(name, part_points::points(b, &mut out[0..0]));
+fn points(name: &str, b: &State, out: &mut [u8]) {
+    say(name, part_points::points(b, out));
 }
 
-fn points_cut(name: &str, b: &State) {
-    let mut out = [0u8; 23];
-    say(name, part_points::points(b, &mut out));
-}
-
-// 24 comes before 16.
+// Into no bytes, and into one byte too few: 24 comes before 16.
 fn short_points() {
     let mut b = [0u8; 224];
+    let mut out = [0u8; 23];
     start("start of part 1", &mut b);
-    points_nowhere("points of part 1, nothing taken, into 0 bytes", &b);
+    points(
+        "points of part 1, nothing taken, into 0 bytes",
+        &b,
+        &mut out[..0],
+    );
     take("part 1 takes", &mut b);
-    points_cut("points of part 1, into 23 bytes", &b);
+    points("points of part 1, into 23 bytes", &b, &mut out);
 }
 
 // The points of a part as it is started, under hold.

@@ -3,8 +3,8 @@
 #![tactic(auto)]
 
 use vectors_print::{
-    STENCIL, WEIGHTS, five_cells, five_values, print, print_byte, print_depth, print_values, say_all,
-    triangles,
+    STENCIL, WEIGHTS, five_cells, five_values, print, print_byte, print_depth, print_values,
+    say_all, triangles,
 };
 
 // ---- rounds

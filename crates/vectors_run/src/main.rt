@@ -5,8 +5,8 @@
 
 use layout::word_at;
 use vectors_print::{
-    OWNERS, STENCIL, WEIGHTS, five_cells, five_values, print, print_answer, print_byte, print_depth,
-    print_point, print_values, put_words, say, say_all, set_word,
+    OWNERS, STENCIL, WEIGHTS, five_cells, five_values, print, print_answer, print_byte,
+    print_depth, print_point, print_values, put_words, say, say_all, set_word,
 };
 
 // What part 1 of the five cells needs, and enough for part 2; and what a message of one depth needs.
