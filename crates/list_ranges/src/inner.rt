@@ -8,7 +8,6 @@ ghost use Rattle.list_text.specs.Printing.{Put, numbers};
 ghost use Rattle.list_ranges.specs.Lines.{cells_of, range_line, row_lines, dimension_lines};
 
 pub use crate::row::Row;
-
 use layout::limits::MOST_ELEMENTS;
 use list_text::inner::Printer;
 use mesh::inner::{below_of, count_of, top_of};

@@ -5,6 +5,7 @@ fn main() {
     let mut buffer = [0u8; 65536];
     let n = io::read_full(0, &mut buffer);
     let answer = mesh_valid::check_mesh(&buffer[..n]);
+    // printed by the calls of `io`: formats would need the runtime, or a writer of this program's own, for two lines
     match answer {
         Ok(cells) => {
             io::write_all(1, b"cells ");

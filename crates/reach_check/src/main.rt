@@ -15,6 +15,7 @@ use walk_incidence::inner::Incidence;
 use walk_reach_table::inner::{ReachTable, reach_table};
 use walk_stencil::bad_stencil;
 
+// Printed by the calls of `io`, as all here: formats would need the runtime in each function, or a writer of this program's own.
 fn refuse(refusal: Refusal) {
     io::write_all(1, b"refused ");
     io::print_decimal(1, u64::from(u32::from(refusal)));
@@ -76,10 +77,11 @@ fn answer(stencil: &[u8], m: &[u8]) {
 // Parts the input: a stencil length, the stencil, the mesh.
 fn parted(input: &[u8]) {
     let end = 1 + byte_at(input, 0) as usize;
-    if input.len() < end {
-        io::write_all(1, b"too short\n");
-    } else {
-        answer(&input[1..end], &input[end..input.len()]);
+    match input.split_at_checked(end) {
+        Some((head, m)) => answer(&head[1..], m),
+        None => {
+            io::write_all(1, b"too short\n");
+        }
     }
 }
 

@@ -2,148 +2,133 @@
 // answered: the count and what it gave, or the number of the refusal. The file `stdout` has these lines, to be read beside the specification.
 #![tactic(auto)]
 
-use vectors_print::{Form, OWNERS, STENCIL, five_cells, say, say_all, triangles};
+use layout::Refusal;
+use vectors_print::{OWNERS, STENCIL, five_cells, print, print_word, say, say_all, triangles};
 
-fn interior_of(i: u32) {
+// What a list call gives on the five cells.
+fn show<F: FnOnce(&[u8], &mut [u8]) -> Result<u32, Refusal>>(name: &str, call: F)
+    requires { F.IsAlwaysCallable call }
+{
     let m = five_cells();
     let mut out = [0u8; 10];
-    let a = split_lists::interior(&m, 2, &OWNERS, i, &STENCIL, &mut out);
-    say_all(Form::Words, b"interior", a, &out);
+    let a = call(&m, &mut out);
+    say_all(name, a, &out, print_word);
 }
 
-fn halo_of(i: u32) {
-    let m = five_cells();
-    let mut out = [0u8; 10];
-    let a = split_lists::halo(&m, 2, &OWNERS, i, &STENCIL, &mut out);
-    say_all(Form::Words, b"halo", a, &out);
+fn cells(i: u32) {
+    show(
+        "interior",
+        |m, out| split_lists::interior(m, 2, &OWNERS, i, &STENCIL, out),
+    );
+    show(
+        "halo",
+        |m, out| split_lists::halo(m, 2, &OWNERS, i, &STENCIL, out),
+    );
+    show(
+        "local order",
+        |m, out| split_lists::local_order(m, 2, &OWNERS, i, &STENCIL, out),
+    );
 }
 
-fn local_order_of(i: u32) {
-    let m = five_cells();
-    let mut out = [0u8; 10];
-    let a = split_lists::local_order(&m, 2, &OWNERS, i, &STENCIL, &mut out);
-    say_all(Form::Words, b"local order", a, &out);
+fn passing(i: u32, j: u32) {
+    show(
+        "imports",
+        |m, out| split_lists::imports(m, 2, &OWNERS, i, &STENCIL, j, out),
+    );
+    show(
+        "exports",
+        |m, out| split_lists::exports(m, 2, &OWNERS, i, &STENCIL, j, out),
+    );
 }
 
-fn imports_of(i: u32, j: u32) {
-    let m = five_cells();
-    let mut out = [0u8; 10];
-    let a = split_lists::imports(&m, 2, &OWNERS, i, &STENCIL, j, &mut out);
-    say_all(Form::Words, b"imports", a, &out);
-}
-
-fn exports_of(i: u32, j: u32) {
-    let m = five_cells();
-    let mut out = [0u8; 10];
-    let a = split_lists::exports(&m, 2, &OWNERS, i, &STENCIL, j, &mut out);
-    say_all(Form::Words, b"exports", a, &out);
-}
-
-fn private_points(i: u32) {
-    let m = five_cells();
-    let mut out = [0u8; 10];
-    let a = split_lists::private_range(&m, 2, &OWNERS, i, &STENCIL, 0, &mut out);
-    say_all(Form::Words, b"private points", a, &out);
-}
-
-fn exposed_points(i: u32) {
-    let m = five_cells();
-    let mut out = [0u8; 10];
-    let a = split_lists::exposed_range(&m, 2, &OWNERS, i, &STENCIL, 0, &mut out);
-    say_all(Form::Words, b"exposed points", a, &out);
-}
-
-fn shared_points(i: u32) {
-    let m = five_cells();
-    let mut out = [0u8; 10];
-    let a = split_lists::shared_range(&m, 2, &OWNERS, i, &STENCIL, 0, &mut out);
-    say_all(Form::Words, b"shared points", a, &out);
-}
-
-fn copied_points(i: u32) {
-    let m = five_cells();
-    let mut out = [0u8; 10];
-    let a = split_lists::copied_range(&m, 2, &OWNERS, i, &STENCIL, 0, &mut out);
-    say_all(Form::Words, b"copied points", a, &out);
+fn points(i: u32) {
+    show(
+        "private points",
+        |m, out| split_lists::private_range(m, 2, &OWNERS, i, &STENCIL, 0, out),
+    );
+    show(
+        "exposed points",
+        |m, out| split_lists::exposed_range(m, 2, &OWNERS, i, &STENCIL, 0, out),
+    );
+    show(
+        "shared points",
+        |m, out| split_lists::shared_range(m, 2, &OWNERS, i, &STENCIL, 0, out),
+    );
+    show(
+        "copied points",
+        |m, out| split_lists::copied_range(m, 2, &OWNERS, i, &STENCIL, 0, out),
+    );
 }
 
 // The lists of part i, beside part j.
 fn lists(i: u32, j: u32) {
-    io::write_all(1, b"lists of part ");
-    io::print_decimal(1, i as u64);
-    io::write_all(1, b"\n");
-    interior_of(i);
-    halo_of(i);
-    local_order_of(i);
-    imports_of(i, j);
-    exports_of(i, j);
-    private_points(i);
-    exposed_points(i);
-    shared_points(i);
-    copied_points(i);
+    print(format_args!("lists of part {i}\n"));
+    cells(i);
+    passing(i, j);
+    points(i);
 }
 
-fn interior(name: &[u8], parts: u32, owners: &[u8], i: u32, stencil: &[u8]) {
-    let m = five_cells();
-    let mut out = [0u8; 10];
-    let a = split_lists::interior(&m, parts, owners, i, stencil, &mut out);
-    say_all(Form::Words, name, a, &out);
+fn interior(name: &str, parts: u32, owners: &[u8], i: u32, stencil: &[u8]) {
+    show(
+        name,
+        |m, out| split_lists::interior(m, parts, owners, i, stencil, out),
+    );
 }
 
-fn part(name: &[u8], parts: u32, i: u32) {
+fn part(name: &str, parts: u32, i: u32) {
     interior(name, parts, &OWNERS, i, &STENCIL);
 }
 
 fn numbers() {
-    part(b"P 0", 0, 1);
-    part(b"P 17", 17, 1);
-    part(b"part 0", 2, 0);
-    part(b"part 3 of 2", 2, 3);
+    part("P 0", 0, 1);
+    part("P 17", 17, 1);
+    part("part 0", 2, 0);
+    part("part 3 of 2", 2, 3);
 }
 
-fn map(name: &[u8], owners: &[u8]) {
+fn map(name: &str, owners: &[u8]) {
     interior(name, 2, owners, 1, &STENCIL);
 }
 
 fn maps() {
-    map(b"owners 0 1 1 2 2", b"\x00\x01\x01\x02\x02");
-    map(b"owners 3 1 1 2 2", b"\x03\x01\x01\x02\x02");
-    map(b"four owners", b"\x01\x01\x02\x02");
-    map(b"owners 1 1 1 1 1", b"\x01\x01\x01\x01\x01");
+    map("owners 0 1 1 2 2", b"\x00\x01\x01\x02\x02");
+    map("owners 3 1 1 2 2", b"\x03\x01\x01\x02\x02");
+    map("four owners", b"\x01\x01\x02\x02");
+    map("owners 1 1 1 1 1", b"\x01\x01\x01\x01\x01");
 }
 
-fn stencil(name: &[u8], stencil: &[u8]) {
+fn stencil(name: &str, stencil: &[u8]) {
     interior(name, 2, &OWNERS, 1, stencil);
 }
 
 fn lengths_of_stencils() {
-    stencil(b"interior, stencil 1", b"\x01");
-    stencil(b"stencil of length 0", b"");
-    stencil(b"stencil of length 2", b"\x01\x00");
+    stencil("interior, stencil 1", b"\x01");
+    stencil("stencil of length 0", b"");
+    stencil("stencil of length 2", b"\x01\x00");
     stencil(
-        b"stencil of length 9",
+        "stencil of length 9",
         b"\x01\x00\x01\x00\x01\x00\x01\x00\x01",
     );
 }
 
 fn stencils() {
     stencil(
-        b"stencil of length 11",
+        "stencil of length 11",
         b"\x01\x00\x01\x00\x01\x00\x01\x00\x01\x00\x01",
     );
-    stencil(b"stencil 0 0 1", b"\x00\x00\x01");
-    stencil(b"stencil 1 1 1", b"\x01\x01\x01");
+    stencil("stencil 0 0 1", b"\x00\x00\x01");
+    stencil("stencil 1 1 1", b"\x01\x01\x01");
 }
 
 fn no_imports() {
     let m = five_cells();
     let mut out = [0u8; 10];
     let a = split_lists::imports(&m, 2, &OWNERS, 1, b"\x01", 2, &mut out);
-    say(b"imports, stencil 1", a);
+    say("imports, stencil 1", a);
 }
 
 // Each triangle has a part of its own; a part imports what its triangle reaches.
-fn reached(name: &[u8], i: u32, j: u32) {
+fn reached(name: &str, i: u32, j: u32) {
     let m = triangles();
     let mut out = [0u8; 6];
     let a = split_lists::imports(
@@ -155,19 +140,19 @@ fn reached(name: &[u8], i: u32, j: u32) {
         j,
         &mut out,
     );
-    say_all(Form::Words, name, a, &out);
+    say_all(name, a, &out, print_word);
 }
 
 fn reaches() {
-    reached(b"15 reaches 16", 1, 2);
-    reached(b"15 reaches 17", 1, 3);
-    reached(b"16 reaches 15", 2, 1);
+    reached("15 reaches 16", 1, 2);
+    reached("15 reaches 17", 1, 3);
+    reached("16 reaches 15", 2, 1);
 }
 
 fn other_reaches() {
-    reached(b"16 reaches 17", 2, 3);
-    reached(b"17 reaches 15", 3, 1);
-    reached(b"17 does not reach 16", 3, 2);
+    reached("16 reaches 17", 2, 3);
+    reached("17 reaches 15", 3, 1);
+    reached("17 does not reach 16", 3, 2);
 }
 
 fn main() {

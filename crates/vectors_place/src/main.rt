@@ -6,6 +6,7 @@ const RISING: [u8; 6] = [0, 3, 0, 5, 0, 9];
 
 const UNSORTED: [u8; 6] = [0, 9, 0, 3, 0, 5];
 
+// Printed by the calls of `io`: formats would need the runtime in each function, or a writer of this program's own.
 fn say(name: &[u8], list: &[u8], cell: u32) {
     // what stands there before the call does not matter
     let mut read = 77;

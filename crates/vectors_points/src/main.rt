@@ -3,7 +3,8 @@
 #![tactic(auto)]
 
 use vectors_print::{
-    Form, OWNERS, STENCIL, WEIGHTS, five_cells, five_values, put_words, say, say_all, triangles,
+    OWNERS, STENCIL, WEIGHTS, five_cells, five_values, print_point, put_words, say, say_all,
+    triangles,
 };
 
 // ---- points (F-1)
@@ -11,43 +12,41 @@ use vectors_print::{
 // What part 1 of the five cells needs.
 type State = [u8; 224];
 
-// Starts part 1 of the five cells.
-fn start(name: &[u8], b: &mut State) {
+// Starts part 1 of the five cells. `vectors_run` has the same for both parts: what they share, `vectors_print`, knows no calls.
+fn start(name: &str, b: &mut State) {
     let m = five_cells();
-    let field = five_values(b"0 100 0 200 0 300 0 400 0 500");
+    let field = five_values("0 100 0 200 0 300 0 400 0 500");
     let a = part_start::start(&m, 2, &OWNERS, 1, &STENCIL, 1, &WEIGHTS, &field, b);
     say(name, a);
 }
 
 // Takes what part 2 writes to part 1 at round 0.
-fn take(name: &[u8], b: &mut State) {
+fn take(name: &str, b: &mut State) {
     let a = part_take::take(b, b"\x00\x02\x00\x01\x00\x00\x00\x01\x00\x00\x01\x90");
     say(name, a);
 }
 
-// Into no bytes, and into one byte too few.
-fn points_nowhere(name: &[u8], b: &State) {
-    let mut out = [0u8; 1];
-    say(name, part_points::points(b, &mut out[0..0]));
+fn points(name: &str, b: &State, out: &mut [u8]) {
+    say(name, part_points::points(b, out));
 }
 
-fn points_cut(name: &[u8], b: &State) {
-    let mut out = [0u8; 23];
-    say(name, part_points::points(b, &mut out));
-}
-
-// 24 comes before 16.
+// Into no bytes, and into one byte too few: 24 comes before 16.
 fn short_points() {
     let mut b = [0u8; 224];
-    start(b"start of part 1", &mut b);
-    points_nowhere(b"points of part 1, nothing taken, into 0 bytes", &b);
-    take(b"part 1 takes", &mut b);
-    points_cut(b"points of part 1, into 23 bytes", &b);
+    let mut out = [0u8; 23];
+    start("start of part 1", &mut b);
+    points(
+        "points of part 1, nothing taken, into 0 bytes",
+        &b,
+        &mut out[..0],
+    );
+    take("part 1 takes", &mut b);
+    points("points of part 1, into 23 bytes", &b, &mut out);
 }
 
 // The points of a part as it is started, under hold.
 fn first_points(
-    name: &[u8],
+    name: &str,
     m: &[u8],
     parts: u32,
     owners: &[u8],
@@ -62,38 +61,38 @@ fn first_points(
         part_start::start(m, parts, owners, i, stencil, 0, b"", field, &mut b),
     );
     let a = part_points::points(&b, &mut out);
-    say_all(Form::Points, b"its points", a, &out);
+    say_all("its points", a, &out, print_point);
 }
 
 // The five cells as one part.
-fn one_part(name: &[u8], stencil: &[u8], text: &[u8]) {
+fn one_part(name: &str, stencil: &[u8], text: &str) {
     let m = five_cells();
     let field = five_values(text);
     first_points(name, &m, 1, b"\x01\x01\x01\x01\x01", 1, stencil, &field);
 }
 
 // The triangles, from 3 6 10: 15 and 17 share a point and no edge.
-fn triangle_points(name: &[u8], parts: u32, owners: &[u8], i: u32, stencil: &[u8]) {
+fn triangle_points(name: &str, parts: u32, owners: &[u8], i: u32, stencil: &[u8]) {
     let m = triangles();
     let mut field = [0u8; 12];
-    put_words(&mut field, b"0 3 0 6 0 10");
+    put_words(&mut field, "0 3 0 6 0 10");
     first_points(name, &m, parts, owners, i, stencil, &field);
 }
 
 // From -1 -2 0 0 0. The stencil 1 goes nowhere, so a point between two cells is refused.
 fn reached_points() {
     one_part(
-        b"five cells as one part, stencil 1 0 1",
+        "five cells as one part, stencil 1 0 1",
         &STENCIL,
-        b"65535 65535 65535 65534",
+        "65535 65535 65535 65534",
     );
     one_part(
-        b"five cells as one part, stencil 1",
+        "five cells as one part, stencil 1",
         b"\x01",
-        b"65535 65535 65535 65534",
+        "65535 65535 65535 65534",
     );
     triangle_points(
-        b"triangles as one part, stencil 2 0 2",
+        "triangles as one part, stencil 2 0 2",
         1,
         b"\x01\x01\x01",
         1,
@@ -103,14 +102,14 @@ fn reached_points() {
 
 fn unreached_points() {
     triangle_points(
-        b"triangles, part 1 of 2, stencil 2 1 2",
+        "triangles, part 1 of 2, stencil 2 1 2",
         2,
         b"\x01\x01\x02",
         1,
         b"\x02\x01\x02",
     );
     triangle_points(
-        b"triangles, part 2 of 2, stencil 2 1 2",
+        "triangles, part 2 of 2, stencil 2 1 2",
         2,
         b"\x01\x01\x02",
         2,
@@ -121,9 +120,9 @@ fn unreached_points() {
 // One cell between two points.
 fn one_cell() {
     let mut m = [0u8; 26];
-    put_words(&mut m, b"1 2 1 0 0 2 0 0 1 1 2 2 0");
+    put_words(&mut m, "1 2 1 0 0 2 0 0 1 1 2 2 0");
     first_points(
-        b"one cell, stencil 1",
+        "one cell, stencil 1",
         &m,
         1,
         b"\x01",
@@ -136,9 +135,9 @@ fn one_cell() {
 // The second of two cells has no point.
 fn no_point() {
     let mut m = [0u8; 22];
-    put_words(&mut m, b"1 1 2 0 0 1 0 1 0 1 0");
+    put_words(&mut m, "1 1 2 0 0 1 0 1 0 1 0");
     first_points(
-        b"a cell without a point, part 2 of 2",
+        "a cell without a point, part 2 of 2",
         &m,
         2,
         b"\x01\x02",
@@ -152,14 +151,14 @@ fn no_point() {
 
 fn points_of_gaps() {
     one_part(
-        b"five cells as one part, 100 gap 300 gap gap",
+        "five cells as one part, 100 gap 300 gap gap",
         &STENCIL,
-        b"0 100 32768 0 0 300 32768 0 32768 0",
+        "0 100 32768 0 0 300 32768 0 32768 0",
     );
     one_part(
-        b"five cells as one part, five gaps",
+        "five cells as one part, five gaps",
         &STENCIL,
-        b"32768 0 32768 0 32768 0 32768 0 32768 0",
+        "32768 0 32768 0 32768 0 32768 0 32768 0",
     );
 }
 
@@ -167,9 +166,9 @@ fn points_of_gaps() {
 
 fn least_depths() {
     one_part(
-        b"five cells as one part, -1200000 -1199999 0 0 0",
+        "five cells as one part, -1200000 -1199999 0 0 0",
         &STENCIL,
-        b"65517 45184 65517 45185",
+        "65517 45184 65517 45185",
     );
 }
 

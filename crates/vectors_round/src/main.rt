@@ -3,121 +3,121 @@
 #![tactic(auto)]
 
 use vectors_print::{
-    Form, STENCIL, WEIGHTS, five_cells, five_values, print_values, say_all, triangles,
+    STENCIL, WEIGHTS, five_cells, five_values, print, print_byte, print_depth, print_values,
+    say_all, triangles,
 };
 
 // ---- rounds
 
 // Makes a round of the five cells.
-fn round_of(name: &[u8], kind: u32, weights: &[u8], field: &[u8], out: &mut [u8]) {
+fn round_of(name: &str, kind: u32, weights: &[u8], field: &[u8], out: &mut [u8]) {
     let m = five_cells();
-    io::write_all(1, name);
-    io::write_all(1, b" of");
-    print_values(Form::Depths, field, 5);
+    print(format_args!("{name} of"));
+    print_values(field, 5, print_depth);
     let a = round::undivided_round(&m, &STENCIL, kind, weights, field, out);
-    say_all(Form::Depths, b"", a, out);
+    say_all("", a, out, print_depth);
 }
 
 // A round of the values of a text.
-fn one_round(name: &[u8], kind: u32, weights: &[u8], text: &[u8]) {
+fn one_round(name: &str, kind: u32, weights: &[u8], text: &str) {
     let field = five_values(text);
     let mut out = [0u8; 20];
     round_of(name, kind, weights, &field, &mut out);
 }
 
 // Weights 2 and 1.
-fn mean(text: &[u8]) {
-    one_round(b"mean 2 1", 1, &WEIGHTS, text);
+fn mean(text: &str) {
+    one_round("mean 2 1", 1, &WEIGHTS, text);
 }
 
 // A rule with no weights.
-fn bare(name: &[u8], kind: u32, text: &[u8]) {
+fn bare(name: &str, kind: u32, text: &str) {
     one_round(name, kind, b"", text);
 }
 
 fn rounds() {
-    mean(b"0 100 0 200 0 300 0 400 0 500");
-    mean(b"0 133 0 200 0 300 0 400 0 466");
-    bare(b"hold", 0, b"0 155 0 208 0 300 0 391 0 444");
-    bare(b"shoalest", 2, b"0 155 0 208 0 300 0 391 0 444");
+    mean("0 100 0 200 0 300 0 400 0 500");
+    mean("0 133 0 200 0 300 0 400 0 466");
+    bare("hold", 0, "0 155 0 208 0 300 0 391 0 444");
+    bare("shoalest", 2, "0 155 0 208 0 300 0 391 0 444");
 }
 
 // ---- rounding (F-4)
 
 // Weights 1 and 3, which are 4 at the first cell.
-fn mean_of_four(text: &[u8]) {
-    one_round(b"mean 1 3", 1, b"\x00\x01\x00\x03", text);
+fn mean_of_four(text: &str) {
+    one_round("mean 1 3", 1, b"\x00\x01\x00\x03", text);
 }
 
 // The sum of the first cell is -7, 7, -8 and 0.
 fn sums_over_four() {
-    mean_of_four(b"65535 65535 65535 65534");
-    mean_of_four(b"0 1 0 2");
-    mean_of_four(b"65535 65534 65535 65534");
-    mean_of_four(b"0 3 65535 65535");
+    mean_of_four("65535 65535 65535 65534");
+    mean_of_four("0 1 0 2");
+    mean_of_four("65535 65534 65535 65534");
+    mean_of_four("0 3 65535 65535");
 }
 
 // The sum of the second cell is -1, of weights 15.
 fn least_sum() {
-    one_round(b"mean 13 1", 1, b"\x00\x0d\x00\x01", b"65535 65535");
+    one_round("mean 13 1", 1, b"\x00\x0d\x00\x01", "65535 65535");
 }
 
 // The five cells above the water, and the bytes of the first one.
 fn above_the_water() {
-    let field = five_values(b"65535 65436 65535 65336 65535 65236 65535 65136 65535 65036");
+    let field = five_values("65535 65436 65535 65336 65535 65236 65535 65136 65535 65036");
     let mut out = [0u8; 20];
-    round_of(b"mean 2 1", 1, &WEIGHTS, &field, &mut out);
-    io::write_all(1, b"its first four bytes:");
-    print_values(Form::Bytes, &out, 4);
-    io::write_all(1, b"\n");
+    round_of("mean 2 1", 1, &WEIGHTS, &field, &mut out);
+    print("its first four bytes:");
+    print_values(&out, 4, print_byte);
+    print("\n");
 }
 
 // ---- rules and depths: 11, 14
 
 // A rule on a field of zeros.
-fn rule(name: &[u8], kind: u32, weights: &[u8]) {
-    one_round(name, kind, weights, b"");
+fn rule(name: &str, kind: u32, weights: &[u8]) {
+    one_round(name, kind, weights, "");
 }
 
 fn counts_of_weights() {
-    rule(b"kind 3", 3, b"");
-    rule(b"mean 2", 1, b"\x00\x02");
-    rule(b"mean 2 1 1", 1, b"\x00\x02\x00\x01\x00\x01");
+    rule("kind 3", 3, b"");
+    rule("mean 2", 1, b"\x00\x02");
+    rule("mean 2 1 1", 1, b"\x00\x02\x00\x01\x00\x01");
 }
 
 fn weights() {
-    rule(b"mean 0 1", 1, b"\x00\x00\x00\x01");
-    rule(b"mean 1 16", 1, b"\x00\x01\x00\x10");
-    rule(b"mean 1 15", 1, b"\x00\x01\x00\x0f");
-    rule(b"hold with weights", 0, &WEIGHTS);
+    rule("mean 0 1", 1, b"\x00\x00\x00\x01");
+    rule("mean 1 16", 1, b"\x00\x01\x00\x10");
+    rule("mean 1 15", 1, b"\x00\x01\x00\x0f");
+    rule("hold with weights", 0, &WEIGHTS);
 }
 
 // 1,200,000 and one more, -1,200,000 and one less
 fn depths() {
-    bare(b"hold", 0, b"18 20352");
-    bare(b"hold", 0, b"18 20353");
-    bare(b"hold", 0, b"65517 45184");
-    bare(b"hold", 0, b"65517 45183");
+    bare("hold", 0, "18 20352");
+    bare("hold", 0, "18 20353");
+    bare("hold", 0, "65517 45184");
+    bare("hold", 0, "65517 45183");
 }
 
 // ---- gaps (F-2), whose words are 32768 and 0
 
 fn means_of_gaps() {
-    mean(b"0 100 32768 0 0 300 32768 0 32768 0");
-    mean(b"0 100 0 200 0 300 0 300 32768 0");
+    mean("0 100 32768 0 0 300 32768 0 32768 0");
+    mean("0 100 0 200 0 300 0 300 32768 0");
     one_round(
-        b"mean 1 0",
+        "mean 1 0",
         1,
         b"\x00\x01\x00\x00",
-        b"0 100 32768 0 0 300 32768 0 32768 0",
+        "0 100 32768 0 0 300 32768 0 32768 0",
     );
 }
 
 fn other_rules_on_gaps() {
-    bare(b"shoalest", 2, b"0 100 32768 0 0 300 32768 0 32768 0");
-    bare(b"shoalest", 2, b"0 100 0 100 0 300 0 300 32768 0");
-    bare(b"hold", 0, b"0 100 32768 0 0 300 32768 0 32768 0");
-    bare(b"hold", 0, b"32768 1");
+    bare("shoalest", 2, "0 100 32768 0 0 300 32768 0 32768 0");
+    bare("shoalest", 2, "0 100 0 100 0 300 0 300 32768 0");
+    bare("hold", 0, "0 100 32768 0 0 300 32768 0 32768 0");
+    bare("hold", 0, "32768 1");
 }
 
 // ---- fields and room: 14, 16
@@ -125,13 +125,13 @@ fn other_rules_on_gaps() {
 fn fields() {
     let field = [0u8; 19];
     let mut out = [0u8; 20];
-    round_of(b"19 bytes", 0, b"", &field, &mut out);
+    round_of("19 bytes", 0, b"", &field, &mut out);
 }
 
 fn room() {
     let field = [0u8; 20];
     let mut out = [0u8; 19];
-    round_of(b"into 19 bytes", 0, b"", &field, &mut out);
+    round_of("into 19 bytes", 0, b"", &field, &mut out);
 }
 
 // Layers 0, 2 and 4 weigh 4, 2 and 1: 15 and 16 take 700 / 7, and 17, which does not reach 16, takes 4 * 700 / 5.
@@ -146,7 +146,7 @@ fn layers() {
         b"\x00\x00\x00\x00\x00\x00\x00\x00\x00\x00\x02\xbc",
         &mut out,
     );
-    say_all(Form::Depths, b"triangles, mean 4 2 1 of 0 0 700", a, &out);
+    say_all("triangles, mean 4 2 1 of 0 0 700", a, &out, print_depth);
 }
 
 fn main() {

@@ -5,8 +5,8 @@
 
 use layout::word_at;
 use vectors_print::{
-    Form, OWNERS, STENCIL, WEIGHTS, five_cells, five_values, print_answer, print_values, put_words,
-    say, say_all, set_word,
+    OWNERS, STENCIL, WEIGHTS, five_cells, five_values, print, print_answer, print_byte,
+    print_depth, print_point, print_values, put_words, say, say_all, set_word,
 };
 
 // What part 1 of the five cells needs, and enough for part 2; and what a message of one depth needs.
@@ -14,104 +14,104 @@ type State = [u8; 224];
 
 type Message = [u8; 12];
 
-fn start(name: &[u8], i: u32, b: &mut State) {
+fn start(name: &str, i: u32, b: &mut State) {
     let m = five_cells();
-    let field = five_values(b"0 100 0 200 0 300 0 400 0 500");
+    let field = five_values("0 100 0 200 0 300 0 400 0 500");
     let a = part_start::start(&m, 2, &OWNERS, i, &STENCIL, 1, &WEIGHTS, &field, b);
     say(name, a);
 }
 
-fn write(name: &[u8], b: &mut State, to: u32, message: &mut Message) {
+fn write(name: &str, b: &mut State, to: u32, message: &mut Message) {
     let a = part_write::write(b, to, message);
-    say_all(Form::Bytes, name, a, message);
+    say_all(name, a, message, print_byte);
 }
 
 // Writes a message that no part takes.
-fn write_only(name: &[u8], b: &mut State, to: u32) {
+fn write_only(name: &str, b: &mut State, to: u32) {
     let mut message = [0u8; 12];
     write(name, b, to, &mut message);
 }
 
-fn take_bytes(name: &[u8], b: &mut State, bytes: &[u8]) {
+fn take_bytes(name: &str, b: &mut State, bytes: &[u8]) {
     say(name, part_take::take(b, bytes));
 }
 
-fn take(name: &[u8], b: &mut State, message: &Message) {
+fn take(name: &str, b: &mut State, message: &Message) {
     take_bytes(name, b, message);
 }
 
-fn advance(name: &[u8], b: &mut State) {
+fn advance(name: &str, b: &mut State) {
     say(name, part_advance::advance(b));
 }
 
-fn collect(name: &[u8], b: &State, round: u32) {
+fn collect(name: &str, b: &State, round: u32) {
     let mut field = [0u8; 20];
     let a = part_collect::collect(b, round, &mut field);
     print_answer(name, a);
-    io::write_all(1, b":");
-    print_values(Form::Depths, &field, 5);
-    io::write_all(1, b"\n");
+    print(":");
+    print_values(&field, 5, print_depth);
+    print("\n");
 }
 
 // The points of a state, into as much room as part 1 needs.
-fn points(name: &[u8], b: &State) {
+fn points(name: &str, b: &State) {
     let mut out = [0u8; 24];
     let a = part_points::points(b, &mut out);
-    say_all(Form::Points, name, a, &out);
+    say_all(name, a, &out, print_point);
 }
 
 fn started(one: &mut State, two: &mut State) {
-    start(b"start of part 1", 1, one);
-    start(b"start of part 2", 2, two);
-    collect(b"part 1 at round 0", one, 0);
-    collect(b"part 2 for round 1 at round 0", two, 1);
-    points(b"points of part 1, nothing taken", one);
+    start("start of part 1", 1, one);
+    start("start of part 2", 2, two);
+    collect("part 1 at round 0", one, 0);
+    collect("part 2 for round 1 at round 0", two, 1);
+    points("points of part 1, nothing taken", one);
 }
 
 fn before(two: &mut State, old: &mut Message) {
-    write(b"part 2 to part 1", two, 1, old);
-    take(b"part 2 takes its own message", two, old);
-    advance(b"part 2 advances, nothing taken", two);
+    write("part 2 to part 1", two, 1, old);
+    take("part 2 takes its own message", two, old);
+    advance("part 2 advances, nothing taken", two);
 }
 
 // Part 2 goes on to round 1, and part 1 is behind.
 fn ahead(one: &mut State, two: &mut State, next: &mut Message) {
-    write(b"part 1 to part 2", one, 2, next);
-    take(b"part 2 takes it", two, next);
-    take(b"part 2 takes it again", two, next);
-    points(b"points of part 2", two);
+    write("part 1 to part 2", one, 2, next);
+    take("part 2 takes it", two, next);
+    take("part 2 takes it again", two, next);
+    points("points of part 2", two);
 }
 
 fn first(two: &mut State, next: &mut Message) {
-    advance(b"part 2 advances", two);
-    write(b"part 2 to part 1, round 1", two, 1, next);
+    advance("part 2 advances", two);
+    write("part 2 to part 1, round 1", two, 1, next);
 }
 
 fn behind(one: &mut State, old: &Message, next: &Message) {
-    take(b"part 1 takes the message for round 1", one, next);
-    take(b"part 1 takes the one for round 0", one, old);
-    points(b"points of part 1", one);
-    advance(b"part 1 advances", one);
+    take("part 1 takes the message for round 1", one, next);
+    take("part 1 takes the one for round 0", one, old);
+    points("points of part 1", one);
+    advance("part 1 advances", one);
 }
 
 fn again(one: &mut State, next: &Message) {
-    take(b"part 1 takes the message for round 1", one, next);
-    points(b"points of part 1, round 1", one);
-    advance(b"part 1 advances, nothing written", one);
+    take("part 1 takes the message for round 1", one, next);
+    points("points of part 1, round 1", one);
+    advance("part 1 advances, nothing written", one);
 }
 
 fn second(one: &mut State, two: &mut State) {
     let mut message = [0u8; 12];
-    write(b"part 1 to part 2, round 1", one, 2, &mut message);
-    take(b"part 2 takes it", two, &message);
-    points(b"points of part 2, round 1", two);
-    advance(b"part 1 advances", one);
-    advance(b"part 2 advances", two);
+    write("part 1 to part 2, round 1", one, 2, &mut message);
+    take("part 2 takes it", two, &message);
+    points("points of part 2, round 1", two);
+    advance("part 1 advances", one);
+    advance("part 2 advances", two);
 }
 
 fn collected(one: &State, two: &State) {
-    collect(b"part 1 at round 2", one, 2);
-    collect(b"part 2 at round 2", two, 2);
+    collect("part 1 at round 2", one, 2);
+    collect("part 2 at round 2", two, 2);
 }
 
 fn runs() {
@@ -130,13 +130,13 @@ fn runs() {
 }
 
 // The round stands after the lists, whose length in words is word 0.
-fn set_round(b: &mut State, round: usize) {
+fn set_round(b: &mut State, round: u16) {
     let at = word_at(b, 0);
     set_word(b, at, round);
 }
 
 // A message of six words.
-fn take_words(name: &[u8], b: &mut State, text: &[u8]) {
+fn take_words(name: &str, b: &mut State, text: &str) {
     let mut message = [0u8; 12];
     put_words(&mut message, text);
     take(name, b, &message);
@@ -144,31 +144,31 @@ fn take_words(name: &[u8], b: &mut State, text: &[u8]) {
 
 fn last_rounds() {
     let mut b = [0u8; 224];
-    start(b"start of part 1", 1, &mut b);
-    write_only(b"part 1 to part 2", &mut b, 2);
-    take_words(b"part 1 takes", &mut b, b"2 1 0 1 0 400");
+    start("start of part 1", 1, &mut b);
+    write_only("part 1 to part 2", &mut b, 2);
+    take_words("part 1 takes", &mut b, "2 1 0 1 0 400");
     set_round(&mut b, 60000);
-    advance(b"part 1 advances at round 60,000", &mut b);
+    advance("part 1 advances at round 60,000", &mut b);
     set_round(&mut b, 59999);
-    advance(b"part 1 advances at round 59,999", &mut b);
+    advance("part 1 advances at round 59,999", &mut b);
 }
 
 fn wrong_parts(b: &mut State) {
-    advance(b"advance of zeros", b);
-    start(b"start of part 1", 1, b);
-    write_only(b"part 1 to part 3", b, 3);
-    write_only(b"part 1 to part 1", b, 1);
+    advance("advance of zeros", b);
+    start("start of part 1", 1, b);
+    write_only("part 1 to part 3", b, 3);
+    write_only("part 1 to part 1", b, 1);
 }
 
 fn wrong_messages(b: &mut State) {
-    take_bytes(b"take 7 bytes", b, b"\x00\x02\x00\x01\x00\x00\x00");
-    take_words(b"take count 2 in 12 bytes", b, b"2 1 0 2 0 400");
-    take_words(b"take depth 1,200,001", b, b"2 1 0 1 18 20353");
+    take_bytes("take 7 bytes", b, b"\x00\x02\x00\x01\x00\x00\x00");
+    take_words("take count 2 in 12 bytes", b, "2 1 0 2 0 400");
+    take_words("take depth 1,200,001", b, "2 1 0 1 18 20353");
 }
 
 fn wrong_senders(b: &mut State) {
-    take_words(b"take from part 3", b, b"3 1 0 1 0 400");
-    take_bytes(b"take count 0", b, b"\x00\x02\x00\x01\x00\x00\x00\x00");
+    take_words("take from part 3", b, "3 1 0 1 0 400");
+    take_bytes("take count 0", b, b"\x00\x02\x00\x01\x00\x00\x00\x00");
 }
 
 fn wrong_calls() {
@@ -183,13 +183,13 @@ fn wrong_calls() {
 // The copy of cell 4 is a gap.
 fn take_gap() {
     let mut b = [0u8; 224];
-    start(b"start of part 1", 1, &mut b);
-    write_only(b"part 1 to part 2", &mut b, 2);
-    take_words(b"take 80 00 00 01", &mut b, b"2 1 0 1 32768 1");
-    take_words(b"take a gap", &mut b, b"2 1 0 1 32768 0");
-    points(b"points of part 1", &b);
-    advance(b"part 1 advances", &mut b);
-    collect(b"part 1 at round 1", &b, 1);
+    start("start of part 1", 1, &mut b);
+    write_only("part 1 to part 2", &mut b, 2);
+    take_words("take 80 00 00 01", &mut b, "2 1 0 1 32768 1");
+    take_words("take a gap", &mut b, "2 1 0 1 32768 0");
+    points("points of part 1", &b);
+    advance("part 1 advances", &mut b);
+    collect("part 1 at round 1", &b, 1);
 }
 
 fn main() {
