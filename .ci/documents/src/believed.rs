@@ -47,11 +47,8 @@ const INNER_DEFINITIONS: [(&str, &[&str]); 10] = [
     ("depths/specs/Depths", &["Within", "Valid"]),
     ("layout/specs/Answers", &["refused_as"]),
     ("layout/specs/Limits", &["element_places", "record_places", "table_bytes"]),
-    (
-        "list_input/specs/Pieces",
-        &["pieces_number", "pieces_text", "stencil_text", "last_text", "owners_text", "map_text"],
-    ),
-    ("list_text/specs/Printing", &["numbers"]),
+    ("list_input/specs/Pieces", &["pieces_number", "pieces_text"]),
+    ("list_text/specs/Printing", &["Put", "numbers"]),
     ("messages/specs/Readings", &["IsHeader"]),
     ("part_state/specs/State", &["is_state_at"]),
     ("round_rule/specs/Kinds", &["kind_number", "rule_of"]),

@@ -2,13 +2,13 @@
 use mathlib.Core.Path.{◌≡◌, refl, sym, ap, ap₂, ◌∙◌}
 use mathlib.Core.Bool.{Bool, true, false, not, ◌&&◌}
 use mathlib.Core.List.{List, [], ◌∷◌, ◌++◌}
-use Prim.Native.Nat.{ℕ, zero, suc, ◌+◌, ◌-◌, ◌*◌, ◌/◌, ◌≤◌, ◌<◌}
+use Prim.Native.Nat.{ℕ, zero, suc, ◌+◌, ◌-◌, ◌*◌, ◌/◌, ◌%◌, ◌≤◌, ◌<◌}
 use native.Mathlib.Nat.{zero-add}
 use Rattle.std.proofs.Math.Numerals.{add-one}
 use native.Mathlib.Omega.{arith}
 use lib.Dec.{eqb, ltb, leb}
 use lib.ListN.{length, take, drop}
-use borrow.Author.Tests.{eqb-true, le-leb, lt-leb}
+use borrow.Author.Tests.{eqb-true, ne_eqb, le-leb, lt-leb}
 use Rattle.vocabulary.specs.Bytes.{Bytes}
 use Rattle.vocabulary.proofs.ListLaws.{and_all, and_true, and_left, and_right, and_assoc}
 use Rattle.vocabulary.specs.Intervals.{is_up_to, every, some}
@@ -35,6 +35,16 @@ use Rattle.part_state.specs.Checks.{reach_start, entry_start, export_start, poin
 use Rattle.part_state.specs.Checks.{own_entry, within_at, valid_row, header_tests, end_tests, entry_tests, point_tests}
 
 -- ---- a test of a range, asked with the count that stands in the lists
+
+-- ---- an entry
+
+-- one at an odd layer is not valid
+pub entry_odd : (b : Bytes) (t : ℕ) → ((entry_at b t).layer % 2 ≡ 0 → ⊥) → false ≡ valid_entry b t
+entry_odd b t o = go (is_up_to (held_count b) (entry_at b t).local) (leb (entry_at b t).layer (step_count b))
+  where
+    go : (x y : Bool) → false ≡ x && eqb ((entry_at b t).layer % 2) 0 && y
+    go false y = refl
+    go true y = simp (ne_eqb _ _ o)
 
 -- ---- a table of ends
 

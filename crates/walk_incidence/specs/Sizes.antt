@@ -1,4 +1,4 @@
--- The sizes of a mesh, counted once. Assumes nothing.
+-- The sizes of a mesh, counted once. No public contract rests on this page. Assumes nothing.
 use Rattle.std.specs.Prelude.{◌≡◌}
 use Rattle.vocabulary.specs.Bytes.{Bytes}
 use Rattle.mesh.specs.Mesh.{elements, record_count, first_cell, cell_count}
