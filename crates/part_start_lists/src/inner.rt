@@ -148,7 +148,8 @@ fn put_row(
     local: &[u16],
     l: Local,
 ) -> usize
-    requires { (2 * (s + 2 * row_size reaches.now.entries reaches.now.ends first order.now l.0) ≤ length b.old) × (s < 65536) × (1 ≤ l.0) × ReachRow reaches.now.entries reaches.now.ends first order.now l.0 }
+    requires { (2 * (s + 2 * row_size reaches.now.entries reaches.now.ends first order.now l.0) ≤ length b.old) × (s < 65536) × (1 ≤ l.0)
+        × ReachRow reaches.now.entries reaches.now.ends first order.now l.0 }
     ensures { Put b.old b.new s result (row_words reaches.now.entries reaches.now.ends first order.now local.now l.0) }
 {
     let q = place_at(order, first, l);

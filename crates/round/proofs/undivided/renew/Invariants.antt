@@ -9,7 +9,9 @@ use Rattle.round.specs.Rows.{row_new}
 use Rattle.round.proofs.undivided.renew.Given as goal
 
 abbrev pub invariant-loop-j : goal.invariant-loop-j
-invariant-loop-j l = (l.j ≤ l.cells) × (length l.out ≡ length l.initial.out) × (l.out ≡ over l.initial.out 0 (blocks 0 l.j (row_new (kind_number l.kind) l.weights l.reaches.entries l.reaches.ends l.f)))
+invariant-loop-j l =
+    (l.j ≤ l.cells) × (length l.out ≡ length l.initial.out)
+    × (l.out ≡ over l.initial.out 0 (blocks 0 l.j (row_new (kind_number l.kind) l.weights l.reaches.entries l.reaches.ends l.f)))
 
 abbrev pub decreases-loop-j : goal.decreases-loop-j
 decreases-loop-j l = l.cells - l.j

@@ -15,7 +15,12 @@ returns-in_err-s c =
     (emit_over _ _ _ _ _ c.requires.0 c.loop-x.invariant.0 c.loop-x.invariant.2 _ _ _ _ _ c.loop-x-test.true c.loop-x.invariant.3 c.in_err-s.ensures.0)
 
 pub loop-x-preserved : goal.loop-x-preserved
-loop-x-preserved c = (search rules, search rules, search cleared_turn, emit_turn _ _ _ _ _ c.requires.0 c.loop-x.invariant.0 c.loop-x.invariant.2 _ _ _ _ _ _ (search rules) c.loop-x.invariant.3 c.in_ok-s.ensures.0)
+loop-x-preserved c = (
+  search rules,
+  search rules,
+  search cleared_turn,
+  emit_turn _ _ _ _ _ c.requires.0 c.loop-x.invariant.0 c.loop-x.invariant.2 _ _ _ _ _ _ (search rules) c.loop-x.invariant.3 c.in_ok-s.ensures.0,
+)
 
 pub returns : goal.returns
 returns c = (search emit_end, search cleared_end)
