@@ -77,36 +77,45 @@ pub fn find_sent(
     list: &mut [u16],
     sent: &mut [u16],
 ) -> usize
-    requires { (1 ≤ plan.part)
-        × (plan.part ≤ most_parts)
-        × (plan.first + plan.cells ≤ 65536)
-        × (plan.cells ≤ most_elements)
-        × (plan.parts ≤ most_parts)
-        × OwnersFew owners.now plan.cells plan.parts
+    requires { (1 ≤ plan.asked.part)
+        × (plan.asked.part ≤ most_parts)
+        × (plan.asked.first + plan.asked.cells ≤ 65536)
+        × (plan.asked.cells ≤ most_elements)
+        × (plan.asked.parts ≤ most_parts)
+        × OwnersFew owners.now plan.asked.cells plan.asked.parts
         × (length stamps.old ≡ most_elements)
         × (most_elements ≤ length next.old)
         × (sent.old ≡ replicate (most_parts + 1) 0)
-        × (plan.sent ≡ sent_ends owners.now reaches.now.entries reaches.now.ends plan.part plan.first plan.cells most_parts) }
-    ensures { Appended list.old list.new 0 result (sent_list owners.now reaches.now.entries reaches.now.ends plan.part plan.first
-        plan.cells most_parts)
-        × Sent owners.now reaches.now.entries reaches.now.ends plan.part plan.cells most_parts sent.new }
+        × (plan.sent ≡ sent_ends owners.now reaches.now.entries reaches.now.ends plan.asked.part plan.asked.first plan.asked.cells most_parts) }
+    ensures { Appended list.old list.new 0 result (sent_list owners.now reaches.now.entries reaches.now.ends plan.asked.part plan.asked.first
+        plan.asked.cells most_parts)
+        × Sent owners.now reaches.now.entries reaches.now.ends plan.asked.part plan.asked.cells most_parts sent.new }
 {
     let mut start = [0u16; CLASSES];
-    group_cells(owners, plan.cells, &mut start, next);
+    group_cells(owners, plan.asked.cells, &mut start, next);
     clear_row(stamps);
-    let own = get_or(&start, plan.part, 0);
+    let own = get_or(&start, plan.asked.part, 0);
     let mut n = 0;
-    for j in 0..plan.parts {
+    for j in 0..plan.asked.parts {
         if n == plan.sent {
             return n;
         }
-        if j + 1 == plan.part {
+        if j + 1 == plan.asked.part {
             continue;
         }
         let k = (j + 1) as u8;
         let other = get_or(&start, j + 1, 0);
-        stamp_group(reaches, next, other, plan.cells, k, stamps);
-        let t = add_stamped(next, own, stamps, plan.first, plan.cells, k, list, n);
+        stamp_group(reaches, next, other, plan.asked.cells, k, stamps);
+        let t = add_stamped(
+            next,
+            own,
+            stamps,
+            plan.asked.first,
+            plan.asked.cells,
+            k,
+            list,
+            n,
+        );
         put_at(sent, j + 1, (t - n) as u16);
         n = t;
     }

@@ -37,10 +37,7 @@ pub struct Asked {
 // What its lists are made by: that, how many cells it holds, owns and exports, at which word its points begin, and how many words the lists have.
 #[derive(Clone, Copy)]
 pub struct Plan {
-    pub part: usize,
-    pub parts: usize,
-    pub first: usize,
-    pub cells: usize,
+    pub asked: Asked,
     pub held: usize,
     pub owned: usize,
     pub sent: usize,
@@ -201,17 +198,18 @@ fn put_locals(b: &mut [u8], s: usize, list: &[u16], n: usize, local: &[u16]) -> 
 
 // Writes what stands before the tables: the length of the lists, the part, the stencil's steps, the rule, and the mesh's cells.
 fn put_header(b: &mut [u8], plan: Plan, steps: usize, kind: usize, weights: &[u8]) -> usize
-    requires { (2 * import_word ≤ length b.old) × (plan.long < 65536) × (plan.part < 65536) × (steps < 65536) × (kind < 65536) × (plan.first < 65536) × (plan.cells < 65536) }
-    ensures { Put b.old b.new 0 result ((plan.long ∷ plan.part ∷ steps ∷ kind ∷ []) ++ (listed 0 5 (word_at weights.now) ++
-        (plan.first ∷ plan.cells ∷ []))) }
+    requires { (2 * import_word ≤ length b.old) × (plan.long < 65536) × (plan.asked.part < 65536) × (steps < 65536) × (kind < 65536)
+        × (plan.asked.first < 65536) × (plan.asked.cells < 65536) }
+    ensures { Put b.old b.new 0 result ((plan.long ∷ plan.asked.part ∷ steps ∷ kind ∷ []) ++ (listed 0 5 (word_at weights.now) ++
+        (plan.asked.first ∷ plan.asked.cells ∷ []))) }
 {
     put_one(b, LENGTH, plan.long);
-    put_one(b, PART, plan.part);
+    put_one(b, PART, plan.asked.part);
     put_one(b, STEPS, steps);
     put_one(b, KIND, kind);
     put_words(b, WEIGHT_WORDS, weights, 5);
-    put_one(b, FIRST, plan.first);
-    put_one(b, CELLS, plan.cells)
+    put_one(b, FIRST, plan.asked.first);
+    put_one(b, CELLS, plan.asked.cells)
 }
 
 // Writes the tables of the imports' and exports' ends.
@@ -235,15 +233,15 @@ pub fn put_front(
 ) -> usize
     requires { (2 * reach_word 0 ≤ length b.old)
         × (plan.long < 65536)
-        × (plan.part < 65536)
+        × (plan.asked.part < 65536)
         × (steps < 65536)
         × (kind < 65536)
-        × (plan.first < 65536)
-        × (plan.cells < 65536)
+        × (plan.asked.first < 65536)
+        × (plan.asked.cells < 65536)
         × (ends_by got.now plan.owned most_parts < 65536)
         × (ends_by sent.now 0 most_parts < 65536) }
-    ensures { Put b.old b.new 0 result (((plan.long ∷ plan.part ∷ steps ∷ kind ∷ []) ++ (listed 0 5 (word_at weights.now)
-        ++ (plan.first ∷ plan.cells ∷ []))) ++ (listed 0 (most_parts + 1) (ends_by got.now plan.owned) ++ listed 0 (most_parts + 1) (ends_by sent.now 0))) }
+    ensures { Put b.old b.new 0 result (((plan.long ∷ plan.asked.part ∷ steps ∷ kind ∷ []) ++ (listed 0 5 (word_at weights.now)
+        ++ (plan.asked.first ∷ plan.asked.cells ∷ []))) ++ (listed 0 (most_parts + 1) (ends_by got.now plan.owned) ++ listed 0 (most_parts + 1) (ends_by sent.now 0))) }
 {
     let s = put_header(b, plan, steps, kind, weights);
     put_borders(b, s, plan.owned, got, sent)
@@ -259,18 +257,18 @@ pub fn put_entries(
     local: &[u16],
     list: &[u16],
 ) -> usize
-    requires { (2 * (s + plan.held + plan.owned + 1 + 2 * row_ends reaches.now.entries reaches.now.ends plan.first order.now plan.owned + plan.sent) ≤ length b.old)
-        × (s + plan.held + plan.owned + 1 + 2 * row_ends reaches.now.entries reaches.now.ends plan.first order.now plan.owned + plan.sent < 65536)
+    requires { (2 * (s + plan.held + plan.owned + 1 + 2 * row_ends reaches.now.entries reaches.now.ends plan.asked.first order.now plan.owned + plan.sent) ≤ length b.old)
+        × (s + plan.held + plan.owned + 1 + 2 * row_ends reaches.now.entries reaches.now.ends plan.asked.first order.now plan.owned + plan.sent < 65536)
         × (plan.held ≤ length order.now)
-        × ReachRows reaches.now.entries reaches.now.ends plan.first order.now plan.owned
+        × ReachRows reaches.now.entries reaches.now.ends plan.asked.first order.now plan.owned
         × (plan.sent ≤ length list.now) }
     ensures { Put b.old b.new s result (take plan.held order.now ++ (listed 0 (plan.owned + 1) (row_ends reaches.now.entries
-        reaches.now.ends plan.first order.now) ++ (blocks 1 plan.owned (row_words reaches.now.entries reaches.now.ends plan.first
+        reaches.now.ends plan.asked.first order.now) ++ (blocks 1 plan.owned (row_words reaches.now.entries reaches.now.ends plan.asked.first
         order.now local.now) ++ map (local_in local.now) (take plan.sent list.now)))) }
 {
     let t = put_list(b, s, &order[..plan.held]);
-    let u = put_row_ends(b, t, reaches, plan.first, order, plan.owned);
-    let w = put_rows(b, u, reaches, plan.first, order, local, plan.owned);
+    let u = put_row_ends(b, t, reaches, plan.asked.first, order, plan.owned);
+    let w = put_rows(b, u, reaches, plan.asked.first, order, local, plan.owned);
     put_locals(b, w, list, plan.sent, local)
 }
 
@@ -292,14 +290,11 @@ pub fn make_plan(
         × (length class.old ≡ most_elements)
         × (most_elements ≤ length order.old)
         × (got.old ≡ replicate 19 0) }
-    ensures { (result.part ≡ asked.part)
-        × (result.parts ≡ asked.parts)
-        × (result.first ≡ asked.first)
-        × (result.cells ≡ asked.cells)
+    ensures { (result.asked ≡ asked)
         × (result.sent ≡ sent)
-        × Drawn owners.now reaches.now.entries reaches.now.ends result.part result.first result.cells result.parts order.new result.held
+        × Drawn owners.now reaches.now.entries reaches.now.ends result.asked.part result.asked.first result.asked.cells result.asked.parts order.new result.held
         result.owned result.sent asked.points asked.around result.front result.long
-        × Got owners.now reaches.now.entries reaches.now.ends result.part result.cells got.new }
+        × Got owners.now reaches.now.entries reaches.now.ends result.asked.part result.asked.cells got.new }
 {
     classify(owners, reaches, asked.cells, asked.part, class);
     let held = add_order(class, asked.first, asked.cells, asked.parts, order);
@@ -315,10 +310,7 @@ pub fn make_plan(
         around: asked.around,
     };
     Plan {
-        part: asked.part,
-        parts: asked.parts,
-        first: asked.first,
-        cells: asked.cells,
+        asked,
         held,
         owned,
         sent,

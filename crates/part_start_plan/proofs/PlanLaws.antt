@@ -153,16 +153,16 @@ module _ (m : Bytes) (parts : ℕ) (owners : Bytes) (i : ℕ) (st table : Bytes)
     unfolding point_ends
     plan_around = omega (arith, around_is, point_cells_few m P.mesh parts owners st i)
 
-    module _ (p : Plan) (parts_is : p.parts ≡ parts) (part_is : p.part ≡ i) (first_is : p.first ≡ first_cell m) (cells_are : p.cells ≡ cell_count m) (order got : List ℕ)
-        (D : Drawn owners table ends p.part p.first p.cells p.parts order p.held p.owned p.sent points around p.front p.long)
-        (T : Got owners table ends p.part p.cells got) (sent_told' : p.sent ≡ export_tally owners holders i (cell_count m)) where
+    module _ (p : Plan) (parts_is : p.asked.parts ≡ parts) (part_is : p.asked.part ≡ i) (first_is : p.asked.first ≡ first_cell m) (cells_are : p.asked.cells ≡ cell_count m) (order got : List ℕ)
+        (D : Drawn owners table ends p.asked.part p.asked.first p.asked.cells p.asked.parts order p.held p.owned p.sent points around p.front p.long)
+        (T : Got owners table ends p.asked.part p.asked.cells got) (sent_told' : p.sent ≡ export_tally owners holders i (cell_count m)) where
       abbrev n : ℕ
       n = p.held
 
       drawn : Drawn owners table ends i (first_cell m) (cell_count m) parts order p.held p.owned p.sent points around p.front p.long
       drawn =
           subst₂ (λ x y. Drawn owners table ends i x y parts order p.held p.owned p.sent points around p.front p.long) first_is cells_are
-          (subst₂ (λ x y. Drawn owners table ends x p.first p.cells y order p.held p.owned p.sent points around p.front p.long) part_is parts_is D)
+          (subst₂ (λ x y. Drawn owners table ends x p.asked.first p.asked.cells y order p.held p.owned p.sent points around p.front p.long) part_is parts_is D)
 
       order_here : take p.held order ≡ locals (split_of m parts owners st) i
       order_here = order_is order p.held p.owned drawn.there drawn.order_is drawn.owned_is
@@ -170,11 +170,11 @@ module _ (m : Bytes) (parts : ℕ) (owners : Bytes) (i : ℕ) (st table : Bytes)
       held_here : p.held ≡ length (locals (split_of m parts owners st) i)
       held_here = held_is order p.held p.owned drawn.there drawn.order_is drawn.owned_is
 
-      sent_here : p.sent ≡ sent_ends owners table ends p.part p.first p.cells most_parts
+      sent_here : p.sent ≡ sent_ends owners table ends p.asked.part p.asked.first p.asked.cells most_parts
       sent_here =
           sent_told' ∙ sent_told
           ∙ ap₂ (λ x y. sent_ends owners table ends i x y most_parts) (sym first_is) (sym cells_are)
-          ∙ ap (λ x. sent_ends owners table ends x p.first p.cells most_parts) (sym part_is)
+          ∙ ap (λ x. sent_ends owners table ends x p.asked.first p.asked.cells most_parts) (sym part_is)
 
       pub plan_made : Planned m parts owners i st table ends order got p
       plan_made = record {
@@ -197,10 +197,10 @@ module _ (m : Bytes) (parts : ℕ) (owners : Bytes) (i : ℕ) (st table : Bytes)
               sent_few m parts owners st table ends holders R i P.i_in.0 P.i_in.1 (first_cell m) (cell_count m) refl refl twelve most_parts (omega arith),
             );
         fit =
-            subst (λ x. Fit owners table ends x p.first p.cells order p.held p.owned) (sym part_is)
+            subst (λ x. Fit owners table ends x p.asked.first p.asked.cells order p.held p.owned) (sym part_is)
             (subst₂ (λ x y. Fit owners table ends i x y order p.held p.owned) (sym first_is) (sym cells_are)
             (fits order p.held p.owned drawn.there drawn.order_is drawn.owned_is));
-        front_is = D.at_is ∙ ap (λ x. exports_word p.held p.owned (row_ends table ends p.first order p.owned) + x) sent_here;
+        front_is = D.at_is ∙ ap (λ x. exports_word p.held p.owned (row_ends table ends p.asked.first order p.owned) + x) sent_here;
         long_is = omega (arith, D.long_is, points_is, around_is);
         long_few =
             omega (
@@ -360,8 +360,8 @@ module _ (m : Bytes) (parts : ℕ) (owners : Bytes) (i : ℕ) (st : Bytes) where
             arith,
             Q.long_is,
             Q.front_is,
-            ap (λ x. sent_ends owners table ends x p.first p.cells most_parts) Q.part_is,
-            front_is m parts owners st table ends holders R i I.0 I.1 p.first p.cells Q.first_is Q.cells_are order p.held p.owned Q.order_is Q.held_is Q.owned_is,
+            ap (λ x. sent_ends owners table ends x p.asked.first p.asked.cells most_parts) Q.part_is,
+            front_is m parts owners st table ends holders R i I.0 I.1 p.asked.first p.asked.cells Q.first_is Q.cells_are order p.held p.owned Q.order_is Q.held_is Q.owned_is,
           )
 
       size_is : state_length (2 * p.long) p.held ≡ state_size (split_input m parts owners st) i
@@ -447,17 +447,17 @@ module _ (m : Bytes) (parts : ℕ) (owners : Bytes) (i : ℕ) (st : Bytes) (kind
           pub start_16 : length b < state_length (2 * p.long) p.held → Answered (Refused 16) b
           start_16 h = refused 16 (in_rest ∙ simp (fourteen, uf, lt-ltb (length b) (state_size (split_input m parts owners st) i) (omega (arith, size)))) (λ z. omega (arith, z))
 
-          pub start_cells : FieldCells f p.first order p.held
+          pub start_cells : FieldCells f p.asked.first order p.held
           start_cells =
-              cells_from m parts owners st table ends holders R i I₂.0 I₂.1 p.first cells Q.first_is ce order p.held p.owned Q.order_is Q.held_is
+              cells_from m parts owners st table ends holders R i I₂.0 I₂.1 p.asked.first cells Q.first_is ce order p.held p.owned Q.order_is Q.held_is
               Q.owned_is f (sym ue ∙ uf)
 
           -- the depths of the held cells
-          depth_is : (l : ℕ) → 1 ≤ l → l ≤ p.held → start_depth f p.first order l ≡ depth_in (scheme_of m st kind v) f (global_of (locals (split_of m parts owners st) i) l)
+          depth_is : (l : ℕ) → 1 ≤ l → l ≤ p.held → start_depth f p.asked.first order l ≡ depth_in (scheme_of m st kind v) f (global_of (locals (split_of m parts owners st) i) l)
           unfolding start_depth depth_in scheme_of global_of
           depth_is l h k =
               ap₂ (λ x y. four f (4 * (x - y)))
-              (order_at m parts owners st table ends holders R i I₂.0 I₂.1 p.first cells Q.first_is ce order p.held p.owned Q.order_is Q.held_is
+              (order_at m parts owners st table ends holders R i I₂.0 I₂.1 p.asked.first cells Q.first_is ce order p.held p.owned Q.order_is Q.held_is
               Q.owned_is (l - 1) (omega arith))
               Q.first_is
 
@@ -465,53 +465,53 @@ module _ (m : Bytes) (parts : ℕ) (owners : Bytes) (i : ℕ) (st : Bytes) (kind
           abbrev points : List ℕ
           points = part_words (split_of m parts owners st) i (numbers_of order p.held) (bad29 (split_of m parts owners st) i)
 
-          state_is : bytes_of (start_words owners table ends p.part p.first p.cells order p.held p.owned p.long (steps st) kind v ++ points) ++
-              (replicate (depths_place 0) 0 ++ blocks 1 p.held (start_depth f p.first order)) ≡ first_state given i
+          state_is : bytes_of (start_words owners table ends p.asked.part p.asked.first p.asked.cells order p.held p.owned p.long (steps st) kind v ++ points) ++
+              (replicate (depths_place 0) 0 ++ blocks 1 p.held (start_depth f p.asked.first order)) ≡ first_state given i
           unfolding first_state word_bytes
           state_is =
               ap₂ (λ (ws : List ℕ) (ds : Bytes). bytes_of ws ++ (replicate (depths_place 0) 0 ++ ds))
-              (ap (λ x. start_words owners table ends x p.first p.cells order p.held p.owned p.long (steps st) kind v ++ points) Q.part_is
-              ∙ start_words_lem m parts owners st table ends holders R i I₂.0 I₂.1 p.first p.cells Q.first_is Q.cells_are order p.held p.owned
+              (ap (λ x. start_words owners table ends x p.asked.first p.asked.cells order p.held p.owned p.long (steps st) kind v ++ points) Q.part_is
+              ∙ start_words_lem m parts owners st table ends holders R i I₂.0 I₂.1 p.asked.first p.asked.cells Q.first_is Q.cells_are order p.held p.owned
               Q.order_is Q.held_is Q.owned_is kind p.long v (long_is m parts owners i st sn zn table ends holders R order got p Q))
-              (blocks_cong 1 (start_depth f p.first order) (λ l. depth_in (scheme_of m st kind v) f (global_of (locals (split_of m parts owners st) i) l)) p.held
+              (blocks_cong 1 (start_depth f p.asked.first order) (λ l. depth_in (scheme_of m st kind v) f (global_of (locals (split_of m parts owners st) i) l)) p.held
               (λ k h. depth_is (1 + k) (omega arith) (omega arith))
               ∙ ap (λ k. blocks 1 k (λ l. depth_in (scheme_of m st kind v) f (global_of (locals (split_of m parts owners st) i) l))) Q.held_is)
 
           start_done : (outside : Bool) → outside ≡ bad29 (split_of m parts owners st) i → state_length (2 * p.long) p.held ≤ length b → (y : Bytes)
-              → y ≡ over b 0 (bytes_of (start_words owners table ends p.part p.first p.cells order p.held p.owned p.long (length st - 1) kind v
+              → y ≡ over b 0 (bytes_of (start_words owners table ends p.asked.part p.asked.first p.asked.cells order p.held p.owned p.long (length st - 1) kind v
               ++ part_words (split_of m parts owners st) i (numbers_of order p.held) outside)
-              ++ (replicate (depths_place 0) 0 ++ blocks 1 p.held (start_depth f p.first order)))
+              ++ (replicate (depths_place 0) 0 ++ blocks 1 p.held (start_depth f p.asked.first order)))
               → Answered (Done (state_length (2 * p.long) p.held)) y
           unfolding steps
           start_done outside o h y e =
               let a = done (in_rest ∙ simp (fourteen, uf, le-ltb (length b) (state_size (split_input m parts owners st) i) (omega (arith, size)))) in
-              let ws : List ℕ = start_words owners table ends p.part p.first p.cells order p.held p.owned p.long (length st - 1) kind v in
-              let ds : Bytes = replicate (depths_place 0) 0 ++ blocks 1 p.held (start_depth f p.first order) in (
+              let ws : List ℕ = start_words owners table ends p.asked.part p.asked.first p.asked.cells order p.held p.owned p.long (length st - 1) kind v in
+              let ds : Bytes = replicate (depths_place 0) 0 ++ blocks 1 p.held (start_depth f p.asked.first order) in (
                 ap Done size ∙ a.0,
                 e ∙ ap (λ x. over b 0 (bytes_of (ws ++ part_words (split_of m parts owners st) i (numbers_of order p.held) x) ++ ds)) o ∙ ap (over b 0) state_is ∙ a.1,
               )
 
           -- all that is written, step by step
           pub start_written : (sent before list local : List ℕ) (x s t u : ℕ) (b₁ b₂ b₃ b₄ : Bytes) (inc : Incidence) (outside : Bool) (part first all : ℕ)
-              → Sent owners table ends p.part p.cells most_parts sent
-              → Appended before list 0 x (sent_list owners table ends p.part p.first p.cells most_parts) → p.sent ≤ length before
-              → Put b b₁ 0 s (((p.long ∷ p.part ∷ (length st - 1) ∷ kind ∷ []) ++ (listed 0 5 (word_at v) ++ (p.first ∷ p.cells ∷ [])))
+              → Sent owners table ends p.asked.part p.asked.cells most_parts sent
+              → Appended before list 0 x (sent_list owners table ends p.asked.part p.asked.first p.asked.cells most_parts) → p.sent ≤ length before
+              → Put b b₁ 0 s (((p.long ∷ p.asked.part ∷ (length st - 1) ∷ kind ∷ []) ++ (listed 0 5 (word_at v) ++ (p.asked.first ∷ p.asked.cells ∷ [])))
               ++ (listed 0 (most_parts + 1) (ends_by got p.owned) ++ listed 0 (most_parts + 1) (ends_by sent 0)))
-              → Put b₁ b₂ s t (take p.held order ++ (listed 0 (p.owned + 1) (row_ends table ends p.first order)
-              ++ (blocks 1 p.owned (row_words table ends p.first order local) ++ map (local_in local) (take p.sent list))))
-              → local ≡ numbers_of order p.held → b₃ ≡ over b₂ (2 * p.long) (replicate (depths_place 0) 0 ++ blocks 1 p.held (start_depth f p.first order))
+              → Put b₁ b₂ s t (take p.held order ++ (listed 0 (p.owned + 1) (row_ends table ends p.asked.first order)
+              ++ (blocks 1 p.owned (row_words table ends p.asked.first order local) ++ map (local_in local) (take p.sent list))))
+              → local ≡ numbers_of order p.held → b₃ ≡ over b₂ (2 * p.long) (replicate (depths_place 0) 0 ++ blocks 1 p.held (start_depth f p.asked.first order))
               → Turned m inc
               → Put b₃ b₄ p.front u (point_words inc (cond outside [] local) (points_on inc owners first part all) (length (points_on inc owners first part all)))
               → part ≡ i → first ≡ first_cell m → all ≡ counted m 0 → outside ≡ bad29 (split_of m parts owners st) i → state_length (2 * p.long) p.held ≤ length b
               → Answered (Done (state_length (2 * p.long) p.held)) b₄
           start_written sent before list local x s t u b₁ b₂ b₃ b₄ inc outside part first all T A fits P₁ P₂ le re G P₃ pe fe ae o room =
               let lists =
-              lists_put owners table ends p.part p.first p.cells order p.held local p.owned p.long (length st - 1) kind v got sent before list x p.sent b b₁ b₂ s t
+              lists_put owners table ends p.asked.part p.asked.first p.asked.cells order p.held local p.owned p.long (length st - 1) kind v got sent before list x p.sent b b₁ b₂ s t
               Q.got_are T A Q.sent_is fits (omega (arith, Q.front_is, Q.long_is)) P₁ P₂ in
               let words =
-              lists_numbered b b₂ 0 t owners table ends p.part p.first p.cells order p.held p.owned p.long (length st - 1) kind v local le lists in
+              lists_numbered b b₂ 0 t owners table ends p.asked.part p.asked.first p.asked.cells order p.held p.owned p.long (length st - 1) kind v local le lists in
               let end =
-              lists_end owners table ends p.part p.first p.cells order p.held (numbers_of order p.held) p.owned p.long (length st - 1) kind v b b₂ t p.front words
+              lists_end owners table ends p.asked.part p.asked.first p.asked.cells order p.held (numbers_of order p.held) p.owned p.long (length st - 1) kind v b b₂ t p.front words
               Q.front_is Q.fit.order_there in
               let points = points_put m parts owners st i part first all pe fe ae inc G local (numbers_of order p.held) outside le b₃ b₄ p.front u P₃ in
               start_done outside o room b₄

@@ -27,11 +27,11 @@ pub fn put_rest(b: &mut [u8], plan: Plan, f: &[u8], order: &[u16])
     requires { (state_length (2 * plan.long) plan.held ≤ length b.old)
         × (plan.long < 65536)
         × (plan.held ≤ most_elements)
-        × FieldCells f.now plan.first order.now plan.held }
-    ensures { b.new ≡ over b.old (2 * plan.long) (replicate (depths_place 0) 0 ++ blocks 1 plan.held (start_depth f.now plan.first order.now)) }
+        × FieldCells f.now plan.asked.first order.now plan.held }
+    ensures { b.new ≡ over b.old (2 * plan.long) (replicate (depths_place 0) 0 ++ blocks 1 plan.held (start_depth f.now plan.asked.first order.now)) }
 {
     clear(b, 2 * plan.long, DEPTHS);
-    put_cells(b, 2 * plan.long + DEPTHS, f, plan.first, order, plan.held);
+    put_cells(b, 2 * plan.long + DEPTHS, f, plan.asked.first, order, plan.held);
 }
 
 // Whose points are sought.

@@ -160,7 +160,15 @@ pub fn reach_all(walker: Walker, space: &mut Space, reaches: &mut ReachTable) ->
     let mut mark = AFTER_ROWS;
     reaches.ends[0] = 0;
     for q in 0..walker.sizes.cells {
-        t = reach_of(walker, rows, walker.sizes.first + q, mark, space, &mut reaches.entries, t)?;
+        t = reach_of(
+            walker,
+            rows,
+            walker.sizes.first + q,
+            mark,
+            space,
+            &mut reaches.entries,
+            t,
+        )?;
         mark += walker.stencil.len();
         reaches.ends[q + 1] = t as u16;
     }

@@ -110,8 +110,8 @@ put_front-s-requires c =
       omega (arith, rule_known _ _ _ eleven),
       plan.fit.first_small,
       omega (arith, plan.fit.cells_few),
-      omega (arith, got_is _ _ _ _ p.first _ _ plan.got_are p.owned most_parts (omega arith), plan.fit.got),
-      omega (arith, sent_is _ _ _ _ p.first _ _ c.find_sent.ensures.1 most_parts (omega arith), plan.fit.long),
+      omega (arith, got_is _ _ _ _ p.asked.first _ _ plan.got_are p.owned most_parts (omega arith), plan.fit.got),
+      omega (arith, sent_is _ _ _ _ p.asked.first _ _ c.find_sent.ensures.1 most_parts (omega arith), plan.fit.long),
     )
 
 pub put_entries-requires : goal.put_entries-requires

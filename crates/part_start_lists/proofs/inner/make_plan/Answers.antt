@@ -40,9 +40,6 @@ returns c =
     let tally = c.count_classes.ensures in (
       refl,
       refl,
-      refl,
-      refl,
-      refl,
       plan_drawn _ _ _ _ _ _ _ pre.0 _ row _ _ _ order pre.5 _ tally _ _ c.get_or-inner.ensures c.get_or.ensures _ refl refl
           c.row_total.ensures _ _ c.points_word.ensures c.words.ensures,
       got_told _ _ _ _ _ _ _ pre.0.cells_few row tally,

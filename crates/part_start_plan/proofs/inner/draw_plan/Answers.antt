@@ -31,9 +31,9 @@ returns c =
     let points = c.count_points-points.ensures in
     let told = c.make_plan.ensures in
     let cells = c.cell_count.ensures.0 in (
-      plan_made _ _ _ _ _ _ _ _ pre.0 pre.1 pre.2 _ pre.3 _ _ _ _ _ sought.0 sought.1 sought.2 points.0 points.1 _ told.1 told.0
-          (told.2 ∙ c.first_cell.ensures) (told.3 ∙ cells) _ _ told.5 told.6
-          (told.4 ∙ c.count_exports-sent.ensures.0 ∙ ap (export_tally _ _ _) cells),
+      plan_made _ _ _ _ _ _ _ _ pre.0 pre.1 pre.2 _ pre.3 _ _ _ _ _ sought.0 sought.1 sought.2 points.0 points.1 _ (ap (λ a. a.parts) told.0) (ap (λ a. a.part) told.0)
+          (ap (λ a. a.first) told.0 ∙ c.first_cell.ensures) (ap (λ a. a.cells) told.0 ∙ cells) _ _ told.2 told.3
+          (told.1 ∙ c.count_exports-sent.ensures.0 ∙ ap (export_tally _ _ _) cells),
       refl,
       c.make_plan.auto.order,
       refl,
