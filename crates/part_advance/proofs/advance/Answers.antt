@@ -23,8 +23,12 @@ next_round-requires c =
 
 pub next_round-requires-else-sizes-le-FEW : goal.next_round-requires-else-sizes-le-FEW
 next_round-requires-else-sizes-le-FEW c =
-    let at = c.in_ok-s.ensures.opened in
-    (opened_whole _ _ c.in_ok-s.s.opened at, counts_whole _ _ c.in_ok-s.s.opened at _ c.sizes_of-sizes.ensures, omega (arith, owned_few _ _ c.in_ok-s.s.opened at _ c.sizes_of-sizes.ensures), omega arith)
+    let at = c.in_ok-s.ensures.opened in (
+      opened_whole _ _ c.in_ok-s.s.opened at,
+      counts_whole _ _ c.in_ok-s.s.opened at _ c.sizes_of-sizes.ensures,
+      omega (arith, owned_few _ _ c.in_ok-s.s.opened at _ c.sizes_of-sizes.ensures),
+      omega arith,
+    )
 
 pub returns-then-sizes-le-FEW : goal.returns-then-sizes-le-FEW
 returns-then-sizes-le-FEW c = told_done _ _ c.in_ok-s.s.opened c.in_ok-s.ensures.opened _ c.in_ok-test_state.ensures refl _ c.next_round.ensures
