@@ -4,6 +4,7 @@
 ghost use Rattle.std.specs.Prelude.{◌≡◌, ◌++◌, ◌+◌, ◌*◌, ◌<◌, ◌≤◌, length, take, replicate};
 ghost use Rattle.vocabulary.specs.Bytes.{over};
 ghost use Rattle.layout.specs.Words.{word_bytes};
+ghost use Rattle.layout.specs.Limits.{most_elements};
 ghost use Rattle.layout.specs.Answers.{answer_of, refused_as};
 ghost use Rattle.part_state.specs.State.{lists_in, state_length};
 ghost use Rattle.part_state.specs.Checks.{Counts};
@@ -46,7 +47,7 @@ fn put_round(b: &mut [u8], changes: usize, round: usize, owned: usize, new: &[u8
 
 // One round of the owned cells, whose new depths take at most `ROOM` bytes. The lists of the state end at `changes`.
 fn next_round<const ROOM: usize>(b: &mut [u8], changes: usize, sizes: Sizes)
-    requires { Opened (take changes b.old) changes b.old × Counts (take changes b.old) sizes × (4 * sizes.owned ≤ ROOM) × (ROOM ≤ 8000) }
+    requires { Opened (take changes b.old) changes b.old × Counts (take changes b.old) sizes × (4 * sizes.owned ≤ ROOM) × (ROOM ≤ 4 * most_elements) }
     ensures { b.new ≡ advanced_in (lists_in (take changes b.old)) changes b.old }
 {
     let mut new = [0u8; ROOM];

@@ -9,7 +9,8 @@ use layout::{Refusal, word_at};
 use part_state::inner::{BEFORE_EXPORTS, BEFORE_IMPORTS, DEPTH, LENGTH, TAKEN, WRITTEN};
 use part_state::is_state;
 
-// A state, to be read: its lists, and all its bytes. What calls change begins where the lists end.
+// A state, to be read: its lists, and all its bytes. What calls change begins where the lists end. What writes into a state takes its bytes and that place,
+// since it cannot borrow the lists from the bytes that it changes. The counts are beside it (`Sizes`): not every call reads them.
 #[derive(Clone, Copy)]
 pub struct State<'a> {
     pub lists: &'a [u8],
@@ -35,7 +36,7 @@ impl<'a> State<'a> {
         Ok(State::known(b, changes))
     }
 
-    // A state that is known to be one, and where its lists end.
+    // A state whose lists end at `changes`, for a caller that knows it to be one.
     pub fn known(b: &'a [u8], changes: usize) -> State<'a>
         requires { Opened (take changes b.now) changes b.now }
         ensures { (result.lists.now ≡ take changes b.now) × (result.bytes.now ≡ b.now) }
@@ -46,6 +47,7 @@ impl<'a> State<'a> {
         }
     }
 
+    // The round that the state is at.
     pub fn round(self) -> usize
         ensures { (result ≡ round_at self.entry.bytes.now (changes_at self.entry)) × (result < 65536) }
     {

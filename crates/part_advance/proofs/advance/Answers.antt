@@ -23,8 +23,7 @@ next_round-requires c =
 
 pub next_round-requires-else-sizes-le-FEW : goal.next_round-requires-else-sizes-le-FEW
 next_round-requires-else-sizes-le-FEW c =
-    let at = c.in_ok-s.ensures.opened in
-    (
+    let at = c.in_ok-s.ensures.opened in (
       opened_whole _ _ c.in_ok-s.s.opened at,
       counts_whole _ _ c.in_ok-s.s.opened at _ c.sizes_of-sizes.ensures,
       omega (arith, owned_few _ _ c.in_ok-s.s.opened at _ c.sizes_of-sizes.ensures),

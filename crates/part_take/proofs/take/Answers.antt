@@ -30,5 +30,5 @@ store-requires c =
 pub returns : goal.returns
 returns c =
     let good = message_good _ _ c.read.ensures c.in-Ok.is in
-    told_done _ _ _ c.in_ok-s.s.opened c.in_ok-s.ensures.opened good _ (message_header _ _ _ c.read.ensures c.in-Ok.is)
-    _ c.in_ok-test_header.ensures refl _ c.word_at-before.ensures.0 _ c.store.ensures
+    let header = message_header _ _ _ c.read.ensures c.in-Ok.is in
+    told_done _ _ _ c.in_ok-s.s.opened c.in_ok-s.ensures.opened good _ header _ c.in_ok-test_header.ensures refl _ c.word_at-before.ensures.0 _ c.store.ensures

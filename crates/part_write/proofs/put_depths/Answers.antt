@@ -10,9 +10,10 @@ loop-t-init c = (search rules, search rules, search stored_start)
 
 pub copy_depth-requires : goal.copy_depth-requires
 copy_depth-requires c =
-    let pre = c.requires in
-    (put_held _ _ _ c.args.s.opened _ c.sizes_of.ensures _ c.exports_word-base.ensures _ _ pre.0 _ _ c.loop-t-test.true c.word_at-l.ensures.0,
-    omega (arith, pre.3, c.loop-t.invariant.1, c.loop-t-test.true))
+    let pre = c.requires in (
+      put_held _ _ _ c.args.s.opened _ c.sizes_of.ensures _ c.exports_word-base.ensures _ _ pre.0 _ _ c.loop-t-test.true c.word_at-l.ensures.0,
+      omega (arith, pre.3, c.loop-t.invariant.1, c.loop-t-test.true),
+    )
 
 pub loop-t-preserved : goal.loop-t-preserved
 loop-t-preserved c =
