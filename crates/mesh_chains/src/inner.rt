@@ -1,5 +1,5 @@
 // The tests 4 and 5: records and elements of the chains. Each function answers true where the mesh is to be refused.
-ghost use Rattle.std.specs.Prelude.{◌≡◌, false, ◌||◌, ◌+◌, ◌<◌, ◌≤◌, ltb, length, get_or};
+ghost use Rattle.std.specs.Prelude.{◌≡◌, false, ◌||◌, ◌+◌, ◌<◌, ◌≤◌, ltb, length};
 ghost use Rattle.vocabulary.specs.Intervals.{some};
 ghost use Rattle.vocabulary.specs.Lists.{repeats, some_of};
 ghost use Rattle.layout.specs.Limits.{most_elements, most_records};

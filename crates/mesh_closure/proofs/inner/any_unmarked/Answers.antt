@@ -9,7 +9,9 @@ use borrow.Author.Tests.{tests}
 use Rattle.mesh_closure.proofs.inner.any_unmarked.Goals as goal
 
 pub any-requires-clause-callable : goal.any-requires-clause-callable
-any-requires-clause-callable c = serves_from_places (YieldsList-from_slice c.args.row.now c.iter.ensures.rest) (λ x q k. search (rules, tests)) (λ x k h e. let item = names_item _ _ _ _ c.requires h e in search rules)
+any-requires-clause-callable c =
+    serves_from_places (YieldsList-from_slice c.args.row.now c.iter.ensures.rest) (λ x q k. search (rules, tests))
+    (λ x k h e. let item = names_item _ _ _ _ c.requires h e in search rules)
 
 pub returns : goal.returns
 unfolding unlike
