@@ -1,7 +1,7 @@
 // The tests 6 and 7: closed chains, and no element that is in no cell's chain. Each function answers true where the mesh is to be refused.
 ghost use Rattle.std.specs.Prelude.{◌≡◌, false, ◌+◌, ◌*◌, ◌-◌, ◌<◌, ◌≤◌, length};
 ghost use Rattle.vocabulary.specs.Lists.{some_of};
-ghost use Rattle.mesh.specs.Mesh.{top, elements, chain, bad5, bad6, bad7};
+ghost use Rattle.mesh.specs.Mesh.{elements, chain, bad5, bad6, bad7};
 ghost use Rattle.mesh.specs.Meet.{stamp, unlike};
 ghost use Rattle.mesh_chains.specs.Written.{MarksBelow};
 ghost use Rattle.mesh_closure.specs.Rows.{leaves_by, Names};
@@ -29,24 +29,24 @@ fn any_unmarked(row: &[u16], v: u16, marks: &[u16]) -> bool
 
 // Whether some element of the chain of f does not bear the mark v.
 fn leaves_by<'a>(chains: Chains<'a>, f: usize, v: u16, marks: &[u16]) -> bool
-    requires { (1 ≤ f) × (f ≤ elements chains.mesh.now) × (bad5 chains.mesh.now ≡ false) × (elements chains.mesh.now < length marks.now) }
-    ensures { result ≡ leaves_by chains.entry.mesh.now v marks.now f }
+    requires { (1 ≤ f) × (f ≤ elements chains.mesh.bytes.now) × (bad5 chains.mesh.bytes.now ≡ false) × (elements chains.mesh.bytes.now < length marks.now) }
+    ensures { result ≡ leaves_by chains.entry.mesh.bytes.now v marks.now f }
 {
     any_unmarked(chains.row(f), v, marks)
 }
 
 // Whether some element of a row has such a chain.
 fn any_leaves<'a>(chains: Chains<'a>, row: &[u16], v: u16, marks: &[u16]) -> bool
-    requires { Names (elements chains.mesh.now) row.now × (bad5 chains.mesh.now ≡ false) × (elements chains.mesh.now < length marks.now) }
-    ensures { result ≡ some_of row.now (leaves_by chains.entry.mesh.now v marks.now) }
+    requires { Names (elements chains.mesh.bytes.now) row.now × (bad5 chains.mesh.bytes.now ≡ false) × (elements chains.mesh.bytes.now < length marks.now) }
+    ensures { result ≡ some_of row.now (leaves_by chains.entry.mesh.bytes.now v marks.now) }
 {
     row.iter().any(|&f| leaves_by(chains, usize::from(f), v, marks))
 }
 
 // Marks the elements of the chain of e; true where one of them has a chain that leaves them.
 fn unclosed<'a>(chains: Chains<'a>, e: usize, v: u16, marks: &mut [u16]) -> bool
-    requires { (1 ≤ e) × (e ≤ elements chains.mesh.now) × (bad5 chains.mesh.now ≡ false) × (elements chains.mesh.now < length marks.old) }
-    ensures { let m = chains.entry.mesh.now in (marks.new ≡ stamp v marks.old (chain m e))
+    requires { (1 ≤ e) × (e ≤ elements chains.mesh.bytes.now) × (bad5 chains.mesh.bytes.now ≡ false) × (elements chains.mesh.bytes.now < length marks.old) }
+    ensures { let m = chains.entry.mesh.bytes.now in (marks.new ≡ stamp v marks.old (chain m e))
         × (result ≡ some_of (chain m e) (leaves_by m v marks.new)) }
 {
     let row = chains.row(e);
@@ -55,11 +55,13 @@ fn unclosed<'a>(chains: Chains<'a>, e: usize, v: u16, marks: &mut [u16]) -> bool
 }
 
 // Chains of points alone are closed, so this begins with the elements of dimension 2. Its marks are above those that test 5 leaves.
-pub fn bad6<'a>(chains: Chains<'a>, n: usize, marks: &mut [u16]) -> bool
-    requires { (n ≡ elements chains.mesh.now) × (bad5 chains.mesh.now ≡ false) × MarksBelow n (n + 1) marks.old }
-    ensures { (result ≡ bad6 chains.entry.mesh.now) × (result ≡ false → MarksBelow n (2 * n + 1) marks.new) }
+pub fn bad6<'a>(chains: Chains<'a>, marks: &mut [u16]) -> bool
+    requires { (bad5 chains.mesh.bytes.now ≡ false) × MarksBelow chains.mesh.elements (chains.mesh.elements + 1) marks.old }
+    ensures { (result ≡ bad6 chains.entry.mesh.bytes.now)
+        × (result ≡ false → MarksBelow chains.entry.mesh.elements (2 * chains.entry.mesh.elements + 1) marks.new) }
 {
-    let low = below_of(chains.mesh, 2);
+    let n = chains.mesh.elements;
+    let low = below_of(chains.mesh.bytes, 2);
     for e in low + 1..1 + n {
         if unclosed(chains, e, (n + e) as u16, marks) {
             return true;
@@ -69,13 +71,12 @@ pub fn bad6<'a>(chains: Chains<'a>, n: usize, marks: &mut [u16]) -> bool
 }
 
 // The chains of the cells are the last ones. Its mark is above those that test 6 leaves.
-pub fn bad7<'a>(chains: Chains<'a>, d: usize, n: usize, marks: &mut [u16]) -> bool
-    requires { (d ≡ top chains.mesh.now) × (n ≡ elements chains.mesh.now) × (bad5 chains.mesh.now ≡ false)
-        × MarksBelow n (2 * n + 1) marks.old }
-    ensures { result ≡ bad7 chains.entry.mesh.now }
+pub fn bad7<'a>(chains: Chains<'a>, marks: &mut [u16]) -> bool
+    requires { (bad5 chains.mesh.bytes.now ≡ false) × MarksBelow chains.mesh.elements (2 * chains.mesh.elements + 1) marks.old }
+    ensures { result ≡ bad7 chains.entry.mesh.bytes.now }
 {
-    let low = below_of(chains.mesh, d);
-    let mark = (2 * n + 1) as u16;
-    stamp_items(chains.rows_after(low, n), mark, marks);
+    let low = below_of(chains.mesh.bytes, chains.mesh.top);
+    let mark = (2 * chains.mesh.elements + 1) as u16;
+    stamp_items(chains.rows_after(low), mark, marks);
     (1..1 + low).any(|g| marks[g] != mark)
 }

@@ -6,9 +6,8 @@ ghost use Rattle.layout.specs.Limits.{element_places, most_records};
 ghost use Rattle.mesh.specs.Mesh.{mesh_number};
 
 use crate::chains::test_chains;
-use crate::sizes::test_sizes;
+use crate::sizes::{sized, test_sizes};
 use layout::Refusal;
-use mesh::inner::{elements_of, record_count, top_of};
 
 // The first test that refuses the mesh. What the lent arrays hold afterwards does not matter.
 pub fn test_mesh_in(m: &[u8], items: &mut [u16], ends: &mut [u16]) -> Result<(), Refusal>
@@ -16,8 +15,5 @@ pub fn test_mesh_in(m: &[u8], items: &mut [u16], ends: &mut [u16]) -> Result<(),
     ensures { refused_as result ≡ mesh_number m.now }
 {
     test_sizes(m)?;
-    let d = top_of(m);
-    let n = elements_of(m);
-    let r = record_count(m);
-    test_chains(m, d, n, r, items, ends)
+    test_chains(sized(m), items, ends)
 }

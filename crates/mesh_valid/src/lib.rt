@@ -11,18 +11,15 @@ ghost use Rattle.mesh.specs.Mesh.{mesh_number, check_answer};
 
 use chains::test_own;
 use layout::Refusal;
-use mesh::inner::{cell_count, elements_of, record_count, top_of};
-use sizes::test_sizes;
+use mesh::inner::cell_count;
+use sizes::{sized, test_sizes};
 
 // The first test that refuses the mesh.
 pub fn test_mesh(m: &[u8]) -> Result<(), Refusal>
     ensures { refused_as result ≡ mesh_number m.now }
 {
     test_sizes(m)?;
-    let d = top_of(m);
-    let n = elements_of(m);
-    let r = record_count(m);
-    test_own(m, d, n, r)
+    test_own(sized(m))
 }
 
 // Whether the bytes are a mesh: the count of its cells, or its refusal.

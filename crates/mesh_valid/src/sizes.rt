@@ -8,6 +8,7 @@ ghost use Rattle.mesh.specs.Mesh.{bad_count, bad1, bad2, bad3};
 use layout::Refusal;
 use layout::limits::{MOST_ELEMENTS, MOST_RECORDS};
 use mesh::inner::{count_of, elements_of, record_count, top_of};
+use mesh_chains::inner::SizedMesh;
 
 fn bad1(m: &[u8]) -> bool
     ensures { result ≡ bad1 m.now }
@@ -67,4 +68,17 @@ pub fn test_sizes(m: &[u8]) -> Result<(), Refusal>
         return Err(Refusal::MeshLength);
     }
     Ok(())
+}
+
+// A mesh that they accept, with its sizes.
+pub fn sized<'a>(m: &'a [u8]) -> SizedMesh<'a>
+    requires { first_of (refuse 1 (bad1 m.now) ∷ refuse 2 (bad2 m.now) ∷ refuse 3 (bad3 m.now) ∷ []) ≡ 0 }
+    ensures { result.bytes ≡ m.entry }
+{
+    SizedMesh {
+        bytes: m,
+        top: top_of(m),
+        elements: elements_of(m),
+        records: record_count(m),
+    }
 }

@@ -11,8 +11,8 @@ use Rattle.mesh_chains.proofs.inner.bad_dimension.Given as goal
 
 abbrev pub invariant-loop-e : goal.invariant-loop-e
 invariant-loop-e l = (l.low + 1 ≤ l.e) × (l.e ≤ l.low + 1 + l.count) × (l.e-end ≡ l.low + 1 + l.count)
-    × (l.low + l.count ≤ elements l.chains.mesh.now) × (elements l.chains.mesh.now ≤ most_elements) × (length l.marks ≡ length l.initial.marks)
-    × MarksBelow (elements l.chains.mesh.now) l.e l.marks × (some (l.low + 1) (l.e - (l.low + 1)) (bad_chain l.chains.mesh.now) ≡ false)
+    × (l.low + l.count ≤ elements l.chains.mesh.bytes.now) × (elements l.chains.mesh.bytes.now ≤ most_elements) × (length l.marks ≡ length l.initial.marks)
+    × MarksBelow (elements l.chains.mesh.bytes.now) l.e l.marks × (some (l.low + 1) (l.e - (l.low + 1)) (bad_chain l.chains.mesh.bytes.now) ≡ false)
 
 abbrev pub decreases-loop-e : goal.decreases-loop-e
 decreases-loop-e l = l.e-end - l.e

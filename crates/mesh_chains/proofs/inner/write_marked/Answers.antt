@@ -14,14 +14,14 @@ write_chain-requires c = search (noting_room, rules)
 
 pub returns-in_default : goal.returns-in_default
 returns-in_default c = (
-  noting_found _ _ _ _ c.requires.0 _ c.requires.2 _ c.loop-e.invariant.0 _ _ _ _ c.loop-e.invariant.6 _ c.head_of-h.ensures.0
+  noting_found _ _ _ _ c.args.mesh.sized _ c.requires.1 _ c.loop-e.invariant.0 _ _ _ _ c.loop-e.invariant.6 _ c.head_of-h.ensures.0
       _ _ _ _ c.in_default.ensures.1 refl (search rules),
   λ q. absurd (not_both true refl q),
 )
 
 pub overflow_cast-ends : goal.overflow_cast-ends
 overflow_cast-ends c =
-    let few = noting_fits _ _ _ _ c.requires.0 _ c.requires.2 _ c.loop-e.invariant.0 _ _ _ _ c.loop-e.invariant.6 _ c.head_of-h.ensures.0
+    let few = noting_fits _ _ _ _ c.args.mesh.sized _ c.requires.1 _ c.loop-e.invariant.0 _ _ _ _ c.loop-e.invariant.6 _ c.head_of-h.ensures.0
     _ _ _ _ c.in-Some.ensures refl in
     search rules
 
@@ -33,7 +33,7 @@ loop-e-preserved c = (
   search rules,
   search rules,
   search rules,
-  noting_turn _ _ _ _ c.requires.0 _ c.requires.2 _ c.loop-e.invariant.0 _ _ _ _ c.loop-e.invariant.6 _ c.head_of-h.ensures.0
+  noting_turn _ _ _ _ c.args.mesh.sized _ c.requires.1 _ c.loop-e.invariant.0 _ _ _ _ c.loop-e.invariant.6 _ c.head_of-h.ensures.0
       _ _ _ _ c.in-Some.ensures refl (search rules),
 )
 

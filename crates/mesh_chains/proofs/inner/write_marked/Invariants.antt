@@ -6,8 +6,8 @@ use Rattle.mesh_chains.proofs.NoteLaws.{Noting}
 use Rattle.mesh_chains.proofs.inner.write_marked.Given as goal
 
 abbrev pub invariant-loop-e : goal.invariant-loop-e
-invariant-loop-e l = (1 ≤ l.e) × (l.e ≤ 1 + l.n) × (l.e-end ≡ 1 + l.n) × (length l.items ≡ length l.initial.items) × (length l.ends ≡ length l.initial.ends)
-    × (length l.seen ≡ length l.initial.seen) × Noting l.m l.r l.initial.seen (l.e - 1) l.seen l.end l.items l.ends
+invariant-loop-e l = (1 ≤ l.e) × (l.e ≤ 1 + l.mesh.elements) × (l.e-end ≡ 1 + l.mesh.elements) × (length l.items ≡ length l.initial.items) × (length l.ends ≡ length l.initial.ends)
+    × (length l.seen ≡ length l.initial.seen) × Noting l.mesh.bytes.now l.mesh.records l.initial.seen (l.e - 1) l.seen l.end l.items l.ends
 
 abbrev pub decreases-loop-e : goal.decreases-loop-e
 decreases-loop-e l = l.e-end - l.e

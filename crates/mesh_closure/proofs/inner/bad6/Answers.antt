@@ -11,20 +11,20 @@ pub loop-e-init : goal.loop-e-init
 loop-e-init c =
     let W = c.args.chains.written in (
       search rules,
-      closed_in _ _ _ W c.requires.1 _ c.below_of-low.ensures.0 _ c.requires.0,
+      closed_in _ _ _ W c.requires.0 _ c.below_of-low.ensures.0 _ c.args.chains.mesh.sized.n_is,
       refl,
-      elements_few _ _ _ W c.requires.1 _ c.requires.0,
+      elements_few _ _ _ W c.requires.0 _ c.args.chains.mesh.sized.n_is,
       refl,
-      closed_fresh _ _ _ W c.requires.1 _ _ _ c.requires.2,
-      closed_start _ _ _ W c.requires.1 _ c.below_of-low.ensures.0,
+      closed_fresh _ _ _ W c.requires.0 _ _ _ c.requires.1,
+      closed_start _ _ _ W c.requires.0 _ c.below_of-low.ensures.0,
     )
 
 pub unclosed-requires : goal.unclosed-requires
-unclosed-requires c = (search rules, omega (arith, c.requires.0), search rules, omega (arith, c.requires.0, c.loop-e.invariant.5.long))
+unclosed-requires c = (search rules, omega (arith, c.args.chains.mesh.sized.n_is), search rules, omega (arith, c.args.chains.mesh.sized.n_is, c.loop-e.invariant.5.long))
 
 pub returns-then-unclosed : goal.returns-then-unclosed
 returns-then-unclosed c = (
-  unclosed_found _ _ _ c.args.chains.written c.requires.1 _ c.requires.0 _ c.loop-e.invariant.0 (search rules)
+  unclosed_found _ _ _ c.args.chains.written c.requires.0 _ c.args.chains.mesh.sized.n_is _ c.loop-e.invariant.0 (search rules)
       _ _ c.loop-e.invariant.5 c.unclosed.ensures.0 _ c.unclosed.ensures.1 c.if-unclosed.true,
   λ q. absurd (not_both true refl q),
 )
@@ -32,12 +32,12 @@ returns-then-unclosed c = (
 pub loop-e-preserved : goal.loop-e-preserved
 loop-e-preserved c =
     let turned =
-    unclosed_turn _ _ _ c.args.chains.written c.requires.1 _ c.requires.0 _ c.loop-e.invariant.0 (search rules)
+    unclosed_turn _ _ _ c.args.chains.written c.requires.0 _ c.args.chains.mesh.sized.n_is _ c.loop-e.invariant.0 (search rules)
     _ _ c.loop-e.invariant.5 c.unclosed.ensures.0 _ c.unclosed.ensures.1 c.loop-e.invariant.6 c.if-unclosed.false in
     (search rules, search rules, search rules, search rules, search rules, turned.0, turned.1)
 
 pub returns : goal.returns
 returns c = (
-  closed_end _ _ _ c.args.chains.written c.requires.1 _ c.requires.0 _ c.loop-e.invariant.0 c.loop-e.invariant.6 (search rules) (search rules),
-  λ q. closed_marks _ _ _ c.args.chains.written c.requires.1 _ c.requires.0 _ c.loop-e.invariant.0 _ c.loop-e.invariant.5 (search rules),
+  closed_end _ _ _ c.args.chains.written c.requires.0 _ c.args.chains.mesh.sized.n_is _ c.loop-e.invariant.0 c.loop-e.invariant.6 (search rules) (search rules),
+  λ q. closed_marks _ _ _ c.args.chains.written c.requires.0 _ c.args.chains.mesh.sized.n_is _ c.loop-e.invariant.0 _ c.loop-e.invariant.5 (search rules),
 )

@@ -11,7 +11,7 @@ use Rattle.mesh_closure.proofs.inner.bad6.Given as goal
 
 abbrev pub invariant-loop-e : goal.invariant-loop-e
 invariant-loop-e l = (1 ≤ l.e) × (l.e ≤ 1 + l.n) × (l.e-end ≡ 1 + l.n) × (l.n ≤ most_elements)
-    × (length l.marks ≡ length l.initial.marks) × MarksBelow l.n (l.n + l.e) l.marks × (some 1 (l.e - 1) (unclosed l.chains.mesh.now) ≡ false)
+    × (length l.marks ≡ length l.initial.marks) × MarksBelow l.n (l.n + l.e) l.marks × (some 1 (l.e - 1) (unclosed l.chains.mesh.bytes.now) ≡ false)
 
 abbrev pub decreases-loop-e : goal.decreases-loop-e
 decreases-loop-e l = l.e-end - l.e

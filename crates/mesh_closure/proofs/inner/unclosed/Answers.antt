@@ -20,4 +20,4 @@ any_leaves-requires c =
 
 pub returns : goal.returns
 returns c = (c.stamp_items.ensures ∙ ap (stamp c.args.v c.args.marks.now) c.row-row.ensures,
-    c.any_leaves.ensures ∙ ap (λ r. some_of r (leaves_by c.args.chains.mesh.now c.args.v c.stamp_items.new.marks)) c.row-row.ensures)
+    c.any_leaves.ensures ∙ ap (λ r. some_of r (leaves_by c.args.chains.mesh.bytes.now c.args.v c.stamp_items.new.marks)) c.row-row.ensures)

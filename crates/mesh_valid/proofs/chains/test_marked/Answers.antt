@@ -8,13 +8,13 @@ pub returns-then-bad5 : goal.returns-then-bad5
 returns-then-bad5 c = search (past_four, told_here, told_later)
 
 pub bad6-requires : goal.bad6-requires
-bad6-requires c = (c.requires.1, sym c.bad5.ensures.0 ∙ c.if-bad5.false, marks_left _ _ _ c.requires.1 (c.bad5.ensures.1 c.if-bad5.false))
+bad6-requires c = (sym c.bad5.ensures.0 ∙ c.if-bad5.false, marks_left _ _ _ c.args.chains.mesh.sized.n_is (c.bad5.ensures.1 c.if-bad5.false))
 
 pub returns-then-bad6 : goal.returns-then-bad6
 returns-then-bad6 c = search (past_four, told_here, told_later)
 
 pub bad7-requires : goal.bad7-requires
-bad7-requires c = (c.requires.0, c.requires.1, sym c.bad5.ensures.0 ∙ c.if-bad5.false, c.bad6.ensures.1 c.if-bad6.false)
+bad7-requires c = (sym c.bad5.ensures.0 ∙ c.if-bad5.false, c.bad6.ensures.1 c.if-bad6.false)
 
 pub returns-then-bad7 : goal.returns-then-bad7
 returns-then-bad7 c = search (past_four, told_here, told_later) depth 9 fits 4000
