@@ -46,11 +46,8 @@ fn is_beside(page: &str, read: &Page) -> bool {
 const INNER_DEFINITIONS: [(&str, &[&str]); 8] = [
     ("depths/specs/Depths", &["Within", "Valid"]),
     ("layout/specs/Limits", &["element_places", "record_places", "table_bytes"]),
-    (
-        "list_input/specs/Pieces",
-        &["pieces_number", "pieces_text", "stencil_text", "last_text", "owners_text", "map_text"],
-    ),
-    ("list_text/specs/Printing", &["numbers"]),
+    ("list_input/specs/Pieces", &["pieces_number", "pieces_text"]),
+    ("list_text/specs/Printing", &["Put", "numbers"]),
     ("part_state/specs/State", &["is_state_at"]),
     ("round_rule/specs/Kinds", &["kind_number", "rule_of"]),
     ("split/specs/Lists", &["sizes_number"]),
