@@ -230,8 +230,8 @@ module _ (m : Bytes) (parts : ℕ) (owners st table : Bytes) (ends : List ℕ) (
   unfolding import_line passing
   imports_told =
       blocks_cong 1 (λ j. line_unless_empty (ascii "import" ++ spaced j) (cells_of row j)) (λ j. line_unless_empty (ascii "import" ++ spaced j) (imports S i j)) parts
-      (λ j h. ap (line_unless_empty (ascii "import" ++ spaced (1 + j))) (cells_are (1 + j)
-      ∙ imports_are m parts owners st table ends holders R i row.first cells fe ce class C (1 + j) (omega arith) (omega arith)))
+      (λ j h. ap (line_unless_empty (ascii "import" ++ spaced (1 + j)))
+      (cells_are (1 + j) ∙ imports_are m parts owners st table ends holders R i row.first cells fe ce class C (1 + j) (omega arith) (omega arith)))
 
   exports_are : blocks 1 parts (export_line owners table ends (first_cell m) (cell_count m) i) ≡ blocks 1 parts (λ j. line_unless_empty (ascii "export" ++ spaced j) (exports S i j))
   unfolding export_line passing exports

@@ -257,7 +257,7 @@ unfolding over is_in place_of joined repeats some_of every_of is_up_to picked ev
     advance_tests_in new_at advanced_in collect_tests_in scatter outside points_tests_in point_given write_number message write_answer write_state write_out take_number take_answer take_state
     advance_number advance_answer advance_state collect_number collect_answer collect_out points_number points_out put more step run Fair Honest start_number start_state begin StateBound
     import_ends export_ends reach_ends reach_words export_words around_words lists_long lists_regions state_size size_number size_answer first_state start_answer weights local_reach
-    local_exports local_around lists_in lists_of rises climbs lists_tests dynamic_tests is_state bad20 ascii digits decimal spaced line line_unless_empty dimension_text part_text
+    local_exports local_around lists_in lists_of rises climbs lists_tests dynamic_tests is_state bad20 digits decimal spaced line line_unless_empty dimension_text part_text
     split_text mesh_piece map_piece parts_piece owners_piece last_piece stencil_piece listing_number list_text buffers calls field five five_inputs list_input number_at run_numbers
     triangles
 worked = (refl, (refl, (refl, (refl, (refl, (refl, (refl, (refl, (refl, (refl, (refl, (refl, (refl, (refl, (refl, (refl, (refl, (refl, (refl, (refl, (refl, (refl, (refl, (refl, (refl, (honest, (refl, (refl, tt))))))))))))))))))))))))))))

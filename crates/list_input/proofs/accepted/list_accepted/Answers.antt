@@ -51,5 +51,5 @@ returns-in_default c =
 pub returns-in_default-2 : goal.returns-in_default-2
 returns-in_default-2 c =
     passed_all _ _ _ _ _ _ c.requires _ c.in_default.ensures.0 refl
-    (split_told _ _ _ _ _ _ _ c.put_line.ensures (lines_last _ _ _ _ c.loop-i.invariant.1 _ _ c.loop-i.auto.i (omega (arith, c.loop-i-test.true))
-    (part (goal.at.returns-in_default-2 c).After-put_dimensions)))
+    (split_told _ _ _ _ _ _ _ c.put_line.ensures
+    (lines_last _ _ _ _ c.loop-i.invariant.1 _ _ c.loop-i.auto.i (omega (arith, c.loop-i-test.true)) (part (goal.at.returns-in_default-2 c).After-put_dimensions)))
