@@ -9,13 +9,13 @@ fn check_cut(name: &str, m: &mut [u8]) {
     say(name, mesh_valid::check_mesh(m));
 }
 
-fn check_edited(name: &str, m: &mut [u8], i: usize, v: u16) {
+fn check_edited(name: &str, m: &mut [u8], i: usize, v: usize) {
     set_word(m, i, v);
     say(name, mesh_valid::check_mesh(m));
 }
 
 // The five cells with word i changed.
-fn edited(name: &str, i: usize, v: u16) {
+fn edited(name: &str, i: usize, v: usize) {
     let mut m = five_cells();
     check_edited(name, &mut m, i, v);
 }

@@ -116,9 +116,9 @@ pub fn say_all<F: Fn(&[u8], u32)>(name: &str, a: Result<u32, Refusal>, out: &[u8
 // ---- inputs
 
 // Stores word i of m, if there is one.
-pub fn set_word(m: &mut [u8], i: usize, v: u16) {
+pub fn set_word(m: &mut [u8], i: usize, v: usize) {
     if i < m.len() / 2 {
-        m[2 * i..2 * i + 2].copy_from_slice(&v.to_be_bytes());
+        m[2 * i..2 * i + 2].copy_from_slice(&((v % 65536) as u16).to_be_bytes());
     }
 }
 

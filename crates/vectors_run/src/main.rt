@@ -130,7 +130,7 @@ fn runs() {
 }
 
 // The round stands after the lists, whose length in words is word 0.
-fn set_round(b: &mut State, round: u16) {
+fn set_round(b: &mut State, round: usize) {
     let at = word_at(b, 0);
     set_word(b, at, round);
 }
