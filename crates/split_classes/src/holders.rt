@@ -1,6 +1,6 @@
 // How many parts hold each cell. One part after another is counted at the cells that its own cells reach; a row of stamps has the last part that was
 // counted at each cell, so that none is counted twice.
-ghost use Rattle.std.specs.Prelude.{◌≡◌, ◌*◌, ◌≤◌, ◌<◌, eqb, length};
+ghost use Rattle.std.specs.Prelude.{◌≡◌, ◌≤◌, ◌<◌, eqb, length};
 ghost use Rattle.vocabulary.specs.Bytes.{byte_at};
 ghost use Rattle.layout.specs.Limits.{most_elements, most_parts};
 ghost use Rattle.split_classes.specs.Classes.{reach_has, Raised, Few, row_sum, Holders};

@@ -8,7 +8,6 @@ use Rattle.layout.specs.Limits.{element_places, record_places}
 use Rattle.layout.proofs.AnswerLaws.{exit_answer, exit_some}
 use Rattle.split.proofs.PassedLaws.{passed_facts}
 use Rattle.part_start_plan.proofs.PlanLaws.{size_split, size_sizes, size_done}
-use borrow.Author.Rules.{rules}
 use Rattle.part_size.proofs.state_size.Goals as goal
 
 pub test_split-requires : goal.test_split-requires

@@ -13,7 +13,6 @@ use Rattle.round.proofs.UndividedLaws.{rule_good}
 use Rattle.part_start_lists.proofs.StartLists.{got_is, sent_is, front_count}
 use Rattle.part_start_points.proofs.SplitPoints.{points_low}
 use Rattle.part_start_plan.proofs.PlanLaws.{outside_is, point_room, start_split, start_11, start_sizes, start_14, start_16, start_cells, start_written}
-use borrow.Author.Rules.{rules}
 use Rattle.part_start.proofs.start.Goals as goal
 
 pub test_split-requires : goal.test_split-requires

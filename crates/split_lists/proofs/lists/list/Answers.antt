@@ -10,7 +10,6 @@ use Rattle.layout.proofs.AnswerLaws.{exit_answer, exit_some}
 use Rattle.mesh.proofs.AcceptedLaws.{cells_few}
 use Rattle.split_wanted.proofs.ListedLaws.{added_cells, added_range}
 use Rattle.split_lists.proofs.CallLaws.{number_found, facts, refused_split, refused_sizes, give_fits, give_list}
-use borrow.Author.Rules.{rules}
 use Rattle.split_lists.proofs.lists.list.Goals as goal
 
 pub test_split-requires : goal.test_split-requires
