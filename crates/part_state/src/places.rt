@@ -54,7 +54,8 @@ pub const DEPTHS: usize = 34;
 
 pub const DEPTH: usize = 30;
 
-// How many cells a state holds and owns, how many entries its reaches and its exports have, and how many points it gives, with how many cells at them.
+// How many cells a state holds and owns, how many entries its reaches and its exports have, and how many points it gives, with how many cells at them. They
+// are passed beside the lists, and not in one struct with them: start has the counts before it has the lists.
 #[derive(Clone, Copy)]
 pub struct Sizes {
     pub held: usize,
