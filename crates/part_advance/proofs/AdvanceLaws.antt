@@ -107,7 +107,7 @@ module _ (b lists was : Bytes) (changes : ℕ) (o : Opened (take changes b) chan
     next_put owned oe new x y xe ye =
         let depths : blocks 1 owned (new_at (lists_in lists) (length lists) was) ≡ blocks 1 owned (new_at (lists_in (take changes b)) changes b) =
         ap₂ (λ (u : Bytes) n. blocks 1 owned (new_at (lists_in u) n was)) le length_is ∙ ap (λ u. blocks 1 owned (new_at (lists_in (take changes b)) changes u)) at in
-      let l : length (blocks 1 owned (new_at (lists_in (take changes b)) changes b)) ≡ 4 * owned =
+        let l : length (blocks 1 owned (new_at (lists_in (take changes b)) changes b)) ≡ 4 * owned =
         fours_length 1 owned (new_at (lists_in (take changes b)) changes b) (λ t c. new_four (take changes b) changes b (1 + t)) in
         let t : take (4 * owned) x ≡ blocks 1 owned (new_at (lists_in (take changes b)) changes b) =
         ap (take (4 * owned)) (xe ∙ ap (over new 0) depths ∙ over_front new (blocks 1 owned (new_at (lists_in (take changes b)) changes b)))

@@ -66,13 +66,23 @@ impl<'a> State<'a> {
     pub fn all_taken(self) -> bool
         ensures { result ≡ all_taken (lists_at self.entry) (changes_at self.entry) self.entry.bytes.now }
     {
-        all_settled(self.lists, self.bytes, BEFORE_IMPORTS, self.lists.len() + TAKEN)
+        all_settled(
+            self.lists,
+            self.bytes,
+            BEFORE_IMPORTS,
+            self.lists.len() + TAKEN,
+        )
     }
 
     // Whether a message was written to every part that is exported to.
     pub fn all_written(self) -> bool
         ensures { result ≡ all_written (lists_at self.entry) (changes_at self.entry) self.entry.bytes.now }
     {
-        all_settled(self.lists, self.bytes, BEFORE_EXPORTS, self.lists.len() + WRITTEN)
+        all_settled(
+            self.lists,
+            self.bytes,
+            BEFORE_EXPORTS,
+            self.lists.len() + WRITTEN,
+        )
     }
 }

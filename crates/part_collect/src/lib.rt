@@ -13,7 +13,7 @@ use layout::{Refusal, word_at};
 use part_calls::inner::State;
 use part_state::inner::{CELLS, FIRST, OWNED, global_of};
 
-// Puts the depths of the owned cells at their places in the field.
+// Puts the depths of the owned cells at their places in the field. The loop goes over the cells' local numbers.
 fn gather(s: State, f: &mut [u8])
     requires { 4 * cells_of_mesh s.lists.now ≤ length f.old }
     ensures { f.new ≡ collected_in (lists_at s.entry) (changes_at s.entry) s.entry.bytes.now (owned_count s.entry.lists.now) f.old }

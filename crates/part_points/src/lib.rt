@@ -57,7 +57,13 @@ fn point_depth(s: State, sizes: Sizes, k: usize) -> Value
 {
     let end = sizes.point_ends_word() + (k - 1);
     let at = 2 * (sizes.point_cells_word() + word_at(s.lists, end));
-    plain_mean(s.lists, at, count_between(s.lists, end), s.bytes, s.lists.len() + DEPTH)
+    plain_mean(
+        s.lists,
+        at,
+        count_between(s.lists, end),
+        s.bytes,
+        s.lists.len() + DEPTH,
+    )
 }
 
 // Stores the number of the k-th point and its value.
@@ -72,7 +78,7 @@ fn put_point(s: State, sizes: Sizes, k: usize, out: &mut [u8])
     put_value(out, at + 2, x);
 }
 
-// Stores all points in rising order.
+// Stores all points in rising order. The loop goes over their places in the lists.
 fn put_points(s: State, sizes: Sizes, out: &mut [u8])
     requires { Counts s.lists.now sizes × (outside (lists_at s) ≡ false) × (6 * sizes.points ≤ length out.old) }
     ensures { out.new ≡ over out.old 0 (points_given (lists_at s.entry) (changes_at s.entry) s.entry.bytes.now) }

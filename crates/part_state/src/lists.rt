@@ -94,7 +94,9 @@ impl<'a> Entries<'a> {
         ensures { result ≡ valid_entry self.entry.lists.now t }
     {
         let layer = word_there(self.lists, self.at + 2 * t + 1);
-        up_to(self.held, word_there(self.lists, self.at + 2 * t)) && layer % 2 == 0 && layer <= self.steps
+        up_to(self.held, word_there(self.lists, self.at + 2 * t))
+            && layer % 2 == 0
+            && layer <= self.steps
     }
 
     // Whether entry t is that of cell l itself.
@@ -103,7 +105,8 @@ impl<'a> Entries<'a> {
         requires { 2 * (self.at + 2 * t) + 3 < length self.lists.now }
         ensures { result ≡ own_entry self.entry.lists.now l t }
     {
-        word_there(self.lists, self.at + 2 * t) == l && word_there(self.lists, self.at + 2 * t + 1) == 0
+        word_there(self.lists, self.at + 2 * t) == l
+            && word_there(self.lists, self.at + 2 * t + 1) == 0
     }
 
     // Whether the entries from `from` up to `to` are valid, and that of cell l itself is among them. Where it is found, only the entries after it are left to
@@ -133,7 +136,8 @@ fn end_there(lists: &[u8], i: usize, from: usize) -> usize
     word_there(lists, i).max(from)
 }
 
-// The reaches of the owned cells, row by row. Their ends rise from 0 to the count of all, so the rows have all the entries.
+// The reaches of the owned cells, row by row. Their ends rise from 0 to the count of all, so the rows have all the entries. A loop, and not `all`, since each row
+// begins where the one before it ends.
 fn valid_rows(lists: &[u8], sizes: Sizes) -> bool
     requires { Fitting lists.now sizes × (all_of (end_tests lists.now) ≡ true) }
     ensures { result ≡ every 1 sizes.owned (valid_row lists.now) }

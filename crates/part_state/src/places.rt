@@ -54,8 +54,9 @@ pub const DEPTHS: usize = 34;
 
 pub const DEPTH: usize = 30;
 
-// How many cells a state holds and owns, how many entries its reaches and its exports have, and how many points it gives, with how many cells at them.
-#[derive(Clone, Copy)]
+// How many cells a state holds and owns, how many entries its reaches and its exports have, and how many points it gives, with how many cells at them. They
+// are passed beside the lists, and not in one struct with them: start has the counts before it has the lists.
+#[derive(Clone, Copy, Debug, PartialEq, Eq)]
 pub struct Sizes {
     pub held: usize,
     pub owned: usize,

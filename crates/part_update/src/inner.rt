@@ -27,10 +27,20 @@ fn renew_one(s: State, kind: Kind, weighting: &[u8], sizes: Sizes, l: usize) -> 
     let from = word_in(s.lists, o);
     let to = word_in(s.lists, o + 2);
     let at = 2 * sizes.entry_word() + 4 * from;
-    new_depth(kind, weighting, s.lists, at, to - from, s.bytes, s.lists.len() + DEPTH, l)
+    new_depth(
+        kind,
+        weighting,
+        s.lists,
+        at,
+        to - from,
+        s.bytes,
+        s.lists.len() + DEPTH,
+        l,
+    )
 }
 
-// The new values of the owned cells. The state is only read here, so every one comes from old ones.
+// The new values of the owned cells. The state is only read here, so every one comes from old ones. The loop goes over the cells' numbers, which the state's
+// lists are read by.
 fn renew(s: State, kind: Kind, weighting: &[u8], sizes: Sizes, new: &mut [u8])
     requires { (kind_number kind ≡ rule_kind s.lists.now)
         × (weighting.now ≡ weights s.lists.now)

@@ -29,7 +29,8 @@ fn sent_to(lists: &[u8], j: usize) -> usize
     count_between(lists, BEFORE_EXPORTS + j)
 }
 
-// Copies the depths of `count` export entries, after the first `from` of them, behind the words of a message.
+// Copies the depths of `count` export entries, after the first `from` of them, behind the words of a message. Entries have two bytes and depths four, so the
+// loop goes over their number.
 fn put_depths(s: State, from: usize, count: usize, out: &mut [u8])
     requires { (from + count ≤ export_count s.lists.now) × (from < 65536) × (count < 65536) × (message_size count ≤ length out.old) }
     ensures { out.new ≡ over out.old header_size (blocks from count (sent_at s.entry.lists.now (changes_at s.entry) s.entry.bytes.now)) }
