@@ -4,11 +4,11 @@ use mathlib.Core.Bool.{Bool, true, false, true≢false}
 use Prim.Native.Nat.{ℕ, suc, ◌+◌, ◌-◌, ◌*◌, ◌/◌, ◌%◌, ◌≤◌, ◌<◌}
 use native.Mathlib.Nat.{zero-add}
 use native.Mathlib.Omega.{arith}
-use lib.IntN.{ℤ, pos, negsuc, nat_abs, ◌+ℤ◌, ◌-ℤ◌}
-use lib.Signed.{mag, lt_z, le_z, non_neg}
+use lib.IntN.{ℤ, pos, negsuc}
+use lib.Signed.{le_z}
 use lib.Dec.{ltb}
-use lib.ListN.{length, get_or}
-use mir.Syntax.{w32, w64}
+use lib.ListN.{get_or}
+use mir.Syntax.{w32}
 use mir.Syntax.{w8}
 use mir.Val.{Fits, SFits, to_z, of_z, sel}
 use Rattle.std.specs.Int.{from_be_bytes, to_be_bytes}
@@ -16,7 +16,7 @@ use borrow.Rule.Slice.PartMut.{put_mid}
 use mathlib.Core.List.{[], ◌∷◌}
 use mathlib.Core.Bool.{cond}
 use mir.ValLaws.{of_z_fits, to_z-of_z, of_z-to_z}
-use borrow.Author.Tests.{lt-ltb, le-ltb, ltb-true, leb-true, leb-false, le-leb, lt-leb}
+use borrow.Author.Tests.{leb-true, leb-false, le-leb, lt-leb}
 use Rattle.vocabulary.specs.Bytes.{Bytes, byte_at, over}
 use Rattle.vocabulary.proofs.ByteLaws.{over_mid}
 use Rattle.vocabulary.specs.Intervals.{every}

@@ -14,7 +14,7 @@ use Rattle.vocabulary.specs.Bytes.{Bytes}
 use Rattle.vocabulary.specs.Lists.{is_in, Rises}
 use Rattle.vocabulary.proofs.ListLaws.{At as Stands, is_in_not, not_is_in}
 use Rattle.layout.proofs.WordLaws.{length_words}
-use Rattle.std.specs.Prelude.{Option, Some, None}
+use Rattle.std.specs.Prelude.{Some, None}
 use Rattle.place_search.specs.Places.{lower_bound, place_in, read_for, words_in, place_number, found_at, saturated, PlaceTheorem}
 
 -- ---- the first number not below x
