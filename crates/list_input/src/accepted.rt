@@ -58,7 +58,14 @@ pub fn list_accepted(m: &[u8], parts: u32, owners: &[u8], stencil: &[u8], text: 
     let count = parts as usize;
     text.put_line(b"parts", count);
     for i in 1..=count {
-        classify(owners, &reaches, cells, i, &mut class);
+        classify(
+            owners,
+            &reaches.entries,
+            &reaches.ends,
+            cells,
+            i,
+            &mut class,
+        );
         let row = Row {
             class: &class[..cells],
             first,

@@ -69,7 +69,14 @@ pub fn put_exports(
     let cells = cell_count(m);
     for other in 1..=parts {
         let mut class = [0u8; MOST_ELEMENTS];
-        classify(owners, reaches, cells, other, &mut class);
+        classify(
+            owners,
+            &reaches.entries,
+            &reaches.ends,
+            cells,
+            other,
+            &mut class,
+        );
         let row = Row {
             class: &class[..cells],
             first,

@@ -3,10 +3,10 @@ ghost use Rattle.std.specs.Prelude.{◌≡◌, ◌+◌, ◌<◌, ◌≤◌, true
 ghost use Rattle.vocabulary.specs.Bytes.{over};
 ghost use Rattle.part_calls.specs.Opened.{Opened};
 
-use crate::settled::all_settled;
+use crate::settled::{all_taken, all_written};
 use layout::inner::{copy, word_in};
 use layout::{Refusal, word_at};
-use part_state::inner::{BEFORE_EXPORTS, BEFORE_IMPORTS, DEPTH, LENGTH, TAKEN, WRITTEN};
+use part_state::inner::{DEPTH, LENGTH};
 use part_state::is_state;
 
 // A state, to be read: its lists, and all its bytes. What calls change begins where the lists end. What writes into a state takes its bytes and that place,
@@ -66,23 +66,13 @@ impl<'a> State<'a> {
     pub fn all_taken(self) -> bool
         ensures { result ≡ all_taken (lists_at self.entry) (changes_at self.entry) self.entry.bytes.now }
     {
-        all_settled(
-            self.lists,
-            self.bytes,
-            BEFORE_IMPORTS,
-            self.lists.len() + TAKEN,
-        )
+        all_taken(self.lists, self.bytes, self.lists.len())
     }
 
     // Whether a message was written to every part that is exported to.
     pub fn all_written(self) -> bool
         ensures { result ≡ all_written (lists_at self.entry) (changes_at self.entry) self.entry.bytes.now }
     {
-        all_settled(
-            self.lists,
-            self.bytes,
-            BEFORE_EXPORTS,
-            self.lists.len() + WRITTEN,
-        )
+        all_written(self.lists, self.bytes, self.lists.len())
     }
 }

@@ -105,7 +105,8 @@ pub fn start(
     }
     find_sent(
         owners,
-        &reaches,
+        &reaches.entries,
+        &reaches.ends,
         p,
         &mut class,
         &mut incidence.last,

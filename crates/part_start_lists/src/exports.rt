@@ -7,25 +7,34 @@ ghost use Rattle.split_classes.specs.Groups.{group};
 ghost use Rattle.part_start_lists.specs.Starting.{Stamped, reached_from, Below, class_among, sent_ends, sent_list, OwnersFew, Sent};
 
 use crate::inner::Plan;
-use layout::{get_or, put_at};
+use layout::{get_or, put_at, word_at};
 use split_cells::inner::add_place;
 use split_classes::inner::{CLASSES, clear_row, group_cells};
-use walk_reach_table::inner::ReachTable;
 
 // Stamps the cells in the reach of the cell at place q with k.
-pub fn stamp_reach(reaches: &ReachTable, q: usize, k: u8, stamps: &mut [u8])
+pub fn stamp_reach(table: &[u8], ends: &[u16], q: usize, k: u8, stamps: &mut [u8])
     requires { (q < 65536) × (length stamps.old ≡ most_elements) }
-    ensures { Stamped k stamps.old stamps.new (reach_has reaches.now.entries reaches.now.ends q) }
+    ensures { Stamped k stamps.old stamps.new (reach_has table.now ends.now q) }
 {
-    for t in reaches.start(q)..reaches.end(q) {
-        put_at(stamps, reaches.place(t), k);
+    let from = get_or(ends, q, 0) as usize;
+    let to = get_or(ends, q + 1, 0) as usize;
+    for t in from..to {
+        put_at(stamps, word_at(table, 2 * t), k);
     }
 }
 
 // Stamps the cells with k that the cells of a group reach, from link s on.
-fn stamp_group(reaches: &ReachTable, next: &[u16], s: u16, cells: usize, k: u8, stamps: &mut [u8])
+fn stamp_group(
+    table: &[u8],
+    ends: &[u16],
+    next: &[u16],
+    s: u16,
+    cells: usize,
+    k: u8,
+    stamps: &mut [u8],
+)
     requires { length stamps.old ≡ most_elements }
-    ensures { Stamped k stamps.old stamps.new (reached_from reaches.now.entries reaches.now.ends (group next.now cells s)) }
+    ensures { Stamped k stamps.old stamps.new (reached_from table.now ends.now (group next.now cells s)) }
 {
     let mut link = s;
     for _j in 0..cells {
@@ -33,7 +42,7 @@ fn stamp_group(reaches: &ReachTable, next: &[u16], s: u16, cells: usize, k: u8, 
             return;
         }
         let q = link as usize - 1;
-        stamp_reach(reaches, q, k, stamps);
+        stamp_reach(table, ends, q, k, stamps);
         link = get_or(next, q, 0);
     }
 }
@@ -67,10 +76,12 @@ fn add_stamped(
 }
 
 // Lists what the part exports to each part, one part after another, and counts it in a cleared array. The stamps and the links are work space. To itself it
-// exports nothing. Once all exports are found, the later parts take none.
+// exports nothing. Once all exports are found, the later parts take none. The table and its ends are two slices, of any length: docs/ARCHITECTURE.md names this
+// call, so it asks for no table of one size.
 pub fn find_sent(
     owners: &[u8],
-    reaches: &ReachTable,
+    table: &[u8],
+    ends: &[u16],
     plan: Plan,
     stamps: &mut [u8],
     next: &mut [u16],
@@ -86,10 +97,10 @@ pub fn find_sent(
         × (length stamps.old ≡ most_elements)
         × (most_elements ≤ length next.old)
         × (sent.old ≡ replicate (most_parts + 1) 0)
-        × (plan.sent ≡ sent_ends owners.now reaches.now.entries reaches.now.ends plan.asked.part plan.asked.first plan.asked.cells most_parts) }
-    ensures { Appended list.old list.new 0 result (sent_list owners.now reaches.now.entries reaches.now.ends plan.asked.part plan.asked.first
+        × (plan.sent ≡ sent_ends owners.now table.now ends.now plan.asked.part plan.asked.first plan.asked.cells most_parts) }
+    ensures { Appended list.old list.new 0 result (sent_list owners.now table.now ends.now plan.asked.part plan.asked.first
         plan.asked.cells most_parts)
-        × Sent owners.now reaches.now.entries reaches.now.ends plan.asked.part plan.asked.cells most_parts sent.new }
+        × Sent owners.now table.now ends.now plan.asked.part plan.asked.cells most_parts sent.new }
 {
     let mut start = [0u16; CLASSES];
     group_cells(owners, plan.asked.cells, &mut start, next);
@@ -105,7 +116,7 @@ pub fn find_sent(
         }
         let k = (j + 1) as u8;
         let other = get_or(&start, j + 1, 0);
-        stamp_group(reaches, next, other, plan.asked.cells, k, stamps);
+        stamp_group(table, ends, next, other, plan.asked.cells, k, stamps);
         let t = add_stamped(
             next,
             own,

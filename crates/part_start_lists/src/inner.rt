@@ -296,7 +296,14 @@ pub fn make_plan(
         result.owned result.sent asked.points asked.around result.front result.long
         × Got owners.now reaches.now.entries reaches.now.ends result.asked.part result.asked.cells got.new }
 {
-    classify(owners, reaches, asked.cells, asked.part, class);
+    classify(
+        owners,
+        &reaches.entries,
+        &reaches.ends,
+        asked.cells,
+        asked.part,
+        class,
+    );
     let held = add_order(class, asked.first, asked.cells, asked.parts, order);
     count_classes(class, asked.cells, got);
     let inner = get_or(got, INTERIOR as usize, 0) as usize;

@@ -73,10 +73,10 @@ fn cell_outside(
     if owner_of(owners, q) as usize != sought.part {
         return false;
     }
-    stamp_reach(reaches, q, 1, stamps);
+    stamp_reach(&reaches.entries, &reaches.ends, q, 1, stamps);
     let h = head_of(m, c);
     let outside = chain_unstamped(m, sizes, h, sought, stamps, incidence);
-    stamp_reach(reaches, q, 0, stamps);
+    stamp_reach(&reaches.entries, &reaches.ends, q, 0, stamps);
     outside
 }
 

@@ -79,10 +79,10 @@ pub record Passing (owners table : Bytes) (i a t : ℕ) (inside : Bool) (before 
   pub told : inside ≡ every a (t - a) (entry_owned owners table i)
   pub marked : OwnersMarked owners i before after (has_entry table a (t - a))
 
-pub pass_start : (owners table : Bytes) (i a t : ℕ) (class : Bytes) → t ≡ a → Passing owners table i a t true class class
+pub pass_start : (owners table : Bytes) (i a : ℕ) (class : Bytes) → Passing owners table i a a true class class
 unfolding has_entry
-pass_start owners table i a t class e =
-    let z : t - a ≡ 0 = omega arith in
+pass_start owners table i a class =
+    let z : a - a ≡ 0 = omega arith in
     record {
       told = sym (ap (λ n. every a n (entry_owned owners table i)) z ∙ (unfold every in refl));
       marked = record {
@@ -123,19 +123,15 @@ pass_turn owners table i a t b c before class after l P ce M = record {
     more : (x : ℕ) → has_entry table a (t - a) x || entry_is table t x ≡ has_entry table a (t + 1 - a) x
     more x = ap (λ y. some a (t - a) (λ t. eqb (word_at table (2 * t)) x) || eqb (word_at table (2 * y)) x) (sym here) ∙ sym (ap (λ n. some a n (λ t. eqb (word_at table (2 * t)) x)) next)
 
-pub pass_end : (owners table : Bytes) (ends : List ℕ) (i q t : ℕ) (b : Bool) (before after : Bytes) → get_or ends (q + 1) 0 ≤ t
-    → (t ≤ get_or ends (q + 1) 0) ⊎ (t ≡ get_or ends q 0) → Passing owners table i (get_or ends q 0) t b before after
-    → (b ≡ inside_at owners table ends i q) × OwnersMarked owners i before after (reach_has table ends q)
+pub pass_end : (owners table : Bytes) (ends : List ℕ) (i q a z t : ℕ) (b : Bool) (before after : Bytes) → a ≡ get_or ends q 0 → z ≡ get_or ends (q + 1) 0 → z ≤ t → (t ≤ z) ⊎ (t ≡ a)
+    → Passing owners table i a t b before after → (b ≡ inside_at owners table ends i q) × OwnersMarked owners i before after (reach_has table ends q)
 unfolding inside_at reach_has
-pass_end owners table ends i q t b before after h c P = (
-  P.told ∙ ap (λ y. every (get_or ends q 0) y (entry_owned owners table i)) whole,
-  record {
-    size = P.marked.size;
-    each = λ x l. P.marked.each x l ∙ ap (λ n. cond (has_entry table (get_or ends q 0) n x && not (owns_at owners i x)) (owner_at owners x) (byte_at before x)) whole;
-  },
+pass_end owners table ends i q a z t b before after ae ze h c P = (
+  P.told ∙ ap₂ (λ x y. every x y (entry_owned owners table i)) ae whole,
+  record { size = P.marked.size; each = λ x l. P.marked.each x l ∙ ap₂ (λ u n. cond (has_entry table u n x && not (owns_at owners i x)) (owner_at owners x) (byte_at before x)) ae whole },
 )
   where
-    whole : t - get_or ends q 0 ≡ get_or ends (q + 1) 0 - get_or ends q 0
+    whole : t - a ≡ get_or ends (q + 1) 0 - get_or ends q 0
     whole = ⊎_elim (λ g. omega arith) (λ g. omega arith) c
 
 -- ---- one cell more

@@ -147,11 +147,11 @@ pub pass_room : (k x : ℕ) (s h s₁ h₁ : Bytes) (p : ℕ → Bool) → Few m
 pass_room k x s h s₁ h₁ p F P = (P.stamp_room, P.count_room, omega (arith, (raised_few k most_parts s h s₁ h₁ p F P).each x))
 
 module _ (table : Bytes) (k a : ℕ) where
-  pub pass_start : (t : ℕ) (stamps holders : Bytes) → t ≡ a → length stamps ≡ most_elements → Few most_parts holders → Raised k stamps holders stamps holders (has_entry table a (t - a))
+  pub pass_start : (stamps holders : Bytes) → length stamps ≡ most_elements → Few most_parts holders → Raised k stamps holders stamps holders (has_entry table a (a - a))
   unfolding has_entry
-  pass_start t stamps holders e l F =
-      let z : t - a ≡ 0 = omega arith in
-      raised_none k stamps holders (λ x. some a (t - a) (λ t. eqb (word_at table (2 * t)) x)) l F.room
+  pass_start stamps holders l F =
+      let z : a - a ≡ 0 = omega arith in
+      raised_none k stamps holders (λ x. some a (a - a) (λ t. eqb (word_at table (2 * t)) x)) l F.room
       (λ x. ap (λ n. some a n (λ t. eqb (word_at table (2 * t)) x)) z ∙ some_start a (λ t. eqb (word_at table (2 * t)) x))
 
   pub pass_turn : (t x : ℕ) (s h s₁ h₁ s₂ h₂ : Bytes) → a ≤ t → Raised k s h s₁ h₁ (has_entry table a (t - a)) → x ≡ word_at table (2 * t) → Raised k s₁ h₁ s₂ h₂ (eqb x)
@@ -171,14 +171,13 @@ module _ (table : Bytes) (k a : ℕ) where
       next : t - a + 1 ≡ t + 1 - a
       next = omega arith
 
-pub reach_end : (table : Bytes) (ends : List ℕ) (q k : ℕ) (s h s₁ h₁ : Bytes) (t : ℕ) → get_or ends (q + 1) 0 ≤ t → (t ≤ get_or ends (q + 1) 0) ⊎ (t ≡ get_or ends q 0)
-    → Raised k s h s₁ h₁ (has_entry table (get_or ends q 0) (t - get_or ends q 0)) → Raised k s h s₁ h₁ (reach_has table ends q)
+pub reach_end : (table : Bytes) (ends : List ℕ) (q k : ℕ) (s h s₁ h₁ : Bytes) (a z t : ℕ) → a ≡ get_or ends q 0 → z ≡ get_or ends (q + 1) 0 → z ≤ t → (t ≤ z) ⊎ (t ≡ a)
+    → Raised k s h s₁ h₁ (has_entry table a (t - a)) → Raised k s h s₁ h₁ (reach_has table ends q)
 unfolding reach_has
-reach_end table ends q k s h s₁ h₁ t l c P =
-    raised_as k s h s₁ h₁ (has_entry table (get_or ends q 0) (t - get_or ends q 0)) (has_entry table (get_or ends q 0) (get_or ends (q + 1) 0 - get_or ends q 0))
-    (λ x. ap (λ n. has_entry table (get_or ends q 0) n x) whole) P
+reach_end table ends q k s h s₁ h₁ a z t ae ze l c P =
+    raised_as k s h s₁ h₁ (has_entry table a (t - a)) (has_entry table (get_or ends q 0) (get_or ends (q + 1) 0 - get_or ends q 0)) (λ x. ap₂ (λ u n. has_entry table u n x) ae whole) P
   where
-    whole : t - get_or ends q 0 ≡ get_or ends (q + 1) 0 - get_or ends q 0
+    whole : t - a ≡ get_or ends (q + 1) 0 - get_or ends q 0
     whole = ⊎_elim (λ g. omega arith) (λ g. omega arith) c
 
 -- ---- the cells of a part by their links

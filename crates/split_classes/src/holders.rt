@@ -1,6 +1,6 @@
 // How many parts hold each cell. One part after another is counted at the cells that its own cells reach; a row of stamps has the last part that was
 // counted at each cell, so that none is counted twice.
-ghost use Rattle.std.specs.Prelude.{◌≡◌, ◌≤◌, ◌<◌, eqb, length};
+ghost use Rattle.std.specs.Prelude.{◌≡◌, ◌*◌, ◌≤◌, ◌<◌, eqb, length};
 ghost use Rattle.vocabulary.specs.Bytes.{byte_at};
 ghost use Rattle.layout.specs.Limits.{most_elements, most_parts};
 ghost use Rattle.split_classes.specs.Classes.{reach_has, Raised, Few, row_sum, Holders};
@@ -8,8 +8,7 @@ ghost use Rattle.split_classes.specs.Groups.{group_reach};
 
 use crate::classes::{CLASSES, clear_row};
 use crate::groups::group_cells;
-use layout::{byte_at, get_or, put_at};
-use walk_reach_table::inner::ReachTable;
+use layout::{byte_at, get_or, put_at, word_at};
 
 // Counts part k at the cell at place x, unless the stamp there says that it is.
 fn add_holder(x: usize, k: u8, stamps: &mut [u8], holders: &mut [u8])
@@ -25,12 +24,14 @@ fn add_holder(x: usize, k: u8, stamps: &mut [u8], holders: &mut [u8])
 }
 
 // Counts part k at the cells in the reach of the cell at place q.
-fn add_reach(reaches: &ReachTable, q: usize, k: u8, stamps: &mut [u8], holders: &mut [u8])
+fn add_reach(table: &[u8], ends: &[u16], q: usize, k: u8, stamps: &mut [u8], holders: &mut [u8])
     requires { (q < 65536) × (length stamps.old ≡ most_elements) × Few most_parts holders.old }
-    ensures { Raised k stamps.old holders.old stamps.new holders.new (reach_has reaches.now.entries reaches.now.ends q) }
+    ensures { Raised k stamps.old holders.old stamps.new holders.new (reach_has table.now ends.now q) }
 {
-    for t in reaches.start(q)..reaches.end(q) {
-        add_holder(reaches.place(t), k, stamps, holders);
+    let from = get_or(ends, q, 0) as usize;
+    let to = get_or(ends, q + 1, 0) as usize;
+    for t in from..to {
+        add_holder(word_at(table, 2 * t), k, stamps, holders);
     }
 }
 
@@ -38,7 +39,8 @@ fn add_reach(reaches: &ReachTable, q: usize, k: u8, stamps: &mut [u8], holders: 
 fn count_part(
     start: &[u16],
     next: &[u16],
-    reaches: &ReachTable,
+    table: &[u8],
+    ends: &[u16],
     cells: usize,
     k: u8,
     stamps: &mut [u8],
@@ -46,14 +48,14 @@ fn count_part(
 )
     requires { (length stamps.old ≡ most_elements) × Few 15 holders.old }
     ensures { Raised k stamps.old holders.old stamps.new holders.new (group_reach start.now next.now
-        reaches.now.entries reaches.now.ends cells k) }
+        table.now ends.now cells k) }
 {
     let mut s = get_or(start, k as usize, 0) as usize;
     for _t in 0..cells {
         if s < 1 {
             return;
         }
-        add_reach(reaches, s - 1, k, stamps, holders);
+        add_reach(table, ends, s - 1, k, stamps, holders);
         s = get_or(next, s - 1, 0) as usize;
     }
 }
@@ -73,7 +75,8 @@ fn sum_holders(holders: &[u8], cells: usize) -> usize
 // Counts at each cell the parts that hold it, and gives how many cells the parts hold together. The row of stamps is work space, and so is the array of links.
 pub fn count_holders(
     owners: &[u8],
-    reaches: &ReachTable,
+    table: &[u8],
+    ends: &[u16],
     cells: usize,
     parts: usize,
     stamps: &mut [u8],
@@ -81,14 +84,23 @@ pub fn count_holders(
     next: &mut [u16],
 ) -> usize
     requires { (cells ≤ most_elements) × (parts ≤ most_parts) × (length stamps.old ≡ most_elements) × (length holders.old ≡ most_elements) × (most_elements ≤ length next.old) }
-    ensures { Holders owners.now reaches.now.entries reaches.now.ends cells parts holders.new result }
+    ensures { Holders owners.now table.now ends.now cells parts holders.new result }
 {
     clear_row(stamps);
     clear_row(holders);
     let mut start = [0u16; CLASSES];
     group_cells(owners, cells, &mut start, next);
     for k in 0..parts {
-        count_part(&start, next, reaches, cells, (k + 1) as u8, stamps, holders);
+        count_part(
+            &start,
+            next,
+            table,
+            ends,
+            cells,
+            (k + 1) as u8,
+            stamps,
+            holders,
+        );
     }
     sum_holders(holders, cells)
 }

@@ -63,7 +63,8 @@ pub fn list(
     )?;
     classify(
         owners,
-        &reaches,
+        &reaches.entries,
+        &reaches.ends,
         cell_count(m),
         row_of(wanted, i) as usize,
         &mut class,

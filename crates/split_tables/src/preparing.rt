@@ -65,7 +65,8 @@ pub fn prepare(
     }
     let held = count_holders(
         owners,
-        reaches,
+        &reaches.entries,
+        &reaches.ends,
         walker.sizes.cells,
         parts as usize,
         class,

@@ -8,8 +8,8 @@ use Rattle.part_start_lists.proofs.exports.stamp_group.Given as goal
 abbrev pub invariant-loop-j : goal.invariant-loop-j
 invariant-loop-j l =
     (l._j ≤ l.cells) × (l.link < 65536)
-    × Stamping l.k l.initial.stamps l.stamps (reached_from l.reaches.entries l.reaches.ends (group l.next (l.cells - l._j) l.link))
-    (reached_from l.reaches.entries l.reaches.ends (group l.next l.cells l.s))
+    × Stamping l.k l.initial.stamps l.stamps (reached_from l.table l.ends (group l.next (l.cells - l._j) l.link))
+    (reached_from l.table l.ends (group l.next l.cells l.s))
 
 abbrev pub decreases-loop-j : goal.decreases-loop-j
 decreases-loop-j l = l.cells - l._j

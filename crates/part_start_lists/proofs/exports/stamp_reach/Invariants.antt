@@ -9,5 +9,5 @@ use Rattle.part_start_lists.proofs.exports.stamp_reach.Given as goal
 
 abbrev pub invariant-loop-t : goal.invariant-loop-t
 invariant-loop-t l =
-    let from = get_or l.reaches.ends l.q 0 in
-    (from ≤ l.t) × ((l.t ≤ get_or l.reaches.ends (l.q + 1) 0) ⊎ (l.t ≡ from)) × Stamped l.k l.initial.stamps l.stamps (has_entry l.reaches.entries from (l.t - from))
+    let from = get_or l.ends l.q 0 in
+    (from ≤ l.t) × ((l.t ≤ get_or l.ends (l.q + 1) 0) ⊎ (l.t ≡ from)) × Stamped l.k l.initial.stamps l.stamps (has_entry l.table from (l.t - from))

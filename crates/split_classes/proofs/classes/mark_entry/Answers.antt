@@ -3,11 +3,11 @@ use Rattle.split_classes.proofs.ClassLaws.{entry_own, entry_other}
 use Rattle.split_classes.proofs.classes.mark_entry.Goals as goal
 
 pub returns-then-owner-i : goal.returns-then-owner-i
-returns-then-owner-i c = entry_own _ _ _ _ _ _ c.place-x.ensures.0 c.owner_of-owner.ensures c.args.inside _ c.if-owner-i.true
+returns-then-owner-i c = entry_own _ _ _ _ _ _ c.word_at-x.ensures.0 c.owner_of-owner.ensures c.args.inside _ c.if-owner-i.true
 
 pub returns : goal.returns
 returns c =
-    entry_other _ _ _ _ _ _ c.place-x.ensures.0
+    entry_other _ _ _ _ _ _ c.word_at-x.ensures.0
     c.owner_of-owner.ensures
     c.args.inside _ _ c.if-owner-i.false
     c.put_at.ensures

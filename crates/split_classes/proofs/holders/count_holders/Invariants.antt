@@ -6,7 +6,7 @@ use Rattle.split_classes.proofs.holders.count_holders.Given as goal
 
 abbrev pub invariant-loop-k : goal.invariant-loop-k
 invariant-loop-k l =
-    (l.k ≤ l.parts) × Few l.k l.stamps × Counted l.owners l.reaches.entries l.reaches.ends l.cells l.k l.holders × Grouped l.owners l.cells l.start l.next
+    (l.k ≤ l.parts) × Few l.k l.stamps × Counted l.owners l.table l.ends l.cells l.k l.holders × Grouped l.owners l.cells l.start l.next
 
 abbrev pub decreases-loop-k : goal.decreases-loop-k
 decreases-loop-k l = l.parts - l.k

@@ -10,6 +10,7 @@ use Rattle.layout.proofs.AnswerLaws.{exit_answer, exit_some}
 use Rattle.mesh.proofs.AcceptedLaws.{cells_few}
 use Rattle.split_wanted.proofs.ListedLaws.{added_cells, added_range}
 use Rattle.split_lists.proofs.CallLaws.{number_found, facts, refused_split, refused_sizes, give_fits, give_list}
+use borrow.Author.Rules.{rules}
 use Rattle.split_lists.proofs.lists.list.Goals as goal
 
 pub test_split-requires : goal.test_split-requires
@@ -77,8 +78,8 @@ give-requires c =
     (omega (arith, length-replicate {A = ℕ} element_places 0)) in
     omega (arith, fits.0, fits.1, length-take-le c.add_range-n.result c.add_range-n.new.list fits.0)
 
-pub slice_bounds-reaches-end : goal.slice_bounds-reaches-end
-slice_bounds-reaches-end c =
+pub shared_ref_as_front-give : goal.shared_ref_as_front-give
+shared_ref_as_front-give c =
     let wanted = c.args.wanted in
     let number = number_found _ _ _ _ _ wanted _ _ c.other_of.ensures c.in_ok-test_split.ensures in
     let passed = sym number in
@@ -128,8 +129,8 @@ give-requires-2 c =
     (omega (arith, length-replicate {A = ℕ} element_places 0)) in
     omega (arith, fits.0, fits.1, length-take-le c.cell_words-n.result c.cell_words-n.new.list fits.0)
 
-pub slice_bounds-reaches-end-2 : goal.slice_bounds-reaches-end-2
-slice_bounds-reaches-end-2 c =
+pub shared_ref_as_front-give-2 : goal.shared_ref_as_front-give-2
+shared_ref_as_front-give-2 c =
     let wanted = c.args.wanted in
     let number = number_found _ _ _ _ _ wanted _ _ c.other_of.ensures c.in_ok-test_split.ensures in
     let passed = sym number in

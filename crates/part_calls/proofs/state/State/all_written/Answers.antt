@@ -1,10 +1,6 @@
 -- `part_calls::state::State::all_written` meets its contract. Assumes nothing.
 use native.Mathlib.Omega.{arith}
-use Rattle.part_calls.proofs.SettledLaws.{written_told}
 use Rattle.part_calls.proofs.state.State.all_written.Goals as goal
 
-pub all_settled-requires : goal.all_settled-requires
-all_settled-requires c = (omega arith, omega (arith, c.args.self.opened.place_small))
-
-pub returns : goal.returns
-returns c = search written_told
+pub all_written-requires : goal.all_written-requires
+all_written-requires c = omega (arith, c.args.self.opened.place_small)
