@@ -10,6 +10,7 @@ use crate::{Value, in_range};
 const GAP_NUMBER: i32 = i32::MIN;
 
 // What stands in the four bytes from `o` on.
+// Here alone is the number of a gap read, and in `put_value` alone written: a `From` would have this one caller.
 pub fn value_in(b: &[u8], o: usize) -> Value
     requires { o + 3 < length b.now }
     ensures { result ≡ value_from b.now o }

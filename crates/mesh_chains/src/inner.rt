@@ -63,6 +63,7 @@ fn write_chain<'a>(
 
 // Whether some chain meets a record above r, or one that it or another chain met before. Where none does, all chains are written down.
 // `seen` is for the marks of the records.
+// Each chain begins where the last one ended, and is written: `any` with that effect is no plainer.
 fn write_marked<'a>(mesh: SizedMesh<'a>, items: &mut [u16], ends: &mut [u16], seen: &mut [u8]) -> bool
     requires { Places mesh.elements mesh.records items.old ends.old × MarksBelow mesh.records 1 seen.old }
     ensures { let m = mesh.entry.bytes.now in let r = mesh.entry.records in (result ≡ some_of (all_records m) (ltb r) || repeats (all_records m))
@@ -130,6 +131,7 @@ fn bad_items(row: &[u16], low: usize, mark: u16, marks: &mut [u16]) -> bool
 }
 
 // Whether something is wrong in the chain of an element of dimension k, where `low` elements are of a lower one. Every mark is at most low before.
+// The test marks what it meets: a loop with a way out, since `any` with that effect is no plainer.
 fn bad_dimension<'a>(chains: Chains<'a>, k: usize, low: usize, marks: &mut [u16]) -> bool
     requires { (1 ≤ k) × (k ≤ top chains.mesh.bytes.now) × (low ≡ below chains.mesh.bytes.now k) × (low ≤ most_elements)
         × MarksBelow (elements chains.mesh.bytes.now) (low + 1) marks.old }
@@ -146,6 +148,7 @@ fn bad_dimension<'a>(chains: Chains<'a>, k: usize, low: usize, marks: &mut [u16]
 }
 
 // Points have no chains. The marks that are left are numbers of elements.
+// `low` grows from turn to turn: `any` over a closure that changes it is no plainer.
 pub fn bad5<'a>(chains: Chains<'a>, marks: &mut [u16]) -> bool
     requires { MarksBelow (elements chains.mesh.bytes.now) 1 marks.old }
     ensures { let m = chains.entry.mesh.bytes.now in (result ≡ bad5 m)

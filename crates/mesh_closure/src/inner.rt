@@ -55,6 +55,7 @@ fn unclosed<'a>(chains: Chains<'a>, e: usize, v: u16, marks: &mut [u16]) -> bool
 }
 
 // Chains of points alone are closed, so this begins with the elements of dimension 2. Its marks are above those that test 5 leaves.
+// The test marks what it meets: a loop with a way out, since `any` with that effect is no plainer.
 pub fn bad6<'a>(chains: Chains<'a>, marks: &mut [u16]) -> bool
     requires { (bad5 chains.mesh.bytes.now ≡ false) × MarksBelow chains.mesh.elements (chains.mesh.elements + 1) marks.old }
     ensures { (result ≡ bad6 chains.entry.mesh.bytes.now)

@@ -10,6 +10,7 @@ use crate::sizes::{sized, test_sizes};
 use layout::Refusal;
 
 // The first test that refuses the mesh. What the lent arrays hold afterwards does not matter.
+// As `test_mesh` but for its last line: one for both would take that line as a closure.
 pub fn test_mesh_in(m: &[u8], items: &mut [u16], ends: &mut [u16]) -> Result<(), Refusal>
     requires { (most_records ≤ length items.old) × Zeros element_places ends.old }
     ensures { refused_as result ≡ mesh_number m.now }

@@ -26,8 +26,8 @@ fn all_settled(lists: &[u8], b: &[u8], ends: usize, flags: usize) -> bool
     (1..MOST_PARTS + 1).all(|j| settled(lists, b, ends, flags, j))
 }
 
-// Whether a message was taken from every part that is imported from, in the state b whose lists end at `changes`. Here, and not by the type `State` alone: docs/ARCHITECTURE.md
-// names this and the next, so they ask no more than they did.
+// Whether a message was taken from every part that is imported from, in the state b whose lists end at `changes`. It takes any bytes, and no `State`, as does the
+// next: docs/ARCHITECTURE.md names both, and no type may ask more of them.
 pub fn all_taken(lists: &[u8], b: &[u8], changes: usize) -> bool
     requires { changes < 131072 }
     ensures { result ≡ all_taken (lists_in lists.now) changes b.now }

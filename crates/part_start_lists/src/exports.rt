@@ -76,8 +76,8 @@ fn add_stamped(
 }
 
 // Lists what the part exports to each part, one part after another, and counts it in a cleared array. The stamps and the links are work space. To itself it
-// exports nothing. Once all exports are found, the later parts take none. The table and its ends are two slices, of any length: docs/ARCHITECTURE.md names this
-// call, so it asks for no table of one size.
+// exports nothing. Once all exports are found, the later parts take none. Table and ends are slices of any length: docs/ARCHITECTURE.md names
+// this call, and no type of one size may ask more.
 pub fn find_sent(
     owners: &[u8],
     table: &[u8],

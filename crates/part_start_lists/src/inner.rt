@@ -83,6 +83,7 @@ fn row_total(reaches: &ReachTable, first: usize, order: &[u16], owned: usize) ->
 }
 
 // Writes a table of 17 ends after `base`, by an array of counts.
+// One for all that write running ends would take the sizes by a closure: no shorter than this loop.
 fn put_ends(b: &mut [u8], s: usize, counts: &[u16], base: usize) -> usize
     requires { (2 * (s + most_parts + 1) ≤ length b.old) × (s < 65536) × (ends_by counts.now base most_parts < 65536) }
     ensures { Put b.old b.new s result (listed 0 (most_parts + 1) (ends_by counts.now base)) }
@@ -97,6 +98,7 @@ fn put_ends(b: &mut [u8], s: usize, counts: &[u16], base: usize) -> usize
 }
 
 // Writes the ends of the reaches.
+// Beside `put_ends`: one for both would take the sizes by a closure, no shorter than this loop.
 fn put_row_ends(
     b: &mut [u8],
     s: usize,
@@ -184,6 +186,7 @@ fn put_rows(
 }
 
 // Writes the first n cells of a list in local numbers.
+// Beside `put_list`: one for both would take the words by an iterator, as is said at `put_words`.
 fn put_locals(b: &mut [u8], s: usize, list: &[u16], n: usize, local: &[u16]) -> usize
     requires { (2 * (s + n) ≤ length b.old) × (s < 65536) × (n ≤ length list.now) × (n ≤ 65536) }
     ensures { Put b.old b.new s result (map (local_in local.now) (take n list.now)) }
@@ -336,6 +339,7 @@ pub fn number_order(order: &[u16], n: usize, local: &mut [u16])
 }
 
 // Copies the depths of the held cells out of a field.
+// A loop over the numbers themselves: l tells the cell in the order and the place of its depth.
 pub fn put_cells(b: &mut [u8], at: usize, f: &[u8], first: usize, order: &[u16], n: usize)
     requires { (at + 4 * n ≤ length b.old) × (at < 1000000) × (n < 65535) × FieldCells f.now first order.now n }
     ensures { b.new ≡ over b.old at (blocks 1 n (start_depth f.now first order.now)) }

@@ -81,6 +81,7 @@ fn cell_outside(
 }
 
 // Whether there is such a cell (29). The row of stamps is work space.
+// The test stamps the row and clears it again: `any` with that effect is no plainer.
 pub fn some_outside(
     m: &[u8],
     sizes: MeshSizes,

@@ -27,6 +27,7 @@ pub struct PointCounts {
 }
 
 // Lists the points that touch the part, rising, and gives how many there are.
+// No heap: what passes goes into a lent array, and n says how many.
 fn find_points(sought: Sought, owners: &[u8], incidence: &Incidence, list: &mut [u16]) -> usize
     requires { (sought.points ≤ most_elements) × (sought.points ≤ length list.old) }
     ensures { Found list.new result (points_on incidence.now owners.now sought.first sought.part
@@ -80,6 +81,7 @@ pub fn count_points(sought: Sought, owners: &[u8], incidence: &Incidence) -> Poi
 }
 
 // Writes where the cells at each of the first n points of a list end.
+// Beside `part_start_lists: put_row_ends`: one for both would take the sizes by a closure, no shorter than this loop.
 fn put_sizes(b: &mut [u8], s: usize, list: &[u16], n: usize, incidence: &Incidence) -> usize
     requires { (2 * (s + n + 1) ≤ length b.old) × (s < 65536) × (n < 65535) × (size_ends incidence.now list.now n < 65536) }
     ensures { Put b.old b.new s result (listed 0 (n + 1) (size_ends incidence.now list.now)) }

@@ -138,6 +138,7 @@ fn end_there(lists: &[u8], i: usize, from: usize) -> usize
 
 // The reaches of the owned cells, row by row. Their ends rise from 0 to the count of all, so the rows have all the entries. A loop, and not `all`, since each row
 // begins where the one before it ends.
+// Each end is read once, as in `ends_rise`: so a loop that keeps it, and not `all`.
 fn valid_rows(lists: &[u8], sizes: Sizes) -> bool
     requires { Fitting lists.now sizes × (all_of (end_tests lists.now) ≡ true) }
     ensures { result ≡ every 1 sizes.owned (valid_row lists.now) }

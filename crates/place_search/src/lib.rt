@@ -42,6 +42,7 @@ fn saturate(n: usize) -> u32
 }
 
 // The place of a cell in a list of words, from 1, and 0 for none. How many numbers were read goes to `read`.
+// A number, and not the `Option` of `find`: C gets it as it stands, from `jem_place`.
 pub fn place(list: &[u8], cell: u32, read: &mut u32) -> u64
     ensures { let ws = words_in list.now in (result ≡ place_in cell ws) × (read.new ≡ saturated (read_for cell ws)) }
 {

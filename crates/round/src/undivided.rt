@@ -43,6 +43,8 @@ fn new_at(kind: Kind, weights: &[u8], reaches: &ReachTable, f: &[u8], j: usize) 
 }
 
 // The new values of all cells: f is only read and out only written, so every one comes from old ones.
+// The like in part_update goes by local numbers: a closure for the new value is no shorter than this. How many rows the table has is known by the
+// mesh alone.
 fn renew(kind: Kind, weights: &[u8], reaches: &ReachTable, cells: usize, f: &[u8], out: &mut [u8])
     requires { Rows (kind_number kind) weights.now reaches.now.entries reaches.now.ends cells f.now × (4 * cells ≤ length out.old) }
     ensures { out.new ≡ over out.old 0 (blocks 0 cells (row_new (kind_number kind) weights.now reaches.now.entries reaches.now.ends f.now)) }

@@ -87,6 +87,7 @@ fn mean_by(sum: i64, w: usize) -> Value
 
 // The mean over the n entries at `at` in b. Gaps are passed over, in the sum and in its divisor. It shares no loop with `plain_mean`: one for both would
 // take the weight and the place of an entry as closures, with a clause for what each gives, and is no plainer than two loops of ten lines.
+// One pass makes both sums: a chain would carry them as a pair. Reach and field are stretches of larger buffers, and their numbers count from there.
 fn mean_of(weights: &[u8], b: &[u8], at: usize, n: usize, f: &[u8], base: usize) -> Value
     requires { PlacesThere 4 b.now at n f.now base × Weighed weights.now b.now at n }
     ensures { result ≡ mean_of weights.now (read_by weights.now 1 (olds_at f.now base (table_entries b.now at n))) }
@@ -107,6 +108,7 @@ fn mean_of(weights: &[u8], b: &[u8], at: usize, n: usize, f: &[u8], base: usize)
 }
 
 // The mean, all weights 1, of the n values of the field at `base` in f whose places are the words at `at` in b.
+// One pass makes the sum and the count: a chain would carry them as a pair.
 pub fn plain_mean(b: &[u8], at: usize, n: usize, f: &[u8], base: usize) -> Value
     requires { PlacesThere 2 b.now at n f.now base }
     ensures { (value_bytes result ≡ plain_mean (listed 0 n (placed_at b.now at f.now base))) × Within deepest result }

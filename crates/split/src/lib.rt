@@ -9,6 +9,7 @@ mod units;
 pub use maps::{bad_map, bad_shares, is_part};
 
 // The lists of a part that can be asked for: an import or export list names the other part, a range its dimension.
+// An enum, and no closures: the definition `list_of`, which the calls promise, is told by its cases.
 #[derive(Clone, Copy)]
 pub enum Wanted {
     Interior,

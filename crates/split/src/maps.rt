@@ -22,6 +22,7 @@ const PARTS: u32 = MOST_PARTS as u32;
 const BYTE_VALUES: usize = 256;
 
 // Whether i is one of the parts.
+// `part_state: up_to` says this of usize: a call with two casts is no plainer than this line.
 pub fn is_part(parts: u32, i: u32) -> bool
     ensures { result ≡ is_up_to parts i }
 {
@@ -48,6 +49,7 @@ pub fn bad_map(m: &[u8], parts: u32, owners: &[u8]) -> bool
 }
 
 // Marks the owners of the cells, in a cleared array.
+// By numbers, and no slice: nothing is asked of the length of the map, and past its end an owner is 0.
 fn mark_owners(owners: &[u8], cells: usize, seen: &mut [u8])
     requires { seen.old ≡ replicate 256 0 }
     ensures { OwnersSeen owners.now cells seen.new }

@@ -22,6 +22,7 @@ pub fn add_place(class: &[u8], first: usize, k: u8, q: usize, list: &mut [u16], 
 }
 
 // Adds the numbers of class k to the list, which has s numbers, and gives how many it has then.
+// No heap: the cells go into a lent array, and t says how many.
 pub fn add_class(
     class: &[u8],
     first: usize,

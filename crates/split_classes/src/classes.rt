@@ -7,6 +7,7 @@ use layout::{get_or, put_at, word_at};
 use split::inner::owner_of;
 
 // The classes of owned cells. A part's number is at most 16, so these are free.
+// Bytes, and no enum: a row has one byte a cell, in which the numbers of parts stand, too.
 pub const INTERIOR: u8 = 17;
 
 pub const HALO: u8 = 18;
@@ -86,6 +87,7 @@ fn classify_cell(owners: &[u8], table: &[u8], ends: &[u16], i: usize, q: usize, 
 }
 
 // The classes of all cells for part i: interior, halo, the number of the part that a cell is imported from, and 0 for a cell that is not held.
+// Table, ends and map are slices of any length, read as 0 past their end: docs/ARCHITECTURE.md names this call, and no type of one size may ask more.
 pub fn classify(owners: &[u8], table: &[u8], ends: &[u16], cells: usize, i: usize, class: &mut [u8])
     requires { (cells ≤ most_elements) × (length class.old ≡ most_elements) }
     ensures { Classed owners.now table.now ends.now i cells class.new }

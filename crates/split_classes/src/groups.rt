@@ -7,6 +7,7 @@ use layout::{byte_at, get_or, put_at};
 
 // Links the cells of a row by their byte, in a cleared array of starts. It goes from the last cell to the first, so that each is put before those that it
 // precedes. A byte that has no start is linked to nothing.
+// No heap: the cells of a byte are linked by their places. The map may be shorter than `cells`: past its end an owner is 0.
 pub fn group_cells(row: &[u8], cells: usize, start: &mut [u16], next: &mut [u16])
     requires { (cells ≤ most_elements) × (start.old ≡ replicate 19 0) × (most_elements ≤ length next.old) }
     ensures { Grouped row.now cells start.new next.new }

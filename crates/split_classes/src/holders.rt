@@ -73,6 +73,7 @@ fn sum_holders(holders: &[u8], cells: usize) -> usize
 }
 
 // Counts at each cell the parts that hold it, and gives how many cells the parts hold together. The row of stamps is work space, and so is the array of links.
+// Table, ends and map are slices of any length, as in `classify`.
 pub fn count_holders(
     owners: &[u8],
     table: &[u8],

@@ -14,6 +14,7 @@ use split_classes::inner::INTERIOR;
 use walk_incidence::inner::Incidence;
 
 // The classes of a lower element.
+// Bytes of a row, as the classes of cells are: `split_cells: add_class` takes rows of both.
 pub const PRIVATE: u8 = 1;
 
 pub const EXPOSED: u8 = 2;
@@ -68,6 +69,7 @@ fn some_cell(
 }
 
 // What the part makes of element e: its class, and 0 if it does not hold it.
+// A byte of the row, as the definition `lower_class` gives it: an `Option` would be turned back at once.
 fn lower_class(incidence: &Incidence, first: usize, class: &[u8], holders: &[u8], e: usize) -> u8
     ensures { result ≡ trail_class incidence.now first class.now holders.now e }
 {
@@ -87,6 +89,7 @@ fn lower_class(incidence: &Incidence, first: usize, class: &[u8], holders: &[u8]
 }
 
 // The classes of the lower elements of dimension k for the part that the row of cells is of. There are none from the cells' dimension on.
+// A loop over the numbers themselves: q tells the place in the row and the number of the element.
 pub fn classify_lowers(
     m: &[u8],
     incidence: &Incidence,

@@ -45,6 +45,7 @@ pub fn range_wanted(wanted: Wanted) -> Option<(u8, u32)>
 }
 
 // The words of a list of cells, and their count, from the row of classes that tells it; none for a range.
+// A range has no cells, so the 0 is a true count, as the definition `cell_words` has [] there.
 pub fn cell_words(
     wanted: Wanted,
     m: &[u8],

@@ -34,6 +34,7 @@ pub fn visit(mark: u16, y: usize, marks: &mut [u16], found: &mut [u16], count: u
 }
 
 // Gathers y, if it comes after lo and is at most hi.
+// `(lo + 1..=hi).contains(&y)` is no plainer, and would ask a bound of lo.
 fn visit_between(
     y: usize,
     lo: usize,

@@ -33,6 +33,7 @@ pub fn sizes_of(m: &[u8]) -> MeshSizes
 
 // Which cells an element has. Each element of a cell's chain is an entry, numbered from 1: its cell, and the entry before it that has the same element.
 // `last` has the last entry of each element.
+// No heap: the lists of cells are entries of arrays, linked by their numbers.
 #[derive(Drop)]
 pub struct Incidence {
     pub cell: [u16; RECORD_PLACES],

@@ -11,6 +11,7 @@ use walk_frontier::inner::index_at;
 use walk_steps::inner::{Ends, Space, Walker, widen};
 
 // Gives y the layer k and lists it, unless it has a layer.
+// Not `visit`: here any layer stops it, and there one mark alone.
 fn reach_cell(k: u16, y: usize, layers: &mut [u16], found: &mut [u16], count: usize) -> usize
     requires { (k < 65535) × (1 ≤ y) × (y ≤ most_elements) × LayerList layers.old found.old count }
     ensures { Spread k layers.old found.old count layers.new found.new result (eqb y) }
@@ -48,6 +49,7 @@ fn reach_row(
 }
 
 // Goes on from the cells in `found` from place old on and before `count` to the cells of their rows, each w places wide, which get the layer k.
+// What a turn meets is added to `found` behind this stretch, so it cannot be lent as a slice meanwhile.
 fn reach_level(
     w: usize,
     first: usize,

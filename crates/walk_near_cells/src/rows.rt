@@ -51,6 +51,7 @@ fn put_row(near: &mut [u16], at: usize, row: &[u16])
 }
 
 // Lists the rows of all cells, each w places wide, unless one is longer. Gives whether they are listed.
+// Each turn walks and writes a row, unless it is too long: `all` with these effects is no plainer.
 fn list_rows(walker: Walker, a: usize, w: usize, space: &mut Space) -> bool
     requires { Ready walker × (a < top walker.mesh.now) × (cell_count walker.mesh.now * w ≤ element_places) × Under 1 space.old.marks
         × Zeros element_places space.old.layers }
@@ -68,6 +69,7 @@ fn list_rows(walker: Walker, a: usize, w: usize, space: &mut Space) -> bool
 }
 
 // Lists the cells two steps from each cell in `layers`, if the stencil goes through one dimension and the rows are short. Gives the width of the rows.
+// `single` is a fact of the stencil, and no choice of a step.
 pub fn near_rows(walker: Walker, space: &mut Space) -> Option<usize>
     requires { Ready walker × Under 1 space.old.marks × Zeros element_places space.old.layers }
     ensures { WalksReady walker.entry.mesh.now walker.entry.stencil.now result 4001 space.new }

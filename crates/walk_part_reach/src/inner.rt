@@ -24,6 +24,7 @@ fn add_cell(rows: &[u8], i: usize, first: usize, q: usize, list: &mut [u16], k: 
 }
 
 // Puts the cells of row i into a list: how many they are.
+// No heap: the cells go into a lent array, and n says how many.
 fn row_cells(rows: &[u8], i: usize, first: usize, cells: usize, list: &mut [u16]) -> usize
     requires { (first + cells ≤ element_places) × (length list.old ≡ element_places) }
     ensures { Rowed first rows.now i cells result list.new }
@@ -73,6 +74,7 @@ fn count_reach(walker: Walker, rows: &[u8], i: usize, mark: usize, space: &mut S
 }
 
 // How many cells the cells of each row from 1 on reach, together over as many rows as `count`. The byte of `rows` at a cell's place tells its row.
+// Each turn walks with marks after those of the last: a sum over that is no plainer.
 pub fn count_all(walker: Walker, rows: &[u8], count: usize, space: &mut Space) -> usize
     requires { Ready walker × (count ≤ most_parts) }
     ensures { result ≡ total 1 count (row_reach_count walker.entry.mesh.now walker.entry.stencil.now rows.now) }

@@ -99,6 +99,7 @@ fn emit_one(
 }
 
 // The entries of a cell's reach, from the layers of the cells from `low` up to but without `high`, which are cleared.
+// No heap: the entries go into a lent table, and the result says how many.
 fn emit(
     layers: &mut [u16],
     first: usize,

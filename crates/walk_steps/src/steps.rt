@@ -90,6 +90,7 @@ fn note_all(k: u16, list: &[u16], layers: &mut [u16])
 }
 
 // The mark of the step after k steps: one for the whole walk, or one a step.
+// It chooses a number by what the stencil is, and no step: a closure would say the same in more words.
 fn mark_at(single: bool, mark: usize, k: usize) -> usize
     requires { (mark ≤ 60000) × (k ≤ most_steps) }
     ensures { (result ≡ mark_at single mark k) × (result ≤ 60008) }
@@ -128,6 +129,7 @@ pub fn widen(list: &[u16], w: Ends) -> Ends
 }
 
 // Where one mark serves the whole walk, the cells that it sets out from are gathered before its first step.
+// The flag is the walker's own, found from its stencil: no caller could give this step instead.
 fn set_out(single: bool, mark: u16, marks: &mut [u16], found: &mut [u16], from: &[u16]) -> usize
     requires { All (λ y. (1 ≤ y) × (y ≤ most_elements)) from.now × Under mark marks.old × (length found.old ≡ element_places) }
     ensures { Frontier mark marks.new found.new result × Toward found.new result [] (starts_among single from.now) }
@@ -157,6 +159,7 @@ fn depart(n: usize, met: usize, layers: &mut [u16], from: &[u16]) -> Ends
 
 // After step k, by which `found` are found in all, the new ones stand in `from`; cells bear the layer k unless they have one, and widen the bounds. All stay
 // gathered where one mark serves the whole walk.
+// By the parity of k: `walk` calls itself with k - 1, and has nothing else to choose by.
 fn arrive(
     k: usize,
     single: bool,
