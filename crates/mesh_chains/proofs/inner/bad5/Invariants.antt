@@ -10,7 +10,8 @@ use Rattle.mesh_chains.specs.Written.{MarksBelow}
 use Rattle.mesh_chains.proofs.inner.bad5.Given as goal
 
 abbrev pub invariant-loop-k : goal.invariant-loop-k
-invariant-loop-k l = (1 ≤ l.k) × (l.k ≤ 1 + l.chains.mesh.top) × (l.k-end ≡ 1 + l.chains.mesh.top) × (l.low ≡ below l.chains.mesh.bytes.now l.k) × (l.low ≤ most_elements) × (length l.marks ≡ length l.initial.marks)
+invariant-loop-k l = (1 ≤ l.k) × (l.k ≤ 1 + l.chains.mesh.top) × (l.k-end ≡ 1 + l.chains.mesh.top) × (l.low ≡ below l.chains.mesh.bytes.now l.k) × (l.low ≤ most_elements)
+    × (length l.marks ≡ length l.initial.marks)
     × MarksBelow (elements l.chains.mesh.bytes.now) (l.low + 1) l.marks × (some 1 l.low (bad_chain l.chains.mesh.bytes.now) ≡ false)
 
 abbrev pub decreases-loop-k : goal.decreases-loop-k

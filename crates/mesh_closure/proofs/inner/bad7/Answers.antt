@@ -17,11 +17,13 @@ stamp_items-requires c =
 pub any-requires-clause-callable : goal.any-requires-clause-callable
 any-requires-clause-callable c =
     let marked =
-    low_marked _ _ _ c.args.chains.written c.requires.0 _ _ _ c.args.chains.mesh.sized.d_is c.args.chains.mesh.sized.n_is c.below_of-low.ensures.0 _ c.rows_after.ensures _ _ _ c.requires.1 c.stamp_items.ensures in
+    low_marked _ _ _ c.args.chains.written c.requires.0 _ _ _ c.args.chains.mesh.sized.d_is c.args.chains.mesh.sized.n_is c.below_of-low.ensures.0 _
+    c.rows_after.ensures _ _ _ c.requires.1 c.stamp_items.ensures in
     serves_from_Range (λ x q k. search (rules, tests)) (λ x h k. search rules)
 
 pub returns : goal.returns
 unfolding unlike
 returns c =
-    bare_all _ _ _ c.args.chains.written c.requires.0 _ _ _ c.args.chains.mesh.sized.d_is c.args.chains.mesh.sized.n_is c.below_of-low.ensures.0 _ c.rows_after.ensures _ _ _ c.requires.1 c.stamp_items.ensures
+    bare_all _ _ _ c.args.chains.written c.requires.0 _ _ _ c.args.chains.mesh.sized.d_is c.args.chains.mesh.sized.n_is c.below_of-low.ensures.0 _
+    c.rows_after.ensures _ _ _ c.requires.1 c.stamp_items.ensures
     _ (some_ran c.any.ensures.ran (search rules) (λ x t q k. search (rules, tests)))
