@@ -64,7 +64,12 @@ fn write_chain<'a>(
 // Whether some chain meets a record above r, or one that it or another chain met before. Where none does, all chains are written down.
 // `seen` is for the marks of the records.
 // Each chain begins where the last one ended, and is written: `any` with that effect is no plainer.
-fn write_marked<'a>(mesh: SizedMesh<'a>, items: &mut [u16], ends: &mut [u16], seen: &mut [u8]) -> bool
+fn write_marked<'a>(
+    mesh: SizedMesh<'a>,
+    items: &mut [u16],
+    ends: &mut [u16],
+    seen: &mut [u8],
+) -> bool
     requires { Places mesh.elements mesh.records items.old ends.old × MarksBelow mesh.records 1 seen.old }
     ensures { let m = mesh.entry.bytes.now in let r = mesh.entry.records in (result ≡ some_of (all_records m) (ltb r) || repeats (all_records m))
         × (result ≡ false → Wrote m mesh.entry.elements items.new ends.new) }

@@ -40,7 +40,8 @@ fn any_leaves<'a>(chains: Chains<'a>, row: &[u16], v: u16, marks: &[u16]) -> boo
     requires { Names (elements chains.mesh.bytes.now) row.now × (bad5 chains.mesh.bytes.now ≡ false) × (elements chains.mesh.bytes.now < length marks.now) }
     ensures { result ≡ some_of row.now (leaves_by chains.entry.mesh.bytes.now v marks.now) }
 {
-    row.iter().any(|&f| leaves_by(chains, usize::from(f), v, marks))
+    row.iter()
+        .any(|&f| leaves_by(chains, usize::from(f), v, marks))
 }
 
 // Marks the elements of the chain of e; true where one of them has a chain that leaves them.

@@ -49,7 +49,11 @@ fn test_written<'a>(chains: Chains<'a>) -> Result<(), Refusal>
 }
 
 // The first of the tests 4 to 7 that refuses the mesh. Test 4 writes the chains down for the others, in lent space.
-pub fn test_chains<'a>(mesh: SizedMesh<'a>, items: &mut [u16], ends: &mut [u16]) -> Result<(), Refusal>
+pub fn test_chains<'a>(
+    mesh: SizedMesh<'a>,
+    items: &mut [u16],
+    ends: &mut [u16],
+) -> Result<(), Refusal>
     requires { Places mesh.elements mesh.records items.old ends.old }
     ensures { refused_as result ≡ first_of (chain_tests mesh.entry.bytes.now) }
 {

@@ -31,7 +31,14 @@ pub fn put_rest(b: &mut [u8], plan: Plan, f: &[u8], order: &[u16])
     ensures { b.new ≡ over b.old (2 * plan.long) (replicate (depths_place 0) 0 ++ blocks 1 plan.held (start_depth f.now plan.asked.first order.now)) }
 {
     clear(b, 2 * plan.long, DEPTHS);
-    put_cells(b, 2 * plan.long + DEPTHS, f, plan.asked.first, order, plan.held);
+    put_cells(
+        b,
+        2 * plan.long + DEPTHS,
+        f,
+        plan.asked.first,
+        order,
+        plan.held,
+    );
 }
 
 // Whose points are sought.

@@ -80,4 +80,3 @@ none_told found q e f = ap place_number (sym e ∙ f) ∙ number_back q
 
 pub count_told : (r n m : ℕ) → r ≡ saturated n → n ≡ m → r ≡ saturated m
 count_told r n m e f = e ∙ ap saturated f
-

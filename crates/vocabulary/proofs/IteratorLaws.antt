@@ -75,13 +75,13 @@ total_range f a (suc n) =
 module _ {A F : Type 0} {g : Mut F (Bor A × Unit {0}) Bool} {s u : Iter A} {xs : List A} (p : A → Bool) {f : F} {r : Bool} where
   pub every_of_ran :
       (zs : List (Bor A)) × (o : Option (Bor A)) × (j : F) × YieldsThen fronts s zs o u × FoldsTo (λ i x q. Called g i (x, tt) true q) f zs j
-          × MatchOption o (r ≡ true) (λ x. (r ≡ false) × ((h : F) × Called g j (x, tt) false h))
+      × MatchOption o (r ≡ true) (λ x. (r ≡ false) × ((h : F) × Called g j (x, tt) false h))
       → iter_rest s ≡ xs → ((x : Bor A) (t : Bool) (q : F) → Called g f (x, tt) t q → (q ≡ f) × (t ≡ p x.now)) → r ≡ every_of xs p
   every_of_ran ran y k = all_from_yields_List p u f r ran (YieldsList-from_slice xs y) k ∙ every_of_all p xs
 
   pub some_of_ran :
       (zs : List (Bor A)) × (o : Option (Bor A)) × (j : F) × YieldsThen fronts s zs o u × FoldsTo (λ i x q. Called g i (x, tt) false q) f zs j
-          × MatchOption o (r ≡ false) (λ x. (r ≡ true) × ((h : F) × Called g j (x, tt) true h))
+      × MatchOption o (r ≡ false) (λ x. (r ≡ true) × ((h : F) × Called g j (x, tt) true h))
       → iter_rest s ≡ xs → ((x : Bor A) (t : Bool) (q : F) → Called g f (x, tt) t q → (q ≡ f) × (t ≡ p x.now)) → r ≡ some_of xs p
   some_of_ran ran y k = any_from_yields_List p u f r ran (YieldsList-from_slice xs y) k ∙ some_of_any p xs
 
@@ -89,12 +89,12 @@ module _ {A F : Type 0} {g : Mut F (Bor A × Unit {0}) Bool} {s u : Iter A} {xs 
 module _ {F : Type 0} {g : Mut F (ℕ × Unit {0}) Bool} {a b n : ℕ} {u : Range ℕ} {p : ℕ → Bool} {f : F} {r : Bool} where
   pub every_ran :
       (zs : List ℕ) × (o : Option ℕ) × (j : F) × YieldsThen nat_range_steps (record { start = a; end = b }) zs o u × FoldsTo (λ i x q. Called g i (x, tt) true q) f zs j
-          × MatchOption o (r ≡ true) (λ x. (r ≡ false) × ((h : F) × Called g j (x, tt) false h))
+      × MatchOption o (r ≡ true) (λ x. (r ≡ false) × ((h : F) × Called g j (x, tt) false h))
       → b - a ≡ n → ((x : ℕ) (t : Bool) (q : F) → Called g f (x, tt) t q → (q ≡ f) × (t ≡ p x)) → r ≡ every a n p
   every_ran ran l k = all_from_yields_List p u f r ran (YieldsList-from_range a b n refl l) k ∙ every_all p a n
 
   pub some_ran :
       (zs : List ℕ) × (o : Option ℕ) × (j : F) × YieldsThen nat_range_steps (record { start = a; end = b }) zs o u × FoldsTo (λ i x q. Called g i (x, tt) false q) f zs j
-          × MatchOption o (r ≡ false) (λ x. (r ≡ true) × ((h : F) × Called g j (x, tt) true h))
+      × MatchOption o (r ≡ false) (λ x. (r ≡ true) × ((h : F) × Called g j (x, tt) true h))
       → b - a ≡ n → ((x : ℕ) (t : Bool) (q : F) → Called g f (x, tt) t q → (q ≡ f) × (t ≡ p x)) → r ≡ some a n p
   some_ran ran l k = any_from_yields_List p u f r ran (YieldsList-from_range a b n refl l) k ∙ some_any p a n

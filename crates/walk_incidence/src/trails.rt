@@ -4,8 +4,8 @@ ghost use Rattle.std.specs.Iterator.{YieldsFirst, item_count};
 ghost use Rattle.walk_incidence.specs.Links.{cells_on};
 
 use crate::inner::Incidence;
-use layout::limits::RECORD_PLACES;
 use layout::get_or;
+use layout::limits::RECORD_PLACES;
 
 // What is left of a trail: the entries from `entry` on, of which there are at most `left`.
 #[derive(Drop)]

@@ -51,7 +51,6 @@ list_turn a b c s t u k list x room h e P Q =
     (put_both a b c s t u (take k list) (x ∷ []) P Q (omega (arith, P.count, length-take-le k list (omega arith))))
 
 module _ (a b c : Bytes) (s t u k n : ℕ) (room : 2 * (s + n) ≤ length a) (h : k < n) where
-
   pub words_turn : (g : ℕ → ℕ) (x : ℕ) → x ≡ g k → Put a b s t (listed 0 k g) → Put b c t u (x ∷ []) → Put a c s u (listed 0 (k + 1) g)
   words_turn g x e P Q =
       put_as a c s u (listed 0 k g ++ (x ∷ [])) (listed 0 (k + 1) g)

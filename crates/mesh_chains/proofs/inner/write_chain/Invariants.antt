@@ -9,7 +9,7 @@ use Rattle.mesh_chains.proofs.inner.write_chain.Given as goal
 abbrev pub invariant-loop-t : goal.invariant-loop-t
 invariant-loop-t l = (l.t-end ≡ l.from + l.r + 1) × (l.t ≤ l.t-end) × (l.i < 65536) × (length l.items ≡ length l.initial.items) × (length l.seen ≡ length l.initial.seen)
     × (note l.mesh.bytes.now l.r l.seen l.t l.items (follow l.mesh.bytes.now (l.t-end - l.t) l.i) ≡
-      note l.mesh.bytes.now l.r l.initial.seen l.from l.initial.items (follow l.mesh.bytes.now (l.r + 1) l.h))
+    note l.mesh.bytes.now l.r l.initial.seen l.from l.initial.items (follow l.mesh.bytes.now (l.r + 1) l.h))
 
 abbrev pub decreases-loop-t : goal.decreases-loop-t
 decreases-loop-t l = l.t-end - l.t

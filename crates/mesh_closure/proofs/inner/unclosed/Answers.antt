@@ -19,5 +19,7 @@ any_leaves-requires c =
     (rw c.row-row.ensures names, c.requires.2, omega (arith, c.requires.3, stamp_length _ _ _ _ c.stamp_items.ensures))
 
 pub returns : goal.returns
-returns c = (c.stamp_items.ensures ∙ ap (stamp c.args.v c.args.marks.now) c.row-row.ensures,
-    c.any_leaves.ensures ∙ ap (λ r. some_of r (leaves_by c.args.chains.mesh.bytes.now c.args.v c.stamp_items.new.marks)) c.row-row.ensures)
+returns c = (
+  c.stamp_items.ensures ∙ ap (stamp c.args.v c.args.marks.now) c.row-row.ensures,
+  c.any_leaves.ensures ∙ ap (λ r. some_of r (leaves_by c.args.chains.mesh.bytes.now c.args.v c.stamp_items.new.marks)) c.row-row.ensures,
+)

@@ -12,9 +12,13 @@ loop-e-init c = (search rules, search rules, search count_start, search cells_st
 
 pub link_chain-s-requires : goal.link_chain-s-requires
 link_chain-s-requires c =
-    let z = c.sizes_of-sizes.ensures in
-    (search rules, search rules, search rules, search rules,
-    cells_room _ _ z.records_is _ _ _ c.head_of-h.ensures.0 c.loop-e.invariant.0 _ _ c.requires z.first_is z.cells_is c.loop-e-test.true c.loop-e.invariant.2)
+    let z = c.sizes_of-sizes.ensures in (
+      search rules,
+      search rules,
+      search rules,
+      search rules,
+      cells_room _ _ z.records_is _ _ _ c.head_of-h.ensures.0 c.loop-e.invariant.0 _ _ c.requires z.first_is z.cells_is c.loop-e-test.true c.loop-e.invariant.2,
+    )
 
 pub loop-e-preserved : goal.loop-e-preserved
 loop-e-preserved c = (
