@@ -15,13 +15,13 @@ use Rattle.vocabulary.proofs.IntervalLaws.{up_to_true}
 use Rattle.layout.specs.Words.{word, word_at}
 use Rattle.layout.proofs.AnswerLaws.{refuses, accepts, exit_answer}
 use Rattle.std.specs.Prelude.{Result, Ok, Err}
-use Rattle.std.specs.Result.{IsErrAnd}
+use Rattle.std.specs.Result.{IsErrAnd, result_and}
 use Rattle.layout.specs.Answers.{Answer, Done, Refused, answer_of, refusal_number}
 use Rattle.layout.specs.declared.refusal.Refusal.{Refusal}
 use Rattle.layout.specs.Limits.{most_parts}
 use Rattle.messages.specs.Messages.{depths_of, message_size, bad15, from_in, to_in, round_in, count_in, reading}
 use Rattle.messages.specs.Readings.{IsHeader, meant_reading}
-use Rattle.messages.proofs.ReadingLaws.{message_told}
+use Rattle.messages.proofs.ReadingLaws.{message_told, refusal_told}
 use Rattle.messages.specs.declared.Header.{Header}
 use Rattle.messages.proofs.Else.{meant_as, else_bad}
 use Rattle.part_state.specs.State.{Lists, lists_in, lists_of, dynamic, bad20, held_count, depth_place, state_length, taken_place, import_word, part_number}
@@ -126,10 +126,14 @@ module _ (b x : Bytes) where
   unfolding taken_in
   here L changes = refl
 
-  -- the reader refused
-  pub told_15 : {m : Refusal} (r : Result Header Refusal) → meant_reading x r ≡ reading x → r ≡ Err m → Answered (Refused 15) b
+  -- the reader refused, and its refusal is what is passed on
+  pub told_15 : {m : Refusal} (r : Result Header Refusal) → meant_reading x r ≡ reading x → r ≡ Err m → (a : Result ℕ Refusal) → a ≡ result_and r (Ok 0)
+      → Answered (answer_of a) b
   unfolding take_number take_tests_in
-  told_15 r e o = refused 15 (simp (else_bad x r e o)) (λ k. omega (arith, k))
+  told_15 {m = m} r e o a ae =
+      let told = refused 15 (simp (else_bad x r e o)) (λ k. omega (arith, k)) in
+      let given : a ≡ Err m = ae ∙ ap (λ y. result_and y (Ok 0)) o in
+      (ap answer_of given ∙ ap Refused (refusal_told x m (meant_as x r e o)).1 ∙ told.0, told.1)
 
   -- there is no state
   pub told_20 : {h : Header} (r : Result Header Refusal) → meant_reading x r ≡ reading x → r ≡ Ok h → (e : Refusal) (a : Result ℕ Refusal) → IsErrAnd a (λ y. y ≡ e)

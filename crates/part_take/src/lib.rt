@@ -72,8 +72,9 @@ pub fn take(b: &mut [u8], x: &[u8]) -> Result<u32, Refusal>
     ensures { (answer_of result ≡ take_answer b.old x.now) × (b.new ≡ take_state b.old x.now) }
 {
     // `let .. else`, and not `?`: the specification asks for this form here (docs/DECISIONS.md, D-99).
-    let Ok(header) = read(x) else {
-        return Err(Refusal::Message);
+    let reading = read(x);
+    let Ok(header) = reading else {
+        return reading.and(Ok(0));
     };
     let s = State::open(b)?;
     test_header(s, header)?;

@@ -6,29 +6,29 @@ use Rattle.part_take.proofs.TakeLaws.{told_15, told_20, told_refused, message_go
 use Rattle.part_take.proofs.take.Goals as goal
 
 pub returns-in_default : goal.returns-in_default
-returns-in_default c = told_15 _ _ _ c.read.ensures c.in_default.is
+returns-in_default c = told_15 _ _ _ c.read-reading.ensures c.in_default.is _ c.and.ensures
 
 pub returns-in_err-s : goal.returns-in_err-s
-returns-in_err-s c = told_20 _ _ _ c.read.ensures c.in-Ok.is _ _ c.from_residual.ensures.1 c.in_err-s.ensures.refused
+returns-in_err-s c = told_20 _ _ _ c.read-reading.ensures c.in-Ok.is _ _ c.from_residual.ensures.1 c.in_err-s.ensures.refused
 
 pub returns-in_err-test_header : goal.returns-in_err-test_header
 returns-in_err-test_header c =
-    let good = message_good _ _ c.read.ensures c.in-Ok.is in
-    let told = told_refused _ _ _ c.in_ok-s.s.opened c.in_ok-s.ensures.opened good _ (message_header _ _ _ c.read.ensures c.in-Ok.is) _ c.in_err-test_header.ensures (exit_some _ _ refl) in
+    let good = message_good _ _ c.read-reading.ensures c.in-Ok.is in
+    let told = told_refused _ _ _ c.in_ok-s.s.opened c.in_ok-s.ensures.opened good _ (message_header _ _ _ c.read-reading.ensures c.in-Ok.is) _ c.in_err-test_header.ensures (exit_some _ _ refl) in
     (exit_answer _ _ _ c.from_residual-in_err-test_header.ensures.1 refl ∙ told.0, told.1)
 
 pub overflow_add-header : goal.overflow_add-header
 overflow_add-header c =
-    let good = message_good _ _ c.read.ensures c.in-Ok.is in
-    omega (arith, from_few _ _ _ c.in_ok-s.s.opened c.in_ok-s.ensures.opened good _ (message_header _ _ _ c.read.ensures c.in-Ok.is) _ c.in_ok-test_header.ensures refl)
+    let good = message_good _ _ c.read-reading.ensures c.in-Ok.is in
+    omega (arith, from_few _ _ _ c.in_ok-s.s.opened c.in_ok-s.ensures.opened good _ (message_header _ _ _ c.read-reading.ensures c.in-Ok.is) _ c.in_ok-test_header.ensures refl)
 
 pub store-requires : goal.store-requires
 store-requires c =
-    let good = message_good _ _ c.read.ensures c.in-Ok.is in
-    store_fits _ _ _ c.in_ok-s.s.opened c.in_ok-s.ensures.opened good _ (message_header _ _ _ c.read.ensures c.in-Ok.is) _ c.in_ok-test_header.ensures refl _ c.word_at-before.ensures.0
+    let good = message_good _ _ c.read-reading.ensures c.in-Ok.is in
+    store_fits _ _ _ c.in_ok-s.s.opened c.in_ok-s.ensures.opened good _ (message_header _ _ _ c.read-reading.ensures c.in-Ok.is) _ c.in_ok-test_header.ensures refl _ c.word_at-before.ensures.0
 
 pub returns : goal.returns
 returns c =
-    let good = message_good _ _ c.read.ensures c.in-Ok.is in
-    let header = message_header _ _ _ c.read.ensures c.in-Ok.is in
+    let good = message_good _ _ c.read-reading.ensures c.in-Ok.is in
+    let header = message_header _ _ _ c.read-reading.ensures c.in-Ok.is in
     told_done _ _ _ c.in_ok-s.s.opened c.in_ok-s.ensures.opened good _ header _ c.in_ok-test_header.ensures refl _ c.word_at-before.ensures.0 _ c.store.ensures
