@@ -1,28 +1,37 @@
 -- An answer packed is that of the call, and its two halves give the number and the count back. Assumes nothing.
-use mathlib.Core.Path.{◌≡◌, refl, sym, ap, ◌∙◌}
+use mathlib.Core.Path.{◌≡◌, refl, sym, ap, ◌∙◌, subst}
 use mathlib.Core.Bool.{Bool, true, false, cond}
 use Prim.Native.Nat.{ℕ, ◌+◌, ◌*◌, ◌/◌, ◌%◌, ◌<◌}
 use native.Mathlib.Omega.{arith}
 use lib.Dec.{eqb}
 use borrow.Author.Tests.{eqb-true}
-use Rattle.std.specs.Prelude.{Result, Ok, Err}
+use Rattle.std.specs.Prelude.{Result, Ok, Err, MatchResult}
 use Rattle.layout.specs.Answers.{Answer, Done, Refused, answer, answer_of, number_of, count_of, refusal_number}
 use Rattle.layout.specs.declared.refusal.Refusal.{Refusal}
 use Rattle.c_answer.specs.Packed.{packed}
 
--- as the code answers
-module _ (r : Result ℕ Refusal) (n : ℕ) where
-  pub packed_done : {count : ℕ} → r ≡ Ok count → n ≡ count → n ≡ packed (answer_of r)
-  unfolding packed
-  packed_done {count = count} e q = q ∙ (let z : count ≡ 0 * 4294967296 + count = omega arith in z) ∙ ap (λ x. packed (answer_of x)) (sym e)
+-- ---- as the code answers, of a refusal of any type E: C says of it which number it gives
 
-  pub packed_refused : {refusal : Refusal} → r ≡ Err refusal → n ≡ refusal_number refusal → n * 4294967296 ≡ packed (answer_of r)
-  unfolding packed
-  packed_refused {refusal = refusal} e q =
-      let z : n * 4294967296 ≡ refusal_number refusal * 4294967296 + 0 = omega (arith, q) in z ∙ ap (λ x. packed (answer_of x)) (sym e)
+module _ {E : Type 0} (C : E → ℕ → Type 0) where
+  abbrev Packs : ℕ → Result ℕ E → Type 0
+  Packs n r = MatchResult r (λ count. n ≡ packed (Done count)) (λ refusal. (number : ℕ) × C refusal number × (n ≡ packed (Refused number)))
 
-pub packed_as : (r : ℕ) (a x : Answer) → r ≡ packed a → a ≡ x → r ≡ packed x
-packed_as r a x e q = e ∙ ap packed q
+  pub packed_done : (r : Result ℕ E) (n : ℕ) {count : ℕ} → r ≡ Ok count → n ≡ count → Packs n r
+  unfolding packed
+  packed_done r n {count = count} e q =
+      let z : count ≡ 0 * 4294967296 + count = omega arith in
+      subst (λ x. Packs n x) (sym e) (q ∙ z)
+
+  pub packed_refused : (r : Result ℕ E) {refusal : E} → r ≡ Err refusal → (number : ℕ) → C refusal number → (n : ℕ) → n ≡ number → Packs (n * 4294967296) r
+  unfolding packed
+  packed_refused r e number c n q =
+      let z : n * 4294967296 ≡ number * 4294967296 + 0 = omega (arith, q) in
+      subst (λ x. Packs (n * 4294967296) x) (sym e) (number, c, z)
+
+-- of a call of the engine, whose refusals have the numbers of document 01
+pub packed_as : (r : ℕ) (a : Result ℕ Refusal) (x : Answer) → Packs (λ refusal number. number ≡ refusal_number refusal) r a → answer_of a ≡ x → r ≡ packed x
+packed_as r (Ok count) x e q = e ∙ ap packed q
+packed_as r (Err refusal) x e q = e.2 ∙ ap (λ number. packed (Refused number)) e.1 ∙ ap packed q
 
 -- ---- the two halves, for a count of 32 bits
 
