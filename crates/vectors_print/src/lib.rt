@@ -4,7 +4,8 @@
 
 ghost use Rattle.std.specs.Prelude.{◌<◌};
 
-use layout::{Refusal, byte_at, word_at};
+use layout::{byte_at, word_at};
+use std::convert::AsSlice;
 use std::fmt::{self, Write};
 
 pub const OWNERS: [u8; 5] = [1, 1, 1, 2, 2];
@@ -77,39 +78,65 @@ pub fn print_point(out: &[u8], i: u32) {
     print(format_args!("{}:{depth}", word_at(out, k)));
 }
 
+// How what a call gave is printed. A function in its place would have to come with the promise that it can be called.
+#[derive(Clone, Copy)]
+pub enum Form {
+    Words,
+    Depths,
+    Bytes,
+    Points,
+}
+
+fn print_value(form: Form, out: &[u8], i: u32) {
+    match form {
+        Form::Words => print_word(out, i),
+        Form::Depths => print_depth(out, i),
+        Form::Bytes => print_byte(out, i),
+        Form::Points => print_point(out, i),
+    }
+}
+
 // The first n values.
-pub fn print_values<F: Fn(&[u8], u32)>(out: &[u8], n: u32, print_value: F)
-    requires { F.IsAlwaysCallable print_value }
-{
+pub fn print_values(form: Form, out: &[u8], n: u32) {
     for i in 0..n {
         print(" ");
-        print_value(out, i);
+        print_value(form, out, i);
     }
 }
 
-// Prints the name and the answer; gives the count, and 0 for a refusal.
-pub fn print_answer(name: &str, a: Result<u32, Refusal>) -> u32 {
+// Prints the name, whose bytes may be any, and the answer, whose refusal is of any type that gives a number; gives the count, and 0 for a refusal.
+pub fn print_answer<N: AsSlice<u8> + Drop, E: Into<u32>>(name: N, a: Result<u32, E>) -> u32 {
+    io::write_all(1, name.as_slice());
     match a {
-        Ok(count) => print(format_args!("{name}: count {count}")),
-        Err(refusal) => print(format_args!("{name}: refused {}", u32::from(refusal))),
+        Ok(count) => {
+            print(format_args!(": count {count}"));
+            count
+        }
+        Err(refusal) => {
+            let number: u32 = refusal.into();
+            print(format_args!(": refused {number}"));
+            0
+        }
     }
-    a.unwrap_or(0)
 }
 
-pub fn say(name: &str, a: Result<u32, Refusal>) {
+pub fn say<N: AsSlice<u8> + Drop, E: Into<u32>>(name: N, a: Result<u32, E>) {
     print_answer(name, a);
     print("\n");
 }
 
 // The answer and the values that it counts.
-pub fn say_all<F: Fn(&[u8], u32)>(name: &str, a: Result<u32, Refusal>, out: &[u8], print_value: F)
-    requires { F.IsAlwaysCallable print_value }
-{
+pub fn say_all<N: AsSlice<u8> + Drop, E: Into<u32>>(
+    form: Form,
+    name: N,
+    a: Result<u32, E>,
+    out: &[u8],
+) {
     let n = print_answer(name, a);
     if n != 0 {
         print(":");
     }
-    print_values(out, n, print_value);
+    print_values(form, out, n);
     print("\n");
 }
 
@@ -122,10 +149,20 @@ pub fn set_word(m: &mut [u8], i: usize, v: usize) {
     }
 }
 
-// Puts the words of a text, in decimal, as many as fit.
-pub fn put_words(m: &mut [u8], text: &str) {
-    for (i, word) in text.split(' ').enumerate() {
-        set_word(m, i, word.parse().unwrap_or(0));
+// The number that these digits write, modulo 65536.
+fn number_of(digits: &[u8]) -> u16 {
+    digits.iter().fold(
+        0,
+        |number: u16, digit| number
+            .wrapping_mul(10)
+            .wrapping_add(u16::from(*digit).wrapping_sub(48)),
+    )
+}
+
+// Puts the words of a text, in decimal, as many as fit. A byte below that of the digit 0 ends a word.
+pub fn put_words<T: AsSlice<u8> + Drop>(m: &mut [u8], text: T) {
+    for (i, word) in text.as_slice().split(|c| *c < 48).enumerate() {
+        set_word(m, i, usize::from(number_of(word)));
     }
 }
 
@@ -144,7 +181,7 @@ pub fn five_cells() -> [u8; 74] {
 }
 
 // The values of the five cells: each is two words of the text, the high one first.
-pub fn five_values(text: &str) -> [u8; 20] {
+pub fn five_values<T: AsSlice<u8> + Drop>(text: T) -> [u8; 20] {
     let mut field = [0u8; 20];
     put_words(&mut field, text);
     field

@@ -3,8 +3,7 @@
 #![tactic(auto)]
 
 use vectors_print::{
-    STENCIL, WEIGHTS, five_cells, five_values, print, print_byte, print_depth, print_values,
-    say_all, triangles,
+    Form, STENCIL, WEIGHTS, five_cells, five_values, print, print_values, say_all, triangles,
 };
 
 // ---- rounds
@@ -13,9 +12,9 @@ use vectors_print::{
 fn round_of(name: &str, kind: u32, weights: &[u8], field: &[u8], out: &mut [u8]) {
     let m = five_cells();
     print(format_args!("{name} of"));
-    print_values(field, 5, print_depth);
+    print_values(Form::Depths, field, 5);
     let a = round::undivided_round(&m, &STENCIL, kind, weights, field, out);
-    say_all("", a, out, print_depth);
+    say_all(Form::Depths, "", a, out);
 }
 
 // A round of the values of a text.
@@ -68,7 +67,7 @@ fn above_the_water() {
     let mut out = [0u8; 20];
     round_of("mean 2 1", 1, &WEIGHTS, &field, &mut out);
     print("its first four bytes:");
-    print_values(&out, 4, print_byte);
+    print_values(Form::Bytes, &out, 4);
     print("\n");
 }
 
@@ -146,7 +145,7 @@ fn layers() {
         b"\x00\x00\x00\x00\x00\x00\x00\x00\x00\x00\x02\xbc",
         &mut out,
     );
-    say_all("triangles, mean 4 2 1 of 0 0 700", a, &out, print_depth);
+    say_all(Form::Depths, "triangles, mean 4 2 1 of 0 0 700", a, &out);
 }
 
 fn main() {
