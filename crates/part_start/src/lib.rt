@@ -118,7 +118,8 @@ pub fn start(
     put_entries(
         b,
         s,
-        &reaches,
+        &reaches.entries,
+        &reaches.ends,
         p,
         &incidence.prev,
         &incidence.last,

@@ -13,14 +13,13 @@ pub use crate::counts::count_exports;
 pub use crate::exports::{find_sent, stamp_reach};
 use cell_numbers::inner::{cell_at, index_of};
 use cell_numbers::{Global, Local};
-use layout::get_or;
 use layout::inner::copy;
 use layout::limits::MOST_PARTS;
+use layout::{get_or, word_at};
 use part_state::inner::{CELLS, FIRST, KIND, LENGTH, PART, STEPS, Sizes, WEIGHT_WORDS};
 use split::inner::{number_cells, to_global, to_local};
 use split_cells::inner::add_order;
 use split_classes::inner::{HALO, INTERIOR, classify};
-use walk_reach_table::inner::ReachTable;
 use word_lists::inner::{put_list, put_one, put_words};
 
 // Whose lists are made: the part, how many parts there are, the mesh's cells, how many points touch the part, and how many cells stand at these together.
@@ -62,22 +61,24 @@ fn place_at(order: &[u16], first: usize, l: Local) -> usize
 }
 
 // How many entries the reach of local cell l has.
-fn row_size(reaches: &ReachTable, first: usize, order: &[u16], l: Local) -> usize
+fn row_size(table: &[u8], ends: &[u16], first: usize, order: &[u16], l: Local) -> usize
     requires { (1 ≤ l.0) × (first ≤ get_or order.now (l.0 - 1) 0) }
-    ensures { (result ≡ row_size reaches.now.entries reaches.now.ends first order.now l.0) × (result < 65536) }
+    ensures { (result ≡ row_size table.now ends.now first order.now l.0) × (result < 65536) }
 {
     let q = place_at(order, first, l);
-    reaches.end(q).saturating_sub(reaches.start(q))
+    let from = get_or(ends, q, 0) as usize;
+    let to = get_or(ends, q + 1, 0) as usize;
+    to.saturating_sub(from)
 }
 
 // How many entries the reaches of the owned cells have.
-fn row_total(reaches: &ReachTable, first: usize, order: &[u16], owned: usize) -> usize
-    requires { ReachRows reaches.now.entries reaches.now.ends first order.now owned × (row_ends reaches.now.entries reaches.now.ends first order.now owned < 65536) × (owned < 65535) }
-    ensures { result ≡ row_ends reaches.now.entries reaches.now.ends first order.now owned }
+fn row_total(table: &[u8], ends: &[u16], first: usize, order: &[u16], owned: usize) -> usize
+    requires { ReachRows table.now ends.now first order.now owned × (row_ends table.now ends.now first order.now owned < 65536) × (owned < 65535) }
+    ensures { result ≡ row_ends table.now ends.now first order.now owned }
 {
     let mut e = 0;
     for l in 0..owned {
-        e += row_size(reaches, first, order, Local((l + 1) as u16));
+        e += row_size(table, ends, first, order, Local((l + 1) as u16));
     }
     e
 }
@@ -102,7 +103,8 @@ fn put_ends(b: &mut [u8], s: usize, counts: &[u16], base: usize) -> usize
 fn put_row_ends(
     b: &mut [u8],
     s: usize,
-    reaches: &ReachTable,
+    table: &[u8],
+    ends: &[u16],
     first: usize,
     order: &[u16],
     owned: usize,
@@ -110,54 +112,50 @@ fn put_row_ends(
     requires { (2 * (s + owned + 1) ≤ length b.old)
         × (s < 65536)
         × (owned < 65535)
-        × ReachRows reaches.now.entries reaches.now.ends first order.now owned
-        × (row_ends reaches.now.entries reaches.now.ends first order.now owned < 65536) }
-    ensures { Put b.old b.new s result (listed 0 (owned + 1) (row_ends reaches.now.entries reaches.now.ends first order.now)) }
+        × ReachRows table.now ends.now first order.now owned
+        × (row_ends table.now ends.now first order.now owned < 65536) }
+    ensures { Put b.old b.new s result (listed 0 (owned + 1) (row_ends table.now ends.now first order.now)) }
 {
     let mut e = 0;
     let mut t = s;
     for l in 0..owned {
         t = put_one(b, t, e);
-        e += row_size(reaches, first, order, Local((l + 1) as u16));
+        e += row_size(table, ends, first, order, Local((l + 1) as u16));
     }
     put_one(b, t, e)
 }
 
 // Writes entry t of the table in local numbers.
-fn put_entry(
-    b: &mut [u8],
-    s: usize,
-    reaches: &ReachTable,
-    first: usize,
-    local: &[u16],
-    t: usize,
-) -> usize
-    requires { (2 * (s + 2) ≤ length b.old) × (s < 500000) × (t < 65536) × (first + word_at reaches.now.entries (2 * t) < 65536) }
-    ensures { Put b.old b.new s result (entry_words reaches.now.entries first local.now t) }
+fn put_entry(b: &mut [u8], s: usize, table: &[u8], first: usize, local: &[u16], t: usize) -> usize
+    requires { (2 * (s + 2) ≤ length b.old) × (s < 500000) × (t < 65536) × (first + word_at table.now (2 * t) < 65536) }
+    ensures { Put b.old b.new s result (entry_words table.now first local.now t) }
 {
-    let c = cell_at(first, reaches.place(t));
+    let c = cell_at(first, word_at(table, 2 * t));
     let u = put_local(b, s, to_local(local, c));
-    put_one(b, u, reaches.layer(t))
+    put_one(b, u, word_at(table, 2 * t + 1))
 }
 
 // Writes the entries of the reach of local cell l.
 fn put_row(
     b: &mut [u8],
     s: usize,
-    reaches: &ReachTable,
+    table: &[u8],
+    ends: &[u16],
     first: usize,
     order: &[u16],
     local: &[u16],
     l: Local,
 ) -> usize
-    requires { (2 * (s + 2 * row_size reaches.now.entries reaches.now.ends first order.now l.0) ≤ length b.old) × (s < 65536) × (1 ≤ l.0)
-        × ReachRow reaches.now.entries reaches.now.ends first order.now l.0 }
-    ensures { Put b.old b.new s result (row_words reaches.now.entries reaches.now.ends first order.now local.now l.0) }
+    requires { (2 * (s + 2 * row_size table.now ends.now first order.now l.0) ≤ length b.old) × (s < 65536) × (1 ≤ l.0)
+        × ReachRow table.now ends.now first order.now l.0 }
+    ensures { Put b.old b.new s result (row_words table.now ends.now first order.now local.now l.0) }
 {
     let q = place_at(order, first, l);
+    let from = get_or(ends, q, 0) as usize;
+    let to = get_or(ends, q + 1, 0) as usize;
     let mut u = s;
-    for t in reaches.start(q)..reaches.end(q) {
-        u = put_entry(b, u, reaches, first, local, t);
+    for t in from..to {
+        u = put_entry(b, u, table, first, local, t);
     }
     u
 }
@@ -166,21 +164,22 @@ fn put_row(
 fn put_rows(
     b: &mut [u8],
     s: usize,
-    reaches: &ReachTable,
+    table: &[u8],
+    ends: &[u16],
     first: usize,
     order: &[u16],
     local: &[u16],
     owned: usize,
 ) -> usize
-    requires { (2 * (s + 2 * row_ends reaches.now.entries reaches.now.ends first order.now owned) ≤ length b.old)
-        × (s + 2 * row_ends reaches.now.entries reaches.now.ends first order.now owned < 65536)
+    requires { (2 * (s + 2 * row_ends table.now ends.now first order.now owned) ≤ length b.old)
+        × (s + 2 * row_ends table.now ends.now first order.now owned < 65536)
         × (owned < 65535)
-        × ReachRows reaches.now.entries reaches.now.ends first order.now owned }
-    ensures { Put b.old b.new s result (blocks 1 owned (row_words reaches.now.entries reaches.now.ends first order.now local.now)) }
+        × ReachRows table.now ends.now first order.now owned }
+    ensures { Put b.old b.new s result (blocks 1 owned (row_words table.now ends.now first order.now local.now)) }
 {
     let mut u = s;
     for l in 1..owned + 1 {
-        u = put_row(b, u, reaches, first, order, local, Local(l as u16));
+        u = put_row(b, u, table, ends, first, order, local, Local(l as u16));
     }
     u
 }
@@ -250,43 +249,55 @@ pub fn put_front(
     put_borders(b, s, plan.owned, got, sent)
 }
 
-// Writes the local order, the reaches with their ends, and the exports, which are listed one part after another.
+// Writes the local order, the reaches with their ends, and the exports, which are listed one part after another. Table and ends are slices of any
+// length, as in `find_sent`.
 pub fn put_entries(
     b: &mut [u8],
     s: usize,
-    reaches: &ReachTable,
+    table: &[u8],
+    ends: &[u16],
     plan: Plan,
     order: &[u16],
     local: &[u16],
     list: &[u16],
 ) -> usize
-    requires { (2 * (s + plan.held + plan.owned + 1 + 2 * row_ends reaches.now.entries reaches.now.ends plan.asked.first order.now plan.owned + plan.sent) ≤ length b.old)
-        × (s + plan.held + plan.owned + 1 + 2 * row_ends reaches.now.entries reaches.now.ends plan.asked.first order.now plan.owned + plan.sent < 65536)
+    requires { (2 * (s + plan.held + plan.owned + 1 + 2 * row_ends table.now ends.now plan.asked.first order.now plan.owned + plan.sent) ≤ length b.old)
+        × (s + plan.held + plan.owned + 1 + 2 * row_ends table.now ends.now plan.asked.first order.now plan.owned + plan.sent < 65536)
         × (plan.held ≤ length order.now)
-        × ReachRows reaches.now.entries reaches.now.ends plan.asked.first order.now plan.owned
+        × ReachRows table.now ends.now plan.asked.first order.now plan.owned
         × (plan.sent ≤ length list.now) }
-    ensures { Put b.old b.new s result (take plan.held order.now ++ (listed 0 (plan.owned + 1) (row_ends reaches.now.entries
-        reaches.now.ends plan.asked.first order.now) ++ (blocks 1 plan.owned (row_words reaches.now.entries reaches.now.ends plan.asked.first
+    ensures { Put b.old b.new s result (take plan.held order.now ++ (listed 0 (plan.owned + 1) (row_ends table.now
+        ends.now plan.asked.first order.now) ++ (blocks 1 plan.owned (row_words table.now ends.now plan.asked.first
         order.now local.now) ++ map (local_in local.now) (take plan.sent list.now)))) }
 {
     let t = put_list(b, s, &order[..plan.held]);
-    let u = put_row_ends(b, t, reaches, plan.asked.first, order, plan.owned);
-    let w = put_rows(b, u, reaches, plan.asked.first, order, local, plan.owned);
+    let u = put_row_ends(b, t, table, ends, plan.asked.first, order, plan.owned);
+    let w = put_rows(
+        b,
+        u,
+        table,
+        ends,
+        plan.asked.first,
+        order,
+        local,
+        plan.owned,
+    );
     put_locals(b, w, list, plan.sent, local)
 }
 
 // The local order of the part, and what comes of it and of how many cells it exports, with the counts of its imports in a cleared array. The row is work
-// space.
+// space. Table and ends are slices of any length, as in `find_sent`.
 pub fn make_plan(
     asked: Asked,
     sent: usize,
     owners: &[u8],
-    reaches: &ReachTable,
+    table: &[u8],
+    ends: &[u16],
     class: &mut [u8],
     order: &mut [u16],
     got: &mut [u16],
 ) -> Plan
-    requires { TablesFit owners.now reaches.now.entries reaches.now.ends asked.part asked.first asked.cells asked.parts
+    requires { TablesFit owners.now table.now ends.now asked.part asked.first asked.cells asked.parts
         × (sent ≤ 512000)
         × (asked.points ≤ most_elements)
         × (asked.around ≤ most_records)
@@ -295,18 +306,11 @@ pub fn make_plan(
         × (got.old ≡ replicate 19 0) }
     ensures { (result.asked ≡ asked)
         × (result.sent ≡ sent)
-        × Drawn owners.now reaches.now.entries reaches.now.ends result.asked.part result.asked.first result.asked.cells result.asked.parts order.new result.held
+        × Drawn owners.now table.now ends.now result.asked.part result.asked.first result.asked.cells result.asked.parts order.new result.held
         result.owned result.sent asked.points asked.around result.front result.long
-        × Got owners.now reaches.now.entries reaches.now.ends result.asked.part result.asked.cells got.new }
+        × Got owners.now table.now ends.now result.asked.part result.asked.cells got.new }
 {
-    classify(
-        owners,
-        &reaches.entries,
-        &reaches.ends,
-        asked.cells,
-        asked.part,
-        class,
-    );
+    classify(owners, table, ends, asked.cells, asked.part, class);
     let held = add_order(class, asked.first, asked.cells, asked.parts, order);
     count_classes(class, asked.cells, got);
     let inner = get_or(got, INTERIOR as usize, 0) as usize;
@@ -314,7 +318,7 @@ pub fn make_plan(
     let sizes = Sizes {
         held,
         owned,
-        reached: row_total(reaches, asked.first, order, owned),
+        reached: row_total(table, ends, asked.first, order, owned),
         sent,
         points: asked.points,
         around: asked.around,

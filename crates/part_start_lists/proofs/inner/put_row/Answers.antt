@@ -9,7 +9,7 @@ pub place_at-q-requires : goal.place_at-q-requires
 place_at-q-requires c = (search rules, search row_cell)
 
 pub loop-t-init : goal.loop-t-init
-loop-t-init c = (search rules, search rules, search rules, search rules, rw c.start-t.ensures.0 (blocks_begin _ _ _ _))
+loop-t-init c = (search rules, search rules, search rules, search rules, rw c.get_or-from.ensures (blocks_begin _ _ _ _))
 
 pub put_entry-u-requires : goal.put_entry-u-requires
 put_entry-u-requires c =

@@ -9,6 +9,6 @@ use Rattle.part_start_lists.proofs.inner.put_row.Given as goal
 
 abbrev pub invariant-loop-t : goal.invariant-loop-t
 invariant-loop-t l =
-    let from = get_or l.reaches.ends l.q 0 in
-    (from ≤ l.t) × (l.t ≤ from + (get_or l.reaches.ends (l.q + 1) 0 - from)) × (l.u ≡ l.s + 2 * (l.t - from)) × (length l.b ≡ length l.initial.b)
-    × Put l.initial.b l.b l.s l.u (blocks from (l.t - from) (entry_words l.reaches.entries l.first l.local))
+    let from = get_or l.ends l.q 0 in
+    (from ≤ l.t) × (l.t ≤ from + (get_or l.ends (l.q + 1) 0 - from)) × (l.u ≡ l.s + 2 * (l.t - from)) × (length l.b ≡ length l.initial.b)
+    × Put l.initial.b l.b l.s l.u (blocks from (l.t - from) (entry_words l.table l.first l.local))

@@ -5,4 +5,4 @@ use borrow.Author.Rules.{rules}
 use Rattle.part_start_lists.proofs.inner.row_size.Goals as goal
 
 pub returns : goal.returns
-returns c = (c.saturating_sub.ensures ∙ size_some _ _ _ _ _ _ _ _ c.place_at-q.ensures.0 c.start.ensures.0 c.end.ensures.0, search rules)
+returns c = (c.saturating_sub.ensures ∙ size_some _ _ _ _ _ _ _ _ c.place_at-q.ensures.0 c.get_or-from.ensures c.get_or-to.ensures, search rules)
