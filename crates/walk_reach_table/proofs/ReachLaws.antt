@@ -31,7 +31,7 @@ use Rattle.std.proofs.lemmas.Option.{none-some}
 use Rattle.mesh.specs.Accepted.{Accepted, Cell}
 use Rattle.walk_reach_table.specs.Tables.{placed_words, reach_entries, table_words, entry_count, row, Cleared, Emitted, EndTable, Tabled}
 use Rattle.walk_reach_table.proofs.TableLaws.{emit_none, emit_both, over_both}
-use Rattle.walk_reach_table.proofs.SizeLaws.{table_refused}
+use Rattle.walk_reach_table.proofs.SizeLaws.{entries_refused}
 
 pub joined_append : {A : Type 0} (xs ys : List (List A)) → joined (xs ++ ys) ≡ joined xs ++ joined ys
 unfolding joined
@@ -219,7 +219,7 @@ module _ (m st : Bytes) (first q c : ℕ) (fe : first ≡ first_cell m) (ce : c 
   -- too many already
   pub table_over : (a b : Bytes) (t cells : ℕ) → cells ≡ cell_count m → q < cells → Emitted a b 0 (table_words m st q) t → most_reached < t + length (reach_entries m st c) / 2
       → bad13 m st ≡ true
-  table_over a b t cells ke h E o = table_refused m st (omega (arith, here, grows))
+  table_over a b t cells ke h E o = entries_refused m st (omega (arith, here, grows))
     where
       here : most_reached < entry_count m st (q + 1)
       here = omega (arith, over_both a b 0 t _ _ E o, ap length next, table_count m st (q + 1))
