@@ -45,7 +45,7 @@ fn is_beside(page: &str, read: &Page) -> bool {
 /// Definitions that only contracts within the engine and proofs rest on, and that stand on pages of the believed text.
 const INNER_DEFINITIONS: [(&str, &[&str]); 10] = [
     ("depths/specs/Depths", &["Within", "Valid"]),
-    ("layout/specs/Answers", &["refused_as"]),
+    ("layout/specs/Answers", &["answer_of", "refused_as"]),
     ("layout/specs/Limits", &["element_places", "record_places", "table_bytes"]),
     ("list_input/specs/Pieces", &["pieces_number", "pieces_text"]),
     ("list_text/specs/Printing", &["Put", "numbers"]),
