@@ -13,7 +13,6 @@ use list_ranges::inner::{Row, put_class};
 use list_text::inner::Printer;
 use mesh::inner::{cell_count, first_cell};
 use split_classes::inner::{HALO, INTERIOR, classify};
-use walk_reach_table::inner::ReachTable;
 
 // The line of the cells of class k.
 fn put_cells(label: &[u8], row: &Row, k: u8, text: &mut Printer)
@@ -53,30 +52,25 @@ pub fn put_imports(row: &Row, parts: usize, text: &mut Printer)
     }
 }
 
-// The lines of the exports of part i to each part, by rising part: each by the row of the part that they go to.
+// The lines of the exports of part i to each part, by rising part: each by the row of the part that they go to. Table and ends are
+// slices of any length, as in `classify`.
 pub fn put_exports(
     m: &[u8],
     owners: &[u8],
-    reaches: &ReachTable,
+    table: &[u8],
+    ends: &[u16],
     i: usize,
     parts: usize,
     text: &mut Printer,
 )
     requires { Accepted m.now × (i ≤ most_parts) × (parts ≤ most_parts) }
-    ensures { Put text.old text.new (blocks 1 parts (export_line owners.now reaches.now.entries reaches.now.ends (first_cell m.now) (cell_count m.now) i)) }
+    ensures { Put text.old text.new (blocks 1 parts (export_line owners.now table.now ends.now (first_cell m.now) (cell_count m.now) i)) }
 {
     let first = first_cell(m);
     let cells = cell_count(m);
     for other in 1..=parts {
         let mut class = [0u8; MOST_ELEMENTS];
-        classify(
-            owners,
-            &reaches.entries,
-            &reaches.ends,
-            cells,
-            other,
-            &mut class,
-        );
+        classify(owners, table, ends, cells, other, &mut class);
         let row = Row {
             class: &class[..cells],
             first,

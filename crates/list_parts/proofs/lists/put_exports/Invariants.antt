@@ -8,4 +8,4 @@ use Rattle.list_parts.proofs.lists.put_exports.Given as goal
 abbrev pub invariant-loop-other : goal.invariant-loop-other
 invariant-loop-other l =
     (l.other ≤ l.parts + 1)
-    × Put l.initial.text l.text (blocks 1 (l.other - 1) (export_line l.owners l.reaches.entries l.reaches.ends l.first l.cells l.i))
+    × Put l.initial.text l.text (blocks 1 (l.other - 1) (export_line l.owners l.table l.ends l.first l.cells l.i))
