@@ -73,6 +73,6 @@ pub fn list_accepted(m: &[u8], parts: u32, owners: &[u8], stencil: &[u8], text: 
         put_own(&row, i, text);
         put_imports(&row, count, text);
         put_exports(m, owners, &reaches.entries, &reaches.ends, i, count, text);
-        put_dimensions(m, &incidence, &class, &holders, text);
+        put_dimensions(m, incidence.view(), &class, &holders, text);
     }
 }

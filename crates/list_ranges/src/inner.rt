@@ -3,7 +3,7 @@ ghost use Rattle.std.specs.Prelude.{◌<◌};
 ghost use Rattle.vocabulary.specs.Intervals.{blocks};
 ghost use Rattle.mesh.specs.Mesh.{top};
 ghost use Rattle.mesh.specs.Accepted.{Accepted};
-ghost use Rattle.walk_incidence.specs.Links.{Turned};
+ghost use Rattle.walk_incidence.specs.Links.{Turned, seen};
 ghost use Rattle.list_text.specs.Printing.{Put, numbers};
 ghost use Rattle.list_ranges.specs.Lines.{cells_of, range_line, row_lines, dimension_lines};
 
@@ -12,7 +12,7 @@ use layout::limits::MOST_ELEMENTS;
 use list_text::inner::Printer;
 use mesh::inner::{below_of, count_of, top_of};
 use split_ranges::inner::{COPIED, EXPOSED, PRIVATE, SHARED, classify_lowers};
-use walk_incidence::inner::Incidence;
+use walk_incidence::inner::IncidenceRef;
 
 // The numbers of class k, and the end of their line.
 pub fn put_class(row: &Row, k: u8, text: &mut Printer)
@@ -56,12 +56,12 @@ fn put_ranges(m: &[u8], lower: &[u8; MOST_ELEMENTS], dimension: usize, text: &mu
 // The ranges of the dimensions, rising, for the part that the row of cells is of.
 pub fn put_dimensions(
     m: &[u8],
-    incidence: &Incidence,
+    incidence: IncidenceRef,
     class: &[u8],
     holders: &[u8],
     text: &mut Printer,
 )
-    requires { Turned m.now incidence.now }
+    requires { Turned m.now (seen incidence) }
     ensures { Put text.old text.new (blocks 0 (top m.now) (dimension_lines m.now class.now holders.now)) }
 {
     for dimension in 0..top_of(m) {

@@ -64,10 +64,13 @@ pub fn state_size(
         owners,
         i,
         stencil,
-        &reaches,
+        &reaches.entries,
+        &reaches.ends,
         &holders,
         &mut class,
-        &mut incidence,
+        &incidence.cell,
+        &mut incidence.prev,
+        &incidence.last,
         &mut got,
     );
     Ok((2 * p.long + DEPTHS + 4 * p.held) as u32)

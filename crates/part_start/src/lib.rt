@@ -83,9 +83,10 @@ pub fn start(
         sizes_of(m),
         sought,
         owners,
-        &reaches,
+        &reaches.entries,
+        &reaches.ends,
         &mut class,
-        &incidence,
+        incidence.view(),
     );
     let p = draw_plan(
         m,
@@ -93,10 +94,13 @@ pub fn start(
         owners,
         i,
         stencil,
-        &reaches,
+        &reaches.entries,
+        &reaches.ends,
         &holders,
         &mut class,
-        &mut incidence,
+        &incidence.cell,
+        &mut incidence.prev,
+        &incidence.last,
         &mut got,
     );
     let size = 2 * p.long + DEPTHS + 4 * p.held;
@@ -135,7 +139,9 @@ pub fn start(
         outside,
         owners,
         &reaches.ends,
-        &mut incidence,
+        &mut incidence.cell,
+        &mut incidence.prev,
+        &mut incidence.last,
     );
     Ok(size as u32)
 }

@@ -2,10 +2,10 @@
 ghost use Rattle.std.specs.Prelude.{◌≡◌, cond, [], ◌∷◌, ◌++◌, ◌*◌, ◌<◌, ◌≤◌, length, replicate};
 ghost use Rattle.vocabulary.specs.Bytes.{over};
 ghost use Rattle.vocabulary.specs.Intervals.{blocks};
-ghost use Rattle.layout.specs.Limits.{most_elements};
+ghost use Rattle.layout.specs.Limits.{element_places, most_elements, record_places};
 ghost use Rattle.mesh.specs.Mesh.{counted, first_cell};
 ghost use Rattle.mesh.specs.Accepted.{Accepted};
-ghost use Rattle.walk_incidence.specs.Links.{Turned};
+ghost use Rattle.walk_incidence.specs.Links.{Turned, lists};
 ghost use Rattle.split_classes.specs.Classes.{Prepared};
 ghost use Rattle.part_state.specs.State.{state_length, depths_place};
 ghost use Rattle.split.specs.Lists.{split_number, sizes_number};
@@ -19,8 +19,7 @@ use part_calls::inner::clear;
 use part_start_lists::inner::{Asked, Plan, count_exports, make_plan, put_cells};
 use part_start_points::inner::{Sought, count_points, put_points};
 use part_state::inner::DEPTHS;
-use walk_incidence::inner::Incidence;
-use walk_reach_table::inner::ReachTable;
+use walk_incidence::inner::{IncidenceRef, turn};
 
 // Writes what stands behind the lists at round 0: the round, the flags, and the depths of the held cells.
 pub fn put_rest(b: &mut [u8], plan: Plan, f: &[u8], order: &[u16])
@@ -52,7 +51,7 @@ pub fn sought_of(m: &[u8], i: u32) -> Sought
     }
 }
 
-// Makes out the plan of part i, by the tables and by the chains turned round. Its order takes the place of one array of these, so they are gone
+// Makes out the plan of part i, by the tables and by the chains turned round. Its order takes the place of one list of these, so they are gone
 // afterwards; the counts of its imports come into a cleared array. The row is work space.
 pub fn draw_plan(
     m: &[u8],
@@ -60,23 +59,25 @@ pub fn draw_plan(
     owners: &[u8],
     i: u32,
     stencil: &[u8],
-    reaches: &ReachTable,
+    table: &[u8],
+    ends: &[u16],
     holders: &[u8],
     class: &mut [u8],
-    incidence: &mut Incidence,
+    cell: &[u16],
+    prev: &mut [u16],
+    last: &[u16],
     got: &mut [u16],
 ) -> Plan
     requires { (split_number m.now parts owners.now (i ∷ i ∷ []) stencil.now ≡ 0)
         × (sizes_number m.now parts owners.now stencil.now ≡ 0)
-        × Prepared m.now parts owners.now stencil.now reaches.now.entries reaches.now.ends holders.now
-        × Turned m.now incidence.old
+        × Prepared m.now parts owners.now stencil.now table.now ends.now holders.now
+        × Turned m.now (lists cell.now prev.old last.now)
         × (length class.old ≡ most_elements)
+        × (most_elements ≤ length prev.old)
         × (got.old ≡ replicate 19 0) }
-    ensures { Planned m.now parts owners.now i stencil.now reaches.now.entries reaches.now.ends incidence.new.prev got.new result
-        × (incidence.new.cell ≡ incidence.old.cell)
-        × (length incidence.new.prev ≡ length incidence.old.prev)
-        × (incidence.new.last ≡ incidence.old.last) }
+    ensures { Planned m.now parts owners.now i stencil.now table.now ends.now prev.new got.new result }
 {
+    let incidence = IncidenceRef { cell, prev, last };
     let points = count_points(sought_of(m, i), owners, incidence);
     let asked = Asked {
         part: i as usize,
@@ -87,16 +88,7 @@ pub fn draw_plan(
         around: points.cells,
     };
     let sent = count_exports(owners, holders, asked.part, asked.cells);
-    make_plan(
-        asked,
-        sent,
-        owners,
-        &reaches.entries,
-        &reaches.ends,
-        class,
-        &mut incidence.prev,
-        got,
-    )
+    make_plan(asked, sent, owners, table, ends, class, prev, got)
 }
 
 // Writes the words of the part's points from word s on, when all else is written: the chains are turned round once more, in arrays that are free by then.
@@ -108,16 +100,23 @@ pub fn add_points(
     outside: bool,
     owners: &[u8],
     local: &[u16],
-    incidence: &mut Incidence,
+    cell: &mut [u16],
+    prev: &mut [u16],
+    last: &mut [u16],
 ) -> usize
     requires { Accepted m.now
+        × (length cell.old ≡ record_places)
+        × (length prev.old ≡ record_places)
+        × (length last.old ≡ element_places)
         × (sought.points ≤ most_elements)
         × PointRoom m.now owners.now b.old s sought.part sought.first sought.points }
-    ensures { let points = points_on incidence.new owners.now sought.first sought.part sought.points in
-        Turned m.now incidence.new
-        × Put b.old b.new s result (point_words incidence.new (cond outside [] local.now)
+    ensures { let w = lists cell.new prev.new last.new in
+        let points = points_on w owners.now sought.first sought.part sought.points in
+        Turned m.now w
+        × Put b.old b.new s result (point_words w (cond outside [] local.now)
         points (length points)) }
 {
-    incidence.invert(m);
+    turn(m, cell, prev, last);
+    let incidence = IncidenceRef { cell, prev, last };
     put_points(b, s, sought, outside, owners, local, incidence)
 }

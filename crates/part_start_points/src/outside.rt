@@ -3,6 +3,7 @@
 ghost use Rattle.std.specs.Prelude.{◌≡◌, ◌+◌, ◌<◌, ◌≤◌, length};
 ghost use Rattle.layout.specs.Limits.{most_elements};
 ghost use Rattle.mesh.specs.Accepted.{Accepted};
+ghost use Rattle.walk_incidence.specs.Links.{seen};
 ghost use Rattle.walk_incidence.specs.Sizes.{Sized};
 ghost use Rattle.split_classes.specs.Classes.{RowCleared};
 ghost use Rattle.part_start_points.specs.Outside.{unstamped_at, chain_unstamped, cell_outside, some_outside};
@@ -13,12 +14,11 @@ use mesh::inner::{head_of, read_record};
 use part_start_lists::inner::stamp_reach;
 use split::inner::owner_of;
 use split_classes::inner::clear_row;
-use walk_incidence::inner::{Incidence, MeshSizes};
-use walk_reach_table::inner::ReachTable;
+use walk_incidence::inner::{IncidenceRef, MeshSizes};
 
 // Whether element g is a point at which some cell bears no stamp.
-fn unstamped_at(sought: Sought, stamps: &[u8], incidence: &Incidence, g: usize) -> bool
-    ensures { result ≡ unstamped_at incidence.now stamps.now sought.first sought.points g }
+fn unstamped_at(sought: Sought, stamps: &[u8], incidence: IncidenceRef, g: usize) -> bool
+    ensures { result ≡ unstamped_at (seen incidence.entry) stamps.now sought.first sought.points g }
 {
     if sought.points < g {
         return false;
@@ -33,10 +33,10 @@ fn chain_unstamped(
     h: usize,
     sought: Sought,
     stamps: &[u8],
-    incidence: &Incidence,
+    incidence: IncidenceRef,
 ) -> bool
     requires { Accepted m.now × Sized m.now sizes × (h < 65536) }
-    ensures { result ≡ chain_unstamped m.now incidence.now stamps.now sought.first
+    ensures { result ≡ chain_unstamped m.now (seen incidence.entry) stamps.now sought.first
         sought.points (sizes.records + 1) h }
 {
     let mut i = h;
@@ -59,24 +59,25 @@ fn cell_outside(
     sizes: MeshSizes,
     sought: Sought,
     owners: &[u8],
-    reaches: &ReachTable,
+    table: &[u8],
+    ends: &[u16],
     c: usize,
     stamps: &mut [u8],
-    incidence: &Incidence,
+    incidence: IncidenceRef,
 ) -> bool
     requires { Accepted m.now × Sized m.now sizes × (sought.first ≤ c) × (c < 65536) × RowCleared most_elements stamps.old }
-    ensures { (result ≡ cell_outside m.now incidence.now owners.now reaches.now.entries
-        reaches.now.ends sought.first sought.points sought.part c)
+    ensures { (result ≡ cell_outside m.now (seen incidence.entry) owners.now table.now
+        ends.now sought.first sought.points sought.part c)
         × RowCleared most_elements stamps.new }
 {
     let q = c - sought.first;
     if owner_of(owners, q) as usize != sought.part {
         return false;
     }
-    stamp_reach(&reaches.entries, &reaches.ends, q, 1, stamps);
+    stamp_reach(table, ends, q, 1, stamps);
     let h = head_of(m, c);
     let outside = chain_unstamped(m, sizes, h, sought, stamps, incidence);
-    stamp_reach(&reaches.entries, &reaches.ends, q, 0, stamps);
+    stamp_reach(table, ends, q, 0, stamps);
     outside
 }
 
@@ -87,17 +88,18 @@ pub fn some_outside(
     sizes: MeshSizes,
     sought: Sought,
     owners: &[u8],
-    reaches: &ReachTable,
+    table: &[u8],
+    ends: &[u16],
     stamps: &mut [u8],
-    incidence: &Incidence,
+    incidence: IncidenceRef,
 ) -> bool
     requires { Accepted m.now × Sized m.now sizes × (sought.first ≡ sizes.first) × (length stamps.old ≡ most_elements) }
-    ensures { result ≡ some_outside m.now incidence.now owners.now reaches.now.entries
-        reaches.now.ends sought.first sought.points sought.part sizes.cells }
+    ensures { result ≡ some_outside m.now (seen incidence.entry) owners.now table.now
+        ends.now sought.first sought.points sought.part sizes.cells }
 {
     clear_row(stamps);
     for c in sought.first..sought.first + sizes.cells {
-        if cell_outside(m, sizes, sought, owners, reaches, c, stamps, incidence) {
+        if cell_outside(m, sizes, sought, owners, table, ends, c, stamps, incidence) {
             return true;
         }
     }

@@ -72,7 +72,7 @@ pub fn list(
     if let Some((range, dimension)) = range_wanted(wanted) {
         let k = dimension as usize;
         let mut lower = [0u8; MOST_ELEMENTS];
-        classify_lowers(m, &incidence, &class, &holders, k, &mut lower);
+        classify_lowers(m, incidence.view(), &class, &holders, k, &mut lower);
         let n = add_range(m, k, &lower, range, &mut reaches.ends);
         return give(&reaches.ends[..n], out);
     }

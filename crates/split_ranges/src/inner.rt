@@ -2,7 +2,7 @@
 ghost use Rattle.std.specs.Prelude.{◌≡◌, length};
 ghost use Rattle.layout.specs.Limits.{most_elements};
 ghost use Rattle.mesh.specs.Accepted.{Accepted};
-ghost use Rattle.walk_incidence.specs.Links.{cells_on, Turned};
+ghost use Rattle.walk_incidence.specs.Links.{cells_on, Turned, seen};
 ghost use Rattle.split_classes.specs.Classes.{held_one, Appended};
 ghost use Rattle.split_ranges.specs.Lowers.{side_at, some_side, trail_class, Lowered, row_range};
 
@@ -11,7 +11,7 @@ use mesh::inner::{below_of, count_of, first_cell, top_of};
 use split::inner::place_from;
 use split_cells::inner::add_class;
 use split_classes::inner::INTERIOR;
-use walk_incidence::inner::Incidence;
+use walk_incidence::inner::IncidenceRef;
 
 // The classes of a lower element.
 // Bytes of a row, as the classes of cells are: `split_cells: add_class` takes rows of both.
@@ -56,22 +56,22 @@ fn has_side(side: Side, class: &[u8], holders: &[u8], q: usize) -> bool
 
 // Whether one of the cells at element e passes.
 fn some_cell(
-    incidence: &Incidence,
+    incidence: IncidenceRef,
     e: usize,
     first: usize,
     side: Side,
     class: &[u8],
     holders: &[u8],
 ) -> bool
-    ensures { result ≡ some_side (cells_on incidence.now e) first side class.now holders.now }
+    ensures { result ≡ some_side (cells_on (seen incidence.entry) e) first side class.now holders.now }
 {
     incidence.cells_at(e).any(|c| has_side(side, class, holders, place_from(first, c as usize)))
 }
 
 // What the part makes of element e: its class, and 0 if it does not hold it.
 // A byte of the row, as the definition `lower_class` gives it: an `Option` would be turned back at once.
-fn lower_class(incidence: &Incidence, first: usize, class: &[u8], holders: &[u8], e: usize) -> u8
-    ensures { result ≡ trail_class incidence.now first class.now holders.now e }
+fn lower_class(incidence: IncidenceRef, first: usize, class: &[u8], holders: &[u8], e: usize) -> u8
+    ensures { result ≡ trail_class (seen incidence.entry) first class.now holders.now e }
 {
     if some_cell(incidence, e, first, Side::Mine, class, holders) {
         if some_cell(incidence, e, first, Side::Anothers, class, holders) {
@@ -92,13 +92,13 @@ fn lower_class(incidence: &Incidence, first: usize, class: &[u8], holders: &[u8]
 // A loop over the numbers themselves: q tells the place in the row and the number of the element.
 pub fn classify_lowers(
     m: &[u8],
-    incidence: &Incidence,
+    incidence: IncidenceRef,
     class: &[u8],
     holders: &[u8],
     k: usize,
     lower: &mut [u8],
 )
-    requires { Turned m.now incidence.now × (length lower.old ≡ most_elements) }
+    requires { Turned m.now (seen incidence) × (length lower.old ≡ most_elements) }
     ensures { Lowered m.now class.now holders.now k lower.new }
 {
     if top_of(m) <= k {

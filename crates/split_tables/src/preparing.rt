@@ -6,7 +6,7 @@ ghost use Rattle.layout.specs.Limits.{most_elements};
 ghost use Rattle.mesh.specs.Mesh.{top};
 ghost use Rattle.mesh.specs.Walks.{bad10, bad13};
 ghost use Rattle.mesh.specs.Accepted.{Accepted};
-ghost use Rattle.walk_incidence.specs.Links.{Turned};
+ghost use Rattle.walk_incidence.specs.Links.{Turned, Roomed};
 ghost use Rattle.walk_steps.specs.Walking.{Ready};
 ghost use Rattle.split.specs.Lists.{bad8, sizes_number};
 ghost use Rattle.split_classes.specs.Classes.{Prepared};
@@ -50,10 +50,10 @@ pub fn prepare(
         × (length holders.old ≡ most_elements) × (length class.old ≡ most_elements) }
     ensures { (refused_as result ≡ sizes_number m.now parts owners.now stencil.now)
         × OnOk result (Prepared m.now parts owners.now stencil.now reaches.new.entries reaches.new.ends holders.new)
-        × Turned m.now incidence.new }
+        × Turned m.now incidence.new × Roomed incidence.new }
 {
     incidence.invert(m);
-    let walker = Walker::new(m, stencil, incidence);
+    let walker = Walker::new(m, stencil, incidence.view());
     let mut space = Space {
         marks: [0; ELEMENT_PLACES],
         from: [0; ELEMENT_PLACES],

@@ -1,16 +1,16 @@
 // Elements gathered in a step of a walk, each once.
 ghost use Rattle.std.specs.Prelude.{◌≡◌, length, get_or, [], ◌∷◌, map, ◌+◌, ◌<◌, ◌≤◌};
 ghost use Rattle.walk_frontier.specs.Visits.{Frontier, Toward, with, between, down, up, Added, Upward};
-ghost use Rattle.walk_incidence.specs.Links.{cells_on};
-ghost use Rattle.walk_incidence.specs.Sizes.{Sized};
+ghost use Rattle.walk_incidence.specs.Links.{seen};
+ghost use Rattle.walk_incidence.specs.Trails.{rest};
 ghost use Rattle.vocabulary.specs.Lists.{All};
 ghost use Rattle.vocabulary.specs.Intervals.{blocks};
 ghost use Rattle.layout.specs.Limits.{most_elements, most_records};
-ghost use Rattle.mesh.specs.Mesh.{elements, element_in, follow};
+ghost use Rattle.mesh.specs.Mesh.{elements, record_count, element_in, follow};
 
 use layout::{get_or, put_at};
 use mesh::inner::{head_of, read_record};
-use walk_incidence::inner::{Incidence, MeshSizes};
+use walk_incidence::inner::{IncidenceRef, MeshSizes, Trail};
 
 // The number at i of a list, and 0 past the end.
 pub fn index_at(list: &[u16], i: usize) -> usize
@@ -87,22 +87,21 @@ pub fn visit_chain(
     s
 }
 
-// Gathers the cells at element e.
-pub fn visit_cells(
-    incidence: &Incidence,
-    e: usize,
+// Gathers the cells that are left of a trail.
+pub fn visit_trail<'a>(
+    trail: Trail<'a>,
     mark: u16,
     marks: &mut [u16],
     found: &mut [u16],
     count: usize,
 ) -> usize
-    requires { All (λ y. (1 ≤ y) × (y ≤ most_elements)) (cells_on incidence.now e)
+    requires { All (λ y. (1 ≤ y) × (y ≤ most_elements)) (rest trail)
         × Frontier mark marks.old found.old count × (count ≤ most_elements) }
     ensures { Added mark marks.new found.old count found.new result
-        (with found.old count (cells_on incidence.now e)) }
+        (with found.old count (rest trail.entry)) }
 {
     let mut s = count;
-    for c in incidence.cells_at(e) {
+    for c in trail {
         s = visit(mark, c as usize, marks, found, s);
     }
     s
@@ -120,7 +119,7 @@ pub fn step_down(
     found: &mut [u16],
     base: usize,
 ) -> usize
-    requires { Sized m.now sizes × (sizes.elements ≤ most_elements) × (sizes.records ≤ most_records) × (hi ≤ most_elements)
+    requires { (sizes.elements ≡ elements m.now) × (sizes.records ≡ record_count m.now) × (sizes.elements ≤ most_elements) × (sizes.records ≤ most_records) × (hi ≤ most_elements)
         × Frontier mark marks.old found.old base × (base ≤ most_elements) }
     ensures { Added mark marks.new found.old base found.new result
         (with found.old base (blocks 0 (length from.now) (down m.now lo hi from.now))) }
@@ -147,20 +146,20 @@ pub fn visit_all(list: &[u16], mark: u16, marks: &mut [u16], found: &mut [u16]) 
 
 // From the elements in `from` to their cells, after those gathered before.
 pub fn step_up(
-    incidence: &Incidence,
+    incidence: IncidenceRef,
     from: &[u16],
     mark: u16,
     marks: &mut [u16],
     found: &mut [u16],
     base: usize,
 ) -> usize
-    requires { Upward incidence.now from.now × Frontier mark marks.old found.old base × (base ≤ most_elements) }
+    requires { Upward (seen incidence) from.now × Frontier mark marks.old found.old base × (base ≤ most_elements) }
     ensures { Added mark marks.new found.old base found.new result
-        (with found.old base (blocks 0 (length from.now) (up incidence.now from.now))) }
+        (with found.old base (blocks 0 (length from.now) (up (seen incidence.entry) from.now))) }
 {
     let mut s = base;
     for &y in from {
-        s = visit_cells(incidence, y as usize, mark, marks, found, s);
+        s = visit_trail(incidence.cells_at(y as usize), mark, marks, found, s);
     }
     s
 }

@@ -11,13 +11,12 @@ use Rattle.layout.specs.Limits.{most_records}
 use Rattle.mesh.specs.Mesh.{elements, record_count, first_cell, cell_count, head_of, element_in, next_of, follow, records, chain, all_records}
 use Rattle.mesh.specs.Accepted.{Accepted}
 use Rattle.mesh.proofs.FollowLaws.{chain_more}
-use Rattle.walk_incidence.specs.declared.inner.Incidence.{Incidence}
-use Rattle.walk_incidence.specs.Links.{Links, links, linked, link, link_all, link_cells}
+use Rattle.walk_incidence.specs.Links.{Links, links, link, link_all, link_cells}
 
-pub link_told : (c g t y : ℕ) (x : Incidence) (cell prev last : List ℕ) → cell ≡ set x.cell (t + 1) c → y ≡ get_or x.last g 0 → prev ≡ set x.prev (t + 1) y
-    → last ≡ set x.last g (t + 1) → links (t + 1) cell prev last ≡ link c g (linked t x)
+pub link_told : (c g t x : ℕ) (cell prev last cell' prev' last' : List ℕ) → cell' ≡ set cell (t + 1) c → x ≡ get_or last g 0 → prev' ≡ set prev (t + 1) x
+    → last' ≡ set last g (t + 1) → links (t + 1) cell' prev' last' ≡ link c g (links t cell prev last)
 unfolding link
-link_told c g t y x cell prev last e f g' h = rw (e, g', f, h) refl
+link_told c g t x cell prev last cell' prev' last' e f g' h = rw (e, g', f, h) refl
 
 -- ---- the loop over a chain
 
@@ -51,9 +50,9 @@ unfolding link_all link
 link_all_count c L [] = omega arith
 link_all_count c (links t cell prev last) (g ∷ gs) = link_all_count c (link c g (links t cell prev last)) gs ∙ (let q : t + 1 + length gs ≡ t + suc (length gs) = omega arith in q)
 
-pub cells_start : (m : Bytes) (first : ℕ) (x : Incidence) → linked 0 x ≡ link_cells m first (first - first) (linked 0 x)
+pub cells_start : (m : Bytes) (first : ℕ) (cell prev last : List ℕ) → links 0 cell prev last ≡ link_cells m first (first - first) (links 0 cell prev last)
 unfolding link_cells
-cells_start m first x = let z : first - first ≡ 0 = omega arith in rw z
+cells_start m first cell prev last = let z : first - first ≡ 0 = omega arith in rw z
 
 pub count_start : (m : Bytes) (first : ℕ) → 0 ≡ length (blocks first (first - first) (chain m))
 unfolding blocks
@@ -72,12 +71,12 @@ module _ (m : Bytes) (r : ℕ) (re : r ≡ record_count m) (first e h : ℕ) (he
       let p : e ≡ first + (e - first) = omega arith in
       rw q (f ∙ ap₂ (λ x y. link_all e x y) i here ∙ ap (λ c. link_all c (link_cells m first (e - first) X) (chain m (first + (e - first)))) p)
 
-  pub count_turn : (s t c : ℕ) (x y : Incidence) → s ≡ length (blocks first (e - first) (chain m))
-      → linked t y ≡ link_all c (linked s x) (map (element_in m) (follow m (r + 1) h)) → t ≡ length (blocks first (e + 1 - first) (chain m))
-  count_turn s t c x y i f =
+  pub count_turn : (s t c : ℕ) (cell prev last cell' prev' last' : List ℕ) → s ≡ length (blocks first (e - first) (chain m))
+      → links t cell' prev' last' ≡ link_all c (links s cell prev last) (map (element_in m) (follow m (r + 1) h)) → t ≡ length (blocks first (e + 1 - first) (chain m))
+  count_turn s t c cell prev last cell' prev' last' i f =
       let q : e + 1 - first ≡ e - first + 1 = omega arith in
       rw (q, blocks_turn first (chain m) (e - first), length-append)
-      (ap entries f ∙ link_all_count c (linked s x) _ ∙ ap₂ ◌+◌ i (ap length here))
+      (ap entries f ∙ link_all_count c (links s cell prev last) _ ∙ ap₂ ◌+◌ i (ap length here))
 
   -- there is room for the entries of the next cell
   pub cells_room : (cells s : ℕ) → Accepted m → first ≡ first_cell m → cells ≡ cell_count m → e < first + cells → s ≡ length (blocks first (e - first) (chain m))

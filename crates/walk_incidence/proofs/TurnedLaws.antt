@@ -19,7 +19,7 @@ use Rattle.mesh.specs.Accepted.{Accepted, Element}
 use Rattle.mesh.proofs.DimensionLaws.{dimension_le}
 use Rattle.mesh.proofs.WalkLaws.{below_grows, chains_few, point_incident}
 use Rattle.walk_incidence.specs.declared.inner.Incidence.{Incidence}
-use Rattle.walk_incidence.specs.Links.{links, linked, link_cells, trail, cells_with, is_cell_number, Turned}
+use Rattle.walk_incidence.specs.Links.{links, link_cells, trail, cells_with, is_cell_number, Turned, Roomed}
 use Rattle.walk_incidence.proofs.TrailLaws.{Linked, LinkedAs, empty, linked_cells, cells_with_lem, trail_same, count_cells, picked_down_lem}
 use Rattle.walk_incidence.proofs.LinkLaws.{entries}
 
@@ -55,8 +55,8 @@ module _ (m : Bytes) (A : Accepted m) (first cells : ℕ) (fe : first ≡ first_
       (A.chain_lower (first + j) (element j h))
 
   module _ (w₀ w : Incidence) (cl : length w₀.cell ≡ record_places) (pl : length w₀.prev ≡ record_places) (le : w₀.last ≡ replicate element_places 0) (s : ℕ)
-      (e : linked s w ≡ link_cells m first cells (linked 0 w₀)) where
-    e' : linked s w ≡ link_cells m first cells (empty w₀.cell w₀.prev)
+      (e : links s w.cell w.prev w.last ≡ link_cells m first cells (links 0 w₀.cell w₀.prev w₀.last)) where
+    e' : links s w.cell w.prev w.last ≡ link_cells m first cells (empty w₀.cell w₀.prev)
     e' = e ∙ ap (λ l. link_cells m first cells (links 0 w₀.cell w₀.prev l)) le
 
     -- the entries of all cells' chains
@@ -80,13 +80,13 @@ module _ (m : Bytes) (A : Accepted m) (first cells : ℕ) (fe : first ≡ first_
     pub turned : Turned m w
     unfolding is_cell_number
     turned = record {
-      cell_room = K.cells_long;
-      prev_room = K.prev_long;
-      last_room = K.last_long;
       mesh = A;
       told = λ x y h. ap (is_in y) (whole x h) ∙ cells_told m first cells x y ∙ ap₂ (λ a b. (leb a y && ltb y (a + b)) && is_in x (chain m y)) fe ce;
       trail_is = λ x h. whole x h ∙ ap₂ (λ a b. cells_with m a b x) fe ce;
     }
+
+    pub roomed : Roomed w
+    roomed = record { cell_room = K.cells_long; prev_room = K.prev_long; last_room = K.last_long }
 
 -- ---- points
 

@@ -9,14 +9,11 @@ use Rattle.layout.specs.Limits.{element_places, most_elements, record_places}
 use Rattle.mesh.specs.Accepted.{Accepted}
 use Rattle.mesh.specs.Mesh.{first_cell, cell_count, chain}
 use Rattle.walk_incidence.specs.declared.inner.Incidence.{Incidence}
+use Rattle.walk_incidence.specs.declared.inner.IncidenceRef.{IncidenceRef}
 
 -- the count of entries, the cell of each, the entry before each, and the last entry of each element
 pub data Links : Type 0 where
   links : ℕ → List ℕ → List ℕ → List ℕ → Links
-
--- the first t entries of the code's arrays
-abbrev pub linked : ℕ → Incidence → Links
-linked t x = links t x.cell x.prev x.last
 
 -- one entry more: element g in the chain of cell c
 unfoldable pub link : ℕ → ℕ → Links → Links
@@ -35,6 +32,14 @@ link_cells m first (suc n) L = link_all (first + n) (link_cells m first n L) (ch
 unfoldable pub trail : List ℕ → List ℕ → ℕ → ℕ → List ℕ
 trail cell prev zero s = []
 trail cell prev (suc n) s = elim (eqb s 0) [ true ↦ [] | false ↦ get_or cell s 0 ∷ trail cell prev n (get_or prev s 0) ]
+
+-- lists of any length
+abbrev pub lists : List ℕ → List ℕ → List ℕ → Incidence
+lists cell prev last = record { cell = cell; prev = prev; last = last }
+
+-- the lists that are read, as they stand
+abbrev pub seen : IncidenceRef → Incidence
+seen r = lists r.cell.now r.prev.now r.last.now
 
 -- the cells at element e
 abbrev pub cells_on : Incidence → ℕ → List ℕ
@@ -55,9 +60,12 @@ is_cell_number m y = leb (first_cell m) y && ltb y (first_cell m + cell_count m)
 
 -- the chains of an accepted mesh turned round: an element's trail has just the cells in whose chains it stands
 pub record Turned (m : Bytes) (w : Incidence) : Type 0 where
-  pub cell_room : length w.cell ≡ record_places
-  pub prev_room : length w.prev ≡ record_places
-  pub last_room : length w.last ≡ element_places
   pub mesh : Accepted m
   pub told : (x y : ℕ) → x ≤ most_elements → is_in y (cells_on w x) ≡ is_cell_number m y && is_in x (chain m y)
   pub trail_is : (x : ℕ) → x ≤ most_elements → cells_on w x ≡ cells_with m (first_cell m) (cell_count m) x
+
+-- the arrays have their whole length
+pub record Roomed (w : Incidence) : Type 0 where
+  pub cell_room : length w.cell ≡ record_places
+  pub prev_room : length w.prev ≡ record_places
+  pub last_room : length w.last ≡ element_places

@@ -4,4 +4,4 @@ use Rattle.walk_incidence.specs.declared.trails.Trail.{Trail}
 use Rattle.walk_incidence.specs.Links.{trail}
 
 abbrev pub rest : Trail → List ℕ
-rest t = trail t.incidence.now.cell t.incidence.now.prev t.left t.entry
+rest t = trail t.incidence.cell.now t.incidence.prev.now t.left t.entry

@@ -3,12 +3,13 @@ ghost use Rattle.std.specs.Prelude.{◌≡◌, [], ◌∷◌, ◌+◌, ◌-◌, 
 ghost use Rattle.vocabulary.specs.Lists.{Zeros};
 ghost use Rattle.layout.specs.Limits.{element_places, most_elements};
 ghost use Rattle.mesh.specs.Accepted.{Cell};
-ghost use Rattle.walk_steps.specs.Walking.{Ready, Within};
+ghost use Rattle.mesh.specs.Mesh.{first_cell};
+ghost use Rattle.walk_steps.specs.Walking.{Within};
 ghost use Rattle.walk_near_cells.specs.NearCells.{in_row, from_level, NearGround, LayerList, Spread, RowFits, LevelFits, Layered};
 
 use layout::{get_or, put_at};
 use walk_frontier::inner::index_at;
-use walk_steps::inner::{Ends, Space, Walker, widen};
+use walk_steps::inner::{Ends, widen};
 
 // Gives y the layer k and lists it, unless it has a layer.
 // Not `visit`: here any layer stops it, and there one mark alone.
@@ -72,32 +73,31 @@ fn reach_level(
     s
 }
 
-// The walks of all steps from cell c, by the rows of near cells in `layers`, each w places wide: each cell met bears its layer in `from`, and the bounds
-// hold all cells met.
-pub fn walk_near(walker: Walker, w: usize, c: usize, space: &mut Space) -> Ends
-    requires { Ready walker × NearGround walker.mesh.now walker.stencil.now space.old.layers w × Cell walker.mesh.now c
-        × Zeros element_places space.old.from }
-    ensures { Layered walker.entry.mesh.now walker.entry.stencil.now (c ∷ []) (length walker.entry.stencil.now - 1) space.new.from
-        × Within walker.entry.mesh.now space.new.from result.low result.high × (space.new.layers ≡ space.old.layers) × (space.new.marks ≡ space.old.marks) }
+// The walks of all steps from cell c, by the rows of near cells, each w places wide: each cell met bears its layer, and the bounds hold all cells met.
+pub fn walk_near(
+    m: &[u8],
+    stencil: &[u8],
+    w: usize,
+    first: usize,
+    c: usize,
+    layers: &mut [u16],
+    found: &mut [u16],
+    near: &[u16],
+) -> Ends
+    requires { NearGround m.now stencil.now near.now w × (first ≡ first_cell m.now) × Cell m.now c
+        × Zeros element_places layers.old × (length found.old ≡ element_places) }
+    ensures { Layered m.now stencil.now (c ∷ []) (length stencil.now - 1) layers.new × Within m.now layers.new result.low result.high
+        × (length found.new ≡ element_places) }
 {
     let mut old = 0;
-    let mut met = reach_cell(0, c, &mut space.from, &mut space.found, 0);
-    for j in 0..walker.stencil.len() / 2 {
-        let s = reach_level(
-            w,
-            walker.sizes.first,
-            (2 * j + 2) as u16,
-            old,
-            met,
-            &mut space.from,
-            &mut space.found,
-            &space.layers,
-        );
+    let mut met = reach_cell(0, c, layers, found, 0);
+    for j in 0..stencil.len() / 2 {
+        let s = reach_level(w, first, (2 * j + 2) as u16, old, met, layers, found, near);
         old = met;
         met = s;
     }
     widen(
-        &space.found[..met],
+        &found[..met],
         Ends {
             count: met,
             low: c,

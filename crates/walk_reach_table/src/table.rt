@@ -139,7 +139,16 @@ fn reach_of(
     let first = walker.sizes.first;
     match rows {
         Some(w) => {
-            let b = walk_near(walker, w, c, space);
+            let b = walk_near(
+                walker.mesh,
+                walker.stencil,
+                w,
+                first,
+                c,
+                &mut space.from,
+                &mut space.found,
+                &space.layers,
+            );
             emit(&mut space.from, first, b.low, b.high, entries, t)
         }
         None => {
@@ -193,5 +202,9 @@ pub fn reach_table(
         found: [0; ELEMENT_PLACES],
         layers: [0; ELEMENT_PLACES],
     };
-    reach_all(Walker::new(m, stencil, incidence), &mut space, reaches)
+    reach_all(
+        Walker::new(m, stencil, incidence.view()),
+        &mut space,
+        reaches,
+    )
 }

@@ -7,7 +7,7 @@ use Rattle.layout.specs.Limits.{element_places}
 use Rattle.mesh.specs.Mesh.{top, below, first_cell, cell_count}
 use Rattle.mesh.specs.Walks.{bad10, step_to}
 use Rattle.mesh.specs.Accepted.{Cell}
-use Rattle.walk_incidence.specs.Links.{Turned}
+use Rattle.walk_incidence.specs.Links.{Turned, seen}
 use Rattle.walk_frontier.specs.Visits.{Frontier}
 use Rattle.walk_incidence.specs.declared.inner.Incidence.{Incidence}
 use Rattle.walk_incidence.specs.Sizes.{Sized}
@@ -143,6 +143,6 @@ pub record Sided (m : Bytes) (k : ℕ) (from : List ℕ) : Type 0 where
 
 -- what a walker goes by is accepted, and made out rightly
 pub record Ready (w : Walker) : Type 0 where
-  pub ground : Ground w.mesh.now w.stencil.now w.incidence.now
+  pub ground : Ground w.mesh.now w.stencil.now (seen w.incidence)
   pub sized : Sized w.mesh.now w.sizes
   pub single_is : w.single ≡ through_one w.stencil.now

@@ -8,7 +8,7 @@ ghost use Rattle.mesh.specs.Mesh.{top};
 ghost use Rattle.mesh.specs.Accepted.{Accepted, Cell};
 ghost use Rattle.mesh.specs.Walks.{bad10};
 ghost use Rattle.walk_frontier.specs.Visits.{Frontier, Toward, Added};
-ghost use Rattle.walk_incidence.specs.Links.{Turned};
+ghost use Rattle.walk_incidence.specs.Links.{Turned, seen};
 ghost use Rattle.walk_incidence.specs.Sizes.{Sized};
 ghost use Rattle.walk_steps.specs.Walking.{Ground, Ready, AllCells, Sided, Lower, stepped, alike, through_one, mark_at, starts_among, or_among, among, Noted};
 ghost use Rattle.walk_steps.specs.Walking.{WalkDone, Within, Widened, Departed, Arrived};
@@ -17,7 +17,7 @@ use layout::limits::ELEMENT_PLACES;
 use layout::{byte_at, get_or, put_at};
 use mesh::inner::below_of;
 use walk_frontier::inner::{step_down, step_up, visit_all};
-use walk_incidence::inner::{Incidence, MeshSizes, sizes_of};
+use walk_incidence::inner::{IncidenceRef, MeshSizes, sizes_of};
 
 // Whether the j-th odd place is like the first.
 fn is_alike(stencil: &[u8], j: usize) -> bool
@@ -46,7 +46,7 @@ pub struct Walker<'a> {
     pub mesh: &'a [u8],
     pub sizes: MeshSizes,
     pub stencil: &'a [u8],
-    pub incidence: &'a Incidence,
+    pub incidence: IncidenceRef<'a>,
     pub single: bool,
 }
 
@@ -189,8 +189,8 @@ fn arrive(
 
 impl<'a> Walker<'a> {
     // A walker over an accepted mesh, by its chains turned round.
-    pub fn new(mesh: &'a [u8], stencil: &'a [u8], incidence: &'a Incidence) -> Walker<'a>
-        requires { Turned mesh.now incidence.now × (bad10 (top mesh.now) stencil.now ≡ false) }
+    pub fn new(mesh: &'a [u8], stencil: &'a [u8], incidence: IncidenceRef<'a>) -> Walker<'a>
+        requires { Turned mesh.now (seen incidence) × (bad10 (top mesh.now) stencil.now ≡ false) }
         ensures { Ready result × (result.mesh ≡ mesh.entry) × (result.stencil ≡ stencil.entry) × (result.incidence ≡ incidence.entry) }
     {
         Walker {
@@ -212,7 +212,8 @@ impl<'a> Walker<'a> {
         base: usize,
         from: &[u16],
     ) -> usize
-        requires { Ready self × (a < top self.mesh.now) × All (Cell self.mesh.now) from.now × Frontier mark marks.old found.old base × (base ≤ most_elements) }
+        requires { Accepted self.mesh.now × Sized self.mesh.now self.sizes × (a < top self.mesh.now) × All (Cell self.mesh.now) from.now
+            × Frontier mark marks.old found.old base × (base ≤ most_elements) }
         ensures { Added mark marks.new found.old base found.new result
             (or_among found.old base (stepped self.entry.mesh.now a from.now)) }
     {

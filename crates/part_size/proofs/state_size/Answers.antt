@@ -31,10 +31,10 @@ pub draw_plan-p-requires : goal.draw_plan-p-requires
 draw_plan-p-requires c =
     let sn = sym c.in_ok-test_split.ensures in
     let prepared = c.in_ok-prepare.ensures in
-    (sn, sym prepared.0, prepared.1, prepared.2, omega arith, refl)
+    (sn, sym prepared.0, prepared.1, prepared.2, omega arith, omega (arith, prepared.3.prev_room), refl)
 
 pub returns : goal.returns
 returns c =
     let sn = sym c.in_ok-test_split.ensures in
     let prepared = c.in_ok-prepare.ensures in
-    size_done _ _ _ _ _ sn (sym prepared.0) _ _ _ (prepared.1) _ _ _ c.draw_plan-p.ensures.0
+    size_done _ _ _ _ _ sn (sym prepared.0) _ _ _ (prepared.1) _ _ _ c.draw_plan-p.ensures

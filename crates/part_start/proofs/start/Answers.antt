@@ -64,7 +64,7 @@ draw_plan-p-requires c =
     let sn = sym c.in_ok-test_split.ensures in
     let prepared = c.in_ok-prepare.ensures in
     let zn = sym prepared.0 in
-    (sn, zn, prepared.1, prepared.2, omega arith, refl)
+    (sn, zn, prepared.1, prepared.2, omega arith, omega (arith, prepared.3.prev_room), refl)
 
 pub returns-then-b-size : goal.returns-then-b-size
 returns-then-b-size c =
@@ -72,13 +72,13 @@ returns-then-b-size c =
     let prepared = c.in_ok-prepare.ensures in
     let zn = sym prepared.0 in
     let eleven = rule_good _ c.args.stencil.now _ _ c.bad_rule.ensures c.if-bad_rule.false in
-    let plan = c.draw_plan-p.ensures.0 in
+    let plan = c.draw_plan-p.ensures in
     start_16 _ _ _ _ _ _ _ _ c.args.b.now sn eleven zn _ c.cell_count.ensures.0 _ c.bad_field.ensures c.if-bad_field.false _ _ _ (prepared.1)
     _ _ _ plan c.if-b-size.true
 
 pub find_sent-requires : goal.find_sent-requires
 find_sent-requires c =
-    let plan = c.draw_plan-p.ensures.0 in (
+    let plan = c.draw_plan-p.ensures in (
       plan.part_low,
       plan.fit.part_few,
       plan.fit.cells_fit,
@@ -86,7 +86,7 @@ find_sent-requires c =
       plan.parts_few,
       plan.owners_few,
       omega arith,
-      omega arith,
+      omega (arith, c.in_ok-prepare.ensures.3.last_room),
       refl,
       plan.sent_is,
     )
@@ -100,7 +100,7 @@ pub put_front-s-requires : goal.put_front-s-requires
 put_front-s-requires c =
     let sn = sym c.in_ok-test_split.ensures in
     let eleven = rule_good _ c.args.stencil.now _ _ c.bad_rule.ensures c.if-bad_rule.false in
-    let plan = c.draw_plan-p.ensures.0 in
+    let plan = c.draw_plan-p.ensures in
     let p = c.draw_plan-p.result in (
       omega (arith, c.if-b-size.false, plan.front_is, plan.long_is),
       omega (arith, plan.long_few),
@@ -115,7 +115,7 @@ put_front-s-requires c =
 
 pub put_entries-requires : goal.put_entries-requires
 put_entries-requires c =
-    let plan = c.draw_plan-p.ensures.0 in
+    let plan = c.draw_plan-p.ensures in
     let s = front_count _ _ _ _ _ _ _ _ _ _ _ _ _ c.put_front-s.ensures in (
       omega (arith, c.if-b-size.false, plan.front_is, plan.long_is, plan.sent_is, s),
       omega (arith, plan.fit.long, plan.sent_is, s),
@@ -130,7 +130,7 @@ put_rest-requires c =
     let prepared = c.in_ok-prepare.ensures in
     let zn = sym prepared.0 in
     let eleven = rule_good _ c.args.stencil.now _ _ c.bad_rule.ensures c.if-bad_rule.false in
-    let plan = c.draw_plan-p.ensures.0 in (
+    let plan = c.draw_plan-p.ensures in (
       omega (arith, c.if-b-size.false),
       omega (arith, plan.long_few),
       plan.fit.order_few,
@@ -141,10 +141,13 @@ put_rest-requires c =
 pub add_points-requires : goal.add_points-requires
 add_points-requires c =
     let sn = sym c.in_ok-test_split.ensures in
-    let plan = c.draw_plan-p.ensures.0 in
+    let plan = c.draw_plan-p.ensures in
     let f = passed_facts _ _ _ _ _ _ sn in
     let sought = c.sought_of-sought.ensures in (
       f.mesh,
+      omega (arith, c.in_ok-prepare.ensures.3.cell_room),
+      omega (arith, c.in_ok-prepare.ensures.3.prev_room),
+      omega (arith, c.in_ok-prepare.ensures.3.last_room),
       points_low _ f.mesh _ sought.2,
       point_room _ c.args.parts _ _ _ _ _ _ sought.0 sought.1 sought.2 _ _ _ plan.long_is plan.long_few
           (omega (arith, c.if-b-size.false)),
@@ -152,7 +155,7 @@ add_points-requires c =
 
 pub overflow_cast-result : goal.overflow_cast-result
 overflow_cast-result c =
-    let plan = c.draw_plan-p.ensures.0 in
+    let plan = c.draw_plan-p.ensures in
     omega (arith, plan.long_few, plan.fit.order_few)
 
 pub shape_of-b : goal.shape_of-b
@@ -165,12 +168,12 @@ returns c =
     let prepared = c.in_ok-prepare.ensures in
     let zn = sym prepared.0 in
     let eleven = rule_good _ c.args.stencil.now _ _ c.bad_rule.ensures c.if-bad_rule.false in
-    let plan = c.draw_plan-p.ensures.0 in
+    let plan = c.draw_plan-p.ensures in
     let sought = c.sought_of-sought.ensures in
     let found = c.find_sent.ensures in
     let added = c.add_points.ensures in
     let outside =
-    outside_is _ _ _ _ _ _ _ (prepared.1) _ prepared.2 _ _ _ _ _ _ c.some_outside-outside.ensures
+    outside_is _ _ _ _ _ _ _ (prepared.1) _ prepared.2 _ _ _ _ _ _ (rw c.view.ensures at c.some_outside-outside.ensures)
     sought.0 sought.1 sought.2 c.sizes_of.ensures.cells_is in
     start_written _ _ _ _ _ _ _ _ c.args.b.now sn eleven zn _ c.cell_count.ensures.0 _ c.bad_field.ensures c.if-bad_field.false
     _ _ _ (prepared.1) _ _ _ plan _ _ _ _ _ _ _ _ _ _ _ _ _ _ _ _ _ found.1 found.0 (omega (arith, plan.sent_few))

@@ -20,8 +20,8 @@ make_plan-requires c =
       plan_points _ _ _ _ _ _ _ _ pre.0 pre.1 pre.2 _ pre.3 _ _ _ _ _ sought.0 sought.1 sought.2 points.0 points.1,
       plan_around _ _ _ _ _ _ _ _ pre.0 pre.1 pre.2 _ pre.3 _ _ _ _ _ sought.0 sought.1 sought.2 points.0 points.1,
       pre.4,
-      omega (arith, pre.3.prev_room),
       pre.5,
+      pre.6,
     )
 
 pub returns : goal.returns
@@ -30,11 +30,7 @@ returns c =
     let sought = c.sought_of.ensures in
     let points = c.count_points-points.ensures in
     let told = c.make_plan.ensures in
-    let cells = c.cell_count.ensures.0 in (
-      plan_made _ _ _ _ _ _ _ _ pre.0 pre.1 pre.2 _ pre.3 _ _ _ _ _ sought.0 sought.1 sought.2 points.0 points.1 _ (ap (λ a. a.parts) told.0) (ap (λ a. a.part) told.0)
-          (ap (λ a. a.first) told.0 ∙ c.first_cell.ensures) (ap (λ a. a.cells) told.0 ∙ cells) _ _ told.2 told.3
-          (told.1 ∙ c.count_exports-sent.ensures.0 ∙ ap (export_tally _ _ _) cells),
-      refl,
-      c.make_plan.auto.order,
-      refl,
-    )
+    let cells = c.cell_count.ensures.0 in
+    plan_made _ _ _ _ _ _ _ _ pre.0 pre.1 pre.2 _ pre.3 _ _ _ _ _ sought.0 sought.1 sought.2 points.0 points.1 _ (ap (λ a. a.parts) told.0) (ap (λ a. a.part) told.0)
+    (ap (λ a. a.first) told.0 ∙ c.first_cell.ensures) (ap (λ a. a.cells) told.0 ∙ cells) _ _ told.2 told.3
+    (told.1 ∙ c.count_exports-sent.ensures.0 ∙ ap (export_tally _ _ _) cells)

@@ -11,10 +11,10 @@ use Rattle.part_start_points.proofs.trails.trail_length.Goals as goal
 
 pub count-requires-clause-fits : goal.count-requires-clause-fits
 count-requires-clause-fits c =
-    let m = trail_most c.args.incidence.now.cell c.args.incidence.now.prev record_places (get_or c.args.incidence.now.last c.args.e 0) in
+    let m = trail_most c.args.incidence.cell.now c.args.incidence.prev.now record_places (get_or c.args.incidence.last.now c.args.e 0) in
     inl (omega (arith, m, ap length c.cells_at.ensures))
 
 pub returns : goal.returns
 returns c =
     let e = count_from_yields_List _ _ c.count.ensures.ran (YieldsList-from_first (λ y. y) rest _ c.cells_at.ensures) in
-    (e, omega (arith, e, trail_most c.args.incidence.now.cell c.args.incidence.now.prev record_places (get_or c.args.incidence.now.last c.args.e 0)))
+    (e, omega (arith, e, trail_most c.args.incidence.cell.now c.args.incidence.prev.now record_places (get_or c.args.incidence.last.now c.args.e 0)))

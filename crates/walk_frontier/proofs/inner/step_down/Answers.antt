@@ -12,5 +12,5 @@ loop-y-preserved c = (
   search rules,
   search grown_both,
   search rules,
-  step_turn _ _ _ _ _ _ _ _ _ c.loop-y.invariant.3 (down_is _ _ _ _ _ _ _ _ c.requires.0.records_is refl c.head_of-h.ensures.0) c.visit_chain-s.ensures.all,
+  step_turn _ _ _ _ _ _ _ _ _ c.loop-y.invariant.3 (down_is _ _ _ _ _ _ _ _ c.requires.1 refl c.head_of-h.ensures.0) c.visit_chain-s.ensures.all,
 )

@@ -8,7 +8,7 @@ use borrow.Author.Rules.{rules}
 use Rattle.walk_near_cells.proofs.rows.near_to.Goals as goal
 
 pub walk_down-n-requires : goal.walk_down-n-requires
-walk_down-n-requires c = (c.requires.0, c.requires.1, (c.requires.2, tt), begin _ _ _ c.requires.4 (search rules), search rules)
+walk_down-n-requires c = (c.requires.0.ground.turned.mesh, c.requires.0.sized, c.requires.1, (c.requires.2, tt), begin _ _ _ c.requires.4 (search rules), search rules)
 
 pub visit-own-requires : goal.visit-own-requires
 visit-own-requires c = (

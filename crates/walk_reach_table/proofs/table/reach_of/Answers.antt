@@ -8,7 +8,7 @@ use borrow.Author.Rules.{rules}
 use Rattle.walk_reach_table.proofs.table.reach_of.Goals as goal
 
 pub walk_near-b-requires : goal.walk_near-b-requires
-walk_near-b-requires c = (c.requires.0, (c.requires.2.rows _ c.in-Some.is).0, c.requires.1, (c.requires.2.rows _ c.in-Some.is).1)
+walk_near-b-requires c = ((c.requires.2.rows _ c.in-Some.is).0, c.requires.0.sized.first_is, c.requires.1, (c.requires.2.rows _ c.in-Some.is).1, search rules)
 
 pub emit-requires : goal.emit-requires
 emit-requires c = (
@@ -21,7 +21,7 @@ emit-requires c = (
 pub returns-in-Some : goal.returns-in-Some
 returns-in-Some c =
     emitted_cell _ _ _ _ _ _ _ _ c.requires.0.ground c.requires.1 c.walk_near-b.ensures.0 c.walk_near-b.ensures.1 c.requires.0.sized.first_is _ _ _ _
-    (λ u C. ready_by_rows _ _ _ _ _ _ _ _ c.in-Some.is c.requires.2 c.walk_near-b.ensures.3 c.walk_near-b.ensures.2
+    (λ u C. ready_by_rows _ _ _ _ _ _ _ _ c.in-Some.is c.requires.2 refl refl
     (all_clear _ _ _ _ _ c.walk_near-b.ensures.0.size c.walk_near-b.ensures.1 C))
     c.emit.ensures
 

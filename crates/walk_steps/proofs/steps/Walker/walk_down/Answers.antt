@@ -5,13 +5,12 @@ use Rattle.walk_steps.proofs.steps.Walker.walk_down.Goals as goal
 
 pub step_down-requires : goal.step_down-requires
 step_down-requires c =
-    let W = c.requires.0 in
-    (W.sized, search rules, search rules, low_enough _ _ _ W.ground.turned.mesh c.requires.1 c.below_of-hi.ensures.0, search rules, search rules)
+    (c.requires.1.elements_is, c.requires.1.records_is, search rules, search rules, low_enough _ _ _ c.requires.0 c.requires.2 c.below_of-hi.ensures.0, search rules, search rules)
 
 pub returns : goal.returns
 returns c = record {
   gathered = search rules;
-  all = gone_down _ _ _ _ _ _ _ _ _ c.requires.0.ground.turned.mesh c.requires.1 c.below_of-lo.ensures.0 c.below_of-hi.ensures.0 c.requires.2 c.step_down.ensures.all;
+  all = gone_down _ _ _ _ _ _ _ _ _ c.requires.0 c.requires.2 c.below_of-lo.ensures.0 c.below_of-hi.ensures.0 c.requires.3 c.step_down.ensures.all;
   few = search rules;
   grown = search rules;
 }

@@ -1,7 +1,7 @@
--- `walk_incidence::inner::Incidence::link` meets its contract. Assumes nothing.
+-- `walk_incidence::inner::link` meets its contract. Assumes nothing.
 use Rattle.walk_incidence.proofs.LinkLaws.{link_told}
 use borrow.Author.Rules.{rules}
-use Rattle.walk_incidence.proofs.inner.Incidence.link.Goals as goal
+use Rattle.walk_incidence.proofs.inner.link.Goals as goal
 
 pub returns : goal.returns
 returns c = (search link_told, search rules)

@@ -1,13 +1,13 @@
--- `walk_frontier::inner::visit_cells` meets its contract. The invariant: what was gathered with what is left of the cells is what is wanted. Assumes nothing.
-use mathlib.Core.Path.{ap, ◌∙◌}
+-- `walk_frontier::inner::visit_trail` meets its contract. The invariant: what was gathered with what is left of the cells is what is wanted. Assumes nothing.
+use mathlib.Core.Path.{ap}
 use Rattle.walk_incidence.specs.Trails.{rest}
 use Rattle.walk_frontier.proofs.VisitLaws.{grown_none, grown_both, toward_start, toward_done, toward_turn}
 use borrow.Author.Rules.{rules}
-use Rattle.walk_frontier.proofs.inner.visit_cells.Goals as goal
+use Rattle.walk_frontier.proofs.inner.visit_trail.Goals as goal
 
 pub loop-c-init : goal.loop-c-init
 loop-c-init c =
-    let e = ap rest c.into_iter-c-iterator.ensures.into_iter_gives ∙ c.cells_at-c-items.ensures in
+    let e = ap rest c.into_iter-c-iterator.ensures.into_iter_gives in
     (tt, tt, search rules, search grown_none, search rules, rw e c.requires.0, rw e (toward_start _ _ _))
 
 pub visit-s-requires : goal.visit-s-requires
