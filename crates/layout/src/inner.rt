@@ -20,10 +20,20 @@ pub fn put_word(b: &mut [u8], o: usize, v: usize)
     b[o..o + 2].copy_from_slice(&(v as u16).to_be_bytes());
 }
 
+// Copies all items of `src`. A loop, since the library's `copy_from_slice` calls `memcpy`, which who links the engine without a C library would have to give.
+pub fn copy_items<T: Copy>(dst: &mut [T], src: &[T])
+    requires { length dst.old ≡ length src.now }
+    ensures { dst.new ≡ src.now }
+{
+    for k in 0..src.len() {
+        dst[k] = src[k];
+    }
+}
+
 // Copies n bytes of `src` from `from` on into `dst` at `at`.
 pub fn copy(dst: &mut [u8], at: usize, src: &[u8], from: usize, n: usize)
     requires { (at + n ≤ length dst.old) × (from + n ≤ length src.now) }
     ensures { dst.new ≡ over dst.old at (take n (drop from src.now)) }
 {
-    dst[at..at + n].copy_from_slice(&src[from..from + n]);
+    copy_items(&mut dst[at..at + n], &src[from..from + n]);
 }

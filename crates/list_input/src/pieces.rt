@@ -24,6 +24,8 @@ fn test_input(m: &[u8], parts: u32, owners: &[u8], stencil: &[u8]) -> Result<(),
     test_split(m, parts, owners, 1, 1, stencil, &mut cell, &mut ends)
 }
 
+// Out of line: an input that is too long is told so without the stack that the lists take.
+#[inline(never)]
 fn list_pieces(m: &[u8], parts: u32, owners: &[u8], stencil: &[u8], text: &mut Printer)
     ensures { Put text.old text.new (pieces_text m.now parts owners.now stencil.now) }
 {

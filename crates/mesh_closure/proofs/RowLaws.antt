@@ -1,11 +1,13 @@
 -- Loops over a row: tests 6 and 7. Assumes nothing.
-use mathlib.Core.Path.{◌≡◌, refl, ap, ◌∙◌}
+use mathlib.Core.Bool.{Bool, true, false, ◌||◌}
+use mathlib.Core.Path.{◌≡◌, refl, sym, ap, ◌∙◌}
 use mathlib.Core.List.{List, [], ◌∷◌}
 use Prim.Native.Nat.{ℕ, suc, ◌+◌, ◌-◌, ◌≤◌, ◌<◌}
 use native.Mathlib.Omega.{arith}
 use lib.ListN.{length, get_or, set, length-set, drop, drop_of_length-le}
 use lib.Seq.{drop-cons}
 use Rattle.std.proofs.lemmas.Grind.{get_or_default_zero}
+use Rattle.vocabulary.specs.Lists.{some_of}
 use Rattle.mesh.specs.Meet.{stamp}
 use Rattle.mesh_closure.specs.Rows.{Names}
 
@@ -33,6 +35,23 @@ module _ (v t : ℕ) (row s w : List ℕ) (inv : stamp v s (drop t row) ≡ w) w
   pub stamp_turn : (g : ℕ) → t < length row → g ≡ get_or row t 0 → stamp v (set s g v) (drop (t + 1) row) ≡ w
   unfolding stamp
   stamp_turn g h e = let q : suc t ≡ t + 1 = omega arith in rw e (rw q at (rw (drop-cons row t 0 h) at inv))
+
+-- a loop with a way out at the first that passes: w is what looking at the whole row tells
+module _ (p : ℕ → Bool) (t : ℕ) (row : List ℕ) (w : Bool) (inv : some_of (drop t row) p ≡ w) where
+  pub some_done : length row ≤ t → false ≡ w
+  unfolding some_of
+  some_done h = rw (drop_of_length-le row h) at inv
+
+  module _ (g : ℕ) (h : t < length row) (e : g ≡ get_or row t 0) where
+    first : (b : Bool) → p g ≡ b → b || some_of (drop (suc t) row) p ≡ w
+    unfolding some_of
+    first b f = ap (λ c. c || some_of (drop (suc t) row) p) (sym f ∙ ap p e) ∙ rw (drop-cons row t 0 h) at inv
+
+    pub some_found : p g ≡ true → true ≡ w
+    some_found f = first true f
+
+    pub some_turn : p g ≡ false → some_of (drop (t + 1) row) p ≡ w
+    some_turn f = let q : suc t ≡ t + 1 = omega arith in rw q at (first false f)
 
 -- ---- rows that a chain gives
 

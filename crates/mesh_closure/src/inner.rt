@@ -20,11 +20,17 @@ fn stamp_items(row: &[u16], v: u16, marks: &mut [u16])
 }
 
 // Whether some element of a row does not bear the mark v.
+// A loop over the places, and not `any`: the loop that the compiler makes of that one is slower at the ends of short rows (docs/DESIGN-PASS.md).
 fn any_unmarked(row: &[u16], v: u16, marks: &[u16]) -> bool
     requires { Names (length marks.now - 1) row.now }
     ensures { result ≡ some_of row.now (unlike v marks.now) }
 {
-    row.iter().any(|&g| marks[usize::from(g)] != v)
+    for k in 0..row.len() {
+        if marks[usize::from(row[k])] != v {
+            return true;
+        }
+    }
+    false
 }
 
 // Whether some element of the chain of f does not bear the mark v.

@@ -36,6 +36,8 @@ fn test_state(s: State) -> Result<(), Refusal>
 }
 
 // Stores the round, no flag, and the first `owned` depths of `new`.
+// Out of line: beside the array that `new` is in, the compiler would make a call of `memcpy` of the copy.
+#[inline(never)]
 fn put_round(b: &mut [u8], changes: usize, round: usize, owned: usize, new: &[u8])
     requires { (changes < 131072) × (round < 65536) × (owned < 65536) × (state_length changes owned ≤ length b.old) × (4 * owned ≤ length new.now) }
     ensures { b.new ≡ over b.old changes (word_bytes round ++ (replicate 32 0 ++ take (4 * owned) new.now)) }

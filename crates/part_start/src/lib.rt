@@ -22,8 +22,8 @@ use walk_reach_table::inner::ReachTable;
 
 // Makes the state of part i at round 0 at the front of b: mesh, number of parts and owners, the part, stencil, rule kind and weights, field. The mesh is
 // tested in arrays that have the incidence afterwards. Once the points are counted and tested the chains are not needed for a
-// while: the order, the local numbers and the exports stand in their arrays. `last` has the cells linked by owner before it has the local numbers, which
-// the ends of the reaches make room for before the chains are turned round once more.
+// while: the order, the local numbers and the exports stand in their arrays. `last` has the cells linked by owner before it has the local numbers, and
+// keeps these: when the chains are turned round once more, the ends of the reaches stand in its place.
 pub fn start(
     m: &[u8],
     parts: u32,
@@ -130,7 +130,8 @@ pub fn start(
         &incidence.cell,
     );
     put_rest(b, p, f, &incidence.prev);
-    reaches.ends.copy_from_slice(&incidence.last);
+    // one loan for the three lists: one of them is read while the others change
+    let lent = &mut incidence;
     add_points(
         b,
         p.front,
@@ -138,10 +139,10 @@ pub fn start(
         sought,
         outside,
         owners,
-        &reaches.ends,
-        &mut incidence.cell,
-        &mut incidence.prev,
-        &mut incidence.last,
+        &lent.last,
+        &mut lent.cell,
+        &mut lent.prev,
+        &mut reaches.ends,
     );
     Ok(size as u32)
 }

@@ -11,7 +11,6 @@ use layout::limits::{ELEMENT_PLACES, RECORD_PLACES, TABLE_BYTES};
 use layout::{Refusal, byte_at};
 use mesh::inner::{cell_count, first_cell, top_of};
 use mesh_valid::test_mesh;
-use walk_incidence::inner::Incidence;
 use walk_reach_table::inner::{ReachTable, reach_table};
 use walk_stencil::bad_stencil;
 
@@ -48,16 +47,12 @@ fn print_rows(first: usize, cells: usize, reaches: &ReachTable)
 fn print_reaches(m: &[u8], stencil: &[u8])
     requires { Accepted m.now × (bad10 (top m.now) stencil.now ≡ false) }
 {
-    let mut incidence = Incidence {
-        cell: [0; RECORD_PLACES],
-        prev: [0; RECORD_PLACES],
-        last: [0; ELEMENT_PLACES],
-    };
+    let mut cell = [0; RECORD_PLACES];
     let mut reaches = ReachTable {
         entries: [0; TABLE_BYTES],
         ends: [0; ELEMENT_PLACES],
     };
-    if reach_table(m, stencil, &mut incidence, &mut reaches).is_none() {
+    if reach_table(m, stencil, &mut cell, &mut reaches).is_none() {
         refuse(Refusal::Reach);
     } else {
         print_rows(first_cell(m), cell_count(m), &reaches);

@@ -3,6 +3,7 @@ ghost use Rattle.std.specs.Prelude.{◌≡◌, false, ◌*◌, ◌≤◌, length
 ghost use Rattle.vocabulary.specs.Bytes.{over};
 ghost use Rattle.vocabulary.specs.Intervals.{blocks};
 ghost use Rattle.layout.specs.Answers.{answer_of};
+ghost use Rattle.layout.specs.Limits.{record_places, table_bytes};
 ghost use Rattle.depths.specs.Depths.{deepest, value_bytes, Within};
 ghost use Rattle.mesh.specs.Mesh.{top, mesh_number};
 ghost use Rattle.mesh.specs.Walks.{steps, bad10};
@@ -20,7 +21,6 @@ use mesh::inner::{cell_count, top_of};
 use mesh_valid::inner::test_mesh_in;
 use round_rule::{Kind, bad_weights};
 use round_update::inner::new_depth;
-use walk_incidence::inner::Incidence;
 use walk_reach_table::inner::{ReachTable, reach_table};
 use walk_stencil::bad_stencil;
 
@@ -55,7 +55,7 @@ fn renew(kind: Kind, weights: &[u8], reaches: &ReachTable, cells: usize, f: &[u8
     }
 }
 
-// The round on an accepted mesh, stencil and rule. The incidence is work space.
+// The round on an accepted mesh, stencil and rule. `cell` and the table are work space.
 fn round_on(
     m: &[u8],
     stencil: &[u8],
@@ -63,18 +63,15 @@ fn round_on(
     weights: &[u8],
     f: &[u8],
     out: &mut [u8],
-    incidence: &mut Incidence,
+    cell: &mut [u16],
+    reaches: &mut ReachTable,
 ) -> Result<u32, Refusal>
-    requires { (mesh_number m.now ≡ 0) × (bad10 (top m.now) stencil.now ≡ false) × (bad11 (kind_number kind) (steps stencil.now) weights.now ≡ false) }
+    requires { (mesh_number m.now ≡ 0) × (bad10 (top m.now) stencil.now ≡ false) × (bad11 (kind_number kind) (steps stencil.now) weights.now ≡ false)
+        × (length cell.old ≡ record_places) × (length reaches.old.entries ≡ table_bytes) }
     ensures { let I = round_input m.now stencil.now (kind_number kind) weights.now f.now in
         (answer_of result ≡ round_answer I out.old) × (out.new ≡ round_out I out.old) }
 {
-    // the table is written even where the reaches are too many, so it stands in an array of our own
-    let mut reaches = ReachTable {
-        entries: [0; TABLE_BYTES],
-        ends: [0; ELEMENT_PLACES],
-    };
-    if reach_table(m, stencil, incidence, &mut reaches).is_none() {
+    if reach_table(m, stencil, cell, reaches).is_none() {
         return Err(Refusal::Reach);
     }
     let cells = cell_count(m);
@@ -84,12 +81,12 @@ fn round_on(
     if out.len() < 4 * cells {
         return Err(Refusal::Output);
     }
-    renew(kind, weights, &reaches, cells, f, out);
+    renew(kind, weights, reaches, cells, f, out);
     Ok(cells as u32)
 }
 
-// One undivided round: mesh, stencil, rule kind and weights, field. The new field stands at the front of `out`. The mesh is tested in arrays that
-// have the incidence afterwards.
+// One undivided round: mesh, stencil, rule kind and weights, field. The new field stands at the front of `out`. The mesh is tested in arrays that the
+// reaches are found in afterwards.
 pub fn undivided_round(
     m: &[u8],
     stencil: &[u8],
@@ -101,12 +98,13 @@ pub fn undivided_round(
     ensures { let I = round_input m.now stencil.now kind weights.now f.now in
         (answer_of result ≡ round_answer I out.old) × (out.new ≡ round_out I out.old) }
 {
-    let mut incidence = Incidence {
-        cell: [0; RECORD_PLACES],
-        prev: [0; RECORD_PLACES],
-        last: [0; ELEMENT_PLACES],
+    let mut cell = [0; RECORD_PLACES];
+    // the table is written even where the reaches are too many, so it stands in an array of our own
+    let mut reaches = ReachTable {
+        entries: [0; TABLE_BYTES],
+        ends: [0; ELEMENT_PLACES],
     };
-    test_mesh_in(m, &mut incidence.cell, &mut incidence.last)?;
+    test_mesh_in(m, &mut cell, &mut reaches.ends)?;
     if bad_stencil(top_of(m), stencil) {
         return Err(Refusal::Stencil);
     }
@@ -114,5 +112,5 @@ pub fn undivided_round(
     if bad_weights(kind, stencil.len() - 1, weights) {
         return Err(Refusal::Rule);
     }
-    round_on(m, stencil, kind, weights, f, out, &mut incidence)
+    round_on(m, stencil, kind, weights, f, out, &mut cell, &mut reaches)
 }

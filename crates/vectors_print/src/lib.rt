@@ -21,16 +21,14 @@ pub const WEIGHTS: [u8; 4] = [0, 2, 0, 1];
 struct Output;
 
 impl fmt::Write for Output {
+    // A piece that the output does not take is lost, and the next one is tried.
     fn write_str(&mut self, s: &str) -> fmt::Result {
-        if io::write_all(1, s.as_bytes()) {
-            Ok(())
-        } else {
-            Err(fmt::Error)
-        }
+        io::write_all(1, s.as_bytes());
+        Ok(())
     }
 }
 
-// Prints a text, or as much of it as the output takes.
+// Prints a text, each piece of it for itself.
 pub fn print(text: impl fmt::Display + Drop) {
     let _ = write!(Output, "{text}");
 }
@@ -43,6 +41,7 @@ impl fmt::Display for Depth {
     fn fmt<W: fmt::Write>(&self, f: &mut fmt::Formatter<W>) -> fmt::Result {
         match self.0 {
             i32::MIN => write!(f, "gap"),
+            depth if depth < 0 => write!(f, "-{}", depth.unsigned_abs()),
             depth => write!(f, "{depth}"),
         }
     }
@@ -56,23 +55,23 @@ fn depth_of(high: usize, low: usize) -> Depth
 }
 
 // How the values that a call gave are printed, each by its number: words,
-pub fn print_word(out: &[u8], i: u32) {
+fn print_word(out: &[u8], i: u32) {
     print(word_at(out, i as usize));
 }
 
 // depths,
-pub fn print_depth(out: &[u8], i: u32) {
+fn print_depth(out: &[u8], i: u32) {
     let k = 2 * i as usize;
     print(depth_of(word_at(out, k), word_at(out, k + 1)));
 }
 
 // the bytes of a message,
-pub fn print_byte(out: &[u8], i: u32) {
-    print(format_args!("{:02x}", byte_at(out, i as usize)));
+fn print_byte(out: &[u8], i: u32) {
+    io::print_hex(1, u64::from(byte_at(out, i as usize)), 2);
 }
 
 // and points, each as its number and its depth.
-pub fn print_point(out: &[u8], i: u32) {
+fn print_point(out: &[u8], i: u32) {
     let k = 3 * i as usize;
     let depth = depth_of(word_at(out, k + 1), word_at(out, k + 2));
     print(format_args!("{}:{depth}", word_at(out, k)));

@@ -15,7 +15,7 @@ use Rattle.vocabulary.specs.Lists.{is_in, All}
 use Rattle.vocabulary.proofs.ListLaws.{or_nothing, or_always, or_assoc, and_right, once_few, All_append, is_in_append, repeats_snoc}
 use Rattle.vocabulary.specs.Bytes.{Bytes}
 use Rattle.vocabulary.specs.Intervals.{blocks}
-use Rattle.vocabulary.proofs.IntervalLaws.{blocks_turn, at_last}
+use Rattle.vocabulary.proofs.IntervalLaws.{blocks_turn}
 use Rattle.layout.specs.Limits.{most_elements}
 use Rattle.mesh.specs.Mesh.{record_count, head_of, element_in, next_of, follow, records, chain}
 use Rattle.mesh.proofs.FollowLaws.{chain_ended, chain_spent, chain_more}
@@ -185,21 +185,17 @@ step_turn found₀ found found' base n n' j g xs t e u = record {
       ∙ ap (is_in z) (sym (rw zero-add at (blocks_turn 0 g j))));
 }
 
-pub step_end : (found₀ found : List ℕ) (base n j s : ℕ) (g : ℕ → List ℕ) → j ≤ n → n ≤ j → Toward found s [] (with found₀ base (blocks 0 j g)) → Toward found s [] (with found₀ base (blocks 0 n g))
-step_end found₀ found base n j s g a b t = at_last (λ x. Toward found s [] (with found₀ base (blocks 0 x g))) j n a b t
-
 pub down_is : (m : Bytes) (r lo hi h x j : ℕ) (from : List ℕ) → r ≡ record_count m → x ≡ get_or from j 0 → h ≡ head_of m x
     → between lo hi (map (element_in m) (follow m (r + 1) h)) ≡ down m lo hi from j
 unfolding down chain records
 down_is m r lo hi h x j from re xe he = rw (he, xe, re)
 
-pub up_is : (w : Incidence) (from : List ℕ) (j : ℕ) → cells_on w (get_or from j 0) ≡ up w from j
+pub up_is : (w : Incidence) (from : List ℕ) (x j : ℕ) → x ≡ get_or from j 0 → cells_on w x ≡ up w from j
 unfolding up
-up_is w from j = refl
+up_is w from x j e = rw e refl
 
-pub up_fits : (w : Incidence) (from : List ℕ) (j : ℕ) → Upward w from → j < length from → All (λ y. (1 ≤ y) × (y ≤ most_elements)) (cells_on w (get_or from j 0))
-unfolding up
-up_fits w from j U h = U.each j h
+pub up_fits : (w : Incidence) (from : List ℕ) (n x j : ℕ) → Upward w from n → j < n → x ≡ get_or from j 0 → All (λ y. (1 ≤ y) × (y ≤ most_elements)) (cells_on w x)
+up_fits w from n x j U h e = rw (up_is w from x j e) (U.each j h)
 
 -- ---- the loop over a list that is gathered itself
 

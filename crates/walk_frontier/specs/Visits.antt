@@ -51,5 +51,5 @@ unfoldable pub up : Incidence → List ℕ → ℕ → List ℕ
 up x from j = cells_on x (get_or from j 0)
 
 -- what a step up gathers are elements
-pub record Upward (x : Incidence) (from : List ℕ) : Type 0 where
-  pub each : (j : ℕ) → j < length from → All (λ y. (1 ≤ y) × (y ≤ most_elements)) (up x from j)
+pub record Upward (x : Incidence) (from : List ℕ) (n : ℕ) : Type 0 where
+  pub each : (j : ℕ) → j < n → All (λ y. (1 ≤ y) × (y ≤ most_elements)) (up x from j)

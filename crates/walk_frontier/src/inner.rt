@@ -1,5 +1,5 @@
 // Elements gathered in a step of a walk, each once.
-ghost use Rattle.std.specs.Prelude.{◌≡◌, length, get_or, [], ◌∷◌, map, ◌+◌, ◌<◌, ◌≤◌};
+ghost use Rattle.std.specs.Prelude.{◌≡◌, get_or, [], ◌∷◌, map, ◌+◌, ◌<◌, ◌≤◌};
 ghost use Rattle.walk_frontier.specs.Visits.{Frontier, Toward, with, between, down, up, Added, Upward};
 ghost use Rattle.walk_incidence.specs.Links.{seen};
 ghost use Rattle.walk_incidence.specs.Trails.{rest};
@@ -8,7 +8,7 @@ ghost use Rattle.vocabulary.specs.Intervals.{blocks};
 ghost use Rattle.layout.specs.Limits.{most_elements, most_records};
 ghost use Rattle.mesh.specs.Mesh.{elements, record_count, element_in, follow};
 
-use layout::{get_or, put_at};
+use layout::get_or;
 use mesh::inner::{head_of, read_record};
 use walk_incidence::inner::{IncidenceRef, MeshSizes, Trail};
 
@@ -25,11 +25,11 @@ pub fn visit(mark: u16, y: usize, marks: &mut [u16], found: &mut [u16], count: u
     ensures { Added mark marks.new found.old count found.new result
         (with found.old count (y ∷ [])) }
 {
-    if get_or(marks, y, 0) == mark {
+    if marks[y] == mark {
         return count;
     }
-    put_at(marks, y, mark);
-    put_at(found, count, y as u16);
+    marks[y] = mark;
+    found[count] = y as u16;
     count + 1
 }
 
@@ -107,11 +107,13 @@ pub fn visit_trail<'a>(
     s
 }
 
-// From the cells in `from` to the elements after lo and up to hi in their chains, after those gathered before.
+// From the first `count` cells of `from` to the elements after lo and up to hi in their chains, after those gathered before.
+// By a count, and not by the length of `from`: a number past its end counts 0.
 pub fn step_down(
     m: &[u8],
     sizes: MeshSizes,
     from: &[u16],
+    count: usize,
     lo: usize,
     hi: usize,
     mark: u16,
@@ -122,11 +124,11 @@ pub fn step_down(
     requires { (sizes.elements ≡ elements m.now) × (sizes.records ≡ record_count m.now) × (sizes.elements ≤ most_elements) × (sizes.records ≤ most_records) × (hi ≤ most_elements)
         × Frontier mark marks.old found.old base × (base ≤ most_elements) }
     ensures { Added mark marks.new found.old base found.new result
-        (with found.old base (blocks 0 (length from.now) (down m.now lo hi from.now))) }
+        (with found.old base (blocks 0 count (down m.now lo hi from.now))) }
 {
     let mut s = base;
-    for &y in from {
-        let h = head_of(m, y as usize);
+    for j in 0..count {
+        let h = head_of(m, index_at(from, j));
         s = visit_chain(m, sizes, h, lo, hi, mark, marks, found, s);
     }
     s
@@ -144,22 +146,24 @@ pub fn visit_all(list: &[u16], mark: u16, marks: &mut [u16], found: &mut [u16]) 
     s
 }
 
-// From the elements in `from` to their cells, after those gathered before.
+// From the first `count` elements of `from` to their cells, after those gathered before. By a count, as `step_down`.
 pub fn step_up(
     incidence: IncidenceRef,
     from: &[u16],
+    count: usize,
     mark: u16,
     marks: &mut [u16],
     found: &mut [u16],
     base: usize,
 ) -> usize
-    requires { Upward (seen incidence) from.now × Frontier mark marks.old found.old base × (base ≤ most_elements) }
+    requires { Upward (seen incidence) from.now count × Frontier mark marks.old found.old base × (base ≤ most_elements) }
     ensures { Added mark marks.new found.old base found.new result
-        (with found.old base (blocks 0 (length from.now) (up (seen incidence.entry) from.now))) }
+        (with found.old base (blocks 0 count (up (seen incidence.entry) from.now))) }
 {
     let mut s = base;
-    for &y in from {
-        s = visit_trail(incidence.cells_at(y as usize), mark, marks, found, s);
+    for j in 0..count {
+        let cells = incidence.cells_at(index_at(from, j));
+        s = visit_trail(cells, mark, marks, found, s);
     }
     s
 }

@@ -9,6 +9,7 @@ ghost use Rattle.walk_steps.specs.Walking.{Ready};
 ghost use Rattle.walk_near_cells.specs.NearCells.{NearRow, NearRows, RowPut, WalksReady};
 
 use layout::byte_at;
+use layout::inner::copy_items;
 use layout::limits::ELEMENT_PLACES;
 use walk_frontier::inner::visit;
 use walk_steps::inner::{Space, Walker};
@@ -47,7 +48,7 @@ fn put_row(near: &mut [u16], at: usize, row: &[u16])
     ensures { RowPut near.old at row.now near.new }
 {
     let rest = &row[1..];
-    near[at..at + rest.len()].copy_from_slice(rest);
+    copy_items(&mut near[at..at + rest.len()], rest);
 }
 
 // Lists the rows of all cells, each w places wide, unless one is longer. Gives whether they are listed.

@@ -4,7 +4,7 @@ ghost use Rattle.vocabulary.specs.Bytes.{over};
 ghost use Rattle.vocabulary.specs.Lists.{Zeros};
 ghost use Rattle.vocabulary.specs.Intervals.{blocks};
 ghost use Rattle.layout.specs.Words.{bytes_of, word_at};
-ghost use Rattle.layout.specs.Limits.{element_places, most_reached};
+ghost use Rattle.layout.specs.Limits.{element_places, most_reached, record_places};
 ghost use Rattle.walk_reach_table.specs.Tables.{row, Cleared, Emitted, reach_entries, Tabled};
 ghost use Rattle.walk_steps.specs.Walking.{Ready};
 ghost use Rattle.walk_near_cells.specs.NearCells.{WalksReady};
@@ -14,10 +14,10 @@ ghost use Rattle.mesh.specs.Walks.{bad10, bad13};
 ghost use Rattle.mesh.specs.Accepted.{Accepted, Cell};
 
 use layout::inner::put_word;
-use layout::limits::{ELEMENT_PLACES, MOST_ELEMENTS, MOST_REACHED, TABLE_BYTES};
+use layout::limits::{ELEMENT_PLACES, MOST_ELEMENTS, MOST_REACHED, RECORD_PLACES, TABLE_BYTES};
 use layout::{get_or, put_at, word_at};
 use walk_frontier::inner::index_at;
-use walk_incidence::inner::Incidence;
+use walk_incidence::inner::{IncidenceRef, turn};
 use walk_near_cells::inner::{near_rows, walk_near};
 use walk_steps::inner::{Space, Walker};
 
@@ -185,26 +185,29 @@ pub fn reach_all(walker: Walker, space: &mut Space, reaches: &mut ReachTable) ->
     Some(t)
 }
 
-// The same for a mesh whose chains are not turned round yet.
+// The same for a mesh whose chains are not turned round yet. `cell` is work space.
 pub fn reach_table(
     m: &[u8],
     stencil: &[u8],
-    incidence: &mut Incidence,
+    cell: &mut [u16],
     reaches: &mut ReachTable,
 ) -> Option<usize>
-    requires { Accepted m.now × (bad10 (top m.now) stencil.now ≡ false) }
+    requires { Accepted m.now × (bad10 (top m.now) stencil.now ≡ false) × (length cell.old ≡ record_places) }
     ensures { MatchOption result (bad13 m.now stencil.now ≡ true) (Tabled m.now stencil.now reaches.old.entries reaches.new.entries reaches.new.ends) }
 {
-    incidence.invert(m);
+    let mut prev = [0; RECORD_PLACES];
+    let mut last = [0; ELEMENT_PLACES];
+    turn(m, cell, &mut prev, &mut last);
+    let incidence = IncidenceRef {
+        cell,
+        prev: &prev,
+        last: &last,
+    };
     let mut space = Space {
         marks: [0; ELEMENT_PLACES],
         from: [0; ELEMENT_PLACES],
         found: [0; ELEMENT_PLACES],
         layers: [0; ELEMENT_PLACES],
     };
-    reach_all(
-        Walker::new(m, stencil, incidence.view()),
-        &mut space,
-        reaches,
-    )
+    reach_all(Walker::new(m, stencil, incidence), &mut space, reaches)
 }

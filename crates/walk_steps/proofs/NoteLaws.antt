@@ -121,7 +121,7 @@ note_fits k j list l₀ l₁ p a h N = omega (arith, N.size, All_get_or (λ y. y
 pub low_enough : (m : Bytes) (a hi : ℕ) → Accepted m → a < top m → hi ≡ below m (a + 1) → hi ≤ most_elements
 low_enough m a hi A h e = omega (arith, below_grows m (a + 1) 4 (omega (arith, A.sizes.d_high)), A.sizes.n_high)
 
-pub upwards : (m st : Bytes) (w : Incidence) (from : List ℕ) → Ground m st w → All (Lower m) from → Upward w from
+pub upwards : (m st : Bytes) (w : Incidence) (from : List ℕ) → Ground m st w → All (Lower m) from → Upward w from (length from)
 upwards m st w from G L = upward m G.turned.mesh w from G.turned L
 
 -- a list that was filled with zeros

@@ -195,7 +195,7 @@ module _ (m : Bytes) (A : Accepted m) where
         go false e = ap (λ b. b && some_of from (λ x. is_in x (chain m z))) e ∙ sym (ap (λ b. b && some_of from (λ x. incident m x z)) e)
 
     -- what a step up gathers are cells, and so elements
-    pub upward : Upward w from
+    pub upward : Upward w from (length from)
     unfolding up is_cell_number
     upward = record { each = λ j h. All_intro _ (cells (get_or from j 0)) 0 (λ l k. fits (get_or from j 0) (lower_small j h) l k) }
       where

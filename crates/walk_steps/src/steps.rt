@@ -1,5 +1,5 @@
 // One step of a walk, down to lower elements or up to cells, and the layers of what is reached.
-ghost use Rattle.std.specs.Prelude.{◌≡◌, false, cond, [], ◌∷◌, ℕ, ◌+◌, ◌<◌, ◌≤◌, eqb, length, take};
+ghost use Rattle.std.specs.Prelude.{◌≡◌, false, cond, [], ◌∷◌, ◌+◌, ◌<◌, ◌≤◌, eqb, length, take};
 ghost use Rattle.mesh.specs.Meet.{Under};
 ghost use Rattle.vocabulary.specs.Bytes.{byte_at};
 ghost use Rattle.vocabulary.specs.Lists.{All, Zeros};
@@ -10,9 +10,10 @@ ghost use Rattle.mesh.specs.Walks.{bad10};
 ghost use Rattle.walk_frontier.specs.Visits.{Frontier, Toward, Added};
 ghost use Rattle.walk_incidence.specs.Links.{Turned, seen};
 ghost use Rattle.walk_incidence.specs.Sizes.{Sized};
-ghost use Rattle.walk_steps.specs.Walking.{Ground, Ready, AllCells, Sided, Lower, stepped, alike, through_one, mark_at, starts_among, or_among, among, Noted};
+ghost use Rattle.walk_steps.specs.Walking.{Ready, AllCells, Sided, Lower, stepped, alike, through_one, mark_at, starts_among, or_among, among, Noted};
 ghost use Rattle.walk_steps.specs.Walking.{WalkDone, Within, Widened, Departed, Arrived};
 
+use layout::inner::copy_items;
 use layout::limits::ELEMENT_PLACES;
 use layout::{byte_at, get_or, put_at};
 use mesh::inner::below_of;
@@ -159,7 +160,8 @@ fn depart(n: usize, met: usize, layers: &mut [u16], from: &[u16]) -> Ends
 
 // After step k, by which `found` are found in all, the new ones stand in `from`; cells bear the layer k unless they have one, and widen the bounds. All stay
 // gathered where one mark serves the whole walk.
-// By the parity of k: `walk` calls itself with k - 1, and has nothing else to choose by.
+// By the parity of k: `walk` calls itself with k - 1, and has nothing else to choose by. Out of line, as `step`.
+#[inline(never)]
 fn arrive(
     k: usize,
     single: bool,
@@ -174,7 +176,7 @@ fn arrive(
 {
     let new = &found[w.met..];
     let count = new.len();
-    from[..count].copy_from_slice(new);
+    copy_items(&mut from[..count], new);
     let ends = Ends {
         count,
         met: kept(single, found.len()),
@@ -220,7 +222,16 @@ impl<'a> Walker<'a> {
         let lo = below_of(self.mesh, a);
         let hi = below_of(self.mesh, a + 1);
         step_down(
-            self.mesh, self.sizes, from, lo, hi, mark, marks, found, base,
+            self.mesh,
+            self.sizes,
+            from,
+            from.len(),
+            lo,
+            hi,
+            mark,
+            marks,
+            found,
+            base,
         )
     }
 
@@ -237,10 +248,12 @@ impl<'a> Walker<'a> {
         ensures { Added mark marks.new found.old base found.new result
             (or_among found.old base (stepped self.entry.mesh.now (top self.entry.mesh.now) from.now)) }
     {
-        step_up(self.incidence, from, mark, marks, found, base)
+        step_up(self.incidence, from, from.len(), mark, marks, found, base)
     }
 
     // Step k of a walk: down where k is odd, and up where it is even. What it finds comes after the first `base` numbers of `found`.
+    // Out of line, so that `walk`, which calls itself once a step, has little on the stack.
+    #[inline(never)]
     fn step(
         self,
         k: usize,

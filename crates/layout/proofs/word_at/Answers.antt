@@ -1,5 +1,4 @@
 -- `layout::word_at` meets its contract. Assumes nothing.
-use native.Mathlib.Omega.{arith}
 use borrow.Author.Rules.{rules}
 use Rattle.layout.proofs.Laws.{word_here, word_half, word_end}
 use Rattle.layout.proofs.word_at.Goals as goal

@@ -147,7 +147,7 @@ add_points-requires c =
       f.mesh,
       omega (arith, c.in_ok-prepare.ensures.3.cell_room),
       omega (arith, c.in_ok-prepare.ensures.3.prev_room),
-      omega (arith, c.in_ok-prepare.ensures.3.last_room),
+      omega arith,
       points_low _ f.mesh _ sought.2,
       point_room _ c.args.parts _ _ _ _ _ _ sought.0 sought.1 sought.2 _ _ _ plan.long_is plan.long_few
           (omega (arith, c.if-b-size.false)),
@@ -178,4 +178,4 @@ returns c =
     start_written _ _ _ _ _ _ _ _ c.args.b.now sn eleven zn _ c.cell_count.ensures.0 _ c.bad_field.ensures c.if-bad_field.false
     _ _ _ (prepared.1) _ _ _ plan _ _ _ _ _ _ _ _ _ _ _ _ _ _ _ _ _ found.1 found.0 (omega (arith, plan.sent_few))
     c.put_front-s.ensures c.put_entries.ensures
-    c.number_order.ensures c.put_rest.ensures added.0 (rw c.copy_from_slice.ensures.after at added.1) sought.0 sought.1 sought.2 outside c.if-b-size.false
+    c.number_order.ensures c.put_rest.ensures added.0 added.1 sought.0 sought.1 sought.2 outside c.if-b-size.false

@@ -3,4 +3,4 @@ use Rattle.layout.proofs.Laws.{copied}
 use Rattle.layout.proofs.inner.copy.Goals as goal
 
 pub returns : goal.returns
-returns c = copied _ _ _ _ _ _ c.requires.1 c.copy_from_slice.ensures.after
+returns c = copied _ _ _ _ _ _ c.requires.1 c.copy_items.ensures

@@ -1,18 +1,23 @@
 -- `mesh_closure::inner::any_unmarked` meets its contract. Assumes nothing.
-use Rattle.std.proofs.lemmas.Iterator.{YieldsList-from_slice}
-use Rattle.std.proofs.lemmas.Iterator.Adapters.{serves_from_places}
-use Rattle.vocabulary.proofs.IteratorLaws.{some_of_ran}
+use mathlib.Core.Path.{refl, ap}
+use mathlib.Core.Bool.{not}
+use borrow.Author.Tests.{eq-eqb, ne_eqb}
 use Rattle.mesh.specs.Meet.{unlike}
-use Rattle.mesh_closure.proofs.RowLaws.{names_item}
-use borrow.Author.Rules.{rules}
-use borrow.Author.Tests.{tests}
+use Rattle.mesh_closure.proofs.RowLaws.{some_done, some_found, some_turn}
 use Rattle.mesh_closure.proofs.inner.any_unmarked.Goals as goal
 
-pub any-requires-clause-callable : goal.any-requires-clause-callable
-any-requires-clause-callable c =
-    serves_from_places (YieldsList-from_slice c.args.row.now c.iter.ensures.rest) (λ x q k. search (rules, tests))
-    (λ x k h e. let item = names_item _ _ _ _ c.requires h e in search rules)
+pub loop-k-init : goal.loop-k-init
+loop-k-init c = refl
+
+pub returns-then-marks-from : goal.returns-then-marks-from
+unfolding unlike
+returns-then-marks-from c =
+    some_found _ _ _ _ c.loop-k.invariant _ c.loop-k-test.true c.from.ensures (ap not (ne_eqb _ _ c.if-marks-from.true))
+
+pub loop-k-preserved : goal.loop-k-preserved
+unfolding unlike
+loop-k-preserved c =
+    some_turn _ _ _ _ c.loop-k.invariant _ c.loop-k-test.true c.from.ensures (ap not (eq-eqb _ _ c.if-marks-from.false))
 
 pub returns : goal.returns
-unfolding unlike
-returns c = some_of_ran _ c.any.ensures.ran (search rules) (λ x t q k. search (rules, tests))
+returns c = some_done _ _ _ _ c.loop-k.invariant c.loop-k-test.false

@@ -1,12 +1,11 @@
 -- `round::undivided::round_on` meets its contract. Assumes nothing.
-use mathlib.Core.Path.{refl}
 use Rattle.mesh.proofs.AcceptedLaws.{accepted_mesh}
 use Rattle.walk_reach_table.proofs.SizeLaws.{present, absent}
 use Rattle.round.proofs.UndividedLaws.{told_13, told_14, told_16, told_done, rows_ready}
 use Rattle.round.proofs.undivided.round_on.Goals as goal
 
 pub reach_table-requires : goal.reach_table-requires
-reach_table-requires c = (accepted_mesh _ c.requires.0, c.requires.1)
+reach_table-requires c = (accepted_mesh _ c.requires.0, c.requires.1, c.requires.3)
 
 pub returns-then-is_none : goal.returns-then-is_none
 returns-then-is_none c = told_13 _ _ _ _ _ _ c.requires.0 c.requires.1 c.requires.2 (absent _ _ _ c.if-is_none.ensures c.reach_table.ensures)
@@ -23,7 +22,7 @@ returns-then-out-cells c =
 
 pub renew-requires : goal.renew-requires
 renew-requires c = (
-  rows_ready _ _ _ _ _ _ _ _ _ (present _ _ _ c.if-is_none.ensures c.reach_table.ensures).1 refl c.requires.1 c.requires.2 _ c.cell_count-cells.ensures.0
+  rows_ready _ _ _ _ _ _ _ _ _ (present _ _ _ c.if-is_none.ensures c.reach_table.ensures).1 c.requires.4 c.requires.1 c.requires.2 _ c.cell_count-cells.ensures.0
       c.cell_count-cells.ensures.1 _ c.bad_field.ensures c.if-bad_field.false,
   c.if-out-cells.false,
 )
@@ -31,4 +30,4 @@ renew-requires c = (
 pub returns : goal.returns
 returns c =
     told_done _ _ _ _ _ _ c.requires.0 c.requires.1 c.requires.2 _ _ _ _ (present _ _ _ c.if-is_none.ensures c.reach_table.ensures).1 _
-    c.cell_count-cells.ensures.0 _ c.bad_field.ensures c.if-bad_field.false refl c.if-out-cells.false _ c.renew.ensures
+    c.cell_count-cells.ensures.0 _ c.bad_field.ensures c.if-bad_field.false c.requires.4 c.if-out-cells.false _ c.renew.ensures

@@ -44,6 +44,8 @@ round_on-requires c = (
   sym c.in_ok-test_mesh_in.ensures,
   accepted_stencil _ _ c.top_of.ensures.0 c.bad_stencil.ensures c.if-bad_stencil.false,
   rule_good _ _ _ _ c.bad_weights.ensures c.if-bad_weights.false,
+  omega arith,
+  omega arith,
 )
 
 pub returns : goal.returns

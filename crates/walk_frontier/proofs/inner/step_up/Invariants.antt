@@ -7,6 +7,6 @@ use Rattle.walk_incidence.specs.Links.{seen}
 use Rattle.walk_frontier.specs.Visits.{Frontier, Toward, Grown, with, up}
 use Rattle.walk_frontier.proofs.inner.step_up.Given as goal
 
-abbrev pub invariant-loop-y : goal.invariant-loop-y
-invariant-loop-y l = (l.s ≤ most_elements) × Grown l.initial.found l.base l.found l.s × Frontier l.mark l.marks l.found l.s
-    × Toward l.found l.s [] (with l.initial.found l.base (blocks 0 l.y-index (up (seen l.incidence) l.from)))
+abbrev pub invariant-loop-j : goal.invariant-loop-j
+invariant-loop-j l = (l.s ≤ most_elements) × Grown l.initial.found l.base l.found l.s × Frontier l.mark l.marks l.found l.s
+    × Toward l.found l.s [] (with l.initial.found l.base (blocks 0 l.j (up (seen l.incidence) l.from)))
