@@ -16,22 +16,36 @@ module _ {E : Type 0} (C : E → ℕ → Type 0) where
   abbrev Packs : ℕ → Result ℕ E → Type 0
   Packs n r = MatchResult r (λ count. n ≡ packed (Done count)) (λ refusal. (number : ℕ) × C refusal number × (n ≡ packed (Refused number)))
 
-  pub packed_done : (r : Result ℕ E) (n : ℕ) {count : ℕ} → r ≡ Ok count → n ≡ count → Packs n r
+  pub packs_done : (r : Result ℕ E) (n : ℕ) {count : ℕ} → r ≡ Ok count → n ≡ count → Packs n r
   unfolding packed
-  packed_done r n {count = count} e q =
+  packs_done r n {count = count} e q =
       let z : count ≡ 0 * 4294967296 + count = omega arith in
       subst (λ x. Packs n x) (sym e) (q ∙ z)
 
-  pub packed_refused : (r : Result ℕ E) {refusal : E} → r ≡ Err refusal → (number : ℕ) → C refusal number → (n : ℕ) → n ≡ number → Packs (n * 4294967296) r
+  pub packs_refused : (r : Result ℕ E) {refusal : E} → r ≡ Err refusal → (number : ℕ) → C refusal number → (n : ℕ) → n ≡ number → Packs (n * 4294967296) r
   unfolding packed
-  packed_refused r e number c n q =
+  packs_refused r e number c n q =
       let z : n * 4294967296 ≡ number * 4294967296 + 0 = omega (arith, q) in
       subst (λ x. Packs (n * 4294967296) x) (sym e) (number, c, z)
 
--- of a call of the engine, whose refusals have the numbers of document 01
-pub packed_as : (r : ℕ) (a : Result ℕ Refusal) (x : Answer) → Packs (λ refusal number. number ≡ refusal_number refusal) r a → answer_of a ≡ x → r ≡ packed x
-packed_as r (Ok count) x e q = e ∙ ap packed q
-packed_as r (Err refusal) x e q = e.2 ∙ ap (λ number. packed (Refused number)) e.1 ∙ ap packed q
+pub packed_as : (r : ℕ) (a x : Answer) → r ≡ packed a → a ≡ x → r ≡ packed x
+packed_as r a x e q = e ∙ ap packed q
+
+-- ---- of a call of the engine, whose refusals have the numbers of document 01
+
+abbrev Numbered : Refusal → ℕ → Type 0
+Numbered refusal number = number ≡ refusal_number refusal
+
+pub packs_as : (r : ℕ) (a : Result ℕ Refusal) (x : Answer) → Packs Numbered r a → answer_of a ≡ x → r ≡ packed x
+packs_as r (Ok count) x e q = packed_as r (Done count) x e q
+packs_as r (Err refusal) x e q = packed_as r (Refused (refusal_number refusal)) x (e.2 ∙ ap (λ number. packed (Refused number)) e.1) q
+
+module _ (r : Result ℕ Refusal) (n : ℕ) where
+  pub packed_done : {count : ℕ} → r ≡ Ok count → n ≡ count → n ≡ packed (answer_of r)
+  packed_done e q = packs_as n r (answer_of r) (packs_done Numbered r n e q) refl
+
+  pub packed_refused : {refusal : Refusal} → r ≡ Err refusal → n ≡ refusal_number refusal → n * 4294967296 ≡ packed (answer_of r)
+  packed_refused {refusal = refusal} e q = packs_as (n * 4294967296) r (answer_of r) (packs_refused Numbered r e (refusal_number refusal) refl n q) refl
 
 -- ---- the two halves, for a count of 32 bits
 

@@ -3,7 +3,7 @@ ghost use Rattle.std.specs.Prelude.{◌<◌};
 ghost use Rattle.vocabulary.specs.Intervals.{blocks};
 ghost use Rattle.mesh.specs.Mesh.{top};
 ghost use Rattle.mesh.specs.Accepted.{Accepted};
-ghost use Rattle.walk_incidence.specs.Links.{Turned, seen};
+ghost use Rattle.walk_incidence.specs.Links.{Inverted, seen};
 ghost use Rattle.list_text.specs.Printing.{Put, numbers};
 ghost use Rattle.list_ranges.specs.Lines.{cells_of, range_line, row_lines, dimension_lines};
 
@@ -61,7 +61,7 @@ pub fn put_dimensions(
     holders: &[u8],
     text: &mut Printer,
 )
-    requires { Turned m.now (seen incidence) }
+    requires { Inverted m.now (seen incidence) }
     ensures { Put text.old text.new (blocks 0 (top m.now) (dimension_lines m.now class.now holders.now)) }
 {
     for dimension in 0..top_of(m) {

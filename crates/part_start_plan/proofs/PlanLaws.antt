@@ -46,8 +46,8 @@ use Rattle.part_start_points.specs.Outside.{some_outside}
 use Rattle.part_start_points.proofs.SplitOutside.{outside_told}
 use Rattle.part_start_points.proofs.SplitPoints.{points_counted, cells_counted, words_counted, words_told}
 use Rattle.walk_incidence.specs.declared.inner.Incidence.{Incidence}
-use Rattle.walk_incidence.specs.Links.{Turned}
-use Rattle.part_start_plan.specs.Planning.{Planned, PointRoom}
+use Rattle.walk_incidence.specs.Links.{Inverted}
+use Rattle.part_start_plan.specs.Planning.{Planned, PointsFit, PointRoom}
 use Rattle.part_start_lists.proofs.StartLists.{row_order, words_long, lists_put, lists_numbered}
 use Rattle.part_start_plan.proofs.StartFit.{fit_from, cells_from}
 use Rattle.part_start_plan.proofs.StartWords.{start_words_lem, front_is, front_few, order_at, sent_ends_lem, sent_few, exports_sixteen}
@@ -135,7 +135,7 @@ module _ (m : Bytes) (parts : ℕ) (owners : Bytes) (i : ℕ) (st table : Bytes)
         (subst₂ (λ x y. TablesFit owners table ends i x y parts) (sym fe) (sym ce) fitting)
 
   -- the points by the trails
-  module _ (inc : Incidence) (G : Turned m inc) (part first all points around : ℕ) (pe : part ≡ i) (fe : first ≡ first_cell m) (ae : all ≡ counted m 0)
+  module _ (inc : Incidence) (G : Inverted m inc) (part first all points around : ℕ) (pe : part ≡ i) (fe : first ≡ first_cell m) (ae : all ≡ counted m 0)
       (ve : points ≡ length (points_on inc owners first part all))
       (se : around ≡ size_ends inc (points_on inc owners first part all) (length (points_on inc owners first part all))) where
     points_is : points ≡ points_in (split_of m parts owners st) i
@@ -273,12 +273,12 @@ module _ (m : Bytes) (parts : ℕ) (owners st : Bytes) (i part first all : ℕ) 
   abbrev many : ℕ
   many = point_ends (split_of m parts owners st) i count
 
-  on_count : (inc : Incidence) → Turned m inc → let ps : List ℕ = points_on inc owners first part all in
+  on_count : (inc : Incidence) → Inverted m inc → let ps : List ℕ = points_on inc owners first part all in
       word_count inc ps (length ps) ≡ 2 * count + 2 + many
   on_count inc G =
       ap (λ x. let ps = points_on inc owners first x all in word_count inc ps (length ps)) pe ∙ words_counted m parts owners st inc G i first all fe ae
 
-  pub point_room : (b : Bytes) (s long : ℕ) → long ≡ s + 2 + 2 * count + many → long ≤ 40144 → 2 * long ≤ length b → PointRoom m owners b s part first all
+  pub point_room : (b : Bytes) (s long : ℕ) → long ≡ s + 2 + 2 * count + many → long ≤ 40144 → 2 * long ≤ length b → PointsFit m owners b s part first all
   point_room b s long le few room = record {
     there = λ inc G. omega (arith, on_count inc G);
     few = λ inc G. omega (arith, on_count inc G);
@@ -306,7 +306,7 @@ module _ (m : Bytes) (parts : ℕ) (owners st : Bytes) (i part first all : ℕ) 
       )
 
   -- the points' words as they are put, and how many there are
-  points_put : (inc : Incidence) → Turned m inc → (local numbers : List ℕ) (outside : Bool) → local ≡ numbers → (y z : Bytes) (t u : ℕ)
+  points_put : (inc : Incidence) → Inverted m inc → (local numbers : List ℕ) (outside : Bool) → local ≡ numbers → (y z : Bytes) (t u : ℕ)
       → Put y z t u (point_words inc (cond outside [] local) (points_on inc owners first part all) (length (points_on inc owners first part all)))
       → Put y z t u (part_words (split_of m parts owners st) i numbers outside) × (length (part_words (split_of m parts owners st) i numbers outside) ≡ 2 * count + 2 + many)
   points_put inc G local numbers outside e y z t u P = (
@@ -316,9 +316,16 @@ module _ (m : Bytes) (parts : ℕ) (owners st : Bytes) (i part first all : ℕ) 
     words_count outside numbers,
   )
 
+-- whatever lists have the chains turned round, so do arrays
+pub fit_turned : (m owners b : Bytes) (s part first points : ℕ) → PointsFit m owners b s part first points → PointRoom m owners b s part first points
+fit_turned m owners b s part first points F = record {
+  there = λ w T. F.there w T.inverted;
+  few = λ w T. F.few w T.inverted;
+}
+
 -- 29 of the part, by its own number
 pub outside_is : (m : Bytes) (parts : ℕ) (owners st table : Bytes) (ends : List ℕ) (holders : Bytes) → Prepared m parts owners st table ends holders
-    → (inc : Incidence) → Turned m inc → (b : Bool) (first n part cells i : ℕ) → b ≡ some_outside m inc owners table ends first n part cells
+    → (inc : Incidence) → Inverted m inc → (b : Bool) (first n part cells i : ℕ) → b ≡ some_outside m inc owners table ends first n part cells
     → part ≡ i → first ≡ first_cell m → n ≡ counted m 0 → cells ≡ cell_count m → b ≡ bad29 (split_of m parts owners st) i
 outside_is m parts owners st table ends holders R inc G b first n part cells i e pe fe ne ce =
     e
@@ -500,7 +507,7 @@ module _ (m : Bytes) (parts : ℕ) (owners : Bytes) (i : ℕ) (st : Bytes) (kind
               → Put b₁ b₂ s t (take p.held order ++ (listed 0 (p.owned + 1) (row_ends table ends p.asked.first order)
               ++ (blocks 1 p.owned (row_words table ends p.asked.first order local) ++ map (local_in local) (take p.sent list))))
               → local ≡ numbers_of order p.held → b₃ ≡ over b₂ (2 * p.long) (replicate (depths_place 0) 0 ++ blocks 1 p.held (start_depth f p.asked.first order))
-              → Turned m inc
+              → Inverted m inc
               → Put b₃ b₄ p.front u (point_words inc (cond outside [] local) (points_on inc owners first part all) (length (points_on inc owners first part all)))
               → part ≡ i → first ≡ first_cell m → all ≡ counted m 0 → outside ≡ bad29 (split_of m parts owners st) i → state_length (2 * p.long) p.held ≤ length b
               → Answered (Done (state_length (2 * p.long) p.held)) b₄

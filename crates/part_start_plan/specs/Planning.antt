@@ -9,7 +9,7 @@ use Rattle.part_start_lists.specs.Starting.{row_ends, sent_ends, Got, Fit, Owner
 use Rattle.part_start_lists.specs.declared.inner.Plan.{Plan}
 use Rattle.part_start_points.specs.Points.{points_on, word_count}
 use Rattle.walk_incidence.specs.declared.inner.Incidence.{Incidence}
-use Rattle.walk_incidence.specs.Links.{Turned}
+use Rattle.walk_incidence.specs.Links.{Inverted, Turned}
 use Rattle.part_start_plan.specs.Start.{owned_in}
 
 -- the plan of part i: its numbers, with its local order in an array and the counts of its imports in another
@@ -32,7 +32,12 @@ pub record Planned (m : Bytes) (parts : ℕ) (owners : Bytes) (i : ℕ) (st tabl
   -- 48, two numbers for each of 2,000 cells and of 2,000 points, two for each of 8,000 entries, 4,096 exports and 12,000 cells at points
   pub long_few : p.long ≤ 40144
 
--- there is room for the words of the points from word s on, wherever the chains are turned round
+-- there is room for the words of the points from word s on, whatever lists have the chains turned round
+pub record PointsFit (m owners b : Bytes) (s part first points : ℕ) : Type 0 where
+  pub there : (w : Incidence) → Inverted m w → let ps : List ℕ = points_on w owners first part points in 2 * (s + word_count w ps (length ps)) ≤ length b
+  pub few : (w : Incidence) → Inverted m w → let ps : List ℕ = points_on w owners first part points in s + word_count w ps (length ps) < 65536
+
+-- the same, where arrays of their whole length have them
 pub record PointRoom (m owners b : Bytes) (s part first points : ℕ) : Type 0 where
   pub there : (w : Incidence) → Turned m w → let ps : List ℕ = points_on w owners first part points in 2 * (s + word_count w ps (length ps)) ≤ length b
   pub few : (w : Incidence) → Turned m w → let ps : List ℕ = points_on w owners first part points in s + word_count w ps (length ps) < 65536

@@ -5,7 +5,7 @@ ghost use Rattle.vocabulary.specs.Intervals.{blocks};
 ghost use Rattle.layout.specs.Limits.{element_places, most_elements, record_places};
 ghost use Rattle.mesh.specs.Mesh.{counted, first_cell};
 ghost use Rattle.mesh.specs.Accepted.{Accepted};
-ghost use Rattle.walk_incidence.specs.Links.{Turned, lists};
+ghost use Rattle.walk_incidence.specs.Links.{Inverted, Turned, lists};
 ghost use Rattle.split_classes.specs.Classes.{Prepared};
 ghost use Rattle.part_state.specs.State.{state_length, depths_place};
 ghost use Rattle.split.specs.Lists.{split_number, sizes_number};
@@ -71,7 +71,7 @@ pub fn draw_plan(
     requires { (split_number m.now parts owners.now (i ∷ i ∷ []) stencil.now ≡ 0)
         × (sizes_number m.now parts owners.now stencil.now ≡ 0)
         × Prepared m.now parts owners.now stencil.now table.now ends.now holders.now
-        × Turned m.now (lists cell.now prev.old last.now)
+        × Inverted m.now (lists cell.now prev.old last.now)
         × (length class.old ≡ most_elements)
         × (most_elements ≤ length prev.old)
         × (got.old ≡ replicate 19 0) }

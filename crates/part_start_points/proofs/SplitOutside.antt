@@ -17,7 +17,7 @@ use Rattle.mesh.specs.Mesh.{counted, first_cell, cell_count, chain}
 use Rattle.mesh.specs.Walks.{incident, cells_at}
 use Rattle.mesh.specs.Accepted.{Element}
 use Rattle.walk_incidence.specs.declared.inner.Incidence.{Incidence}
-use Rattle.walk_incidence.specs.Links.{Turned}
+use Rattle.walk_incidence.specs.Links.{Inverted}
 use Rattle.split.specs.Split.{Split, split_of, owns, owned, reaches, cell_points, bad29}
 use Rattle.split.specs.Owners.{owns_at}
 use Rattle.split_classes.specs.Classes.{reach_has, Prepared}
@@ -28,7 +28,7 @@ use Rattle.part_start_points.specs.Outside.{stamped_at, outside_at, cell_outside
 use Rattle.part_start_points.proofs.SplitPoints.{some_of_reverse, cells_are}
 
 module _ (m : Bytes) (parts : ℕ) (owners st table : Bytes) (ends : List ℕ) (holders : Bytes) (R : Prepared m parts owners st table ends holders) (inc : Incidence)
-    (G : Turned m inc) where
+    (G : Inverted m inc) where
   abbrev S : Split
   S = split_of m parts owners st
 

@@ -17,7 +17,7 @@ use Rattle.mesh.specs.Mesh.{counted, first_cell}
 use Rattle.mesh.specs.Walks.{cells_at}
 use Rattle.mesh.specs.Accepted.{Accepted}
 use Rattle.walk_incidence.specs.declared.inner.Incidence.{Incidence}
-use Rattle.walk_incidence.specs.Links.{Turned}
+use Rattle.walk_incidence.specs.Links.{Inverted}
 use Rattle.walk_incidence.proofs.TurnedLaws.{point_small, point_trail}
 use Rattle.split.specs.Split.{Split, split_of, owns, touches, points_of, points_in, around_of, point_ends}
 use Rattle.word_lists.specs.Putting.{Put}
@@ -41,7 +41,7 @@ unfolding local_in
 no_locals [] = refl
 no_locals (x ∷ xs) = ap (λ ys. 0 ∷ ys) (no_locals xs)
 
-module _ (m : Bytes) (parts : ℕ) (owners st : Bytes) (inc : Incidence) (G : Turned m inc) where
+module _ (m : Bytes) (parts : ℕ) (owners st : Bytes) (inc : Incidence) (G : Inverted m inc) where
   abbrev S : Split
   S = split_of m parts owners st
 

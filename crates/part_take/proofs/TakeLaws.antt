@@ -126,12 +126,16 @@ module _ (b x : Bytes) where
   unfolding taken_in
   here L changes = refl
 
-  -- the reader refused, and its refusal is what is passed on
-  pub told_15 : {m : Refusal} (r : Result Header Refusal) → meant_reading x r ≡ reading x → r ≡ Err m → (a : Result ℕ Refusal) → a ≡ result_and r (Ok 0)
-      → Answered (answer_of a) b
+  -- the reader refused
+  pub told_15 : {m : Refusal} (r : Result Header Refusal) → meant_reading x r ≡ reading x → r ≡ Err m → Answered (Refused 15) b
   unfolding take_number take_tests_in
-  told_15 {m = m} r e o a ae =
-      let told = refused 15 (simp (else_bad x r e o)) (λ k. omega (arith, k)) in
+  told_15 r e o = refused 15 (simp (else_bad x r e o)) (λ k. omega (arith, k))
+
+  -- and its refusal is what is passed on
+  pub told_reading : {m : Refusal} (r : Result Header Refusal) → meant_reading x r ≡ reading x → r ≡ Err m → (a : Result ℕ Refusal) → a ≡ result_and r (Ok 0)
+      → Answered (answer_of a) b
+  told_reading {m = m} r e o a ae =
+      let told = told_15 r e o in
       let given : a ≡ Err m = ae ∙ ap (λ y. result_and y (Ok 0)) o in
       (ap answer_of given ∙ ap Refused (refusal_told x m (meant_as x r e o)).1 ∙ told.0, told.1)
 

@@ -22,7 +22,7 @@ use Rattle.mesh.specs.Walks.{incident, step_to, cells_at}
 use Rattle.mesh.specs.Accepted.{Accepted}
 use Rattle.mesh.proofs.WalkLaws.{below_grows}
 use Rattle.walk_incidence.specs.declared.inner.Incidence.{Incidence}
-use Rattle.walk_incidence.specs.Links.{trail, Turned}
+use Rattle.walk_incidence.specs.Links.{trail, Inverted}
 use Rattle.walk_frontier.specs.Visits.{up}
 use Rattle.walk_steps.specs.Walking.{stepped}
 use Rattle.walk_steps.proofs.StepLaws.{some_of_like, up_told}
@@ -66,7 +66,7 @@ pub trailed_end : (w : Incidence) (first : ℕ) (class holders : Bytes) (lo q n 
     → Trailed w first class holders lo n lower
 trailed_end w first class holders lo q n lower g h T = at_last (λ k. Trailed w first class holders lo k lower) q n g h T
 
-module _ (m : Bytes) (w : Incidence) (T : Turned m w) where
+module _ (m : Bytes) (w : Incidence) (T : Inverted m w) where
   -- the cells on a lower element's trail are those incident to it
   trail_told : (e z : ℕ) → 1 ≤ e → e ≤ below m (top m) → is_in z (trail w.cell w.prev record_places (get_or w.last e 0)) ≡ is_in z (picked (first_cell m) (cell_count m) (incident m e))
   trail_told e z low high =

@@ -2,7 +2,7 @@
 ghost use Rattle.std.specs.Prelude.{◌≡◌, length};
 ghost use Rattle.layout.specs.Limits.{most_elements};
 ghost use Rattle.mesh.specs.Accepted.{Accepted};
-ghost use Rattle.walk_incidence.specs.Links.{cells_on, Turned, seen};
+ghost use Rattle.walk_incidence.specs.Links.{cells_on, Inverted, seen};
 ghost use Rattle.split_classes.specs.Classes.{held_one, Appended};
 ghost use Rattle.split_ranges.specs.Lowers.{side_at, some_side, trail_class, Lowered, row_range};
 
@@ -98,7 +98,7 @@ pub fn classify_lowers(
     k: usize,
     lower: &mut [u8],
 )
-    requires { Turned m.now (seen incidence) × (length lower.old ≡ most_elements) }
+    requires { Inverted m.now (seen incidence) × (length lower.old ≡ most_elements) }
     ensures { Lowered m.now class.now holders.now k lower.new }
 {
     if top_of(m) <= k {

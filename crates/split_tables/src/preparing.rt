@@ -6,8 +6,8 @@ ghost use Rattle.layout.specs.Limits.{most_elements};
 ghost use Rattle.mesh.specs.Mesh.{top};
 ghost use Rattle.mesh.specs.Walks.{bad10, bad13};
 ghost use Rattle.mesh.specs.Accepted.{Accepted};
-ghost use Rattle.walk_incidence.specs.Links.{Turned, Roomed};
-ghost use Rattle.walk_steps.specs.Walking.{Ready};
+ghost use Rattle.walk_incidence.specs.Links.{Turned};
+ghost use Rattle.walk_steps.specs.Walking.{Grounded};
 ghost use Rattle.split.specs.Lists.{bad8, sizes_number};
 ghost use Rattle.split_classes.specs.Classes.{Prepared};
 
@@ -23,7 +23,7 @@ use walk_steps::inner::{Space, Walker};
 // by walks from whole parts, in lent space.
 #[tactic(auto, using(crate::proofs::PreparedLaws::overflow_twelve, crate::proofs::PreparedLaws::overflow_thirteen))]
 fn overflow(walker: Walker, parts: u32, owners: &[u8], space: &mut Space) -> Refusal
-    requires { Ready walker × (bad8 walker.mesh.now parts owners.now [] ≡ false) × (bad13 walker.mesh.now walker.stencil.now ≡ true) }
+    requires { Grounded walker × (bad8 walker.mesh.now parts owners.now [] ≡ false) × (bad13 walker.mesh.now walker.stencil.now ≡ true) }
     ensures { refusal_number result ≡ sizes_number walker.entry.mesh.now parts owners.now walker.entry.stencil.now }
 {
     let held = count_all(walker, owners, parts as usize, space);
@@ -50,7 +50,7 @@ pub fn prepare(
         × (length holders.old ≡ most_elements) × (length class.old ≡ most_elements) }
     ensures { (refused_as result ≡ sizes_number m.now parts owners.now stencil.now)
         × OnOk result (Prepared m.now parts owners.now stencil.now reaches.new.entries reaches.new.ends holders.new)
-        × Turned m.now incidence.new × Roomed incidence.new }
+        × Turned m.now incidence.new }
 {
     incidence.invert(m);
     let walker = Walker::new(m, stencil, incidence.view());

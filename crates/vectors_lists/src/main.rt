@@ -3,7 +3,7 @@
 #![tactic(auto)]
 
 use layout::Refusal;
-use vectors_print::{Form, OWNERS, STENCIL, five_cells, print, say, say_all, triangles};
+use vectors_print::{Form, OWNERS, STENCIL, five_cells, print, say, say_form, triangles};
 
 // What a list call gives on the five cells.
 fn show<F: FnOnce(&[u8], &mut [u8]) -> Result<u32, Refusal>>(name: &str, call: F)
@@ -12,7 +12,7 @@ fn show<F: FnOnce(&[u8], &mut [u8]) -> Result<u32, Refusal>>(name: &str, call: F
     let m = five_cells();
     let mut out = [0u8; 10];
     let a = call(&m, &mut out);
-    say_all(Form::Words, name, a, &out);
+    say_form(Form::Words, name, a, &out);
 }
 
 fn cells(i: u32) {
@@ -140,7 +140,7 @@ fn reached(name: &str, i: u32, j: u32) {
         j,
         &mut out,
     );
-    say_all(Form::Words, name, a, &out);
+    say_form(Form::Words, name, a, &out);
 }
 
 fn reaches() {

@@ -3,7 +3,7 @@
 #![tactic(auto)]
 
 use vectors_print::{
-    Form, OWNERS, STENCIL, WEIGHTS, five_cells, five_values, put_words, say, say_all, triangles,
+    Form, OWNERS, STENCIL, WEIGHTS, five_cells, five_values, put_words, say, say_form, triangles,
 };
 
 // ---- points (F-1)
@@ -60,7 +60,7 @@ fn first_points(
         part_start::start(m, parts, owners, i, stencil, 0, b"", field, &mut b),
     );
     let a = part_points::points(&b, &mut out);
-    say_all(Form::Points, "its points", a, &out);
+    say_form(Form::Points, "its points", a, &out);
 }
 
 // The five cells as one part.

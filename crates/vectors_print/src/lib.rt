@@ -4,7 +4,7 @@
 
 ghost use Rattle.std.specs.Prelude.{◌<◌};
 
-use layout::{byte_at, word_at};
+use layout::{Refusal, byte_at, word_at};
 use std::convert::AsSlice;
 use std::fmt::{self, Write};
 
@@ -55,29 +55,29 @@ fn depth_of(high: usize, low: usize) -> Depth
 }
 
 // How the values that a call gave are printed, each by its number: words,
-fn print_word(out: &[u8], i: u32) {
+pub fn print_word(out: &[u8], i: u32) {
     print(word_at(out, i as usize));
 }
 
 // depths,
-fn print_depth(out: &[u8], i: u32) {
+pub fn print_depth(out: &[u8], i: u32) {
     let k = 2 * i as usize;
     print(depth_of(word_at(out, k), word_at(out, k + 1)));
 }
 
 // the bytes of a message,
-fn print_byte(out: &[u8], i: u32) {
+pub fn print_byte(out: &[u8], i: u32) {
     io::print_hex(1, u64::from(byte_at(out, i as usize)), 2);
 }
 
 // and points, each as its number and its depth.
-fn print_point(out: &[u8], i: u32) {
+pub fn print_point(out: &[u8], i: u32) {
     let k = 3 * i as usize;
     let depth = depth_of(word_at(out, k + 1), word_at(out, k + 2));
     print(format_args!("{}:{depth}", word_at(out, k)));
 }
 
-// How what a call gave is printed. A function in its place would have to come with the promise that it can be called.
+// How what a call gave is printed, by a kind. A function in its place has to come with the promise that it can be called, as in `say_all`.
 #[derive(Clone, Copy)]
 pub enum Form {
     Words,
@@ -125,7 +125,7 @@ pub fn say<N: AsSlice<u8> + Drop, E: Into<u32>>(name: N, a: Result<u32, E>) {
 }
 
 // The answer and the values that it counts.
-pub fn say_all<N: AsSlice<u8> + Drop, E: Into<u32>>(
+pub fn say_form<N: AsSlice<u8> + Drop, E: Into<u32>>(
     form: Form,
     name: N,
     a: Result<u32, E>,
@@ -136,6 +136,21 @@ pub fn say_all<N: AsSlice<u8> + Drop, E: Into<u32>>(
         print(":");
     }
     print_values(form, out, n);
+    print("\n");
+}
+
+// The same by any function that prints the value of a number.
+pub fn say_all<F: Fn(&[u8], u32)>(name: &str, a: Result<u32, Refusal>, out: &[u8], print_value: F)
+    requires { F.IsAlwaysCallable print_value }
+{
+    let n = print_answer(name, a);
+    if n != 0 {
+        print(":");
+    }
+    for i in 0..n {
+        print(" ");
+        print_value(out, i);
+    }
     print("\n");
 }
 

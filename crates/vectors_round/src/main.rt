@@ -3,7 +3,7 @@
 #![tactic(auto)]
 
 use vectors_print::{
-    Form, STENCIL, WEIGHTS, five_cells, five_values, print, print_values, say_all, triangles,
+    Form, STENCIL, WEIGHTS, five_cells, five_values, print, print_values, say_form, triangles,
 };
 
 // ---- rounds
@@ -14,7 +14,7 @@ fn round_of(name: &str, kind: u32, weights: &[u8], field: &[u8], out: &mut [u8])
     print(format_args!("{name} of"));
     print_values(Form::Depths, field, 5);
     let a = round::undivided_round(&m, &STENCIL, kind, weights, field, out);
-    say_all(Form::Depths, "", a, out);
+    say_form(Form::Depths, "", a, out);
 }
 
 // A round of the values of a text.
@@ -145,7 +145,7 @@ fn layers() {
         b"\x00\x00\x00\x00\x00\x00\x00\x00\x00\x00\x02\xbc",
         &mut out,
     );
-    say_all(Form::Depths, "triangles, mean 4 2 1 of 0 0 700", a, &out);
+    say_form(Form::Depths, "triangles, mean 4 2 1 of 0 0 700", a, &out);
 }
 
 fn main() {

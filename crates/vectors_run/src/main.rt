@@ -6,7 +6,7 @@
 use layout::word_at;
 use vectors_print::{
     Form, OWNERS, STENCIL, WEIGHTS, five_cells, five_values, print, print_answer, print_values,
-    put_words, say, say_all, set_word,
+    put_words, say, say_form, set_word,
 };
 
 // What part 1 of the five cells needs, and enough for part 2; and what a message of one depth needs.
@@ -23,7 +23,7 @@ fn start(name: &str, i: u32, b: &mut State) {
 
 fn write(name: &str, b: &mut State, to: u32, message: &mut Message) {
     let a = part_write::write(b, to, message);
-    say_all(Form::Bytes, name, a, message);
+    say_form(Form::Bytes, name, a, message);
 }
 
 // Writes a message that no part takes.
@@ -57,7 +57,7 @@ fn collect(name: &str, b: &State, round: u32) {
 fn points(name: &str, b: &State) {
     let mut out = [0u8; 24];
     let a = part_points::points(b, &mut out);
-    say_all(Form::Points, name, a, &out);
+    say_form(Form::Points, name, a, &out);
 }
 
 fn started(one: &mut State, two: &mut State) {

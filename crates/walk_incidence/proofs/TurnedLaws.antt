@@ -19,7 +19,7 @@ use Rattle.mesh.specs.Accepted.{Accepted, Element}
 use Rattle.mesh.proofs.DimensionLaws.{dimension_le}
 use Rattle.mesh.proofs.WalkLaws.{below_grows, chains_few, point_incident}
 use Rattle.walk_incidence.specs.declared.inner.Incidence.{Incidence}
-use Rattle.walk_incidence.specs.Links.{links, link_cells, trail, cells_with, is_cell_number, Turned, Roomed}
+use Rattle.walk_incidence.specs.Links.{links, link_cells, trail, cells_with, is_cell_number, Inverted, Roomed, Turned}
 use Rattle.walk_incidence.proofs.TrailLaws.{Linked, LinkedAs, empty, linked_cells, cells_with_lem, trail_same, count_cells, picked_down_lem}
 use Rattle.walk_incidence.proofs.LinkLaws.{entries}
 
@@ -77,9 +77,9 @@ module _ (m : Bytes) (A : Accepted m) (first cells : ℕ) (fe : first ≡ first_
     whole x h =
         trail_same w.cell w.prev w.cell w.prev s K.falls (λ i a b. (refl, refl)) s record_places (get_or w.last x 0) (K.within x) (omega (arith, K.within x, short)) (K.within x) ∙ K.told x h
 
-    pub turned : Turned m w
+    pub inverted : Inverted m w
     unfolding is_cell_number
-    turned = record {
+    inverted = record {
       mesh = A;
       told = λ x y h. ap (is_in y) (whole x h) ∙ cells_told m first cells x y ∙ ap₂ (λ a b. (leb a y && ltb y (a + b)) && is_in x (chain m y)) fe ce;
       trail_is = λ x h. whole x h ∙ ap₂ (λ a b. cells_with m a b x) fe ce;
@@ -87,6 +87,9 @@ module _ (m : Bytes) (A : Accepted m) (first cells : ℕ) (fe : first ≡ first_
 
     pub roomed : Roomed w
     roomed = record { cell_room = K.cells_long; prev_room = K.prev_long; last_room = K.last_long }
+
+    pub turned : Turned m w
+    turned = record { roomed = roomed; inverted = inverted }
 
 -- ---- points
 
@@ -103,6 +106,6 @@ unfolding below
 point_small m A p high = omega (arith, below_grows m 1 4 (omega arith), A.sizes.n_high)
 
 -- so the trail of a point has the cells at it, falling
-pub point_trail : (m : Bytes) (w : Incidence) → Turned m w → (p : ℕ) → 1 ≤ p → p ≤ counted m 0
+pub point_trail : (m : Bytes) (w : Incidence) → Inverted m w → (p : ℕ) → 1 ≤ p → p ≤ counted m 0
     → trail w.cell w.prev record_places (get_or w.last p 0) ≡ reverse (cells_at m p)
 point_trail m w G p low high = G.trail_is p (point_small m G.mesh p high) ∙ point_cells m G.mesh p low high

@@ -58,8 +58,8 @@ cells_with m first n x = picked_down first n (λ c. is_in x (chain m c))
 unfoldable pub is_cell_number : Bytes → ℕ → Bool
 is_cell_number m y = leb (first_cell m) y && ltb y (first_cell m + cell_count m)
 
--- the chains of an accepted mesh turned round: an element's trail has just the cells in whose chains it stands
-pub record Turned (m : Bytes) (w : Incidence) : Type 0 where
+-- the chains of an accepted mesh turned round, in lists of any length: an element's trail has just the cells in whose chains it stands
+pub record Inverted (m : Bytes) (w : Incidence) : Type 0 where
   pub mesh : Accepted m
   pub told : (x y : ℕ) → x ≤ most_elements → is_in y (cells_on w x) ≡ is_cell_number m y && is_in x (chain m y)
   pub trail_is : (x : ℕ) → x ≤ most_elements → cells_on w x ≡ cells_with m (first_cell m) (cell_count m) x
@@ -69,3 +69,8 @@ pub record Roomed (w : Incidence) : Type 0 where
   pub cell_room : length w.cell ≡ record_places
   pub prev_room : length w.prev ≡ record_places
   pub last_room : length w.last ≡ element_places
+
+-- the chains of an accepted mesh turned round, in arrays of their whole length
+pub record Turned (m : Bytes) (w : Incidence) : Type 0 where
+  pub roomed : Roomed w
+  pub inverted : Inverted m w

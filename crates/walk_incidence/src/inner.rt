@@ -3,7 +3,7 @@ ghost use Rattle.std.specs.Prelude.{◌≡◌, map, ◌+◌, ◌<◌, ◌≤◌,
 ghost use Rattle.layout.specs.Limits.{element_places, most_elements, most_records, record_places};
 ghost use Rattle.mesh.specs.Mesh.{elements, record_count, first_cell, cell_count, element_in, follow};
 ghost use Rattle.mesh.specs.Accepted.{Accepted};
-ghost use Rattle.walk_incidence.specs.Links.{Links, link, link_all, link_cells, lists, seen, Turned, Roomed};
+ghost use Rattle.walk_incidence.specs.Links.{Links, link, link_all, link_cells, lists, seen, Turned};
 ghost use Rattle.walk_incidence.specs.Sizes.{Sized};
 
 pub use crate::trails::Trail;
@@ -98,7 +98,7 @@ pub fn invert(
 // Turns the chains of all cells round, whatever the lists held.
 pub fn turn(m: &[u8], cell: &mut [u16], prev: &mut [u16], last: &mut [u16])
     requires { Accepted m.now × (length cell.old ≡ record_places) × (length prev.old ≡ record_places) × (length last.old ≡ element_places) }
-    ensures { Turned m.now (lists cell.new prev.new last.new) × Roomed (lists cell.new prev.new last.new) }
+    ensures { Turned m.now (lists cell.new prev.new last.new) }
 {
     let sizes = sizes_of(m);
     last.fill(0);
@@ -136,7 +136,7 @@ impl Incidence {
     // Turns the chains of all cells round.
     pub fn invert(&mut self, m: &[u8])
         requires { Accepted m.now }
-        ensures { Turned m.now self.new × Roomed self.new }
+        ensures { Turned m.now self.new }
     {
         turn(m, &mut self.cell, &mut self.prev, &mut self.last);
     }

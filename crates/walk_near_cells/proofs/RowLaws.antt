@@ -28,7 +28,7 @@ use Rattle.walk_frontier.specs.Visits.{Frontier, Toward, with, Added}
 use Rattle.walk_incidence.specs.declared.inner.Incidence.{Incidence}
 use Rattle.walk_steps.specs.declared.steps.Space.{Space}
 use Rattle.walk_steps.specs.declared.steps.Walker.{Walker}
-use Rattle.walk_steps.specs.Walking.{Ground, Ready, Lower, stepped, or_among}
+use Rattle.walk_steps.specs.Walking.{Ground, Grounded, Lower, stepped, or_among}
 use Rattle.walk_steps.proofs.StepLaws.{step_from}
 use Rattle.walk_steps.proofs.WalkLaws.{step_like}
 use Rattle.walk_steps.proofs.NoteLaws.{begin}
@@ -251,7 +251,7 @@ ready_steps m st v s U h K = record {
   steps = λ _. K;
 }
 
-pub ready_rows : (k : Walker) (a w : ℕ) (s : Space) → Ready k → k.single ≡ true → a ≡ byte_at k.stencil.now 1 → cell_count k.mesh.now * w ≤ element_places
+pub ready_rows : (k : Walker) (a w : ℕ) (s : Space) → Grounded k → k.single ≡ true → a ≡ byte_at k.stencil.now 1 → cell_count k.mesh.now * w ≤ element_places
     → NearRows k.mesh.now a s.layers w (cell_count k.mesh.now) → Under 4001 s.marks → Zeros element_places s.from → WalksReady k.mesh.now k.stencil.now (Some w) 4001 s
 ready_rows k a w s G t e fit R U K = record {
   marks_low = U;

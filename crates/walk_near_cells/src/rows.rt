@@ -5,7 +5,7 @@ ghost use Rattle.layout.specs.Limits.{element_places, most_elements};
 ghost use Rattle.mesh.specs.Meet.{Under};
 ghost use Rattle.mesh.specs.Mesh.{top, cell_count};
 ghost use Rattle.mesh.specs.Accepted.{Cell};
-ghost use Rattle.walk_steps.specs.Walking.{Ready};
+ghost use Rattle.walk_steps.specs.Walking.{Grounded};
 ghost use Rattle.walk_near_cells.specs.NearCells.{NearRow, NearRows, RowPut, WalksReady};
 
 use layout::byte_at;
@@ -19,7 +19,7 @@ const LONGEST: usize = 12;
 
 // The cells two steps from cell c, by way of dimension a: in `from` they stand after c itself and before the place given.
 fn near_to(walker: Walker, a: usize, c: usize, mark: usize, space: &mut Space) -> usize
-    requires { Ready walker × (a < top walker.mesh.now) × Cell walker.mesh.now c × (mark ≤ 60000) × Under mark space.old.marks }
+    requires { Grounded walker × (a < top walker.mesh.now) × Cell walker.mesh.now c × (mark ≤ 60000) × Under mark space.old.marks }
     ensures { NearRow walker.entry.mesh.now a c space.new.from 1 result × (result ≤ most_elements) × Under (mark + 2) space.new.marks
         × (length space.new.from ≡ element_places) × (space.new.layers ≡ space.old.layers) }
 {
@@ -54,7 +54,7 @@ fn put_row(near: &mut [u16], at: usize, row: &[u16])
 // Lists the rows of all cells, each w places wide, unless one is longer. Gives whether they are listed.
 // Each turn walks and writes a row, unless it is too long: `all` with these effects is no plainer.
 fn list_rows(walker: Walker, a: usize, w: usize, space: &mut Space) -> bool
-    requires { Ready walker × (a < top walker.mesh.now) × (cell_count walker.mesh.now * w ≤ element_places) × Under 1 space.old.marks
+    requires { Grounded walker × (a < top walker.mesh.now) × (cell_count walker.mesh.now * w ≤ element_places) × Under 1 space.old.marks
         × Zeros element_places space.old.layers }
     ensures { (result ≡ true → NearRows walker.entry.mesh.now a space.new.layers w (cell_count walker.entry.mesh.now)) × Under 4001 space.new.marks
         × (length space.new.from ≡ element_places) × (length space.new.layers ≡ element_places) }
@@ -72,7 +72,7 @@ fn list_rows(walker: Walker, a: usize, w: usize, space: &mut Space) -> bool
 // Lists the cells two steps from each cell in `layers`, if the stencil goes through one dimension and the rows are short. Gives the width of the rows.
 // `single` is a fact of the stencil, and no choice of a step.
 pub fn near_rows(walker: Walker, space: &mut Space) -> Option<usize>
-    requires { Ready walker × Under 1 space.old.marks × Zeros element_places space.old.layers }
+    requires { Grounded walker × Under 1 space.old.marks × Zeros element_places space.old.layers }
     ensures { WalksReady walker.entry.mesh.now walker.entry.stencil.now result 4001 space.new }
 {
     if !walker.single || walker.stencil.len() < 2 {

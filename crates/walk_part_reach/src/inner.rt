@@ -3,7 +3,7 @@ ghost use Rattle.std.specs.Prelude.{◌≡◌, ◌+◌, ◌<◌, ◌≤◌, leng
 ghost use Rattle.vocabulary.specs.Intervals.{total};
 ghost use Rattle.layout.specs.Limits.{element_places, most_elements, most_parts};
 ghost use Rattle.mesh.specs.Meet.{Under};
-ghost use Rattle.walk_steps.specs.Walking.{Ready};
+ghost use Rattle.walk_steps.specs.Walking.{Grounded};
 ghost use Rattle.walk_part_reach.specs.Rows.{Rowed, layer_one, layer_count, row_reach_count};
 
 use layout::{byte_at, put_at};
@@ -62,7 +62,7 @@ fn count_row(layers: &[u16], first: usize, cells: usize) -> usize
 
 // How many cells the cells of row i reach, by walks from all of them at once.
 fn count_reach(walker: Walker, rows: &[u8], i: usize, mark: usize, space: &mut Space) -> usize
-    requires { Ready walker × (mark ≤ 60000) × Under mark space.old.marks }
+    requires { Grounded walker × (mark ≤ 60000) × Under mark space.old.marks }
     ensures { (result ≡ row_reach_count walker.entry.mesh.now walker.entry.stencil.now rows.now i) × (result ≤ most_elements)
         × Under (mark + length walker.entry.stencil.now) space.new.marks }
 {
@@ -76,7 +76,7 @@ fn count_reach(walker: Walker, rows: &[u8], i: usize, mark: usize, space: &mut S
 // How many cells the cells of each row from 1 on reach, together over as many rows as `count`. The byte of `rows` at a cell's place tells its row.
 // Each turn walks with marks after those of the last: a sum over that is no plainer.
 pub fn count_all(walker: Walker, rows: &[u8], count: usize, space: &mut Space) -> usize
-    requires { Ready walker × (count ≤ most_parts) }
+    requires { Grounded walker × (count ≤ most_parts) }
     ensures { result ≡ total 1 count (row_reach_count walker.entry.mesh.now walker.entry.stencil.now rows.now) }
 {
     space.marks.fill(0);

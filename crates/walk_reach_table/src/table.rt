@@ -6,7 +6,7 @@ ghost use Rattle.vocabulary.specs.Intervals.{blocks};
 ghost use Rattle.layout.specs.Words.{bytes_of, word_at};
 ghost use Rattle.layout.specs.Limits.{element_places, most_reached, record_places};
 ghost use Rattle.walk_reach_table.specs.Tables.{row, Cleared, Emitted, reach_entries, Tabled};
-ghost use Rattle.walk_steps.specs.Walking.{Ready};
+ghost use Rattle.walk_steps.specs.Walking.{Grounded};
 ghost use Rattle.walk_near_cells.specs.NearCells.{WalksReady};
 ghost use Rattle.mesh.specs.Meet.{Under};
 ghost use Rattle.mesh.specs.Mesh.{top};
@@ -130,7 +130,7 @@ fn reach_of(
     entries: &mut [u8; TABLE_BYTES],
     t: usize,
 ) -> Option<usize>
-    requires { Ready walker × Cell walker.mesh.now c × WalksReady walker.mesh.now walker.stencil.now rows mark space.old × (mark ≤ 60000)
+    requires { Grounded walker × Cell walker.mesh.now c × WalksReady walker.mesh.now walker.stencil.now rows mark space.old × (mark ≤ 60000)
         × (t ≤ most_reached) }
     ensures { MatchOption result (most_reached < t + length (reach_entries walker.entry.mesh.now walker.entry.stencil.now c) / 2)
         (λ u. Emitted entries.old entries.new t (reach_entries walker.entry.mesh.now walker.entry.stencil.now c) u
@@ -161,7 +161,7 @@ fn reach_of(
 
 // The reaches of all cells under an accepted stencil: how many entries they have, and None where those are too many for the table.
 pub fn reach_all(walker: Walker, space: &mut Space, reaches: &mut ReachTable) -> Option<usize>
-    requires { Ready walker × Under 1 space.old.marks × Zeros element_places space.old.layers }
+    requires { Grounded walker × Under 1 space.old.marks × Zeros element_places space.old.layers }
     ensures { MatchOption result (bad13 walker.entry.mesh.now walker.entry.stencil.now ≡ true)
         (λ t. Tabled walker.entry.mesh.now walker.entry.stencil.now reaches.old.entries reaches.new.entries reaches.new.ends t × (length space.new.marks ≡ element_places)) }
 {

@@ -20,7 +20,7 @@ use Rattle.mesh.proofs.DimensionLaws.{below_next, dimension_le}
 use Rattle.mesh.proofs.WalkLaws.{below_grows}
 use Rattle.walk_incidence.specs.declared.inner.Incidence.{Incidence}
 use Rattle.walk_frontier.specs.Visits.{between, down, up, Upward}
-use Rattle.walk_incidence.specs.Links.{trail, is_cell_number, Turned}
+use Rattle.walk_incidence.specs.Links.{trail, is_cell_number, Inverted}
 use Rattle.walk_steps.specs.Walking.{Lower, stepped}
 
 -- ---- lists by what stands in them
@@ -166,7 +166,7 @@ module _ (m : Bytes) (A : Accepted m) where
 
   -- ---- up
 
-  module _ (w : Incidence) (from : List ℕ) (T : Turned m w) (L : All (Lower m) from) where
+  module _ (w : Incidence) (from : List ℕ) (T : Inverted m w) (L : All (Lower m) from) where
     lower_at : (j : ℕ) → j < length from → Lower m (get_or from j 0)
     lower_at j h = All_get_or (Lower m) from j 0 L h
 

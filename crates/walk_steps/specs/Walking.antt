@@ -7,7 +7,7 @@ use Rattle.layout.specs.Limits.{element_places}
 use Rattle.mesh.specs.Mesh.{top, below, first_cell, cell_count}
 use Rattle.mesh.specs.Walks.{bad10, step_to}
 use Rattle.mesh.specs.Accepted.{Cell}
-use Rattle.walk_incidence.specs.Links.{Turned, seen}
+use Rattle.walk_incidence.specs.Links.{Inverted, Roomed, seen}
 use Rattle.walk_frontier.specs.Visits.{Frontier}
 use Rattle.walk_incidence.specs.declared.inner.Incidence.{Incidence}
 use Rattle.walk_incidence.specs.Sizes.{Sized}
@@ -16,7 +16,7 @@ use Rattle.walk_steps.specs.declared.steps.Walker.{Walker}
 
 -- the chains of an accepted mesh turned round, and an accepted stencil
 pub record Ground (m st : Bytes) (w : Incidence) : Type 0 where
-  pub turned : Turned m w
+  pub turned : Inverted m w
   pub stencil : bad10 (top m) st ≡ false
 
 -- the first n numbers of `from` are all cells
@@ -141,8 +141,13 @@ pub record Sided (m : Bytes) (k : ℕ) (from : List ℕ) : Type 0 where
   pub odd : k % 2 ≡ 1 → All (Cell m) from
   pub even : (k % 2 ≡ 1 → ⊥) → All (Lower m) from
 
--- what a walker goes by is accepted, and made out rightly
-pub record Ready (w : Walker) : Type 0 where
+-- what a walker goes by is accepted, and made out rightly, in lists of any length
+pub record Grounded (w : Walker) : Type 0 where
   pub ground : Ground w.mesh.now w.stencil.now (seen w.incidence)
   pub sized : Sized w.mesh.now w.sizes
   pub single_is : w.single ≡ through_one w.stencil.now
+
+-- the same, in arrays of their whole length
+pub record Ready (w : Walker) : Type 0 where
+  pub grounded : Grounded w
+  pub roomed : Roomed (seen w.incidence)

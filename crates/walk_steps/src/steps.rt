@@ -8,9 +8,9 @@ ghost use Rattle.mesh.specs.Mesh.{top};
 ghost use Rattle.mesh.specs.Accepted.{Accepted, Cell};
 ghost use Rattle.mesh.specs.Walks.{bad10};
 ghost use Rattle.walk_frontier.specs.Visits.{Frontier, Toward, Added};
-ghost use Rattle.walk_incidence.specs.Links.{Turned, seen};
+ghost use Rattle.walk_incidence.specs.Links.{Inverted, Roomed, seen};
 ghost use Rattle.walk_incidence.specs.Sizes.{Sized};
-ghost use Rattle.walk_steps.specs.Walking.{Ready, AllCells, Sided, Lower, stepped, alike, through_one, mark_at, starts_among, or_among, among, Noted};
+ghost use Rattle.walk_steps.specs.Walking.{Grounded, Ready, AllCells, Sided, Lower, stepped, alike, through_one, mark_at, starts_among, or_among, among, Noted};
 ghost use Rattle.walk_steps.specs.Walking.{WalkDone, Within, Widened, Departed, Arrived};
 
 use layout::inner::copy_items;
@@ -192,8 +192,9 @@ fn arrive(
 impl<'a> Walker<'a> {
     // A walker over an accepted mesh, by its chains turned round.
     pub fn new(mesh: &'a [u8], stencil: &'a [u8], incidence: IncidenceRef<'a>) -> Walker<'a>
-        requires { Turned mesh.now (seen incidence) × (bad10 (top mesh.now) stencil.now ≡ false) }
-        ensures { Ready result × (result.mesh ≡ mesh.entry) × (result.stencil ≡ stencil.entry) × (result.incidence ≡ incidence.entry) }
+        requires { Inverted mesh.now (seen incidence) × (bad10 (top mesh.now) stencil.now ≡ false) }
+        ensures { Grounded result × (result.mesh ≡ mesh.entry) × (result.stencil ≡ stencil.entry) × (result.incidence ≡ incidence.entry)
+            × (Roomed (seen incidence.entry) → Ready result) }
     {
         Walker {
             mesh,
@@ -244,7 +245,7 @@ impl<'a> Walker<'a> {
         base: usize,
         from: &[u16],
     ) -> usize
-        requires { Ready self × All (Lower self.mesh.now) from.now × Frontier mark marks.old found.old base × (base ≤ most_elements) }
+        requires { Grounded self × All (Lower self.mesh.now) from.now × Frontier mark marks.old found.old base × (base ≤ most_elements) }
         ensures { Added mark marks.new found.old base found.new result
             (or_among found.old base (stepped self.entry.mesh.now (top self.entry.mesh.now) from.now)) }
     {
@@ -263,7 +264,7 @@ impl<'a> Walker<'a> {
         base: usize,
         from: &[u16],
     ) -> usize
-        requires { Ready self × (k < length self.stencil.now) × Sided self.mesh.now k from.now × Frontier mark marks.old found.old base × (base ≤ most_elements) }
+        requires { Grounded self × (k < length self.stencil.now) × Sided self.mesh.now k from.now × Frontier mark marks.old found.old base × (base ≤ most_elements) }
         ensures { Added mark marks.new found.old base found.new result
             (or_among found.old base (stepped self.entry.mesh.now (byte_at self.entry.stencil.now k) from.now)) }
     {
@@ -277,7 +278,7 @@ impl<'a> Walker<'a> {
     // Where the walks of k steps from the first s cells of `from` end: a walk of k - 1 steps, and one step more. Each cell met bears its layer. Where the
     // stencil goes through one dimension, no step goes on from what an earlier one has met: it would find nothing new.
     pub fn walk(self, s: usize, k: usize, mark: usize, space: &mut Space) -> Ends
-        requires { Ready self × AllCells self.mesh.now space.old.from s × (k < length self.stencil.now) × (mark ≤ 60000) × Under mark space.old.marks
+        requires { Grounded self × AllCells self.mesh.now space.old.from s × (k < length self.stencil.now) × (mark ≤ 60000) × Under mark space.old.marks
             × Zeros element_places space.old.layers }
         ensures { WalkDone self.entry.mesh.now self.entry.stencil.now self.entry.single (take s space.old.from) k mark space.new result.count result.met
             × Within self.entry.mesh.now space.new.layers result.low result.high }

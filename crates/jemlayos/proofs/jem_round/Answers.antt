@@ -1,7 +1,7 @@
 -- `jemlayos::jem_round` meets its contract. Assumes nothing.
-use Rattle.c_answer.proofs.PackedLaws.{packed_as}
+use Rattle.c_answer.proofs.PackedLaws.{packs_as}
 use borrow.Author.Rules.{rules}
 use Rattle.jemlayos.proofs.jem_round.Goals as goal
 
 pub returns : goal.returns
-returns c = (search packed_as, search rules)
+returns c = (search packs_as, search rules)

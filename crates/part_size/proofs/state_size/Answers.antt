@@ -31,7 +31,7 @@ pub draw_plan-p-requires : goal.draw_plan-p-requires
 draw_plan-p-requires c =
     let sn = sym c.in_ok-test_split.ensures in
     let prepared = c.in_ok-prepare.ensures in
-    (sn, sym prepared.0, prepared.1, prepared.2, omega arith, omega (arith, prepared.3.prev_room), refl)
+    (sn, sym prepared.0, prepared.1, prepared.2.inverted, omega arith, omega (arith, prepared.2.roomed.prev_room), refl)
 
 pub returns : goal.returns
 returns c =

@@ -12,7 +12,7 @@ use Rattle.mesh.proofs.WalkLaws.{stencil_parts}
 use Rattle.round.proofs.UndividedLaws.{rule_good}
 use Rattle.part_start_lists.proofs.StartLists.{got_is, sent_is, front_count}
 use Rattle.part_start_points.proofs.SplitPoints.{points_low}
-use Rattle.part_start_plan.proofs.PlanLaws.{outside_is, point_room, start_split, start_11, start_sizes, start_14, start_16, start_cells, start_written}
+use Rattle.part_start_plan.proofs.PlanLaws.{outside_is, point_room, fit_turned, start_split, start_11, start_sizes, start_14, start_16, start_cells, start_written}
 use Rattle.part_start.proofs.start.Goals as goal
 
 pub test_split-requires : goal.test_split-requires
@@ -64,7 +64,7 @@ draw_plan-p-requires c =
     let sn = sym c.in_ok-test_split.ensures in
     let prepared = c.in_ok-prepare.ensures in
     let zn = sym prepared.0 in
-    (sn, zn, prepared.1, prepared.2, omega arith, omega (arith, prepared.3.prev_room), refl)
+    (sn, zn, prepared.1, prepared.2.inverted, omega arith, omega (arith, prepared.2.roomed.prev_room), refl)
 
 pub returns-then-b-size : goal.returns-then-b-size
 returns-then-b-size c =
@@ -86,7 +86,7 @@ find_sent-requires c =
       plan.parts_few,
       plan.owners_few,
       omega arith,
-      omega (arith, c.in_ok-prepare.ensures.3.last_room),
+      omega (arith, c.in_ok-prepare.ensures.2.roomed.last_room),
       refl,
       plan.sent_is,
     )
@@ -145,12 +145,12 @@ add_points-requires c =
     let f = passed_facts _ _ _ _ _ _ sn in
     let sought = c.sought_of-sought.ensures in (
       f.mesh,
-      omega (arith, c.in_ok-prepare.ensures.3.cell_room),
-      omega (arith, c.in_ok-prepare.ensures.3.prev_room),
+      omega (arith, c.in_ok-prepare.ensures.2.roomed.cell_room),
+      omega (arith, c.in_ok-prepare.ensures.2.roomed.prev_room),
       omega arith,
       points_low _ f.mesh _ sought.2,
-      point_room _ c.args.parts _ _ _ _ _ _ sought.0 sought.1 sought.2 _ _ _ plan.long_is plan.long_few
-          (omega (arith, c.if-b-size.false)),
+      fit_turned _ _ _ _ _ _ _ (point_room _ c.args.parts _ _ _ _ _ _ sought.0 sought.1 sought.2 _ _ _ plan.long_is plan.long_few
+          (omega (arith, c.if-b-size.false))),
     )
 
 pub overflow_cast-result : goal.overflow_cast-result
@@ -173,9 +173,9 @@ returns c =
     let found = c.find_sent.ensures in
     let added = c.add_points.ensures in
     let outside =
-    outside_is _ _ _ _ _ _ _ (prepared.1) _ prepared.2 _ _ _ _ _ _ (rw c.view.ensures at c.some_outside-outside.ensures)
+    outside_is _ _ _ _ _ _ _ (prepared.1) _ prepared.2.inverted _ _ _ _ _ _ (rw c.view.ensures at c.some_outside-outside.ensures)
     sought.0 sought.1 sought.2 c.sizes_of.ensures.cells_is in
     start_written _ _ _ _ _ _ _ _ c.args.b.now sn eleven zn _ c.cell_count.ensures.0 _ c.bad_field.ensures c.if-bad_field.false
     _ _ _ (prepared.1) _ _ _ plan _ _ _ _ _ _ _ _ _ _ _ _ _ _ _ _ _ found.1 found.0 (omega (arith, plan.sent_few))
     c.put_front-s.ensures c.put_entries.ensures
-    c.number_order.ensures c.put_rest.ensures added.0 added.1 sought.0 sought.1 sought.2 outside c.if-b-size.false
+    c.number_order.ensures c.put_rest.ensures added.0.inverted added.1 sought.0 sought.1 sought.2 outside c.if-b-size.false

@@ -2,11 +2,11 @@
 use mathlib.Core.Path.{refl, ◌∙◌}
 use native.Mathlib.Omega.{arith}
 use Rattle.layout.proofs.AnswerLaws.{exit_answer, exit_some}
-use Rattle.part_take.proofs.TakeLaws.{told_15, told_20, told_refused, message_good, message_header, from_few, store_fits, told_done}
+use Rattle.part_take.proofs.TakeLaws.{told_reading, told_20, told_refused, message_good, message_header, from_few, store_fits, told_done}
 use Rattle.part_take.proofs.take.Goals as goal
 
 pub returns-in_default : goal.returns-in_default
-returns-in_default c = told_15 _ _ _ c.read-reading.ensures c.in_default.is _ c.and.ensures
+returns-in_default c = told_reading _ _ _ c.read-reading.ensures c.in_default.is _ c.and.ensures
 
 pub returns-in_err-s : goal.returns-in_err-s
 returns-in_err-s c = told_20 _ _ _ c.read-reading.ensures c.in-Ok.is _ _ c.from_residual.ensures.1 c.in_err-s.ensures.refused

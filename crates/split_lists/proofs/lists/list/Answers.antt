@@ -56,7 +56,7 @@ cell_words-n-requires c =
     (f.mesh, f.few, f.i_in.1, f.j_in.1)
 
 pub classify_lowers-requires : goal.classify_lowers-requires
-classify_lowers-requires c = (rw c.view.ensures c.in_ok-prepare.ensures.2, refl)
+classify_lowers-requires c = (rw c.view.ensures c.in_ok-prepare.ensures.2.inverted, refl)
 
 pub add_range-n-requires : goal.add_range-n-requires
 add_range-n-requires c =

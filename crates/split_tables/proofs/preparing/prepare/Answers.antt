@@ -30,8 +30,7 @@ returns-then-held-gt-MOST_HELD c =
       tables_held _ _ _ _ _ _ _ _ T.1.0 c.requires.1 _ (c.new-walker.ensures.0.sized.cells_is ∙ ap (λ r. cell_count r.now) c.new-walker.ensures.1) _ _ c.count_holders-held.ensures
           c.if-held-gt-MOST_HELD.true,
       tt,
-      c.invert.ensures.0,
-      c.invert.ensures.1,
+      c.invert.ensures,
     )
 
 pub returns : goal.returns
@@ -40,6 +39,5 @@ returns c =
     let n = c.new-walker.ensures.0.sized.cells_is ∙ ap (λ r. cell_count r.now) c.new-walker.ensures.1 in (
       tables_passed _ _ _ _ _ _ _ _ T.1.0 c.requires.1 _ n _ _ c.count_holders-held.ensures c.if-held-gt-MOST_HELD.false,
       tables_prepared _ _ _ _ _ _ _ _ T.1.0 c.requires.1 _ n _ _ c.count_holders-held.ensures c.requires.0 c.requires.2,
-      c.invert.ensures.0,
-      c.invert.ensures.1,
+      c.invert.ensures,
     )

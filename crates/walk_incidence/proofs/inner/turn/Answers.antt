@@ -4,14 +4,12 @@ use lib.ListN.{replicate}
 use Rattle.layout.specs.Limits.{element_places}
 use Rattle.walk_incidence.specs.declared.inner.Incidence.{Incidence}
 use Rattle.walk_incidence.specs.Links.{lists}
-use Rattle.walk_incidence.proofs.TurnedLaws.{turned, roomed}
+use Rattle.walk_incidence.proofs.TurnedLaws.{turned}
 use Rattle.walk_incidence.proofs.inner.turn.Goals as goal
 
 pub returns : goal.returns
-returns c = (
-  turned _ c.requires.0 _ _ c.sizes_of-sizes.ensures.first_is c.sizes_of-sizes.ensures.cells_is before after c.requires.1 c.requires.2 cleared _ c.invert.ensures,
-  roomed _ c.requires.0 _ _ c.sizes_of-sizes.ensures.first_is c.sizes_of-sizes.ensures.cells_is before after c.requires.1 c.requires.2 cleared _ c.invert.ensures,
-)
+returns c =
+    turned _ c.requires.0 _ _ c.sizes_of-sizes.ensures.first_is c.sizes_of-sizes.ensures.cells_is before after c.requires.1 c.requires.2 cleared _ c.invert.ensures
   where
     before : Incidence
     before = lists c.args.cell.now c.args.prev.now c.fill.new.self
