@@ -316,7 +316,7 @@ module _ (m : Bytes) (parts : ℕ) (owners st : Bytes) (i part first all : ℕ) 
     words_count outside numbers,
   )
 
--- whatever lists have the chains turned round, so do arrays
+-- room whatever lists have the chains turned round is room whatever arrays have them
 pub fit_turned : (m owners b : Bytes) (s part first points : ℕ) → PointsFit m owners b s part first points → PointRoom m owners b s part first points
 fit_turned m owners b s part first points F = record {
   there = λ w T. F.there w T.inverted;

@@ -37,7 +37,7 @@ pub record PointsFit (m owners b : Bytes) (s part first points : ℕ) : Type 0 w
   pub there : (w : Incidence) → Inverted m w → let ps : List ℕ = points_on w owners first part points in 2 * (s + word_count w ps (length ps)) ≤ length b
   pub few : (w : Incidence) → Inverted m w → let ps : List ℕ = points_on w owners first part points in s + word_count w ps (length ps) < 65536
 
--- the same, where arrays of their whole length have them
+-- the same, whatever arrays of their whole length have them
 pub record PointRoom (m owners b : Bytes) (s part first points : ℕ) : Type 0 where
   pub there : (w : Incidence) → Turned m w → let ps : List ℕ = points_on w owners first part points in 2 * (s + word_count w ps (length ps)) ≤ length b
   pub few : (w : Incidence) → Turned m w → let ps : List ℕ = points_on w owners first part points in s + word_count w ps (length ps) < 65536

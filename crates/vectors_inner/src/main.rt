@@ -18,22 +18,34 @@ use walk_incidence::inner::Incidence;
 use walk_stencil::bad_stencil;
 use walk_steps::inner::Walker;
 
-// What a walker has counted, and the cells at point 2 by its lists.
+// What a walker goes by, and the cells at point 2 by its lists.
 fn show_walker(m: &[u8], stencil: &[u8], incidence: &Incidence)
     requires { Turned m.now incidence.now × (bad10 (top m.now) stencil.now ≡ false) }
 {
     let walker = Walker::new(m, stencil, incidence.view());
     print(format_args!(
-        "walker: {} elements, {} records, {} cells from {}; at point 2:",
-        walker.sizes.elements, walker.sizes.records, walker.sizes.cells, walker.sizes.first
+        "walker: {} bytes, {} elements, {} records, {} cells from {}; stencil of {},",
+        walker.mesh.len(),
+        walker.sizes.elements,
+        walker.sizes.records,
+        walker.sizes.cells,
+        walker.sizes.first,
+        walker.stencil.len()
     ));
+    print(if walker.single {
+        " through one dimension"
+    } else {
+        " through several dimensions"
+    });
+    print("; at point 2:");
     for c in walker.incidence.cells_at(2) {
         print(format_args!(" {c}"));
     }
     print("\n");
 }
 
-// The words of the points that touch part 1, if there are no more than the array has room for. The cells from 7 on bear the numbers 1 to 4.
+// The words of the points that touch part 1, if there are no more than the array has room for. Cells 7 to 10 bear the numbers 1 to 4. The lists of the
+// chains are spoiled first: `add_points` turns them round itself.
 fn show_points(m: &[u8], owners: &[u8], incidence: &mut Incidence)
     requires { Turned m.now incidence.old }
 {
@@ -43,6 +55,7 @@ fn show_points(m: &[u8], owners: &[u8], incidence: &mut Incidence)
     if 4 < counts.points || 7 < counts.cells {
         return;
     }
+    incidence.last.fill(0);
     let end = add_points(
         &mut b,
         0,

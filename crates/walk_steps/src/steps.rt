@@ -190,7 +190,7 @@ fn arrive(
 }
 
 impl<'a> Walker<'a> {
-    // A walker over an accepted mesh, by its chains turned round.
+    // A walker over an accepted mesh, by its chains turned round: over lists of any length it is `Grounded`, over whole arrays `Ready`.
     pub fn new(mesh: &'a [u8], stencil: &'a [u8], incidence: IncidenceRef<'a>) -> Walker<'a>
         requires { Inverted mesh.now (seen incidence) × (bad10 (top mesh.now) stencil.now ≡ false) }
         ensures { Grounded result × (result.mesh ≡ mesh.entry) × (result.stencil ≡ stencil.entry) × (result.incidence ≡ incidence.entry)

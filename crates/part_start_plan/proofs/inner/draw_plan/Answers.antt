@@ -1,6 +1,5 @@
 -- `part_start_plan::inner::draw_plan` meets its contract. Assumes nothing.
 use mathlib.Core.Path.{refl, ap, ◌∙◌}
-use native.Mathlib.Omega.{arith}
 use Rattle.part_start_lists.specs.Starting.{export_tally}
 use Rattle.part_start_points.proofs.SplitPoints.{points_low}
 use Rattle.part_start_plan.proofs.PlanLaws.{plan_fitting, plan_points, plan_around, plan_made}
